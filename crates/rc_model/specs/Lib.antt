@@ -1,0 +1,10 @@
+pub mod Token
+pub mod Tree
+pub mod Spelled
+pub mod Literal
+pub mod Clamp
+pub mod Deck
+pub mod Transcript
+pub mod SmallGame
+pub mod SmallText
+pub mod Examples
