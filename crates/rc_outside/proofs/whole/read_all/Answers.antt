@@ -1,0 +1,10 @@
+use Rattle.rc_outside.proofs.SourceLemmas.{Gave-append}
+use Rattle.rc_outside.proofs.whole.read_all.Goals as goal
+
+pub returns-then-limit-len-clause-lost : goal.returns-then-limit-len-clause-lost
+returns-then-limit-len-clause-lost g c =
+    (_, Gave-append _ _ _ _ _ c.loop-count.invariant.gave c.in-Ok.ensures.gives)
+
+pub returns-then-is_err-clause-lost : goal.returns-then-is_err-clause-lost
+returns-then-is_err-clause-lost g c =
+    (_, Gave-append _ _ _ _ _ c.loop-count.invariant.gave c.in-Ok.ensures.gives)

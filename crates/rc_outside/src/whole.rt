@@ -1,0 +1,71 @@
+ghost use Rattle.std.specs.Prelude.{◌≡◌, ℕ, ◌<◌, ◌≤◌, List, [], length, vec_len, IfSome, IfOk, IsOk, OnOk, OnErr};
+ghost use Rattle.rc_outside.specs.Faults.{Rose};
+ghost use Rattle.rc_outside.specs.Source.{Gave, IsAtEnd};
+ghost use Rattle.rc_outside.specs.Sink.{Got, GotFront};
+
+use crate::{ReadFail, Sink, Source, WriteFault};
+use std::alloc::Global;
+
+/// How many bytes a read asks for.
+const PIECE: usize = 4096;
+
+/// Reads a source to its end, if it holds at most `limit` bytes. After an error the bytes that were
+/// read are lost.
+pub fn read_all<S: Source>(alloc: Global, source: &mut S, limit: usize) -> Result<Vec<u8>, ReadFail>
+    ensures within { IfOk result (λ all. vec_len all ≤ limit) }
+    ensures whole { IfOk result (λ all. Gave (S.left source.old) (S.left source.new) all.items) }
+    ensures end { OnOk result (IsAtEnd (S.left source.new)) }
+
+    // `TooLong` comes exactly where the source held more than the limit, but for the other errors.
+    ensures fits { OnOk result (IfSome (S.left source.old) (λ whole. length whole ≤ limit)) }
+    ensures too_long { result ≡ Err ReadFail.TooLong
+        → IfSome (S.left source.old) (λ whole. limit < length whole) }
+
+    ensures cause { result ≡ Err ReadFail.ReadFault
+        → Rose (S.faults source.old) (S.faults source.new) }
+
+    // After an error the source lacks the bytes that were read, which are the front of what it had
+    // left.
+    ensures lost { OnErr result
+        ((taken : List ℕ) × Gave (S.left source.old) (S.left source.new) taken) }
+
+    ensures counted { S.faults source.old ≤ S.faults source.new }
+{
+    let mut all = Vec::new(alloc);
+    let mut piece = [0; PIECE];
+    loop {
+        let Ok(count) = source.read(&mut piece) else {
+            return Err(ReadFail::ReadFault);
+        };
+        if count == 0 {
+            return Ok(all);
+        }
+        if limit - all.len() < count {
+            return Err(ReadFail::TooLong);
+        }
+        if all.extend_from_slice(&piece[..count]).is_err() {
+            return Err(ReadFail::Memory);
+        }
+    }
+}
+
+/// Writes all of a piece to a sink. Each write is given all that is left of the piece; an empty
+/// piece makes no call.
+pub fn write_all<O: Sink>(sink: &mut O, piece: &[u8]) -> Result<(), WriteFault>
+    ensures ok { OnOk result (Got (O.written sink.old) (O.written sink.new) piece.now) }
+    ensures empty { piece.now ≡ [] → IsOk result × (sink.new ≡ sink.old) }
+
+    ensures cause { OnErr result (Rose (O.faults sink.old) (O.faults sink.new)) }
+    ensures front { OnErr result (GotFront (O.written sink.old) (O.written sink.new) piece.now) }
+
+    ensures counted { O.faults sink.old ≤ O.faults sink.new }
+{
+    let mut done = 0;
+    while done < piece.len() {
+        let Ok(count) = sink.write(&piece[done..]) else {
+            return Err(WriteFault);
+        };
+        done += count;
+    }
+    Ok(())
+}
