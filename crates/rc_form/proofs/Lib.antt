@@ -1,0 +1,11 @@
+pub mod Tokens
+pub mod ReadSteps
+pub mod SpelledIsRead
+pub mod Ascending
+pub mod ReadIsSpelled
+pub mod SpellingLaws
+pub mod FaultLaws
+pub mod ReadIsFault
+pub mod TopLists
+pub mod PrintedIsSpelled
+pub mod AtomsAreRead

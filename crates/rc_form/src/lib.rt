@@ -1,0 +1,19 @@
+//! Reads the lists in parentheses that a text spells, and prints them.
+#![tactic(auto)]
+
+mod fault;
+mod form;
+mod lexer;
+mod print;
+mod reader;
+mod reading;
+mod word;
+
+pub use fault::{FormFail, FormFault, FormKind};
+pub use form::{Form, Span};
+pub use print::{FormMemory, print_form, printed_form_reads_back};
+pub use reading::{Forms, read_forms, texts_are_spelled_or_faulty};
+pub use word::Word;
+
+#[cfg(test)]
+mod tests;
