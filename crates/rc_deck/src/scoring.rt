@@ -1,0 +1,49 @@
+ghost use Rattle.std.specs.Prelude.{◌≡◌, ◌≤◌, ◌^◌, ◌==◌, ◌&&◌, All, vec_len, pos, neg_ℤ, ◌≤ℤ◌};
+ghost use Rattle.rc_model.specs.Deck.{points_of, fits_entry};
+ghost use Rattle.rc_deck.specs.Points.{entries_of, entry_of, points_added, IsWithinClamp};
+
+use crate::Face;
+
+/// What faces are worth.
+#[derive(Debug, Drop)]
+pub struct PointMap {
+    pub entries: Vec<PointEntry>,
+}
+
+/// Faces that have the attribute with one of the values are worth so many points.
+#[derive(Debug, Drop)]
+pub struct PointEntry {
+    pub attr: u16,
+    pub values: Vec<u16>,
+    pub points: i64,
+}
+
+// The largest number of a game, and the least one's opposite.
+const LIMIT: i64 = 1_000_000_000;
+
+/// What a face is worth: the sum of the points of all entries that it fits, then clamped to -1,000,000,000 ..
+/// 1,000,000,000.
+pub fn points(map: &PointMap, face: &Face) -> i64
+    requires few { vec_len map.now.entries ≤ 2 ^ 23 }
+    requires clamped { All (λ entry. IsWithinClamp entry.points) (entries_of map.now) }
+    ensures { result ≡ points_of (entries_of map.now) face.now }
+{
+    let mut sum = 0i64;
+    for entry in &map.entries {
+        sum += added(entry, face);
+    }
+    sum.clamp(-LIMIT, LIMIT)
+}
+
+// What an entry adds to the sum.
+fn added(entry: &PointEntry, face: &Face) -> i64
+    ensures { result ≡ points_added face.now (entry_of entry.now) }
+{
+    if fits(entry, face) { entry.points } else { 0 }
+}
+
+fn fits(entry: &PointEntry, face: &Face) -> bool
+    ensures { result ≡ fits_entry (entry_of entry.now) face.now }
+{
+    face.pairs().iter().any(|pair| pair.0 == entry.attr && entry.values.contains(&pair.1))
+}
