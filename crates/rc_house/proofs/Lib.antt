@@ -1,0 +1,17 @@
+pub mod AnswerLaws
+pub mod Cuts
+pub mod Digits
+pub mod Entries
+pub mod Games
+pub mod Loops
+pub mod Numbers
+pub mod Options
+pub mod OutcomeLemmas
+pub mod Plan
+pub mod PlayLaws
+pub mod RoundLaws
+pub mod ScoringLaws
+pub mod Scripts
+pub mod Sheet
+pub mod Spacing
+pub mod Values

@@ -1,0 +1,65 @@
+-- The commands, and what they make of a source.
+use Rattle.std.specs.Prelude.{◌≡◌, ℕ, ◌<◌, ◌⊎◌, List, [], ◌∷◌, length, codes}
+use Rattle.rc_model.specs.Transcript.{line}
+use Rattle.rc_model.specs.Tree.{Tree, printed}
+use Rattle.rc_model.specs.Spelled.{Spelled}
+use Rattle.rc_model.specs.SmallText.{HasHouse}
+use Rattle.rc_form.specs.declared.fault.FormKind.{FormKind}
+use Rattle.rc_form.specs.FormFault.{IsFormFault}
+use Rattle.rc_house.specs.declared.status.SourceKind.{SourceKind}
+use Rattle.rc_house.specs.declared.status.SourceKind.TheVariants.{Shape}
+use Rattle.rc_house.specs.declared.command.Command.{Command}
+use Rattle.rc_house.specs.declared.command.Command.TheVariants.{Play, Sheet}
+use Rattle.rc_house.specs.Status.{source_kind}
+
+-- how many lists a command reads from the front of its source
+abbrev pub wanted : Command → ℕ
+wanted Play = 2
+wanted Sheet = 1
+
+-- the line that a command notes where all went well
+abbrev pub note_of : Command → List ℕ
+note_of Play = line (codes "cache looks 0 hits 0")
+note_of Sheet = []
+
+-- these words are the command
+abbrev pub IsCommand : List (List ℕ) → Command → Type 0
+IsCommand words Play = words ≡ codes "play" ∷ []
+IsCommand words Sheet = words ≡ codes "sheet" ∷ []
+
+-- What a command answers to its source: a text, the first fault of its sheet, or that it isn't built.
+pub data Answer : Type 0 where
+  text : (bytes : List ℕ) → Answer
+  fault : (kind : SourceKind) (at : ℕ) → Answer
+  unbuilt : Answer
+
+-- the first fault of the forms that are wanted, or Shape at the end where the first of them is missing
+abbrev pub HasSheetFault : List ℕ → ℕ → SourceKind → ℕ → Type 0
+HasSheetFault source want kind at =
+    ((form_kind : FormKind) × IsFormFault source want form_kind at × (kind ≡ source_kind form_kind))
+    ⊎ (Spelled source want [] at × (kind ≡ Shape))
+
+-- the first list of the source, printed on a line; what follows it isn't looked at
+abbrev pub HasPrintedForm : List ℕ → List ℕ → Type 0
+HasPrintedForm source bytes =
+    (form : Tree) × (rest : ℕ) × Spelled source 1 (form ∷ []) rest × (bytes ≡ line (printed form))
+
+-- the lists of the source can be read and there is a first one, but it is no source of a game that is built
+abbrev pub HasNoHouse : List ℕ → Type 0
+HasNoHouse source =
+    (forms : List Tree) × (rest : ℕ) × Spelled source 2 forms rest × (0 < length forms)
+    × ((bytes : List ℕ) → HasHouse source bytes → ⊥)
+
+-- The command has this answer to its source.
+abbrev pub HasAnswer : Command → List ℕ → Answer → Type 0
+HasAnswer Play source (text bytes) = HasHouse source bytes
+HasAnswer Play source (fault kind at) = HasSheetFault source 2 kind at
+HasAnswer Play source unbuilt = HasNoHouse source
+HasAnswer Sheet source (text bytes) = HasPrintedForm source bytes
+HasAnswer Sheet source (fault kind at) = HasSheetFault source 1 kind at
+HasAnswer Sheet source unbuilt = ⊥
+
+-- The command has this answer to its source, and no other.
+pub record IsAnswer (command : Command) (source : List ℕ) (answer : Answer) : Type 0 where
+  pub has : HasAnswer command source answer
+  pub only : (other : Answer) → HasAnswer command source other → other ≡ answer

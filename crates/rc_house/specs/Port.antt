@@ -1,0 +1,43 @@
+-- What a call did to a source or to a sink, as far as these tell it.
+use Rattle.std.specs.Prelude.{◌≡◌, ℕ, ◌≤◌, ◌⊎◌, List, [], Option}
+use Rattle.rc_outside.specs.Faults.{Rose}
+use Rattle.rc_outside.specs.Sink.{Got, GotFront}
+
+-- A source or a sink at a moment: the bytes that are left or that were written, where it tells them, and its count of faults.
+pub record Port : Type 0 where
+  pub told : Option (List ℕ)
+  pub faults : ℕ
+
+abbrev pub port : Option (List ℕ) → ℕ → Port
+port told faults = record { told = told; faults = faults }
+
+-- a read or a write failed
+abbrev pub HasFailed : Port → Port → Type 0
+HasFailed before after = Rose before.faults after.faults
+
+-- the sink received exactly this text
+abbrev pub Received : Port → Port → List ℕ → Type 0
+Received before after text = Got before.told after.told text
+
+-- the sink received a front of this text
+abbrev pub ReceivedFront : Port → Port → List ℕ → Type 0
+ReceivedFront before after text = GotFront before.told after.told text
+
+-- the sink received this text, or a write failed and it received a front of it
+abbrev pub Took : Port → Port → List ℕ → Type 0
+Took before after text = Received before after text ⊎ (HasFailed before after × ReceivedFront before after text)
+
+-- The three ports of a command at a moment.
+pub record Ports : Type 0 where
+  pub source : Port
+  pub out : Port
+  pub notes : Port
+
+abbrev pub ports : Port → Port → Port → Ports
+ports source out notes = record { source = source; out = out; notes = notes }
+
+-- no count of faults fell
+pub record NoCountFell (before after : Ports) : Type 0 where
+  pub source : before.source.faults ≤ after.source.faults
+  pub out : before.out.faults ≤ after.out.faults
+  pub notes : before.notes.faults ≤ after.notes.faults

@@ -1,0 +1,213 @@
+-- Reading the printed sheet and plan of a small game from left to right. What is read is a value, with the bytes behind it.
+use Rattle.std.specs.Prelude.{ℕ, zero, suc, Bool, true, not, ◌&&◌, ◌==◌, nat_lt, nat_le, if◌then◌else◌, List, [], ◌∷◌, length, slice_index, codes, ℤ, pos, negsuc, neg_ℤ, int_le, Option, Some, None, option_map, option_and_then}
+use Rattle.std.specs.List.{list_all, list_any, slice_split}
+use Rattle.std.specs.Str.{bytes_eq}
+use Rattle.rc_model.specs.Token.{is_part}
+use Rattle.rc_model.specs.Literal.{natural, integer}
+use Rattle.rc_model.specs.SmallGame.{SmallGame}
+
+infixl 10 ◌>>=◌
+abbrev pub ◌>>=◌ : {A B : Type 0} → Option A → (A → Option B) → Option B
+o >>= f = option_and_then f o
+
+-- `)`
+abbrev pub close_byte : ℕ
+close_byte = 41
+
+-- a space
+abbrev pub space_byte : ℕ
+space_byte = 32
+
+-- `'`, with which a variable begins
+abbrev pub quote_byte : ℕ
+quote_byte = 39
+
+-- the bytes behind this text, if they begin with it
+unfoldable pub behind : List ℕ → List ℕ → Option (List ℕ)
+behind [] bytes = Some bytes
+behind (b ∷ text) [] = None
+behind (b ∷ text) (c ∷ bytes) = if b == c then behind text bytes else None
+
+-- the bytes before the first stop, and those behind it
+unfoldable pub until : ℕ → List ℕ → Option (List ℕ × List ℕ)
+until stop [] = None
+until stop (b ∷ bytes) = if b == stop then Some ([], bytes) else option_map (λ parts. (b ∷ parts.0, parts.1)) (until stop bytes)
+
+-- the words that have one space between them
+abbrev pub words_of : List ℕ → List (List ℕ)
+words_of bytes = slice_split (λ b. b == space_byte) bytes
+
+-- the number, if it is in this range
+abbrev pub within : ℕ → ℕ → ℕ → Option ℕ
+within least most n = if nat_le least n && nat_le n most then Some n else None
+
+-- the number, if it isn't negative
+abbrev pub unsigned : ℤ → Option ℕ
+unsigned (pos n) = Some n
+unsigned (negsuc n) = None
+
+-- a number of a sheet that counts something
+unfoldable pub count_of : ℕ → ℕ → List ℕ → Option ℕ
+count_of least most word = integer word >>= unsigned >>= within least most
+
+-- a number of a plan
+unfoldable pub number_of : ℕ → ℕ → List ℕ → Option ℕ
+number_of least most word = natural word >>= within least most
+
+-- what a card is worth, within the clamp
+unfoldable pub worth_of : List ℕ → Option ℤ
+worth_of word = integer word >>= λ worth. if int_le (neg_ℤ (pos 1000000000)) worth && int_le worth (pos 1000000000) then Some worth else None
+
+-- an atom of a sheet that is no variable
+unfoldable pub is_value : List ℕ → Bool
+is_value word = nat_lt 0 (length word) && not (slice_index word 0 == quote_byte) && list_all is_part word
+
+-- no word stands twice
+unfoldable pub all_differ : List (List ℕ) → Bool
+all_differ [] = true
+all_differ (word ∷ words) = not (list_any (λ other. bytes_eq other word) words) && all_differ words
+
+-- 256 different values at most
+unfoldable pub are_values : List (List ℕ) → Bool
+are_values words = nat_le (length words) 256 && list_all is_value words && all_differ words
+
+-- the number of players
+unfoldable pub players_at : List ℕ → Option (ℕ × List ℕ)
+players_at bytes = do
+  opened ← behind (codes "(game (setup (create players ") bytes
+  word ← until close_byte opened
+  players ← count_of 1 8 word.0
+  Some (players, word.1)
+
+-- the values of RANK
+unfoldable pub values_at : List ℕ → Option (List (List ℕ) × List ℕ)
+values_at bytes = do
+  opened ← behind (codes " (create deck (game hloc STOCK) (deck (RANK (") bytes
+  words ← until close_byte opened
+  if are_values (words_of words.0) then Some (words_of words.0, words.1) else None
+
+-- an entry of the points for this value, where `lead` stands before it
+unfoldable pub entry_at : List ℕ → List ℕ → List ℕ → Option (ℤ × List ℕ)
+entry_at lead value bytes = do
+  led ← behind lead bytes
+  opened ← behind (codes "(RANK (") led
+  valued ← behind value opened
+  closed ← behind (codes ") ") valued
+  word ← until close_byte closed
+  worth ← worth_of word.0
+  Some (worth, word.1)
+
+-- an entry for each value, with one space between them
+unfoldable pub entries_at : List ℕ → List (List ℕ) → List ℕ → Option (List ℤ × List ℕ)
+entries_at lead [] bytes = Some ([], bytes)
+entries_at lead (value ∷ values) bytes = do
+  first ← entry_at lead value bytes
+  others ← entries_at (codes " ") values first.1
+  Some (first.0 ∷ others.0, others.1)
+
+-- the points
+unfoldable pub points_at : List (List ℕ) → List ℕ → Option (List ℤ × List ℕ)
+points_at values bytes = behind (codes "))) (put points WORTH (") bytes >>= entries_at [] values
+
+-- the value, if no bytes stand behind it
+abbrev pub at_end : {A : Type 0} → A → List ℕ → Option A
+at_end x bytes = if length bytes == 0 then Some x else None
+
+-- how many cards each player is dealt, and the sheet's end
+unfoldable pub hand_size_at : List ℕ → Option ℕ
+hand_size_at bytes = do
+  opened ← behind (codes "))) (do (all player 'P (repeat ") bytes
+  word ← until space_byte opened
+  size ← count_of 0 1000 word.0
+  rest ← behind (codes "(move (top (game hloc STOCK)) (top ('P iloc HAND)))))) (stage player (end (all player 'P (= (size ('P iloc HAND)) 0))) (choice (any ((current player) iloc HAND) 'C (do (move 'C (top ((current player) vloc PLAYED))))))) (scoring max (sum ('SELF vloc PLAYED) using WORTH)))") word.1
+  at_end size rest
+
+-- what a small sheet says
+pub record SheetReading : Type 0 where
+  pub players : ℕ
+  pub worths : List ℤ
+  pub hand_size : ℕ
+
+unfoldable pub sheet_at : List ℕ → Option SheetReading
+sheet_at bytes = do
+  players ← players_at bytes
+  values ← values_at players.1
+  worths ← points_at values.0 values.1
+  hand_size ← hand_size_at worths.1
+  Some (record { players = players.0; worths = worths.0; hand_size = hand_size })
+
+-- the numbers that words spell
+unfoldable pub numbers_of : List (List ℕ) → Option (List ℕ)
+numbers_of [] = Some []
+numbers_of (word ∷ words) = do
+  first ← number_of 0 65535 word
+  others ← numbers_of words
+  Some (first ∷ others)
+
+-- the numbers behind the word `script`
+unfoldable pub script_of : List (List ℕ) → Option (List ℕ)
+script_of [] = None
+script_of (head ∷ words) = if bytes_eq head (codes "script") then numbers_of words else None
+
+-- a script, where `lead` stands before it
+unfoldable pub script_at : List ℕ → List ℕ → Option (List ℕ × List ℕ)
+script_at lead bytes = do
+  led ← behind lead bytes
+  opened ← behind (codes "(") led
+  words ← until close_byte opened
+  script ← script_of (words_of words.0)
+  Some (script, words.1)
+
+-- so many scripts, with one space between them
+unfoldable pub scripts_at : List ℕ → ℕ → List ℕ → Option (List (List ℕ) × List ℕ)
+scripts_at lead zero bytes = Some ([], bytes)
+scripts_at lead (suc count) bytes = do
+  first ← script_at lead bytes
+  others ← scripts_at (codes " ") count first.1
+  Some (first.0 ∷ others.0, others.1)
+
+-- what a small plan says behind its scripts
+pub record TailReading : Type 0 where
+  pub deal : ℕ
+  pub seats : ℕ
+  pub turns : ℕ
+
+unfoldable pub tail_at : List ℕ → Option TailReading
+tail_at bytes = do
+  opened ← behind (codes ") (matches (") bytes
+  first ← until space_byte opened
+  deal ← natural first.0
+  second ← until close_byte first.1
+  seats ← natural second.0
+  closed ← behind (codes ") (turns ") second.1
+  third ← until close_byte closed
+  turns ← number_of 1 100000 third.0
+  rest ← behind (codes ")") third.1
+  at_end (record { deal = deal; seats = seats; turns = turns }) rest
+
+-- what a small plan says
+pub record PlanReading : Type 0 where
+  pub scripts : List (List ℕ)
+  pub tail : TailReading
+
+unfoldable pub plan_at : ℕ → List ℕ → Option PlanReading
+plan_at players bytes = do
+  opened ← behind (codes "(plan (seats ") bytes
+  scripts ← scripts_at [] players opened
+  tail ← tail_at scripts.1
+  Some (record { scripts = scripts.0; tail = tail })
+
+-- the game of a sheet and a plan
+unfoldable pub game_at : List ℕ → List ℕ → Option SmallGame
+game_at sheet plan = do
+  says ← sheet_at sheet
+  plays ← plan_at says.players plan
+  Some (record {
+    players = says.players;
+    worths = says.worths;
+    hand_size = says.hand_size;
+    scripts = plays.scripts;
+    deal = plays.tail.deal;
+    seats = plays.tail.seats;
+    turns = plays.tail.turns;
+  })

@@ -1,0 +1,46 @@
+-- What a status shows outside the program.
+use Rattle.std.specs.Prelude.{ℕ, List, [], ◌++◌, codes, decimal}
+use Rattle.rc_model.specs.Transcript.{line}
+use Rattle.rc_form.specs.declared.fault.FormKind.{FormKind}
+use Rattle.rc_form.specs.declared.fault.FormKind.TheVariants as form
+use Rattle.rc_house.specs.declared.status.SourceKind.{SourceKind}
+use Rattle.rc_house.specs.declared.status.SourceKind.TheVariants.{BadByte, Stray, TooDeep, AtomLong, Unclosed, Shape}
+use Rattle.rc_house.specs.declared.status.Status.{Status}
+use Rattle.rc_house.specs.declared.status.Status.TheVariants.{Done, Sheet, Memory, ReadFault, WriteFault, TooLong, Unbuilt}
+
+-- the name of a kind
+abbrev pub kind_name : SourceKind → List ℕ
+kind_name BadByte = codes "BadByte"
+kind_name Stray = codes "Stray"
+kind_name TooDeep = codes "TooDeep"
+kind_name AtomLong = codes "AtomLong"
+kind_name Unclosed = codes "Unclosed"
+kind_name Shape = codes "Shape"
+
+-- the kind that a fault of forms is in a source
+abbrev pub source_kind : FormKind → SourceKind
+source_kind form.BadByte = BadByte
+source_kind form.Stray = Stray
+source_kind form.TooDeep = TooDeep
+source_kind form.AtomLong = AtomLong
+source_kind form.Unclosed = Unclosed
+
+-- the program's exit code
+abbrev pub code_of : Status → ℕ
+code_of Done = 0
+code_of (Sheet kind at) = 1
+code_of Memory = 5
+code_of ReadFault = 6
+code_of WriteFault = 7
+code_of TooLong = 8
+code_of Unbuilt = 9
+
+-- the line that goes to the notes where a command ends so; where all went well, the command says what is noted
+abbrev pub line_of : Status → List ℕ
+line_of Done = []
+line_of (Sheet kind at) = line (codes "sheet " ++ kind_name kind ++ codes " " ++ decimal at)
+line_of Memory = line (codes "no memory")
+line_of ReadFault = line (codes "read fault")
+line_of WriteFault = line (codes "write fault")
+line_of TooLong = line (codes "too long")
+line_of Unbuilt = line (codes "unbuilt")

@@ -1,0 +1,136 @@
+//! How a command ends.
+ghost use Rattle.std.specs.Prelude.{◌≡◌, ◌++◌, ◌≤◌, length, codes, decimal};
+ghost use Rattle.rc_house.specs.Status.{code_of, line_of, kind_name, source_kind};
+
+use arrayvec::ArrayString;
+use rc_form::FormKind;
+
+/// The most bytes of a status's line.
+const LINE: usize = 64;
+
+/// What is wrong with a sheet: first the kinds of its forms.
+#[derive(Clone, Copy, Debug, PartialEq, Eq, Hash)]
+pub enum SourceKind {
+    /// A byte stands outside comments that may not.
+    BadByte,
+    /// A `)` or an atom stands outside all lists.
+    Stray,
+    /// More than 64 lists are open.
+    TooDeep,
+    /// An atom has more than 64 bytes.
+    AtomLong,
+    /// The text ends with an open list.
+    Unclosed,
+    /// A part is none of those that may stand in its place, or is missing.
+    Shape,
+}
+
+impl SourceKind {
+    /// The variant's name.
+    pub(crate) fn name(self) -> &'static str
+        ensures name { result.now ≡ kind_name self }
+        ensures short { length result.now ≤ 8 }
+    {
+        match self {
+            SourceKind::BadByte => "BadByte",
+            SourceKind::Stray => "Stray",
+            SourceKind::TooDeep => "TooDeep",
+            SourceKind::AtomLong => "AtomLong",
+            SourceKind::Unclosed => "Unclosed",
+            SourceKind::Shape => "Shape",
+        }
+    }
+}
+
+impl From<FormKind> for SourceKind {
+    ghost use Rattle.std.specs.Prelude.{◌≡◌};
+    ghost use Rattle.rc_house.specs.Status.{source_kind};
+
+    ghost from_gives = { λ form kind. kind ≡ source_kind form };
+
+    fn from(kind: FormKind) -> SourceKind {
+        match kind {
+            FormKind::BadByte => SourceKind::BadByte,
+            FormKind::Stray => SourceKind::Stray,
+            FormKind::TooDeep => SourceKind::TooDeep,
+            FormKind::AtomLong => SourceKind::AtomLong,
+            FormKind::Unclosed => SourceKind::Unclosed,
+        }
+    }
+}
+
+/// How a command ended.
+#[derive(Clone, Copy, Debug, PartialEq, Eq, Hash)]
+pub enum Status {
+    /// All was read, played and written.
+    Done,
+    /// The sheet's first fault, with the offset where it stands.
+    Sheet { kind: SourceKind, at: u32 },
+    /// There was not enough memory.
+    Memory,
+    /// Reading the source failed.
+    ReadFault,
+    /// Writing the text or the notes failed.
+    WriteFault,
+    /// The source has more bytes than the command may read.
+    TooLong,
+    /// The words or the source ask for what isn't built yet.
+    Unbuilt,
+}
+
+impl Status {
+    /// The exit code of a program that ends so.
+    pub fn code(&self) -> u8
+        ensures { result ≡ code_of self.now }
+    {
+        match self {
+            Status::Done => 0,
+            Status::Sheet { .. } => 1,
+            Status::Memory => 5,
+            Status::ReadFault => 6,
+            Status::WriteFault => 7,
+            Status::TooLong => 8,
+            Status::Unbuilt => 9,
+        }
+    }
+
+    /// The line that goes to the notes where a command ends so, with its LF. Where all went well, there is none.
+    pub(crate) fn line(&self) -> ArrayString<LINE>
+        ensures { result.bytes ≡ line_of self.now }
+    {
+        match self {
+            Status::Done => ArrayString::new(),
+            Status::Sheet { kind, at } => fault_line("sheet ", kind.name(), *at),
+            Status::Memory => fixed_line("no memory\n"),
+            Status::ReadFault => fixed_line("read fault\n"),
+            Status::WriteFault => fixed_line("write fault\n"),
+            Status::TooLong => fixed_line("too long\n"),
+            Status::Unbuilt => fixed_line("unbuilt\n"),
+        }
+    }
+}
+
+fn fixed_line(text: &str) -> ArrayString<LINE>
+    requires { length text.now ≤ 16 }
+    ensures { result.bytes ≡ text.now }
+{
+    let mut line = ArrayString::new();
+    line.push_str(text);
+    line
+}
+
+/// A line that names a kind of fault and where it stands.
+fn fault_line(what: &str, kind: &str, at: u32) -> ArrayString<LINE>
+    requires what { length what.now ≤ 8 }
+    requires kind { length kind.now ≤ 8 }
+    ensures { result.bytes ≡ what.now ++ kind.now ++ codes " " ++ decimal at ++ codes "\n" }
+{
+    let mut digits = itoa::Buffer::new();
+    let mut line = ArrayString::new();
+    line.push_str(what);
+    line.push_str(kind);
+    line.push_str(" ");
+    line.push_str(digits.format(at));
+    line.push_str("\n");
+    line
+}
