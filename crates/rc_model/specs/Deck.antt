@@ -1,5 +1,5 @@
 -- Deck trees, their faces, and what a face is worth. The names of attributes and values are numbers here.
-use Rattle.std.specs.Prelude.{◌≡◌, ℕ, zero, suc, ◌+◌, ◌*◌, ◌<◌, ◌⊎◌, ◌&&◌, ◌==◌, Bool, if◌then◌else◌, List, [], ◌∷◌, ◌++◌, AllPairs, Contains, map, fold, find, ℤ, pos, ◌+ℤ◌, Option, option_map}
+use Rattle.std.specs.Prelude.{◌≡◌, ℕ, zero, suc, ◌<◌, ◌⊎◌, ◌&&◌, ◌==◌, Bool, if◌then◌else◌, List, [], ◌∷◌, ◌++◌, AllPairs, Contains, map, fold, find, ℤ, pos, ◌+ℤ◌, Option, option_map}
 use Rattle.std.specs.List.{list_any, AllZip}
 use Rattle.rc_model.specs.Clamp.{clamped}
 

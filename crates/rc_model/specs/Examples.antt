@@ -1,7 +1,8 @@
 -- Small games whose plays are known, to try the definitions on.
-use Rattle.std.specs.Prelude.{ℕ, List, [], ◌∷◌, pos, codes}
+use Rattle.std.specs.Prelude.{ℕ, List, [], ◌∷◌, map, pos, codes}
 use Rattle.rc_model.specs.SmallGame.{SmallGame}
-use Rattle.rc_model.specs.SmallText.{SheetWords, PlanWords}
+use Rattle.rc_model.specs.SmallText.{SheetParts, PlanWords}
+use Rattle.rc_model.specs.Tree.{Tree, word, list, Trees, nil, cons}
 
 -- two players with two cards each, out of four that are worth 1 to 4
 abbrev pub four_cards : List (List ℕ) → ℕ → SmallGame
@@ -16,11 +17,36 @@ four_cards scripts turns =
       turns = turns;
     }
 
+-- trees whose offsets don't matter
+abbrev pub atom : List ℕ → Tree
+atom bytes = word bytes 0 0
+
+abbrev pub parts_of : List Tree → Trees
+parts_of [] = nil
+parts_of (tree ∷ trees) = cons tree (parts_of trees)
+
+abbrev pub form : List Tree → Tree
+form trees = list (parts_of trees) 0 0
+
+abbrev pub one_word : List ℕ → Tree
+one_word bytes = form (atom bytes ∷ [])
+
+-- the entry of a rank that is worth its own number
+abbrev pub rank_entry : List ℕ → Tree
+rank_entry rank = form (atom (codes "RANK") ∷ one_word rank ∷ atom rank ∷ [])
+
 -- the sheet of such a game
-abbrev pub four_values : SheetWords
+abbrev pub four_ranks : List (List ℕ)
+four_ranks = codes "1" ∷ codes "2" ∷ codes "3" ∷ codes "4" ∷ []
+
+abbrev pub four_values : SheetParts
 four_values =
-    let words = codes "1" ∷ codes "2" ∷ codes "3" ∷ codes "4" ∷ [] in
-    record { players = codes "2"; values = words; worths = words; hand_size = codes "2" }
+    record {
+      players = codes "2";
+      deck = form (atom (codes "deck") ∷ form (atom (codes "RANK") ∷ form (map atom four_ranks) ∷ []) ∷ []);
+      entries = form (map rank_entry four_ranks);
+      hand_size = codes "2";
+    }
 
 -- a plan with a script of two numbers and an empty one
 abbrev pub two_scripts : PlanWords

@@ -4,6 +4,7 @@ pub mod Spelled
 pub mod Literal
 pub mod Clamp
 pub mod Deck
+pub mod DeckText
 pub mod Transcript
 pub mod SmallGame
 pub mod SmallText

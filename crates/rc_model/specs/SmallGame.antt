@@ -36,11 +36,15 @@ script_of game seat = slice_index_or game.scripts seat []
 abbrev pub scripted_item : List ℕ → ℕ → ℕ → ℕ
 scripted_item script j size = slice_index script j % size
 
+-- how many cards of a hand a menu offers: the first 256
+abbrev pub menu_size : List ℕ → ℕ
+menu_size hand = min 256 (length hand)
+
 -- what is left of a hand after j decisions by a script
 abbrev pub hand_after : List ℕ → List ℕ → ℕ → List ℕ
 hand_after script hand zero = hand
 hand_after script hand (suc j) =
-    let left = hand_after script hand j in remove left (scripted_item script j (length left))
+    let left = hand_after script hand j in remove left (scripted_item script j (menu_size left))
 
 -- a choice, and the card that it takes out of the hand
 pub record Play : Type 0 where
@@ -51,8 +55,8 @@ pub record Play : Type 0 where
 abbrev pub play_from : ℕ → List ℕ → List ℕ → ℕ → Play
 play_from seat script hand j =
     let left = hand_after script hand j in
-    let item = scripted_item script j (length left) in
-    record { pick = record { seat = seat; site = 0; item = item; size = length left }; card = slice_index left item }
+    let item = scripted_item script j (menu_size left) in
+    record { pick = record { seat = seat; site = 0; item = item; size = menu_size left }; card = slice_index left item }
 
 -- all choices of a seat, until its hand is empty
 abbrev pub plays_of : SmallGame → ℕ → List Play

@@ -1,5 +1,5 @@
 -- A form as a tree: an atom or a list, with the offset of its first byte and the offset behind its last.
-use Rattle.std.specs.Prelude.{◌≡◌, ℕ, ◌+◌, ◌-◌, ◌<◌, ◌≤◌, List, [], ◌∷◌, ◌++◌, length}
+use Rattle.std.specs.Prelude.{◌≡◌, ℕ, zero, suc, Option, Some, None, ◌+◌, ◌-◌, ◌<◌, ◌≤◌, List, [], ◌∷◌, ◌++◌, length}
 use Rattle.rc_model.specs.Token.{Token, opening, closing, atom}
 
 mutual
@@ -46,3 +46,9 @@ abbrev mutual
   pub printed_behind : Trees → List ℕ
   printed_behind nil = []
   printed_behind (cons tree trees) = 32 ∷ printed tree ++ printed_behind trees
+
+-- the tree at a place, where there is one
+abbrev pub nth : ℕ → Trees → Option Tree
+nth place nil = None
+nth zero (cons tree trees) = Some tree
+nth (suc place) (cons tree trees) = nth place trees
