@@ -140,21 +140,21 @@ AreOpen-part low high inner outer form below are_open sound =
     (let from = are_open.0 in omega arith, are_open.1, AreSound-push (63 - length outer) inner.parts form are_open.2 sound, AreOpen-later low high outer below are_open.3)
 
 -- what is read, of lists that are complete or open before, is spelled by all the tokens
-pub read-spelled : (want low : ℕ) (done : List Tree) (stack : List Pending) (tokens : List Token)
-    → Ascends low tokens → AreTopLists done → AreOpen low stack → length done + started stack ≤ want
+pub read-spelled : (want low high : ℕ) (done : List Tree) (stack : List Pending) (tokens : List Token)
+    → Ascends low high tokens → AreTopLists done → AreOpen low stack → length done + started stack ≤ want
     → IsSpelled want (whole done stack tokens) (read want done stack tokens)
-read-spelled want low done [] [] ascends sound are_open room = record { spells = refl; sound = sound; enough = AreEnough-end want done room }
-read-spelled want low done [] (opening at ∷ tokens) ascends sound are_open room =
+read-spelled want low high done [] [] ascends sound are_open room = record { spells = refl; sound = sound; enough = AreEnough-end want done room }
+read-spelled want low high done [] (opening at ∷ tokens) ascends sound are_open room =
     IfOk-cond (ltb (length done) want) (read want done (record { from = at; parts = [] } ∷ []) tokens) (Ok (done, opening at ∷ tokens)) _
     (λ wanted.
     let more : length done < want = ltb-true _ _ wanted in
-    read-spelled want (at + 1) done (record { from = at; parts = [] } ∷ []) tokens ascends.1 sound (omega arith, omega arith, tt, tt) (omega arith))
+    read-spelled want (at + 1) high done (record { from = at; parts = [] } ∷ []) tokens ascends.1 sound (omega arith, omega arith, tt, tt) (omega arith))
     (stops want done (opening at ∷ tokens) sound room)
-read-spelled want low done [] (closing at ∷ tokens) ascends sound are_open room = faulty want done (closing at ∷ tokens) _ sound room
-read-spelled want low done [] (atom at bytes ∷ tokens) ascends sound are_open room = faulty want done (atom at bytes ∷ tokens) _ sound room
-read-spelled want low done [] (odd at ∷ tokens) ascends sound are_open room = faulty want done (odd at ∷ tokens) _ sound room
-read-spelled want low done (inner ∷ outer) [] ascends sound are_open room = tt
-read-spelled want low done (inner ∷ outer) (opening at ∷ tokens) ascends sound are_open room =
+read-spelled want low high done [] (closing at ∷ tokens) ascends sound are_open room = faulty want done (closing at ∷ tokens) _ sound room
+read-spelled want low high done [] (atom at bytes ∷ tokens) ascends sound are_open room = faulty want done (atom at bytes ∷ tokens) _ sound room
+read-spelled want low high done [] (odd at ∷ tokens) ascends sound are_open room = faulty want done (odd at ∷ tokens) _ sound room
+read-spelled want low high done (inner ∷ outer) [] ascends sound are_open room = tt
+read-spelled want low high done (inner ∷ outer) (opening at ∷ tokens) ascends sound are_open room =
     IfOk-cond (ltb (length outer) 63) (read want done (record { from = at; parts = [] } ∷ inner ∷ outer) tokens) (Err _) _ (λ has_room.
     let fits : length outer < 63 = ltb-true _ _ has_room in
     let above : low ≤ at = ascends.0 in
@@ -162,15 +162,15 @@ read-spelled want low done (inner ∷ outer) (opening at ∷ tokens) ascends sou
     (omega arith, omega arith, tt, AreOpen-later low (at + 1) (inner ∷ outer) (omega arith) are_open) in
     IsSpelled-along want _ (read want done (record { from = at; parts = [] } ∷ inner ∷ outer) tokens)
     (ap (λ ts. flat_map spelling done ++ ts) (append_assoc (open_tokens (inner ∷ outer)) (opening at ∷ []) tokens))
-    (read-spelled want (at + 1) done (record { from = at; parts = [] } ∷ inner ∷ outer) tokens ascends.1 sound are_open' room))
+    (read-spelled want (at + 1) high done (record { from = at; parts = [] } ∷ inner ∷ outer) tokens ascends.1 sound are_open' room))
     (λ full. tt)
-read-spelled want low done (inner ∷ []) (closing at ∷ tokens) ascends sound are_open room =
+read-spelled want low high done (inner ∷ []) (closing at ∷ tokens) ascends sound are_open room =
     let form = closed inner at in
     let count : length (done ++ form ∷ []) + 0 ≤ want = omega (arith, length-append done (form ∷ [])) in
     IsSpelled-along want _ (read want (done ++ form ∷ []) [] tokens)
     (whole-done done form tokens ∙ ap (λ ts. flat_map spelling done ++ ts) (spelling-closed inner at tokens))
-    (read-spelled want (at + 1) (done ++ form ∷ []) [] tokens ascends.1 (AreTopLists-push done form sound (IsSound-closed low at inner [] ascends.0 are_open)) tt count)
-read-spelled want low done (inner ∷ next ∷ outer) (closing at ∷ tokens) ascends sound are_open room =
+    (read-spelled want (at + 1) high (done ++ form ∷ []) [] tokens ascends.1 (AreTopLists-push done form sound (IsSound-closed low at inner [] ascends.0 are_open)) tt count)
+read-spelled want low high done (inner ∷ next ∷ outer) (closing at ∷ tokens) ascends sound are_open room =
     let form = closed inner at in
     let above : low ≤ at = ascends.0 in
     let deep : 64 - suc (length outer) ≡ 63 - length outer = omega arith in
@@ -179,13 +179,13 @@ read-spelled want low done (inner ∷ next ∷ outer) (closing at ∷ tokens) as
     (ap (λ ts. flat_map spelling done ++ ts) (open_tokens-part next outer form tokens
     ∙ ap (λ ts. open_tokens (next ∷ outer) ++ ts) (spelling-closed inner at tokens)
     ∙ sym (append_assoc (open_tokens (next ∷ outer)) (opening inner.from ∷ flat_map spelling inner.parts) (closing at ∷ tokens))))
-    (read-spelled want (at + 1) done (with_part next form ∷ outer) tokens ascends.1 sound (AreOpen-part low (at + 1) next outer form (omega arith) are_open.3 is_sound) room)
-read-spelled want low done (inner ∷ outer) (atom at bytes ∷ tokens) ascends sound are_open room =
+    (read-spelled want (at + 1) high done (with_part next form ∷ outer) tokens ascends.1 sound (AreOpen-part low (at + 1) next outer form (omega arith) are_open.3 is_sound) room)
+read-spelled want low high done (inner ∷ outer) (atom at bytes ∷ tokens) ascends sound are_open room =
     IfOk-cond (leb (length bytes) 64) (read want done (with_part inner (word bytes at (at + length bytes)) ∷ outer) tokens) (Err _) _ (λ short.
     let form = word bytes at (at + length bytes) in
     let above : low ≤ at = ascends.0 in
     IsSpelled-along want _ (read want done (with_part inner form ∷ outer) tokens)
     (ap (λ ts. flat_map spelling done ++ ts) (open_tokens-part inner outer form tokens))
-    (read-spelled want (at + 1) done (with_part inner form ∷ outer) tokens ascends.1 sound (AreOpen-part low (at + 1) inner outer form (omega arith) are_open (leb-true _ _ short, refl)) room))
+    (read-spelled want (at + 1) high done (with_part inner form ∷ outer) tokens ascends.1 sound (AreOpen-part low (at + 1) inner outer form (omega arith) are_open (leb-true _ _ short, refl)) room))
     (λ long. tt)
-read-spelled want low done (inner ∷ outer) (odd at ∷ tokens) ascends sound are_open room = tt
+read-spelled want low high done (inner ∷ outer) (odd at ∷ tokens) ascends sound are_open room = tt

@@ -29,7 +29,7 @@ read-Spelled text want forms rest s =
 Spells-from_read : (text : List ℕ) (want : ℕ) (forms : List Tree) (later : List Token)
     → read want [] [] (tokens text) ≡ Ok (forms, later) → Spells want (tokens text) forms later
 Spells-from_read text want forms later is_read =
-    subst (IsSpelled want (tokens text)) is_read (read-spelled want 0 [] [] (tokens text) (Ascends-tokens_from between 0 text) tt tt (omega arith))
+    subst (IsSpelled want (tokens text)) is_read (read-spelled want 0 (length text) [] [] (tokens text) (Ascends-tokens_from between 0 (length text) text (omega arith)) tt tt (omega arith))
 
 -- what is read is spelled by the text
 pub Spelled-from_read : (text : List ℕ) (want : ℕ) (forms : List Tree) (later : List Token) (rest : ℕ)

@@ -7,6 +7,7 @@ ghost use Rattle.rc_form.specs.Lexer.{tokens_at};
 ghost use Rattle.rc_form.specs.Read.{read};
 ghost use Rattle.rc_form.specs.Reader.{FaultIs};
 ghost use Rattle.rc_form.specs.SameForm.{IsOfAtoms};
+ghost use Rattle.rc_model.specs.Placed.{IsPlaced};
 ghost use Rattle.rc_model.specs.Spelled.{Spelled, IsTopList, next_offset};
 ghost use Rattle.rc_model.specs.Tree.{Tree, spelling};
 
@@ -36,6 +37,7 @@ pub fn read_forms(alloc: Global, text: &[u8], want: usize) -> Result<Forms, Form
     ensures lists { IfOk result (λ f. All (λ form. IsTopList (tree_of form)) f.list.items) }
     ensures printable { IfOk result (λ f. All (λ form. IsPrintable (tree_of form)) f.list.items) }
     ensures of_atoms { IfOk result (λ f. All (λ form. IsOfAtoms (tree_of form)) f.list.items) }
+    ensures placed { IfOk result (λ f. All (λ form. IsPlaced (length text.now) (tree_of form)) f.list.items) }
 
     // No other lists and rest are spelled.
     ensures only { IfOk result (λ f. (others : List Tree) (end : ℕ) → Spelled text.now want others end

@@ -1,5 +1,6 @@
 pub mod Token
 pub mod Tree
+pub mod Placed
 pub mod Spelled
 pub mod Literal
 pub mod Clamp

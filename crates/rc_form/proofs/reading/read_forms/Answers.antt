@@ -18,6 +18,8 @@ use Rattle.rc_form.proofs.FaultLaws.{IsFirstFault-unique}
 use Rattle.rc_form.proofs.ReadIsFault.{fault-from_read, no_fault-from_read}
 use Rattle.rc_form.specs.SameForm.{IsOfAtoms}
 use Rattle.rc_form.proofs.AtomsAreRead.{All-of_atoms-spelled}
+use Rattle.rc_model.specs.Placed.{IsPlaced}
+use Rattle.rc_form.proofs.Placed.{All-placed}
 use Rattle.rc_form.proofs.TopLists.{All-top, All-printable}
 use Rattle.rc_form.proofs.reading.read_forms.Goals as goal
 
@@ -101,6 +103,14 @@ returns-clause-of_atoms c =
     IfOk-read text want c.read_lists.result c.read_lists.ensures.reads c.read_lists.ensures.rest
     (λ f. All (λ form. IsOfAtoms (tree_of form)) f.list.items)
     (λ f reads rests. All-of_atoms-spelled text want f.list.items f.rest (is_spelled text want f reads rests))
+
+pub returns-clause-placed : goal.returns-clause-placed
+returns-clause-placed c =
+    let text = c.args.text.now in
+    let want = c.args.want in
+    IfOk-read text want c.read_lists.result c.read_lists.ensures.reads c.read_lists.ensures.rest
+    (λ f. All (λ form. IsPlaced (length text) (tree_of form)) f.list.items)
+    (λ f reads rests. All-placed text want f.list.items f.rest (is_spelled text want f reads rests))
 
 pub returns-clause-fault : goal.returns-clause-fault
 returns-clause-fault c = IfErr-fault c.args.text.now c.args.want c.read_lists.result c.read_lists.ensures.fault
