@@ -13,7 +13,7 @@ use Rattle.std.proofs.lemmas.List.Folds.{list_any-append}
 use Rattle.std.proofs.lemmas.List.Concat.{flat_map-append}
 use Rattle.std.proofs.lemmas.List.FromFn.{map-range_with_len_more}
 use Rattle.std.proofs.lemmas.Simd.{map-map}
-use Rattle.rc_model.specs.SmallGame.{SmallGame, Play, plays_of, round_of, below, hand_after, scripted_item, play_from, through_last_play}
+use Rattle.rc_model.specs.SmallGame.{SmallGame, Play, plays_of, round_of, below, hand_after, menu_size, scripted_item, play_from, through_last_play}
 
 -- the numbers below n + 1 are those below n, and n
 pub below_more : (n : ℕ) → below (n + 1) ≡ below n ++ n ∷ []
@@ -42,7 +42,7 @@ map_below_more g f xs xs' x n pushed before here =
 pub hand_after_more :
     (script hand left : List ℕ) (j item : ℕ)
     → left ≡ hand_after script hand j
-    → item ≡ scripted_item script j (length left)
+    → item ≡ scripted_item script j (menu_size left)
     → hand_after script hand (j + 1) ≡ remove left item
 hand_after_more script hand left j item held taken =
     ap (λ n. hand_after script hand n) (add-one j) ∙ rw (taken, held) refl
@@ -51,7 +51,7 @@ hand_after_more script hand left j item held taken =
 pub play_from_is :
     (seat : ℕ) (script hand left : List ℕ) (j item size card : ℕ)
     → left ≡ hand_after script hand j
-    → size ≡ length left
+    → size ≡ menu_size left
     → item ≡ scripted_item script j size
     → card ≡ slice_index left item
     → play_from seat script hand j ≡ record { pick = record { seat = seat; site = 0; item = item; size = size }; card = card }

@@ -15,7 +15,7 @@ pub record IsPlayable (game : SmallGame) : Type 0 where
   pub some_players : 1 ≤ game.players
   pub few_players : game.players ≤ 8
   pub worths_in_range : All IsWithinClamp game.worths
-  pub few_worths : length game.worths ≤ 256
+  pub few_worths : length game.worths ≤ 512
   pub few_cards : game.hand_size ≤ 1000
   pub one_script_each : length game.scripts ≡ game.players
   pub some_turns : 1 ≤ game.turns

@@ -5,7 +5,7 @@
 pub struct SmallGame {
     /// 1 to 8.
     pub players: u8,
-    /// What each card is worth, from the bottom of the stock to its top: 1 to 256 numbers from -1,000,000,000 to 1,000,000,000.
+    /// What each card is worth, from the bottom of the stock to its top: 1 to 512 numbers from -1,000,000,000 to 1,000,000,000.
     pub worths: Vec<i64>,
     /// How many cards a player is dealt, where there are as many: 0 to 1,000.
     pub hand_size: u16,

@@ -111,7 +111,6 @@ fn plays_of(
     seat: u8,
 ) -> Result<Vec<Play>, AllocError>
     requires cards { dealt.now ≡ dealt_cards (game_of game.now) }
-    requires few { length dealt.now ≤ 256 }
     requires script { seat < length game.now.scripts.items }
     ensures { IfOk result (λ plays. plays_in plays ≡ plays_of (game_of game.now) seat) }
 {

@@ -1,6 +1,6 @@
 //! The rounds of a game: who chooses what, before any turn limit.
-ghost use Rattle.std.specs.Prelude.{◌≡◌, ◌+◌, ◌*◌, ◌^◌, ◌<◌, ◌++◌, map, reverse, take, drop, flat_map, length, IfOk, OnOk};
-ghost use Rattle.rc_model.specs.SmallGame.{below, scripted_item, play_from, through_last_play, turns_of};
+ghost use Rattle.std.specs.Prelude.{◌≡◌, ◌+◌, ◌*◌, ◌<◌, ◌≤◌, ◌++◌, map, reverse, take, drop, flat_map, length, IfOk, OnOk};
+ghost use Rattle.rc_model.specs.SmallGame.{below, menu_size, scripted_item, play_from, through_last_play, turns_of};
 ghost use Rattle.rc_house.specs.Play.{option_play_of, plays_in, choice_in};
 
 use super::super::transcript::Pick;
@@ -43,6 +43,18 @@ pub fn hand_of(
         .collect(alloc)
 }
 
+/// The most items of a menu.
+const MENU: usize = 256;
+
+/// How many cards of a hand a menu offers: the first 256.
+fn menu_size(hand: &[u16]) -> u16
+    ensures value { result ≡ menu_size hand.now }
+    ensures some { 0 < length hand.now → 0 < result }
+    ensures within { result ≤ length hand.now }
+{
+    hand.len().min(MENU) as u16
+}
+
 /// The item that a script takes at its decision of this number, out of `size`.
 fn scripted_item(script: &[u16], decision: usize, size: u16) -> u16
     requires { 0 < size }
@@ -59,14 +71,13 @@ pub fn plays_from(
     script: &[u16],
     hand: Vec<u16>,
 ) -> Result<Vec<Play>, AllocError>
-    requires { length hand.items < 2 ^ 16 }
     ensures { IfOk result (λ plays.
         plays_in plays ≡ map (play_from seat script.now hand.items) (below (length hand.items))) }
 {
     let mut left = hand;
     let mut plays = Vec::new(alloc);
     for decision in 0..left.len() {
-        let size = left.len() as u16;
+        let size = menu_size(&left);
         let item = scripted_item(script, decision, size);
         let card = left.remove(usize::from(item));
         let pick = Pick {
