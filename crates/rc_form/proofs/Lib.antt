@@ -9,3 +9,4 @@ pub mod ReadIsFault
 pub mod TopLists
 pub mod PrintedIsSpelled
 pub mod AtomsAreRead
+pub mod Digits
