@@ -1,10 +1,17 @@
 -- The two forms of a source, and what follows for its game.
-use Rattle.std.proofs.Common.{◌≡◌, ◌≢◌, ◌<◌, ◌≤◌, ℕ, inl, inr, List, [], ◌∷◌, length, map, get_or, All, arith, refl, sym, ◌∙◌, ap, subst, ℤ}
+use Rattle.std.proofs.Common.{◌≡◌, ◌≢◌, ◌<◌, ◌≤◌, ◌+◌, ℕ, inl, inr, List, [], ◌∷◌, length, map, get_or, All, arith, refl, sym, ◌∙◌, ap, subst, ℤ}
 use Rattle.std.specs.List.{AllZip}
-use Rattle.std.proofs.lemmas.List.Elements.{All-nil, All-cons}
+use Rattle.std.proofs.lemmas.List.Elements.{All-map, All-same, All-head}
+use Rattle.std.proofs.lemmas.List.{length-map}
+use Rattle.std.proofs.lemmas.Int.{ints, clamps}
+use Rattle.rc_model.specs.Clamp.{clamped}
+use Rattle.rc_model.specs.Deck.{Entry, Face, fits_entry, points_of}
+use Rattle.std.specs.Prelude.{fold, if◌then◌else◌, pos, ◌+ℤ◌}
+use Rattle.rc_model.specs.DeckText.{HaveWorths}
+use Rattle.rc_model.specs.Placed.{starts, Rise, IsPlaced}
 use Rattle.rc_model.specs.Spelled.{Spelled}
 use Rattle.rc_model.specs.SmallGame.{SmallGame, small_house}
-use Rattle.rc_model.specs.SmallText.{IsSmall, IsSmallSheet, IsSmallPlan, IsWorth}
+use Rattle.rc_model.specs.SmallText.{IsSmall, IsSmallSheet, IsSmallPlan}
 use Rattle.rc_house.specs.Play.{IsPlayable, IsWithinClamp}
 use Rattle.rc_form.specs.declared.fault.FormKind.{FormKind}
 use Rattle.rc_form.specs.FormFault.{IsFormFault}
@@ -33,40 +40,64 @@ length_zip R [] (y ∷ ys) all = absurd all
 length_zip R (x ∷ xs) [] all = absurd all
 length_zip R (x ∷ xs) (y ∷ ys) all = omega (arith, length_zip R xs ys all.1)
 
-worths_in_range : (words : List (List ℕ)) (worths : List ℤ) → AllZip IsWorth words worths → All IsWithinClamp worths
-worths_in_range [] [] all = All-nil IsWithinClamp
-worths_in_range [] (worth ∷ worths) all = absurd all
-worths_in_range (word ∷ words) [] all = absurd all
-worths_in_range (word ∷ words) (worth ∷ worths) all =
-    All-cons IsWithinClamp worth worths (all.0.least, all.0.most) (worths_in_range words worths all.1)
+-- what is clamped is within the clamp
+clamped_within : (z : ℤ) → IsWithinClamp (clamped z)
+clamped_within z = (omega (arith, ints, clamps), omega (arith, ints, clamps))
+
+-- what a face is worth is within the clamp
+points_within : (entries : List Entry) (face : Face) → IsWithinClamp (points_of entries face)
+points_within entries face = clamped_within (fold ◌+ℤ◌ (pos 0) (map (λ entry. if fits_entry entry face then entry.points else pos 0) entries))
+
+-- what cards are worth is within the clamp
+worths_in_range : (deck entries : Tree) (worths : List ℤ) → HaveWorths deck entries worths → All IsWithinClamp worths
+worths_in_range deck entries worths have =
+    subst (All IsWithinClamp) (sym have.each) (All-map IsWithinClamp (points_of have.points) have.faces (λ k d lt. points_within have.points (get_or have.faces k d)))
+
+-- there are no more worths than cards
+few_worths : (deck entries : Tree) (worths : List ℤ) → HaveWorths deck entries worths → length worths ≤ 512
+few_worths deck entries worths have =
+    let count : length worths ≡ length have.faces = ap length have.each ∙ length-map have.faces (points_of have.points) in omega (arith, have.few_cards)
 
 -- a small game is within the limits
 pub playable : (source : List ℕ) (game : SmallGame) → IsSmall source game → IsPlayable game
 playable source game small =
     let sheet = small.small_sheet in
     let plan = small.small_plan in
-    let worths : length sheet.words.worths ≡ length game.worths = length_zip IsWorth _ _ sheet.worths in
     let scripts : length plan.words.scripts ≡ length game.scripts = length_zip _ _ _ plan.scripts in
     record {
       some_players = sheet.some_players;
       few_players = sheet.few_players;
-      worths_in_range = worths_in_range _ _ sheet.worths;
-      few_worths = omega (arith, sheet.few_values, sheet.one_worth_each);
-      few_cards = sheet.few_cards;
+      worths_in_range = worths_in_range _ _ game.worths sheet.cards;
+      few_worths = few_worths _ _ game.worths sheet.cards;
+      few_cards = sheet.few_dealt;
       one_script_each = omega (arith, plan.one_script_each);
       some_turns = plan.some_turns;
       few_turns = plan.few_turns;
     }
 
--- what a small text's two forms are printed as is a small sheet and a small plan
-pub small_parts : (source a b sheet_bytes plan_bytes : List ℕ) (game : SmallGame) → a ≡ sheet_bytes → b ≡ plan_bytes → IsSmall source game
-    → ((sheet plan : Tree) → Spelled source 2 (sheet ∷ plan ∷ []) (length source) → (printed sheet ≡ sheet_bytes) × (printed plan ≡ plan_bytes))
-    → IsSmallSheet a game × IsSmallPlan b game
-small_parts source a b sheet_bytes plan_bytes game is_sheet is_plan small only =
-    let e = only small.sheet small.plan small.forms in (
-      subst (λ bytes. IsSmallSheet bytes game) (e.0 ∙ sym is_sheet) small.small_sheet,
-      subst (λ bytes. IsSmallPlan bytes game) (e.1 ∙ sym is_plan) small.small_plan,
+-- the two forms of a small text are a small sheet and a small plan
+pub small_parts : (source bytes : List ℕ) (a b : Tree) (game : SmallGame) → bytes ≡ printed b
+    → ((sheet plan : Tree) → Spelled source 2 (sheet ∷ plan ∷ []) (length source) → (sheet ≡ a) × (plan ≡ b))
+    → IsSmall source game → IsSmallSheet a game × IsSmallPlan bytes game
+small_parts source bytes a b game print only small =
+    let same = only small.sheet small.plan small.forms in (
+      subst (λ tree. IsSmallSheet tree game) same.0 small.small_sheet,
+      subst (λ bytes. IsSmallPlan bytes game) (ap printed same.1 ∙ sym print) small.small_plan,
     )
+
+-- numbers that rise are no more than those that they stay below
+rise_few : (low high : ℕ) (ns : List ℕ) → Rise low high ns → low + length ns ≤ high
+rise_few low high [] rise = omega (arith, rise)
+rise_few low high (n ∷ ns) rise = let few = rise_few (n + 1) high ns rise.1 in omega (arith, rise.0)
+
+-- a form has no more parts than its text has bytes
+pub few_parts : (size : ℕ) (forms : List Form) (sheet plan : Form) → forms ≡ sheet ∷ plan ∷ [] → All (λ form. IsPlaced size (tree_of form)) forms
+    → length (starts (tree_of sheet)) ≤ size
+few_parts size forms sheet plan two placed =
+    let both = All-same (λ form. IsPlaced size (tree_of form)) (sheet ∷ plan ∷ []) forms (sym two) placed in
+    let first = All-head (λ form. IsPlaced size (tree_of form)) sheet (plan ∷ []) both in
+    let few = rise_few 0 size (starts (tree_of sheet)) first in
+    omega arith
 
 -- no lists are the wanted ones of the source
 abbrev ReadsNothing : List ℕ → ℕ → Type 0

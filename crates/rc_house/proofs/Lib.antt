@@ -1,11 +1,11 @@
 pub mod AnswerLaws
 pub mod Cuts
-pub mod Entries
 pub mod Games
 pub mod Loops
 pub mod Numbers
 pub mod Options
 pub mod OutcomeLemmas
+pub mod Paths
 pub mod Plan
 pub mod PlayLaws
 pub mod RoundLaws
@@ -13,4 +13,3 @@ pub mod ScoringLaws
 pub mod Scripts
 pub mod Sheet
 pub mod Spacing
-pub mod Values

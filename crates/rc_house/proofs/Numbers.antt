@@ -8,8 +8,7 @@ use Rattle.std.specs.List.{list_all}
 use Rattle.std.proofs.lemmas.Bool.{cases_Bool, and_parts, and_from, not_from_false, ne_eqb, eqb-true, leb-true, le-leb, cond-true, cond-false, false≢true}
 use Rattle.std.proofs.lemmas.Option.{cond_some, option_and_then_some}
 use Rattle.rc_model.specs.Literal.{is_digit, natural, integer}
-use Rattle.rc_model.specs.SmallText.{IsWorth}
-use Rattle.rc_house.specs.SmallReading.{◌>>=◌, within, unsigned, count_of, number_of, worth_of}
+use Rattle.rc_house.specs.SmallReading.{◌>>=◌, within, unsigned, count_of, number_of}
 use Rattle.rc_house.proofs.Options.{map_some}
 use Rattle.rc_house.proofs.Cuts.{Lacks}
 
@@ -82,24 +81,3 @@ number_takes least most word n e =
 pub number_again : (least most : ℕ) (word : List ℕ) (n : ℕ) → natural word ≡ Some n → least ≤ n → n ≤ most → number_of least most word ≡ Some n
 unfolding number_of
 number_again least most word n e low high = ap (λ o. o >>= within least most) e ∙ within_again least most n low high
-
--- a test that holds is true
-truth : (b : Bool) → T b → b ≡ true
-truth true holds = refl
-truth false holds = absurd holds
-
--- a worth that is read is one
-pub worth_takes : (word : List ℕ) (z : ℤ) → worth_of word ≡ Some z → IsWorth word z
-unfolding worth_of
-worth_takes word z e =
-    option_and_then_some _ _ _ e (λ number spelled e.
-    let range = cond_some _ _ _ e in
-    let parts = and_parts _ _ range.0 in
-    let is : IsWorth word number = record { spelled = spelled; least = le_z_yes (T_from_true _ parts.0); most = le_z_yes (T_from_true _ parts.1) } in
-    subst (IsWorth word) range.1 is)
-
--- a worth is read
-pub worth_again : (word : List ℕ) (z : ℤ) → IsWorth word z → worth_of word ≡ Some z
-unfolding worth_of
-worth_again word z is =
-    ap (λ o. o >>= λ worth. cond (int_le (neg_ℤ (pos 1000000000)) worth && int_le worth (pos 1000000000)) (Some worth) None) is.spelled ∙ cond-true _ _ _ (and_from _ _ (truth _ is.least.le) (truth _ is.most.le))

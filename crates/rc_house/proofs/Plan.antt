@@ -7,6 +7,7 @@ use Rattle.rc_model.specs.Literal.{natural}
 use Rattle.rc_model.specs.SmallGame.{SmallGame}
 use Rattle.rc_model.specs.SmallText.{PlanWords, IsSmallPlan, spaced, script_text, plan_text}
 use Rattle.rc_house.specs.SmallReading.{scripts_at, TailReading, tail_at, PlanReading, plan_at}
+use Rattle.rc_house.specs.Parts.{plan_of}
 use Rattle.rc_house.proofs.Options.{step, some_is}
 use Rattle.rc_house.proofs.Cuts.{behind_takes, behind_again, until_takes, until_again}
 use Rattle.rc_house.proofs.Numbers.{natural_lacks, number_takes, number_again}
@@ -102,10 +103,6 @@ from_front : (words : PlanWords) → plan_text words ≡ seats_text ++ (scripts_
 from_front words =
     regroup seats_text (spaced (map script_text words.scripts)) matches_text words.deal (codes " ") words.seats (41 ∷ turns_text) words.turns (codes "))")
     ∙ ap (λ t. seats_text ++ (t ++ tail_text words.deal words.seats words.turns)) (spaced_joined (map script_text words.scripts))
-
--- what a plan of this game says
-abbrev pub plan_of : SmallGame → PlanReading
-plan_of game = record { scripts = game.scripts; tail = record { deal = game.deal; seats = game.seats; turns = game.turns } }
 
 -- a plan that is read is a small plan
 pub plan_takes : (bytes : List ℕ) (game : SmallGame) → plan_at game.players bytes ≡ Some (plan_of game) → IsSmallPlan bytes game

@@ -1,36 +1,31 @@
--- A sheet that is read is a small sheet, and a small sheet is read.
-use Rattle.std.proofs.Common.{◌≡◌, ◌≢◌, ℕ, ◌≤◌, cond, eqb, List, [], ◌∷◌, ◌++◌, length, map, Some, None, ℤ, pos, refl, sym, ap, subst, ◌∙◌, append_assoc, arith, codes}
-use Rattle.std.specs.List.{All, AllPairs, AllZip, zip}
-use Rattle.std.proofs.lemmas.Bool.{eqb-true, cond-true}
+-- The numbers of a sheet that are read stand there, and those that stand there are read.
+use Rattle.std.proofs.Common.{◌≡◌, ℕ, ◌≤◌, eqb, List, [], ◌∷◌, ◌++◌, length, Some, pos, refl, sym, ap, ◌∙◌, append_assoc, arith, codes}
+use Rattle.std.proofs.lemmas.Bool.{eqb-true}
 use Rattle.std.proofs.lemmas.List.{nil_from_length}
-use Rattle.std.proofs.lemmas.List.Splits.{join_with_byte-slice_split, length-slice_split}
 use Rattle.std.proofs.lemmas.Option.{cond_some, option_and_then_some, some_pair_parts}
 use Rattle.rc_model.specs.Literal.{integer}
-use Rattle.rc_model.specs.SmallGame.{SmallGame}
-use Rattle.rc_model.specs.SmallText.{SheetWords, IsValue, IsWorth, IsSmallSheet, entry_text, spaced, sheet_text}
-use Rattle.rc_house.specs.SmallReading.{words_of, are_values, players_at, values_at, entries_at, points_at, hand_size_at, SheetReading, sheet_at}
-use Rattle.rc_house.proofs.Options.{step, pair_parts, some_is}
+use Rattle.rc_model.specs.Tree.{Tree, printed}
+use Rattle.rc_model.specs.SmallText.{SheetParts, sheet_text}
+use Rattle.rc_house.specs.SmallReading.{players_at, setup_at, hand_size_at, CountsReading, counts_at}
+use Rattle.rc_house.proofs.Options.{step, some_is}
 use Rattle.rc_house.proofs.Cuts.{behind_takes, behind_again, until_takes, until_again}
 use Rattle.rc_house.proofs.Numbers.{integer_lacks, count_takes, count_again}
-use Rattle.rc_house.proofs.Spacing.{words_again, spaced_lacks, spaced_joined}
-use Rattle.rc_house.proofs.Values.{are_values_takes, are_values_again, values_lack}
-use Rattle.rc_house.proofs.Entries.{entries_take, entries_again}
 
 -- the sheet up to the number of players
 abbrev players_text : List ℕ
 players_text = codes "(game (setup (create players "
 
--- what stands before the values
-abbrev values_text : List ℕ
-values_text = codes " (create deck (game hloc STOCK) (deck (RANK ("
+-- what stands before the deck
+abbrev deck_text : List ℕ
+deck_text = codes " (create deck (game hloc STOCK) "
 
 -- what stands before the entries of the points
 abbrev points_text : List ℕ
-points_text = codes "))) (put points WORTH ("
+points_text = codes ") (put points WORTH "
 
 -- what stands before the hand size
 abbrev hand_text : List ℕ
-hand_text = codes "))) (do (all player 'P (repeat "
+hand_text = codes ")) (do (all player 'P (repeat "
 
 -- what stands behind the hand size
 abbrev end_text : List ℕ
@@ -56,62 +51,26 @@ players_again word n rest spelled some few =
     (step _ (until_again 41 word rest (integer_lacks 41 word (pos n) refl refl spelled))
     (step _ (count_again 1 8 word n spelled some few) refl))
 
--- what is known of the values of a sheet
-record AreValues (values : List (List ℕ)) : Type 0 where
-  some : 1 ≤ length values
-  few : length values ≤ 256
-  atoms : All IsValue values
-  differ : AllPairs ◌≢◌ values
+-- what stands there up to the hand size
+abbrev setup_text : List ℕ → List ℕ → List ℕ → List ℕ
+setup_text deck entries rest = deck_text ++ (deck ++ (points_text ++ (entries ++ rest)))
 
--- the words that spaces part
-some_words : (bytes : List ℕ) → 1 ≤ length (words_of bytes)
-some_words bytes = omega (arith, length-slice_split (λ b. eqb b 32) bytes)
+-- the deck and the entries that are read stand there
+setup_takes : (deck entries bytes rest : List ℕ) → setup_at deck entries bytes ≡ Some rest → bytes ≡ setup_text deck entries rest
+unfolding setup_at
+setup_takes deck entries bytes rest e =
+    option_and_then_some _ _ _ e (λ created at_created e.
+    option_and_then_some _ _ _ e (λ decked at_decked e.
+    option_and_then_some _ _ _ e (λ put at_put e.
+    let from_put = behind_takes points_text decked put at_put ∙ ap (λ r. points_text ++ r) (behind_takes entries put rest e) in
+    let from_deck = behind_takes deck created decked at_decked ∙ ap (λ r. deck ++ r) from_put in
+    behind_takes deck_text bytes created at_created ∙ ap (λ r. deck_text ++ r) from_deck)))
 
--- the values that are read stand there
-values_take : (bytes : List ℕ) (values : List (List ℕ)) (rest : List ℕ) → values_at bytes ≡ Some (values, rest) → AreValues values × (bytes ≡ values_text ++ (spaced values ++ 41 ∷ rest))
-unfolding values_at
-values_take bytes values rest e =
-    option_and_then_some _ _ _ e (λ opened at_opened e.
-    option_and_then_some _ _ _ e (λ words at_words e.
-    let found = cond_some (are_values (words_of words.0)) (words_of words.0, words.1) (values, rest) e in
-    let parts = pair_parts (words_of words.0) values words.1 rest found.1 in
-    let are = are_values_takes (words_of words.0) found.0 in
-    let known : AreValues (words_of words.0) = record { some = some_words words.0; few = are.0; atoms = are.1; differ = are.2 } in
-    let again : spaced (words_of words.0) ≡ words.0 = join_with_byte-slice_split 32 words.0 in
-    let front : words.0 ≡ spaced values = sym again ∙ ap spaced parts.0 in
-    let from_words = until_takes 41 opened words.0 words.1 at_words ∙ ap (λ w. w ++ 41 ∷ words.1) front ∙ ap (λ r. spaced values ++ 41 ∷ r) parts.1 in
-    (subst AreValues parts.0 known, behind_takes values_text bytes opened at_opened ∙ ap (λ r. values_text ++ r) from_words)))
-
--- the values that stand there are read
-values_again : (values : List (List ℕ)) (rest : List ℕ) → AreValues values → values_at (values_text ++ (spaced values ++ 41 ∷ rest)) ≡ Some (values, rest)
-unfolding values_at
-values_again [] rest are = absurd (omega (arith, are.some))
-values_again (value ∷ values) rest are =
-    let all : List (List ℕ) = value ∷ values in
-    let words : words_of (spaced all) ≡ all = words_again value values (values_lack 32 all refl are.atoms) in
-    step _ (behind_again values_text _)
-    (step _ (until_again 41 (spaced all) rest (spaced_lacks 41 all refl (values_lack 41 all refl are.atoms)))
-    (ap (λ w. cond (are_values w) (Some (w, rest)) None) words ∙ cond-true _ _ _ (are_values_again all are.few are.atoms are.differ)))
-
--- an entry for each value, with one space between them
-abbrev entries_spaced : List (List ℕ) → List (List ℕ) → List ℕ
-entries_spaced values words = spaced (map entry_text (zip values words))
-
--- the points that are read stand there
-points_take : (values : List (List ℕ)) (bytes : List ℕ) (worths : List ℤ) (rest : List ℕ) → points_at values bytes ≡ Some (worths, rest)
-    → (words : List (List ℕ)) × (length words ≡ length values) × AllZip IsWorth words worths × (bytes ≡ points_text ++ (entries_spaced values words ++ rest))
-unfolding points_at
-points_take values bytes worths rest e =
-    option_and_then_some _ _ _ e (λ opened at_opened e.
-    let entries = entries_take [] values opened worths rest e in
-    let from_entries = entries.3 ∙ ap (λ t. t ++ rest) (sym (spaced_joined (map entry_text (zip values entries.0)))) in
-    (entries.0, entries.1, entries.2, behind_takes points_text bytes opened at_opened ∙ ap (λ r. points_text ++ r) from_entries))
-
--- the points that stand there are read
-points_again : (values words : List (List ℕ)) (worths : List ℤ) (rest : List ℕ) → length words ≡ length values → AllZip IsWorth words worths → points_at values (points_text ++ (entries_spaced values words ++ rest)) ≡ Some (worths, rest)
-unfolding points_at
-points_again values words worths rest long are =
-    step _ (behind_again points_text _) (ap (λ t. entries_at [] values (t ++ rest)) (spaced_joined (map entry_text (zip values words))) ∙ entries_again [] values words worths rest long are)
+-- the deck and the entries that stand there are read
+setup_again : (deck entries rest : List ℕ) → setup_at deck entries (setup_text deck entries rest) ≡ Some rest
+unfolding setup_at
+setup_again deck entries rest =
+    step _ (behind_again deck_text _) (step _ (behind_again deck _) (step _ (behind_again points_text _) (behind_again entries rest)))
 
 -- the hand size that is read stands there, and the sheet's end behind it
 hand_takes : (bytes : List ℕ) (n : ℕ) → hand_size_at bytes ≡ Some n → (word : List ℕ) × (integer word ≡ Some (pos n)) × (n ≤ 1000) × (bytes ≡ hand_text ++ (word ++ 32 ∷ end_text))
@@ -138,76 +97,67 @@ hand_again word n spelled few =
     (step _ (behind_again end_text []) refl)))
 
 -- a sheet, with its parts as they are read
-regroup : (a players b values c entries d hand e f g h : List ℕ)
-    → a ++ players ++ b ++ values ++ c ++ entries ++ d ++ hand ++ e ++ f ++ g ++ h ≡ a ++ (players ++ (b ++ (values ++ (c ++ (entries ++ (d ++ (hand ++ (e ++ (f ++ (g ++ h))))))))))
-regroup a players b values c entries d hand e f g h = simp append_assoc
+regroup : (a players b deck c entries d hand e f g h : List ℕ)
+    → a ++ players ++ b ++ deck ++ c ++ entries ++ d ++ hand ++ e ++ f ++ g ++ h ≡ a ++ (players ++ (b ++ (deck ++ (c ++ (entries ++ (d ++ (hand ++ (e ++ (f ++ (g ++ h))))))))))
+regroup a players b deck c entries d hand e f g h = simp append_assoc
 
--- what stands behind the points
-abbrev after_points : SheetWords → List ℕ
-after_points words = hand_text ++ (words.hand_size ++ 32 ∷ end_text)
-
--- what stands behind the values
-abbrev after_values : SheetWords → List ℕ
-after_values words = points_text ++ (entries_spaced words.values words.worths ++ after_points words)
-
--- what stands behind the number of players
-abbrev after_players : SheetWords → List ℕ
-after_players words = values_text ++ (spaced words.values ++ 41 ∷ after_values words)
+-- what stands behind the setup
+abbrev behind_setup : List ℕ → List ℕ
+behind_setup hand_size = hand_text ++ (hand_size ++ 32 ∷ end_text)
 
 -- a small sheet as it is read from the front
-from_front : (words : SheetWords) → sheet_text words ≡ players_text ++ (words.players ++ 41 ∷ after_players words)
-from_front words =
-    regroup players_text words.players (41 ∷ values_text) (spaced words.values) (41 ∷ points_text) (entries_spaced words.values words.worths) hand_text words.hand_size
+abbrev front_text : (players deck entries hand_size : List ℕ) → List ℕ
+front_text players deck entries hand_size = players_text ++ (players ++ 41 ∷ setup_text deck entries (behind_setup hand_size))
+
+from_front : (parts : SheetParts) → sheet_text parts ≡ front_text parts.players (printed parts.deck) (printed parts.entries) parts.hand_size
+from_front parts =
+    regroup players_text parts.players (41 ∷ deck_text) (printed parts.deck) points_text (printed parts.entries) hand_text parts.hand_size
     (codes " (move (top (game hloc STOCK)) (top ('P iloc HAND))))))") (codes " (stage player (end (all player 'P (= (size ('P iloc HAND)) 0)))")
     (codes " (choice (any ((current player) iloc HAND) 'C (do (move 'C (top ((current player) vloc PLAYED)))))))") (codes " (scoring max (sum ('SELF vloc PLAYED) using WORTH)))")
 
--- what a sheet of this game says
-abbrev pub sheet_of : SmallGame → SheetReading
-sheet_of game = record { players = game.players; worths = game.worths; hand_size = game.hand_size }
+-- The sheet is printed with these numbers and with this deck and these entries.
+pub record HasCounts (deck entries : Tree) (bytes : List ℕ) (counts : CountsReading) : Type 0 where
+  pub players_word : List ℕ
+  pub hand_size_word : List ℕ
+  pub spelled : bytes ≡ sheet_text (record { players = players_word; deck = deck; entries = entries; hand_size = hand_size_word })
+  pub players : integer players_word ≡ Some (pos counts.players)
+  pub some_players : 1 ≤ counts.players
+  pub few_players : counts.players ≤ 8
+  pub hand_size : integer hand_size_word ≡ Some (pos counts.hand_size)
+  pub few_dealt : counts.hand_size ≤ 1000
 
--- a sheet that is read is a small sheet
-pub sheet_takes : (bytes : List ℕ) (game : SmallGame) → sheet_at bytes ≡ Some (sheet_of game) → IsSmallSheet bytes game
-unfolding sheet_at
-sheet_takes bytes game e =
+-- the numbers that are read stand there
+pub counts_take : (deck entries : Tree) (bytes : List ℕ) (counts : CountsReading) → counts_at (printed deck) (printed entries) bytes ≡ Some counts → HasCounts deck entries bytes counts
+unfolding counts_at
+counts_take deck entries bytes counts e =
     option_and_then_some _ _ _ e (λ players at_players e.
-    option_and_then_some _ _ _ e (λ values at_values e.
-    option_and_then_some _ _ _ e (λ points at_points e.
+    option_and_then_some _ _ _ e (λ dealing at_setup e.
     option_and_then_some _ _ _ e (λ hand_size at_hand e.
-    let says : record { players = players.0; worths = points.0; hand_size = hand_size } ≡ sheet_of game = some_is e in
-    let players_says : players.0 ≡ game.players = ap (λ (s : SheetReading). s.players) says in
-    let worths_say : points.0 ≡ game.worths = ap (λ (s : SheetReading). s.worths) says in
-    let hand_says : hand_size ≡ game.hand_size = ap (λ (s : SheetReading). s.hand_size) says in
-    let first = players_take bytes game.players players.1 (at_players ∙ ap (λ n. Some (n, players.1)) players_says) in
-    let second = values_take players.1 values.0 values.1 at_values in
-    let third = points_take values.0 values.1 game.worths points.1 (at_points ∙ ap (λ (w : List ℤ). Some (w, points.1)) worths_say) in
-    let fourth = hand_takes points.1 game.hand_size (at_hand ∙ ap (λ n. Some n) hand_says) in
-    let words : SheetWords = record { players = first.0; values = values.0; worths = third.0; hand_size = fourth.0 } in
-    let from_values : values.1 ≡ after_values words = third.3 ∙ ap (λ r. points_text ++ (entries_spaced values.0 third.0 ++ r)) fourth.3 in
-    let from_players : players.1 ≡ after_players words = second.1 ∙ ap (λ r. values_text ++ (spaced values.0 ++ 41 ∷ r)) from_values in
+    let says : record { players = players.0; hand_size = hand_size } ≡ counts = some_is e in
+    let players_says : players.0 ≡ counts.players = ap (λ (c : CountsReading). c.players) says in
+    let hand_says : hand_size ≡ counts.hand_size = ap (λ (c : CountsReading). c.hand_size) says in
+    let first = players_take bytes counts.players players.1 (at_players ∙ ap (λ n. Some (n, players.1)) players_says) in
+    let second = setup_takes (printed deck) (printed entries) players.1 dealing at_setup in
+    let third = hand_takes dealing counts.hand_size (at_hand ∙ ap (λ n. Some n) hand_says) in
+    let from_players : players.1 ≡ setup_text (printed deck) (printed entries) (behind_setup third.0) = second ∙ ap (setup_text (printed deck) (printed entries)) third.3 in
+    let parts : SheetParts = record { players = first.0; deck = deck; entries = entries; hand_size = third.0 } in
     record {
-      words = words;
-      spelled = first.4 ∙ ap (λ r. players_text ++ (first.0 ++ 41 ∷ r)) from_players ∙ sym (from_front words);
+      players_word = first.0;
+      hand_size_word = third.0;
+      spelled = first.4 ∙ ap (λ r. players_text ++ (first.0 ++ 41 ∷ r)) from_players ∙ sym (from_front parts);
       players = first.1;
       some_players = first.2;
       few_players = first.3;
-      values = second.0.atoms;
-      different = second.0.differ;
-      some_values = second.0.some;
-      few_values = second.0.few;
-      one_worth_each = third.1;
-      worths = third.2;
-      hand_size = fourth.1;
-      few_cards = fourth.2;
-    }))))
+      hand_size = third.1;
+      few_dealt = third.2;
+    })))
 
--- a small sheet is read
-pub sheet_again : (bytes : List ℕ) (game : SmallGame) → IsSmallSheet bytes game → sheet_at bytes ≡ Some (sheet_of game)
-unfolding sheet_at
-sheet_again bytes game is =
-    let words = is.words in
-    let known : AreValues words.values = record { some = is.some_values; few = is.few_values; atoms = is.values; differ = is.different } in
-    ap sheet_at (is.spelled ∙ from_front words)
-    ∙ step _ (players_again words.players game.players (after_players words) is.players is.some_players is.few_players)
-    (step _ (values_again words.values (after_values words) known)
-    (step _ (points_again words.values words.worths game.worths (after_points words) is.one_worth_each is.worths)
-    (step _ (hand_again words.hand_size game.hand_size is.hand_size is.few_cards) refl)))
+-- the numbers that stand there are read
+pub counts_again : (deck entries : Tree) (bytes : List ℕ) (counts : CountsReading) → HasCounts deck entries bytes counts → counts_at (printed deck) (printed entries) bytes ≡ Some counts
+unfolding counts_at
+counts_again deck entries bytes counts has =
+    let parts : SheetParts = record { players = has.players_word; deck = deck; entries = entries; hand_size = has.hand_size_word } in
+    ap (counts_at (printed deck) (printed entries)) (has.spelled ∙ from_front parts)
+    ∙ step _ (players_again has.players_word counts.players (setup_text (printed deck) (printed entries) (behind_setup has.hand_size_word)) has.players has.some_players has.few_players)
+    (step _ (setup_again (printed deck) (printed entries) (behind_setup has.hand_size_word))
+    (step _ (hand_again has.hand_size_word counts.hand_size has.hand_size has.few_dealt) refl))

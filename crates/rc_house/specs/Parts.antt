@@ -1,12 +1,50 @@
--- What the values of the program stand for that the two texts of a small game give.
-use Rattle.std.specs.Prelude.{map}
+-- What the two texts of a small game say, and the values of the program that stand for it.
+use Rattle.std.specs.Prelude.{ℕ, List, map, ℤ, Option, None}
+use Rattle.rc_model.specs.Tree.{Tree, word, list, nth}
+use Rattle.rc_model.specs.SmallGame.{SmallGame}
 use Rattle.rc_house.specs.declared.small_text.parts.SheetParts.{SheetParts}
+use Rattle.rc_house.specs.declared.small_text.parts.SheetCounts.{SheetCounts}
 use Rattle.rc_house.specs.declared.small_text.parts.PlanParts.{PlanParts}
 use Rattle.rc_house.specs.declared.small_text.parts.PlanTail.{PlanTail}
-use Rattle.rc_house.specs.SmallReading.{SheetReading, PlanReading, TailReading}
+use Rattle.rc_house.specs.SmallReading.{CountsReading, PlanReading, TailReading}
+
+-- the tree at a place of a tree's list
+abbrev pub part_in : ℕ → Tree → Option Tree
+part_in place (word bytes from to) = None
+part_in place (list parts from to) = nth place parts
+
+-- what a small sheet says
+pub record SheetReading : Type 0 where
+  pub players : ℕ
+  pub worths : List ℤ
+  pub hand_size : ℕ
+
+-- the game of a sheet and a plan
+abbrev pub game_from : SheetReading → PlanReading → SmallGame
+game_from sheet plan =
+    record {
+      players = sheet.players;
+      worths = sheet.worths;
+      hand_size = sheet.hand_size;
+      scripts = plan.scripts;
+      deal = plan.tail.deal;
+      seats = plan.tail.seats;
+      turns = plan.tail.turns;
+    }
+
+-- what the sheet of a game says
+abbrev pub sheet_of : SmallGame → SheetReading
+sheet_of game = record { players = game.players; worths = game.worths; hand_size = game.hand_size }
+
+-- what the plan of a game says
+abbrev pub plan_of : SmallGame → PlanReading
+plan_of game = record { scripts = game.scripts; tail = record { deal = game.deal; seats = game.seats; turns = game.turns } }
 
 abbrev pub sheet_seen : SheetParts → SheetReading
 sheet_seen sheet = record { players = sheet.players; worths = sheet.worths.items; hand_size = sheet.hand_size }
+
+abbrev pub counts_seen : SheetCounts → CountsReading
+counts_seen counts = record { players = counts.players; hand_size = counts.hand_size }
 
 abbrev pub tail_seen : PlanTail → TailReading
 tail_seen tail = record { deal = tail.deal; seats = tail.seats; turns = tail.turns }

@@ -1,4 +1,5 @@
--- Reading the printed sheet and plan of a small game from left to right. What is read is a value, with the bytes behind it.
+-- Reading the numbers of the printed sheet of a small game, and its printed plan, from left to right. What is read is a value,
+-- with the bytes behind it.
 use Rattle.std.specs.Prelude.{ℕ, zero, suc, Bool, true, not, ◌&&◌, ◌==◌, nat_lt, nat_le, if◌then◌else◌, List, [], ◌∷◌, length, slice_index, codes, ℤ, pos, negsuc, neg_ℤ, int_le, Option, Some, None, option_map, option_and_then}
 use Rattle.std.specs.List.{list_all, list_any, slice_split}
 use Rattle.std.specs.Str.{bytes_eq}
@@ -54,23 +55,6 @@ count_of least most word = integer word >>= unsigned >>= within least most
 unfoldable pub number_of : ℕ → ℕ → List ℕ → Option ℕ
 number_of least most word = natural word >>= within least most
 
--- what a card is worth, within the clamp
-unfoldable pub worth_of : List ℕ → Option ℤ
-worth_of word = integer word >>= λ worth. if int_le (neg_ℤ (pos 1000000000)) worth && int_le worth (pos 1000000000) then Some worth else None
-
--- an atom of a sheet that is no variable
-unfoldable pub is_value : List ℕ → Bool
-is_value word = nat_lt 0 (length word) && not (slice_index word 0 == quote_byte) && list_all is_part word
-
--- no word stands twice
-unfoldable pub all_differ : List (List ℕ) → Bool
-all_differ [] = true
-all_differ (word ∷ words) = not (list_any (λ other. bytes_eq other word) words) && all_differ words
-
--- 256 different values at most
-unfoldable pub are_values : List (List ℕ) → Bool
-are_values words = nat_le (length words) 256 && list_all is_value words && all_differ words
-
 -- the number of players
 unfoldable pub players_at : List ℕ → Option (ℕ × List ℕ)
 players_at bytes = do
@@ -79,35 +63,13 @@ players_at bytes = do
   players ← count_of 1 8 word.0
   Some (players, word.1)
 
--- the values of RANK
-unfoldable pub values_at : List ℕ → Option (List (List ℕ) × List ℕ)
-values_at bytes = do
-  opened ← behind (codes " (create deck (game hloc STOCK) (deck (RANK (") bytes
-  words ← until close_byte opened
-  if are_values (words_of words.0) then Some (words_of words.0, words.1) else None
-
--- an entry of the points for this value, where `lead` stands before it
-unfoldable pub entry_at : List ℕ → List ℕ → List ℕ → Option (ℤ × List ℕ)
-entry_at lead value bytes = do
-  led ← behind lead bytes
-  opened ← behind (codes "(RANK (") led
-  valued ← behind value opened
-  closed ← behind (codes ") ") valued
-  word ← until close_byte closed
-  worth ← worth_of word.0
-  Some (worth, word.1)
-
--- an entry for each value, with one space between them
-unfoldable pub entries_at : List ℕ → List (List ℕ) → List ℕ → Option (List ℤ × List ℕ)
-entries_at lead [] bytes = Some ([], bytes)
-entries_at lead (value ∷ values) bytes = do
-  first ← entry_at lead value bytes
-  others ← entries_at (codes " ") values first.1
-  Some (first.0 ∷ others.0, others.1)
-
--- the points
-unfoldable pub points_at : List (List ℕ) → List ℕ → Option (List ℤ × List ℕ)
-points_at values bytes = behind (codes "))) (put points WORTH (") bytes >>= entries_at [] values
+-- the deck and the entries of the points, which are printed so
+unfoldable pub setup_at : List ℕ → List ℕ → List ℕ → Option (List ℕ)
+setup_at deck entries bytes = do
+  created ← behind (codes " (create deck (game hloc STOCK) ") bytes
+  decked ← behind deck created
+  put ← behind (codes ") (put points WORTH ") decked
+  behind entries put
 
 -- the value, if no bytes stand behind it
 abbrev pub at_end : {A : Type 0} → A → List ℕ → Option A
@@ -116,25 +78,24 @@ at_end x bytes = if length bytes == 0 then Some x else None
 -- how many cards each player is dealt, and the sheet's end
 unfoldable pub hand_size_at : List ℕ → Option ℕ
 hand_size_at bytes = do
-  opened ← behind (codes "))) (do (all player 'P (repeat ") bytes
+  opened ← behind (codes ")) (do (all player 'P (repeat ") bytes
   word ← until space_byte opened
   size ← count_of 0 1000 word.0
   rest ← behind (codes "(move (top (game hloc STOCK)) (top ('P iloc HAND)))))) (stage player (end (all player 'P (= (size ('P iloc HAND)) 0))) (choice (any ((current player) iloc HAND) 'C (do (move 'C (top ((current player) vloc PLAYED))))))) (scoring max (sum ('SELF vloc PLAYED) using WORTH)))") word.1
   at_end size rest
 
--- what a small sheet says
-pub record SheetReading : Type 0 where
+-- the numbers of a small sheet
+pub record CountsReading : Type 0 where
   pub players : ℕ
-  pub worths : List ℤ
   pub hand_size : ℕ
 
-unfoldable pub sheet_at : List ℕ → Option SheetReading
-sheet_at bytes = do
+-- the numbers of a small sheet whose deck and entries are printed so
+unfoldable pub counts_at : List ℕ → List ℕ → List ℕ → Option CountsReading
+counts_at deck entries bytes = do
   players ← players_at bytes
-  values ← values_at players.1
-  worths ← points_at values.0 values.1
-  hand_size ← hand_size_at worths.1
-  Some (record { players = players.0; worths = worths.0; hand_size = hand_size })
+  dealing ← setup_at deck entries players.1
+  hand_size ← hand_size_at dealing
+  Some (record { players = players.0; hand_size = hand_size })
 
 -- the numbers that words spell
 unfoldable pub numbers_of : List (List ℕ) → Option (List ℕ)
@@ -196,18 +157,3 @@ plan_at players bytes = do
   scripts ← scripts_at [] players opened
   tail ← tail_at scripts.1
   Some (record { scripts = scripts.0; tail = tail })
-
--- the game of a sheet and a plan
-unfoldable pub game_at : List ℕ → List ℕ → Option SmallGame
-game_at sheet plan = do
-  says ← sheet_at sheet
-  plays ← plan_at says.players plan
-  Some (record {
-    players = says.players;
-    worths = says.worths;
-    hand_size = says.hand_size;
-    scripts = plays.scripts;
-    deal = plays.tail.deal;
-    seats = plays.tail.seats;
-    turns = plays.tail.turns;
-  })

@@ -1,7 +1,7 @@
 //! What a command answers to the bytes of its source.
 ghost use Rattle.std.specs.Prelude.{◌≡◌, ◌≤◌, ◌<◌, List, [], ◌∷◌, ℕ, length, IfOk, IfSome, IfNone, All};
-ghost use Rattle.rc_model.specs.Tree.{Tree, printed};
-ghost use Rattle.rc_model.specs.Transcript.{line};
+ghost use Rattle.rc_model.specs.Placed.{IsPlaced};
+ghost use Rattle.rc_model.specs.Tree.{Tree};
 ghost use Rattle.rc_model.specs.Spelled.{Spelled};
 ghost use Rattle.rc_model.specs.SmallGame as model;
 ghost use Rattle.rc_model.specs.SmallText.{IsSmall};
@@ -16,9 +16,10 @@ ghost use Rattle.rc_house.specs.Reading.{IsRead};
 use crate::command::Command;
 use crate::game::SmallGame;
 use crate::play::house;
+use crate::printing::{print, print_line};
 use crate::small_text::read_game;
 use crate::status::SourceKind;
-use rc_form::{Form, FormFail, FormFault, FormMemory, Forms, print_form, read_forms};
+use rc_form::{Form, FormFail, FormFault, Forms, read_forms};
 use std::alloc::{AllocError, Global};
 
 /// What a command answers to its source.
@@ -57,27 +58,6 @@ fn fault_of(form_fault: FormFault) -> Answer
     }
 }
 
-/// A form as it is printed.
-fn print(alloc: Global, form: &Form) -> Result<Vec<u8>, AllocError>
-    requires { IsPrintable (tree_of form.now) }
-    ensures { IfOk result (λ bytes. bytes.items ≡ printed (tree_of form.now)) }
-{
-    match print_form(alloc, form) {
-        Ok(bytes) => Ok(bytes),
-        Err(FormMemory) => Err(AllocError),
-    }
-}
-
-/// A form as it is printed on a line.
-fn print_line(alloc: Global, form: &Form) -> Result<Vec<u8>, AllocError>
-    requires { IsPrintable (tree_of form.now) }
-    ensures { IfOk result (λ bytes. bytes.items ≡ line (printed (tree_of form.now))) }
-{
-    let mut bytes = print(alloc, form)?;
-    bytes.push(b'\n')?;
-    Ok(bytes)
-}
-
 /// The answer of `sheet` to a source with these forms.
 fn sheet_answer(alloc: Global, source: &[u8], forms: &Forms) -> Result<Answer, AllocError>
     requires small { length source.now ≤ 1048576 }
@@ -107,6 +87,7 @@ fn play_answer(alloc: Global, source: &[u8], forms: &Forms) -> Result<Answer, Al
     requires small { length source.now ≤ 1048576 }
     requires read { IsRead source.now 2 (trees_of forms.now.list.items) forms.now.rest }
     requires printable { All (λ form. IsPrintable (tree_of form)) forms.now.list.items }
+    requires placed { All (λ form. IsPlaced (length source.now) (tree_of form)) forms.now.list.items }
     ensures { IfOk result (λ answer. IsAnswer Command.Play source.now (seen answer)) }
 {
     if forms.list.is_empty() {
@@ -118,32 +99,22 @@ fn play_answer(alloc: Global, source: &[u8], forms: &Forms) -> Result<Answer, Al
     }
 }
 
-/// The sheet and the plan of a source, as they are printed.
-#[derive(Drop)]
-struct Printed {
-    sheet: Vec<u8>,
-    plan: Vec<u8>,
-}
-
 /// The sheet and the plan of a source with these forms, if it is two forms and nothing else.
-fn two_forms(alloc: Global, source: &[u8], forms: &Forms) -> Result<Option<Printed>, AllocError>
-    requires read { IsRead source.now 2 (trees_of forms.now.list.items) forms.now.rest }
-    requires printable { All (λ form. IsPrintable (tree_of form)) forms.now.list.items }
-    ensures found { IfOk result (λ answer. IfSome answer (λ forms. (sheet plan : Tree) × Spelled source.now 2 (sheet ∷ plan ∷ []) (length source.now)
-        × (forms.sheet.items ≡ printed sheet) × (forms.plan.items ≡ printed plan))) }
-    ensures only { IfOk result (λ answer. IfSome answer (λ forms. (sheet plan : Tree) → Spelled source.now 2 (sheet ∷ plan ∷ []) (length source.now)
-        → (printed sheet ≡ forms.sheet.items) × (printed plan ≡ forms.plan.items))) }
-    ensures none { IfOk result (λ answer. IfNone answer ((sheet plan : Tree) → Spelled source.now 2 (sheet ∷ plan ∷ []) (length source.now) → ⊥)) }
+fn two_forms<'a>(source: &[u8], forms: &'a Forms) -> Option<(&'a Form, &'a Form)>
+    requires { IsRead source.now 2 (trees_of forms.now.list.items) forms.now.rest }
+    ensures found { IfSome result (λ two. Spelled source.now 2 (tree_of two.0.now ∷ tree_of two.1.now ∷ []) (length source.now)) }
+    ensures only { IfSome result (λ two. (sheet plan : Tree) → Spelled source.now 2 (sheet ∷ plan ∷ []) (length source.now)
+        → (sheet ≡ tree_of two.0.now) × (plan ≡ tree_of two.1.now)) }
+    ensures none { IfNone result ((sheet plan : Tree) → Spelled source.now 2 (sheet ∷ plan ∷ []) (length source.now) → ⊥) }
+    ensures listed { IfSome result (λ two. forms.now.list.items ≡ two.0.now ∷ two.1.now ∷ []) }
 {
     if forms.rest != source.len() {
-        return Ok(None);
+        return None;
     }
-    let [sheet, plan] = forms.list.as_slice() else {
-        return Ok(None);
-    };
-    let sheet = print(alloc, sheet)?;
-    let plan = print(alloc, plan)?;
-    Ok(Some(Printed { sheet, plan }))
+    match forms.list.as_slice() {
+        [sheet, plan] => Some((sheet, plan)),
+        _ => None,
+    }
 }
 
 /// The game of a source with these forms, if it is one of a small game.
@@ -152,16 +123,19 @@ fn game_of_forms(
     source: &[u8],
     forms: &Forms,
 ) -> Result<Option<SmallGame>, AllocError>
+    requires small { length source.now ≤ 1048576 }
     requires read { IsRead source.now 2 (trees_of forms.now.list.items) forms.now.rest }
     requires printable { All (λ form. IsPrintable (tree_of form)) forms.now.list.items }
+    requires placed { All (λ form. IsPlaced (length source.now) (tree_of form)) forms.now.list.items }
     ensures found { IfOk result (λ answer. IfSome answer (λ game. IsSmall source.now (game_of game))) }
     ensures only { IfOk result (λ answer. IfSome answer (λ game. (other : model.SmallGame) → IsSmall source.now other → other ≡ game_of game)) }
     ensures none { IfOk result (λ answer. IfNone answer ((game : model.SmallGame) → IsSmall source.now game → ⊥)) }
 {
-    let Some(printed) = two_forms(alloc, source, forms)? else {
+    let Some((sheet, plan)) = two_forms(source, forms) else {
         return Ok(None);
     };
-    let Some(game) = read_game(alloc, &printed.sheet, &printed.plan)? else {
+    let plan = print(alloc, plan)?;
+    let Some(game) = read_game(alloc, sheet, &plan)? else {
         return Ok(None);
     };
     Ok(Some(game))

@@ -5,6 +5,7 @@ mod answer;
 mod command;
 mod game;
 mod play;
+mod printing;
 mod running;
 mod small_text;
 mod status;

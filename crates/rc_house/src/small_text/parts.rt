@@ -5,8 +5,17 @@
 pub struct SheetParts {
     /// 1 to 8.
     pub players: u8,
-    /// What each card is worth: 1 to 256 numbers from -1,000,000,000 to 1,000,000,000.
+    /// What each card is worth: 1 to 512 numbers from -1,000,000,000 to 1,000,000,000.
     pub worths: Vec<i64>,
+    /// 0 to 1,000.
+    pub hand_size: u16,
+}
+
+/// The numbers of a small sheet.
+#[derive(Clone, Copy, Debug)]
+pub struct SheetCounts {
+    /// 1 to 8.
+    pub players: u8,
     /// 0 to 1,000.
     pub hand_size: u16,
 }
