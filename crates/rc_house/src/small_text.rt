@@ -11,6 +11,8 @@ mod parts;
 mod paths;
 mod plan;
 mod sheet;
+#[cfg(test)]
+mod tests;
 
 use crate::game::SmallGame;
 use rc_form::Form;
