@@ -325,110 +325,6 @@ fn a_failed_note_is_a_write_fault_but_behind_a_refusal(rt: HostRuntime) -> Resul
     )
 }
 
-/// The free places of a small game, and the lines of its text behind the match's.
-#[derive(Clone, Copy)]
-struct Small {
-    name: &'static str,
-    players: &'static str,
-    values: &'static str,
-    entries: &'static str,
-    hand_size: &'static str,
-    scripts: &'static str,
-    turns: &'static str,
-    lines: &'static str,
-}
-
-/// The source of a small game, with its seeds 12 and 999999999999999999.
-fn source_of(alloc: Global, small: &Small) -> Result<String, AllocError> {
-    format!(in alloc;
-        "(game (setup (create players {}) (create deck (game hloc STOCK) (deck (RANK ({})))) (put points WORTH ({}))) (do (all player 'P (repeat {} (move (top (game hloc STOCK)) (top ('P iloc HAND)))))) (stage player (end (all player 'P (= (size ('P iloc HAND)) 0))) (choice (any ((current player) iloc HAND) 'C (do (move 'C (top ((current player) vloc PLAYED))))))) (scoring max (sum ('SELF vloc PLAYED) using WORTH)))(plan (seats {}) (matches (12 999999999999999999)) (turns {}))",
-        small.players, small.values, small.entries, small.hand_size, small.scripts, small.turns
-    )
-}
-
-/// Fails unless `play` over this small game ends so.
-fn expect_small(rt: &(impl AllocGlobal + Abort), small: &Small, end: End<'_>) -> Result<(), Fail> {
-    let source = source_of(rt.alloc(), small)?;
-    expect_play(rt, small.name, source.as_str(), end)
-}
-
-/// One player with two cards, the second of which is dealt first.
-const ONE_PLAYER: Small = Small {
-    name: "one player",
-    players: "1",
-    values: "low high",
-    entries: "(RANK (low) 2) (RANK (high) 30)",
-    hand_size: "2",
-    scripts: "(script 1)",
-    turns: "100000",
-    lines: "choose 0 0 1 2\nchoose 0 0 0 1\nend done 4\nscore 0 32 0\nstanding 1 strategy 0 points 0\n",
-};
-
-#[test]
-fn small_games_at_the_edges_are_played(rt: HostRuntime) -> Result<(), Fail> {
-    let games = [
-        ONE_PLAYER,
-        Small {
-            name: "one turn",
-            turns: "1",
-            lines: "end limit 1\nscore 0 0 0\nstanding 1 strategy 0 points 0\n",
-            ..ONE_PLAYER
-        },
-        Small {
-            name: "no cards are dealt",
-            players: "3",
-            hand_size: "0",
-            scripts: "(script) (script) (script)",
-            turns: "1",
-            lines: "end done 0\nscore 0 0 2\nscore 1 0 2\nscore 2 0 2\nstanding 1 strategy 0 points 2\nstanding 1 strategy 1 points 2\nstanding 1 strategy 2 points 2\n",
-            ..ONE_PLAYER
-        },
-        Small {
-            name: "eight players with three cards for hands of two",
-            players: "8",
-            values: "a b c",
-            entries: "(RANK (a) 10) (RANK (b) 20) (RANK (c) 30)",
-            scripts: "(script) (script) (script) (script) (script) (script) (script) (script)",
-            lines: "choose 0 0 0 2\nchoose 1 0 0 1\nchoose 0 0 0 1\nend done 12\nscore 0 50 14\nscore 1 10 12\nscore 2 0 5\nscore 3 0 5\nscore 4 0 5\nscore 5 0 5\nscore 6 0 5\nscore 7 0 5\nstanding 1 strategy 0 points 14\nstanding 2 strategy 1 points 12\nstanding 3 strategy 2 points 5\nstanding 3 strategy 3 points 5\nstanding 3 strategy 4 points 5\nstanding 3 strategy 5 points 5\nstanding 3 strategy 6 points 5\nstanding 3 strategy 7 points 5\n",
-            ..ONE_PLAYER
-        },
-        Small {
-            name: "a script that is longer than the play, of the largest numbers",
-            values: "a b c",
-            entries: "(RANK (a) 1) (RANK (b) 10) (RANK (c) 100)",
-            hand_size: "1000",
-            scripts: "(script 65535 65535 65535 7)",
-            turns: "5",
-            lines: "choose 0 0 0 3\nchoose 0 0 1 2\nend limit 5\nscore 0 101 0\nstanding 1 strategy 0 points 0\n",
-            ..ONE_PLAYER
-        },
-        Small {
-            name: "worths and sums at both ends",
-            players: "2",
-            values: "a b c d",
-            entries: "(RANK (a) -1000000000) (RANK (b) -1000000000) (RANK (c) 1000000000) (RANK (d) 1000000000)",
-            scripts: "(script) (script)",
-            lines: "choose 0 0 0 2\nchoose 1 0 0 2\nchoose 0 0 0 1\nchoose 1 0 0 1\nend done 8\nscore 0 1000000000 2\nscore 1 -1000000000 0\nstanding 1 strategy 0 points 2\nstanding 2 strategy 1 points 0\n",
-            ..ONE_PLAYER
-        },
-    ];
-    for small in &games {
-        let text = format!(in rt.alloc();
-            "house 1\nmatch 0 deal 12 seats 999999999999999999\n{}",
-            small.lines
-        )?;
-        expect_small(
-            &rt,
-            small,
-            End {
-                written: text.as_str(),
-                ..PLAYED
-            },
-        )?;
-    }
-    Ok(())
-}
-
 /// A text with each of its spaces replaced.
 fn spaced(alloc: Global, text: &str, space: &str) -> Result<String, AllocError> {
     let mut spaced = String::new(alloc);
@@ -460,19 +356,6 @@ fn white_space_and_comments_change_nothing(rt: HostRuntime) -> Result<(), Fail> 
     Ok(())
 }
 
-/// The source of one player, no dealt card and so many values, each worth 0.
-fn source_of_values(alloc: Global, count: u16) -> Result<String, AllocError> {
-    let mut values = String::new(alloc);
-    let mut entries = String::new(alloc);
-    for i in 0..count {
-        write!(values, "{i} ")?;
-        write!(entries, "(RANK ({i}) 0)")?;
-    }
-    format!(in alloc;
-        "(game (setup (create players 1) (create deck (game hloc STOCK) (deck (RANK ({values})))) (put points WORTH ({entries}))) (do (all player 'P (repeat 0 (move (top (game hloc STOCK)) (top ('P iloc HAND)))))) (stage player (end (all player 'P (= (size ('P iloc HAND)) 0))) (choice (any ((current player) iloc HAND) 'C (do (move 'C (top ((current player) vloc PLAYED))))))) (scoring max (sum ('SELF vloc PLAYED) using WORTH)))(plan (seats (script)) (matches (0 0)) (turns 1))"
-    )
-}
-
 /// The first source, and behind it a comment that makes it so long.
 fn source_of_length(alloc: Global, length: usize) -> Result<String, AllocError> {
     let mut source = source_with(alloc, PLAN)?;
@@ -485,21 +368,6 @@ fn source_of_length(alloc: Global, length: usize) -> Result<String, AllocError> 
 
 #[test]
 fn the_largest_sources_are_played_and_larger_ones_refused(rt: HostRuntime) -> Result<(), Fail> {
-    let source = source_of_values(rt.alloc(), 256)?;
-    let text =
-        "house 1\nmatch 0 deal 0 seats 0\nend done 0\nscore 0 0 0\nstanding 1 strategy 0 points 0\n";
-    expect_play(
-        &rt,
-        "256 values",
-        source.as_str(),
-        End {
-            written: text,
-            ..PLAYED
-        },
-    )?;
-    let source = source_of_values(rt.alloc(), 257)?;
-    expect_play(&rt, "257 values", source.as_str(), UNBUILT)?;
-
     let source = source_of_length(rt.alloc(), 1_048_576)?;
     expect_play(&rt, "1,048,576 bytes", source.as_str(), PLAYED)?;
     let source = source_of_length(rt.alloc(), 1_048_577)?;
@@ -555,43 +423,6 @@ fn other_sources_are_unbuilt(rt: HostRuntime) -> Result<(), Fail> {
     ] {
         let source = format!(in rt.alloc(); "{before}{after}")?;
         expect_play(&rt, source.as_str(), source.as_str(), UNBUILT)?;
-    }
-    Ok(())
-}
-
-#[test]
-fn games_that_are_nearly_small_are_unbuilt(rt: HostRuntime) -> Result<(), Fail> {
-    let games = [
-        Small {
-            name: "nine players",
-            players: "9",
-            scripts: "(script) (script) (script) (script) (script) (script) (script) (script) (script)",
-            ..ONE_PLAYER
-        },
-        Small {
-            name: "a repeated value",
-            values: "low low",
-            entries: "(RANK (low) 2) (RANK (low) 30)",
-            ..ONE_PLAYER
-        },
-        Small {
-            name: "a worth past the clamp",
-            entries: "(RANK (low) -1000000001) (RANK (high) 30)",
-            ..ONE_PLAYER
-        },
-        Small {
-            name: "a list for the size of a hand",
-            hand_size: "(size 1)",
-            ..ONE_PLAYER
-        },
-        Small {
-            name: "two numbers of players",
-            players: "1 1",
-            ..ONE_PLAYER
-        },
-    ];
-    for small in &games {
-        expect_small(&rt, small, UNBUILT)?;
     }
     Ok(())
 }

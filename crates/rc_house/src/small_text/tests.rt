@@ -2,6 +2,7 @@
 use crate::answer::{Answer, answer_to};
 use crate::command::Command;
 use std::alloc::{AllocError, Global};
+use std::fmt::Write;
 use std::process::Abort;
 use std::test::Fail;
 
@@ -44,7 +45,13 @@ const TWO: Small = Small {
 fn source_of(alloc: Global, small: &Small) -> Result<String, AllocError> {
     format!(in alloc;
         "(game (setup (create players {}) (create deck (game hloc STOCK) (deck {})) (put points WORTH ({}))) (do (all player 'P (repeat {} (move (top (game hloc STOCK)) (top ('P iloc HAND)))))) (stage player (end (all player 'P (= (size ('P iloc HAND)) 0))) (choice (any ((current player) iloc HAND) 'C (do (move 'C (top ((current player) vloc PLAYED))))))) (scoring max (sum ('SELF vloc PLAYED) using WORTH)))(plan (seats {}) (matches ({})) (turns {}))",
-        small.players, small.deck, small.entries, small.hand_size, small.scripts, small.seeds, small.turns
+        small.players,
+        small.deck,
+        small.entries,
+        small.hand_size,
+        small.scripts,
+        small.seeds,
+        small.turns
     )
 }
 
@@ -220,9 +227,7 @@ const WITH_DECKS: &[Small] = &[
 ];
 
 #[test]
-fn the_cards_are_the_faces_of_the_deck_and_worth_their_points(
-    rt: HostRuntime,
-) -> Result<(), Fail> {
+fn the_cards_are_the_faces_of_the_deck_and_worth_their_points(rt: HostRuntime) -> Result<(), Fail> {
     expect_played(&rt, WITH_DECKS)
 }
 
@@ -261,27 +266,111 @@ fn a_menu_offers_the_first_256_cards_of_a_hand(rt: HostRuntime) -> Result<(), Fa
 }
 
 const NO_SHEETS: &[Small] = &[
-    Small { name: "no players", players: "0", ..ONE },
-    Small { name: "nine players", players: "9", ..ONE },
-    Small { name: "a negative number of players", players: "-1", ..ONE },
-    Small { name: "a plus sign", players: "+1", ..ONE },
-    Small { name: "nineteen digits", players: "0000000000000000001", ..ONE },
-    Small { name: "two numbers of players", players: "1 1", ..ONE },
-    Small { name: "1,001 cards in a hand", hand_size: "1001", ..ONE },
-    Small { name: "fewer than no cards", hand_size: "-1", ..ONE },
-    Small { name: "no size of a hand", hand_size: "", ..ONE },
-    Small { name: "a list for the size of a hand", hand_size: "(size 1)", ..ONE },
-    Small { name: "no group", deck: "", ..ONE },
-    Small { name: "a group without values", deck: "(RANK ())", ..ONE },
-    Small { name: "a variable for a value", deck: "(RANK ('a))", ..ONE },
-    Small { name: "an attribute twice in a face", deck: "(RANK (a)) (RANK (b))", ..ONE },
-    Small { name: "an attribute twice below a value", deck: "(RANK ((a (RANK (b)))))", ..ONE },
-    Small { name: "no entries", entries: "", ..ONE },
-    Small { name: "an entry without values", entries: "(RANK () 1)", ..ONE },
-    Small { name: "points above the clamp", entries: "(RANK (low) 1000000001)", ..ONE },
-    Small { name: "points below the clamp", entries: "(RANK (low) -1000000001)", ..ONE },
-    Small { name: "points that are no number", entries: "(RANK (low) 1x)", ..ONE },
-    Small { name: "an entry in a list of its own", entries: "((RANK (low) 1))", ..ONE },
+    Small {
+        name: "no players",
+        players: "0",
+        ..ONE
+    },
+    Small {
+        name: "nine players",
+        players: "9",
+        ..ONE
+    },
+    Small {
+        name: "a negative number of players",
+        players: "-1",
+        ..ONE
+    },
+    Small {
+        name: "a plus sign",
+        players: "+1",
+        ..ONE
+    },
+    Small {
+        name: "nineteen digits",
+        players: "0000000000000000001",
+        ..ONE
+    },
+    Small {
+        name: "two numbers of players",
+        players: "1 1",
+        ..ONE
+    },
+    Small {
+        name: "1,001 cards in a hand",
+        hand_size: "1001",
+        ..ONE
+    },
+    Small {
+        name: "fewer than no cards",
+        hand_size: "-1",
+        ..ONE
+    },
+    Small {
+        name: "no size of a hand",
+        hand_size: "",
+        ..ONE
+    },
+    Small {
+        name: "a list for the size of a hand",
+        hand_size: "(size 1)",
+        ..ONE
+    },
+    Small {
+        name: "no group",
+        deck: "",
+        ..ONE
+    },
+    Small {
+        name: "a group without values",
+        deck: "(RANK ())",
+        ..ONE
+    },
+    Small {
+        name: "a variable for a value",
+        deck: "(RANK ('a))",
+        ..ONE
+    },
+    Small {
+        name: "an attribute twice in a face",
+        deck: "(RANK (a)) (RANK (b))",
+        ..ONE
+    },
+    Small {
+        name: "an attribute twice below a value",
+        deck: "(RANK ((a (RANK (b)))))",
+        ..ONE
+    },
+    Small {
+        name: "no entries",
+        entries: "",
+        ..ONE
+    },
+    Small {
+        name: "an entry without values",
+        entries: "(RANK () 1)",
+        ..ONE
+    },
+    Small {
+        name: "points above the clamp",
+        entries: "(RANK (low) 1000000001)",
+        ..ONE
+    },
+    Small {
+        name: "points below the clamp",
+        entries: "(RANK (low) -1000000001)",
+        ..ONE
+    },
+    Small {
+        name: "points that are no number",
+        entries: "(RANK (low) 1x)",
+        ..ONE
+    },
+    Small {
+        name: "an entry in a list of its own",
+        entries: "((RANK (low) 1))",
+        ..ONE
+    },
 ];
 
 #[test]
@@ -290,20 +379,76 @@ fn sheets_that_are_nearly_small_are_unbuilt(rt: HostRuntime) -> Result<(), Fail>
 }
 
 const NO_PLANS: &[Small] = &[
-    Small { name: "no script", scripts: "", ..ONE },
-    Small { name: "a script too many", scripts: "(script) (script)", ..ONE },
-    Small { name: "a number of a script above 65,535", scripts: "(script 65536)", ..ONE },
-    Small { name: "a sign in a script", scripts: "(script -1)", ..ONE },
-    Small { name: "another word for a script", scripts: "(scripts)", ..ONE },
-    Small { name: "another strategy", scripts: "(random 1)", ..ONE },
-    Small { name: "one seed", seeds: "0", ..ONE },
-    Small { name: "three seeds", seeds: "0 0 0", ..ONE },
-    Small { name: "a sign in the first seed", seeds: "-0 0", ..ONE },
-    Small { name: "a sign in the second seed", seeds: "0 -0", ..ONE },
-    Small { name: "nineteen digits in a seed", seeds: "0000000000000000000 0", ..ONE },
-    Small { name: "two matches", seeds: "0 0) (0 0", ..ONE },
-    Small { name: "no turns", turns: "0", ..ONE },
-    Small { name: "100,001 turns", turns: "100001", ..ONE },
+    Small {
+        name: "no script",
+        scripts: "",
+        ..ONE
+    },
+    Small {
+        name: "a script too many",
+        scripts: "(script) (script)",
+        ..ONE
+    },
+    Small {
+        name: "a number of a script above 65,535",
+        scripts: "(script 65536)",
+        ..ONE
+    },
+    Small {
+        name: "a sign in a script",
+        scripts: "(script -1)",
+        ..ONE
+    },
+    Small {
+        name: "another word for a script",
+        scripts: "(scripts)",
+        ..ONE
+    },
+    Small {
+        name: "another strategy",
+        scripts: "(random 1)",
+        ..ONE
+    },
+    Small {
+        name: "one seed",
+        seeds: "0",
+        ..ONE
+    },
+    Small {
+        name: "three seeds",
+        seeds: "0 0 0",
+        ..ONE
+    },
+    Small {
+        name: "a sign in the first seed",
+        seeds: "-0 0",
+        ..ONE
+    },
+    Small {
+        name: "a sign in the second seed",
+        seeds: "0 -0",
+        ..ONE
+    },
+    Small {
+        name: "nineteen digits in a seed",
+        seeds: "0000000000000000000 0",
+        ..ONE
+    },
+    Small {
+        name: "two matches",
+        seeds: "0 0) (0 0",
+        ..ONE
+    },
+    Small {
+        name: "no turns",
+        turns: "0",
+        ..ONE
+    },
+    Small {
+        name: "100,001 turns",
+        turns: "100001",
+        ..ONE
+    },
 ];
 
 #[test]
@@ -311,23 +456,49 @@ fn plans_that_are_nearly_small_are_unbuilt(rt: HostRuntime) -> Result<(), Fail> 
     expect_unbuilt(&rt, NO_PLANS)
 }
 
-/// The source of one player who holds all cards of a deck that has one value so often.
-fn source_of_cards(alloc: Global, count: u16) -> Result<String, AllocError> {
-    let mut source = String::new(alloc);
-    source.push_str("(game (setup (create players 1) (create deck (game hloc STOCK) (deck (RANK (")?;
+/// The source of one player who holds all cards of a deck with these values, of which `a` is worth 1.
+fn source_of_values(alloc: Global, values: &str) -> Result<String, AllocError> {
+    format!(in alloc;
+        "(game (setup (create players 1) (create deck (game hloc STOCK) (deck (RANK ({values})))) (put points WORTH ((RANK (a) 1)))) (do (all player 'P (repeat 1000 (move (top (game hloc STOCK)) (top ('P iloc HAND)))))) (stage player (end (all player 'P (= (size ('P iloc HAND)) 0))) (choice (any ((current player) iloc HAND) 'C (do (move 'C (top ((current player) vloc PLAYED))))))) (scoring max (sum ('SELF vloc PLAYED) using WORTH)))(plan (seats (script 255)) (matches (0 0)) (turns 4))"
+    )
+}
+
+/// The source where the value `a` stands so often.
+fn source_of_one_value(alloc: Global, count: u16) -> Result<String, AllocError> {
+    let mut values = String::new(alloc);
     for _ in 0..count {
-        source.push_str("a ")?;
+        values.push_str("a ")?;
     }
-    source.push_str(")))) (put points WORTH ((RANK (a) 1)))) (do (all player 'P (repeat 1000 (move (top (game hloc STOCK)) (top ('P iloc HAND)))))) (stage player (end (all player 'P (= (size ('P iloc HAND)) 0))) (choice (any ((current player) iloc HAND) 'C (do (move 'C (top ((current player) vloc PLAYED))))))) (scoring max (sum ('SELF vloc PLAYED) using WORTH)))(plan (seats (script 255)) (matches (0 0)) (turns 4))")?;
-    Ok(source)
+    source_of_values(alloc, values.as_str())
+}
+
+/// The source of so many different values other than `a`.
+fn source_of_many_values(alloc: Global, count: u16) -> Result<String, AllocError> {
+    let mut values = String::new(alloc);
+    for i in 0..count {
+        write!(values, "{i} ")?;
+    }
+    source_of_values(alloc, values.as_str())
 }
 
 #[test]
 fn a_deck_of_512_cards_is_played_and_one_of_513_is_unbuilt(rt: HostRuntime) -> Result<(), Fail> {
-    let lines = "choose 0 0 255 256\nchoose 0 0 0 256\nend limit 4\nscore 0 2 0\nstanding 1 strategy 0 points 0\n";
-    let source = source_of_cards(rt.alloc(), 512)?;
+    let lines =
+        "choose 0 0 255 256\nchoose 0 0 0 256\nend limit 4\nscore 0 2 0\nstanding 1 strategy 0 points 0\n";
+    let source = source_of_one_value(rt.alloc(), 512)?;
     expect_lines(&rt, "512 cards", source.as_str(), "0 0", lines)?;
-    let source = source_of_cards(rt.alloc(), 513)?;
-    assert!(&rt; played(&rt, "513 cards", source.as_str())?.is_none());
+    let source = source_of_one_value(rt.alloc(), 513)?;
+    assert!(rt; played(&rt, "513 cards", source.as_str())?.is_none());
+    Ok(())
+}
+
+#[test]
+fn a_game_of_256_values_is_played_and_one_of_257_is_unbuilt(rt: HostRuntime) -> Result<(), Fail> {
+    let lines =
+        "choose 0 0 0 255\nchoose 0 0 0 254\nend limit 4\nscore 0 0 0\nstanding 1 strategy 0 points 0\n";
+    let source = source_of_many_values(rt.alloc(), 255)?;
+    expect_lines(&rt, "256 values", source.as_str(), "0 0", lines)?;
+    let source = source_of_many_values(rt.alloc(), 256)?;
+    assert!(rt; played(&rt, "257 values", source.as_str())?.is_none());
     Ok(())
 }
