@@ -156,31 +156,33 @@ fn expect_fault(
     expect_command(rt, noted.as_str(), word, source, end)
 }
 
+/// Plans for `SHEET`, and the texts of their plays.
+const PLANS: &[(&str, &str)] = &[
+    (
+        "(plan (seats (script) (script)) (matches (0 0)) (turns 100))\n",
+        TEXT,
+    ),
+    (
+        "(plan (seats (script) (script)) (matches (0 0)) (turns 3))\n",
+        "house 1\nmatch 0 deal 0 seats 0\nchoose 0 0 0 2\nend limit 3\nscore 0 4 2\nscore 1 0 0\nstanding 1 strategy 0 points 2\nstanding 2 strategy 1 points 0\n",
+    ),
+    (
+        "(plan (seats (script) (script)) (matches (0 0)) (turns 1))\n",
+        "house 1\nmatch 0 deal 0 seats 0\nend limit 1\nscore 0 0 1\nscore 1 0 1\nstanding 1 strategy 0 points 1\nstanding 1 strategy 1 points 1\n",
+    ),
+    (
+        "(plan (seats (script 1) (script)) (matches (0 0)) (turns 100))\n",
+        "house 1\nmatch 0 deal 0 seats 0\nchoose 0 0 1 2\nchoose 1 0 0 2\nchoose 0 0 0 1\nchoose 1 0 0 1\nend done 8\nscore 0 7 2\nscore 1 3 0\nstanding 1 strategy 0 points 2\nstanding 2 strategy 1 points 0\n",
+    ),
+    (
+        "(plan (seats (script 3) (script)) (matches (0 0)) (turns 100))\n",
+        "house 1\nmatch 0 deal 0 seats 0\nchoose 0 0 1 2\nchoose 1 0 0 2\nchoose 0 0 0 1\nchoose 1 0 0 1\nend done 8\nscore 0 7 2\nscore 1 3 0\nstanding 1 strategy 0 points 2\nstanding 2 strategy 1 points 0\n",
+    ),
+];
+
 #[test]
 fn a_play_is_written_and_noted(rt: HostRuntime) -> Result<(), Fail> {
-    let rows = [
-        (
-            "(plan (seats (script) (script)) (matches (0 0)) (turns 100))\n",
-            TEXT,
-        ),
-        (
-            "(plan (seats (script) (script)) (matches (0 0)) (turns 3))\n",
-            "house 1\nmatch 0 deal 0 seats 0\nchoose 0 0 0 2\nend limit 3\nscore 0 4 2\nscore 1 0 0\nstanding 1 strategy 0 points 2\nstanding 2 strategy 1 points 0\n",
-        ),
-        (
-            "(plan (seats (script) (script)) (matches (0 0)) (turns 1))\n",
-            "house 1\nmatch 0 deal 0 seats 0\nend limit 1\nscore 0 0 1\nscore 1 0 1\nstanding 1 strategy 0 points 1\nstanding 1 strategy 1 points 1\n",
-        ),
-        (
-            "(plan (seats (script 1) (script)) (matches (0 0)) (turns 100))\n",
-            "house 1\nmatch 0 deal 0 seats 0\nchoose 0 0 1 2\nchoose 1 0 0 2\nchoose 0 0 0 1\nchoose 1 0 0 1\nend done 8\nscore 0 7 2\nscore 1 3 0\nstanding 1 strategy 0 points 2\nstanding 2 strategy 1 points 0\n",
-        ),
-        (
-            "(plan (seats (script 3) (script)) (matches (0 0)) (turns 100))\n",
-            "house 1\nmatch 0 deal 0 seats 0\nchoose 0 0 1 2\nchoose 1 0 0 2\nchoose 0 0 0 1\nchoose 1 0 0 1\nend done 8\nscore 0 7 2\nscore 1 3 0\nstanding 1 strategy 0 points 2\nstanding 2 strategy 1 points 0\n",
-        ),
-    ];
-    for (plan, text) in rows {
+    for (plan, text) in PLANS {
         let source = source_with(rt.alloc(), plan)?;
         expect_play(
             &rt,
