@@ -1,0 +1,4 @@
+pub mod Digits
+pub mod Counts
+pub mod FirstFault
+pub mod InOrder

@@ -1,0 +1,15 @@
+//! Which forms are sheets, and the first fault of a form that is none.
+#![tactic(auto)]
+
+mod atoms;
+mod choice;
+mod fault;
+mod grammar;
+mod keyword;
+mod literal;
+mod shape;
+
+pub use fault::{SheetFault, SheetKind};
+pub use grammar::{Place, Rule};
+pub use keyword::Keyword;
+pub use shape::check_shape;
