@@ -3,7 +3,8 @@ use super::table::{Frame, Rows, check_rows};
 use crate::SheetKind::{Number, Shape};
 use std::test::Fail;
 
-const CONDITIONS: &[Rows] = &[
+const ROWS: &[Rows] = &[
+    // Each form of a test.
     Rows {
         place: Frame::Test,
         fault: None,
@@ -170,6 +171,7 @@ const CONDITIONS: &[Rows] = &[
             "(>= 0 ^'N)",
         ],
     },
+    // A card, an owner and an attribute's value are no amounts.
     Rows {
         place: Frame::Test,
         fault: Some(Shape),
@@ -192,6 +194,7 @@ const CONDITIONS: &[Rows] = &[
 (= 0 0)))))))))))))))))))))))))))))))))))))))))))))))))))))))))))))",
         ],
     },
+    // A fault at that depth.
     Rows {
         place: Frame::Test,
         fault: Some(Number),
@@ -203,9 +206,7 @@ const CONDITIONS: &[Rows] = &[
 (= 0 ^x)))))))))))))))))))))))))))))))))))))))))))))))))))))))))))))",
         ],
     },
-];
-
-const SIDES: &[Rows] = &[
+    // Each sort of side.
     Rows {
         place: Frame::Side,
         fault: None,
@@ -309,6 +310,7 @@ const SIDES: &[Rows] = &[
             "(team of (current ^team))",
         ],
     },
+    // `attr` has a card and an attribute. Cards and amounts are judged as elsewhere.
     Rows {
         place: Frame::Side,
         fault: Some(Shape),
@@ -339,6 +341,7 @@ const SIDES: &[Rows] = &[
             "(!= 0 (current ^foo))",
         ],
     },
+    // A plain atom as the second side.
     Rows {
         place: Frame::Test,
         fault: Some(Number),
@@ -347,11 +350,6 @@ const SIDES: &[Rows] = &[
 ];
 
 #[test]
-fn conditions_have_their_shapes(rt: HostRuntime) -> Result<(), Fail> {
-    check_rows(&rt, CONDITIONS)
-}
-
-#[test]
-fn sides_have_their_shapes(rt: HostRuntime) -> Result<(), Fail> {
-    check_rows(&rt, SIDES)
+fn conditions_and_sides_have_their_shapes(rt: HostRuntime) -> Result<(), Fail> {
+    check_rows(&rt, ROWS)
 }

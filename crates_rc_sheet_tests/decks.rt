@@ -3,7 +3,7 @@ use super::table::{Frame, Rows, check_rows};
 use crate::SheetKind::{Number, Shape};
 use std::test::Fail;
 
-const GROUPS: &[Rows] = &[
+const ROWS: &[Rows] = &[
     // An attribute and its branches. No word is reserved, and an attribute that stands twice is no fault of shape.
     Rows {
         place: Frame::Group,
@@ -45,9 +45,6 @@ const GROUPS: &[Rows] = &[
         fault: Some(Shape),
         texts: &["^((A) (x))", "^((A (x)))", "^(((A)) (x))", "^(())"],
     },
-];
-
-const BRANCHES: &[Rows] = &[
     // A value, or a value with groups of its own.
     Rows {
         place: Frame::Branch,
@@ -89,9 +86,7 @@ const BRANCHES: &[Rows] = &[
         fault: Some(Shape),
         texts: &["^((x) (B (y)))", "^((x (B (y))))", "(x ^((B) (y)))"],
     },
-];
-
-const ENTRIES: &[Rows] = &[
+    // An entry: an attribute, its values and a number in range.
     Rows {
         place: Frame::Entry,
         fault: None,
@@ -160,12 +155,6 @@ const ENTRIES: &[Rows] = &[
 ];
 
 #[test]
-fn deck_trees_have_their_shapes(rt: HostRuntime) -> Result<(), Fail> {
-    check_rows(&rt, GROUPS)?;
-    check_rows(&rt, BRANCHES)
-}
-
-#[test]
-fn points_have_their_shapes(rt: HostRuntime) -> Result<(), Fail> {
-    check_rows(&rt, ENTRIES)
+fn decks_and_points_have_their_shapes(rt: HostRuntime) -> Result<(), Fail> {
+    check_rows(&rt, ROWS)
 }

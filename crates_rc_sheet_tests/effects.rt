@@ -3,7 +3,8 @@ use super::table::{Frame, Rows, check_rows};
 use crate::SheetKind::{Number, Shape};
 use std::test::Fail;
 
-const EFFECTS: &[Rows] = &[
+const ROWS: &[Rows] = &[
+    // Each form of an effect.
     Rows {
         place: Frame::Effect,
         fault: None,
@@ -56,9 +57,6 @@ const EFFECTS: &[Rows] = &[
             "^7",
         ],
     },
-];
-
-const MOVES: &[Rows] = &[
     // Without `all` behind its head a `move` has three parts, with it four.
     Rows {
         place: Frame::Effect,
@@ -101,6 +99,7 @@ const MOVES: &[Rows] = &[
             "(move all 'G (top ^'H))",
         ],
     },
+    // `remember` has a card and a spot, `forget` a card, `shuffle` a location.
     Rows {
         place: Frame::Effect,
         fault: Some(Shape),
@@ -125,9 +124,6 @@ const MOVES: &[Rows] = &[
             "(shuffle ^(foo vloc X))",
         ],
     },
-];
-
-const NUMBERS: &[Rows] = &[
     // `set`, `inc` and `dec` have three parts, the first of them a number's place.
     Rows {
         place: Frame::Effect,
@@ -176,9 +172,7 @@ const NUMBERS: &[Rows] = &[
             "(repeat 1000000000 (cycle reverse))",
         ],
     },
-];
-
-const BLOCKS: &[Rows] = &[
+    // `if` and `repeat` have three parts or more: a test or an amount, then effects.
     Rows {
         place: Frame::Effect,
         fault: Some(Shape),
@@ -249,9 +243,6 @@ const BLOCKS: &[Rows] = &[
             "(all player 'P (cycle reverse) ^'Q)",
         ],
     },
-];
-
-const CYCLES: &[Rows] = &[
     // `next` has three parts and `reverse` two.
     Rows {
         place: Frame::Effect,
@@ -292,14 +283,13 @@ const CYCLES: &[Rows] = &[
             "(cycle next (current ^foo))",
         ],
     },
-];
-
-const SPOTS: &[Rows] = &[
+    // Both spots.
     Rows {
         place: Frame::Spot,
         fault: None,
         texts: &["(top (game vloc X))", "(bottom ((team of 'P) iloc X))"],
     },
+    // A spot is `top` or `bottom` of one location, and of no other collection.
     Rows {
         place: Frame::Spot,
         fault: Some(Shape),
@@ -328,14 +318,5 @@ const SPOTS: &[Rows] = &[
 
 #[test]
 fn effects_have_their_shapes(rt: HostRuntime) -> Result<(), Fail> {
-    check_rows(&rt, EFFECTS)?;
-    check_rows(&rt, MOVES)?;
-    check_rows(&rt, SPOTS)
-}
-
-#[test]
-fn numbers_blocks_and_cycles_have_their_shapes(rt: HostRuntime) -> Result<(), Fail> {
-    check_rows(&rt, NUMBERS)?;
-    check_rows(&rt, BLOCKS)?;
-    check_rows(&rt, CYCLES)
+    check_rows(&rt, ROWS)
 }

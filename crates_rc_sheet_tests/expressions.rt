@@ -3,7 +3,8 @@ use super::table::{Frame, Rows, check_rows};
 use crate::SheetKind::{Number, Shape};
 use std::test::Fail;
 
-const CARDS: &[Rows] = &[
+const ROWS: &[Rows] = &[
+    // Each form of a card.
     Rows {
         place: Frame::Card,
         fault: None,
@@ -39,6 +40,7 @@ const CARDS: &[Rows] = &[
             "^('top 'G)",
         ],
     },
+    // `top` and `bottom` have one collection.
     Rows {
         place: Frame::Card,
         fault: Some(Shape),
@@ -88,9 +90,7 @@ const CARDS: &[Rows] = &[
             "(min ^(top 'G) using W)",
         ],
     },
-];
-
-const COLLECTIONS: &[Rows] = &[
+    // Each form of a collection.
     Rows {
         place: Frame::Coll,
         fault: None,
@@ -143,6 +143,7 @@ const COLLECTIONS: &[Rows] = &[
             "((current ^foo) vloc X)",
         ],
     },
+    // `filter` has four parts, `union` three or more.
     Rows {
         place: Frame::Coll,
         fault: Some(Shape),
@@ -172,9 +173,7 @@ const COLLECTIONS: &[Rows] = &[
             "(union ^() 'G)",
         ],
     },
-];
-
-const AMOUNTS: &[Rows] = &[
+    // Each list that gives a number.
     Rows {
         place: Frame::Int,
         fault: None,
@@ -237,6 +236,7 @@ const AMOUNTS: &[Rows] = &[
             "((current ^foo) sto N)",
         ],
     },
+    // `size` and `sum` have a collection, `sum` a map behind `using`.
     Rows {
         place: Frame::Int,
         fault: Some(Shape),
@@ -261,6 +261,7 @@ const AMOUNTS: &[Rows] = &[
             "(sum 'G using ^(W))",
         ],
     },
+    // `points` has a card, and a map behind `using`.
     Rows {
         place: Frame::Int,
         fault: Some(Shape),
@@ -278,6 +279,7 @@ const AMOUNTS: &[Rows] = &[
             "(points 'C using ^(W))",
         ],
     },
+    // Sum, difference and product have two amounts.
     Rows {
         place: Frame::Int,
         fault: Some(Shape),
@@ -297,6 +299,7 @@ const AMOUNTS: &[Rows] = &[
             "(+ ^(foo) x)",
         ],
     },
+    // An atom among them that is no number.
     Rows {
         place: Frame::Int,
         fault: Some(Number),
@@ -312,12 +315,6 @@ const AMOUNTS: &[Rows] = &[
 ];
 
 #[test]
-fn cards_and_collections_have_their_shapes(rt: HostRuntime) -> Result<(), Fail> {
-    check_rows(&rt, CARDS)?;
-    check_rows(&rt, COLLECTIONS)
-}
-
-#[test]
-fn amounts_have_their_shapes(rt: HostRuntime) -> Result<(), Fail> {
-    check_rows(&rt, AMOUNTS)
+fn cards_collections_and_amounts_have_their_shapes(rt: HostRuntime) -> Result<(), Fail> {
+    check_rows(&rt, ROWS)
 }

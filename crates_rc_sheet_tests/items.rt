@@ -3,7 +3,8 @@ use super::table::{Frame, Rows, check_rows};
 use crate::SheetKind::Shape;
 use std::test::Fail;
 
-const ITEMS: &[Rows] = &[
+const ROWS: &[Rows] = &[
+    // Each form of an item.
     Rows {
         place: Frame::Item,
         fault: None,
@@ -105,9 +106,7 @@ const ITEMS: &[Rows] = &[
             "(choice (do ^x))",
         ],
     },
-];
-
-const ALTERNATIVES: &[Rows] = &[
+    // Each form of an alternative.
     Rows {
         place: Frame::Alt,
         fault: None,
@@ -184,9 +183,7 @@ const ALTERNATIVES: &[Rows] = &[
             "(any player 'P (any player ^Q (do (cycle reverse))))",
         ],
     },
-];
-
-const DOMAINS: &[Rows] = &[
+    // Each form of a domain: `player`, a collection, a partition.
     Rows {
         place: Frame::Domain,
         fault: None,
@@ -257,12 +254,6 @@ const DOMAINS: &[Rows] = &[
 ];
 
 #[test]
-fn items_have_their_shapes(rt: HostRuntime) -> Result<(), Fail> {
-    check_rows(&rt, ITEMS)
-}
-
-#[test]
-fn alternatives_have_their_shapes(rt: HostRuntime) -> Result<(), Fail> {
-    check_rows(&rt, ALTERNATIVES)?;
-    check_rows(&rt, DOMAINS)
+fn items_and_choices_have_their_shapes(rt: HostRuntime) -> Result<(), Fail> {
+    check_rows(&rt, ROWS)
 }

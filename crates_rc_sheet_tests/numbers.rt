@@ -3,7 +3,7 @@ use super::table::{Frame, Rows, check_rows};
 use crate::SheetKind::Number;
 use std::test::Fail;
 
-const LITERALS: &[Rows] = &[
+const ROWS: &[Rows] = &[
     // Both ends, leading zeros and `-0`, up to eighteen digits.
     Rows {
         place: Frame::Int,
@@ -70,5 +70,5 @@ const LITERALS: &[Rows] = &[
 
 #[test]
 fn amounts_are_literals_in_range(rt: HostRuntime) -> Result<(), Fail> {
-    check_rows(&rt, LITERALS)
+    check_rows(&rt, ROWS)
 }

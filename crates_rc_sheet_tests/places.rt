@@ -3,7 +3,8 @@ use super::table::{Frame, Rows, check_rows};
 use crate::SheetKind::Shape;
 use std::test::Fail;
 
-const LOCATIONS: &[Rows] = &[
+const ROWS: &[Rows] = &[
+    // Each kind of location with each holder. No word is reserved.
     Rows {
         place: Frame::Loc,
         fault: None,
@@ -22,6 +23,7 @@ const LOCATIONS: &[Rows] = &[
             "(game vloc vloc)",
         ],
     },
+    // A location is a list.
     Rows {
         place: Frame::Loc,
         fault: Some(Shape),
@@ -88,9 +90,6 @@ const LOCATIONS: &[Rows] = &[
             "((current player) vloc ^'X)",
         ],
     },
-];
-
-const HOLDERS: &[Rows] = &[
     // A list at the head with three parts is to be an owner.
     Rows {
         place: Frame::Loc,
@@ -134,9 +133,7 @@ const HOLDERS: &[Rows] = &[
             "((team of ^(team of 'P)) vloc X)",
         ],
     },
-];
-
-const NUMBERS: &[Rows] = &[
+    // A stored number with each holder.
     Rows {
         place: Frame::Num,
         fault: None,
@@ -149,6 +146,7 @@ const NUMBERS: &[Rows] = &[
             "(game sto sto)",
         ],
     },
+    // No list of three parts that begins with a holder.
     Rows {
         place: Frame::Num,
         fault: Some(Shape),
@@ -172,6 +170,7 @@ const NUMBERS: &[Rows] = &[
             "^((current player))",
         ],
     },
+    // `sto` is a fixed word, the name a plain one, and the holder is judged as a location's.
     Rows {
         place: Frame::Num,
         fault: Some(Shape),
@@ -191,9 +190,7 @@ const NUMBERS: &[Rows] = &[
             "((team of ^P) sto N)",
         ],
     },
-];
-
-const OWNERS: &[Rows] = &[
+    // Each form of an owner.
     Rows {
         place: Frame::Owner,
         fault: None,
@@ -206,6 +203,7 @@ const OWNERS: &[Rows] = &[
             "(team of (current player))",
         ],
     },
+    // Another atom or head: `game` is no owner.
     Rows {
         place: Frame::Owner,
         fault: Some(Shape),
@@ -256,14 +254,13 @@ const OWNERS: &[Rows] = &[
             "^((current player) vloc X)",
         ],
     },
-];
-
-const PLAYERS: &[Rows] = &[
+    // Both forms of a player.
     Rows {
         place: Frame::Player,
         fault: None,
         texts: &["'P", "'", "(current player)"],
     },
+    // A player is no team: there `player` alone stands behind `current`, and `team` is no head.
     Rows {
         place: Frame::Player,
         fault: Some(Shape),
@@ -287,14 +284,6 @@ const PLAYERS: &[Rows] = &[
 ];
 
 #[test]
-fn locations_have_their_shapes(rt: HostRuntime) -> Result<(), Fail> {
-    check_rows(&rt, LOCATIONS)?;
-    check_rows(&rt, HOLDERS)
-}
-
-#[test]
-fn numbers_and_owners_have_their_shapes(rt: HostRuntime) -> Result<(), Fail> {
-    check_rows(&rt, NUMBERS)?;
-    check_rows(&rt, OWNERS)?;
-    check_rows(&rt, PLAYERS)
+fn locations_and_owners_have_their_shapes(rt: HostRuntime) -> Result<(), Fail> {
+    check_rows(&rt, ROWS)
 }

@@ -3,7 +3,7 @@ use super::table::{Frame, Rows, check_rows};
 use crate::SheetKind::{Number, Shape};
 use std::test::Fail;
 
-const LINES: &[Rows] = &[
+const ROWS: &[Rows] = &[
     // Each line, in any order. A line that stands twice is no fault of shape.
     Rows {
         place: Frame::Setup,
@@ -123,9 +123,6 @@ const LINES: &[Rows] = &[
             "(create deck ((team of 'P) vloc X) (deck (A (x))))",
         ],
     },
-];
-
-const PLAYERS: &[Rows] = &[
     // 1 to 8 players, in any spelling of at most 18 digits.
     Rows {
         place: Frame::Setup,
@@ -137,6 +134,7 @@ const PLAYERS: &[Rows] = &[
             "(create players 000000000000000008)",
         ],
     },
+    // Out of 1 to 8, or no literal of at most eighteen digits; a variable too.
     Rows {
         place: Frame::Setup,
         fault: Some(Number),
@@ -167,9 +165,6 @@ const PLAYERS: &[Rows] = &[
             "(create players ^(+ 1 1))",
         ],
     },
-];
-
-const TEAMS: &[Rows] = &[
     // Members from 0 to 7. Who stands in which team is no matter of shape.
     Rows {
         place: Frame::Team,
@@ -184,6 +179,7 @@ const TEAMS: &[Rows] = &[
             "(1 1) (1)",
         ],
     },
+    // Out of 0 to 7, or no literal.
     Rows {
         place: Frame::Team,
         fault: Some(Number),
@@ -206,15 +202,13 @@ const TEAMS: &[Rows] = &[
             "^0", "^'T", "^()", "(0) ^1", "(0) ^()", "(^(0))", "(0 ^(1))", "(^())", "(^(0) x)",
         ],
     },
+    // At least one team.
     Rows {
         place: Frame::Line,
         fault: Some(Shape),
         texts: &["^(create teams)"],
     },
-];
-
-/// Whole `setup` lists, with and without a line for the players.
-const PLAYERS_LINE: &[Rows] = &[
+    // Whole `setup` lists, with and without a line for the players.
     // A line that begins with `create players` is missing: the fault is the list's, whatever stands inside it.
     Rows {
         place: Frame::SetupList,
@@ -251,6 +245,7 @@ const PLAYERS_LINE: &[Rows] = &[
             "(setup (put points ^'W ((A (x) 1))) (create players 9))",
         ],
     },
+    // So is one with a faulty number.
     Rows {
         place: Frame::SetupList,
         fault: Some(Number),
@@ -280,16 +275,5 @@ const PLAYERS_LINE: &[Rows] = &[
 
 #[test]
 fn setup_lines_have_their_shapes(rt: HostRuntime) -> Result<(), Fail> {
-    check_rows(&rt, LINES)
-}
-
-#[test]
-fn players_and_teams_are_in_range(rt: HostRuntime) -> Result<(), Fail> {
-    check_rows(&rt, PLAYERS)?;
-    check_rows(&rt, TEAMS)
-}
-
-#[test]
-fn setup_has_a_line_for_the_players(rt: HostRuntime) -> Result<(), Fail> {
-    check_rows(&rt, PLAYERS_LINE)
+    check_rows(&rt, ROWS)
 }

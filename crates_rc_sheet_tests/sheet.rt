@@ -3,7 +3,7 @@ use super::table::{Frame, Rows, check_rows};
 use crate::SheetKind::{Number, Shape};
 use std::test::Fail;
 
-const SHEETS: &[Rows] = &[
+const ROWS: &[Rows] = &[
     // A small sheet, a small game and a trick game. What follows the first list isn't read.
     Rows {
         place: Frame::Sheet,
@@ -98,9 +98,7 @@ const SHEETS: &[Rows] = &[
             "(game(setup(create players ^9;\n))(do(cycle reverse))(scoring max 0))",
         ],
     },
-];
-
-const SCORING: &[Rows] = &[
+    // The scoring: the most points or the fewest win.
     Rows {
         place: Frame::Scoring,
         fault: None,
@@ -135,6 +133,7 @@ const SCORING: &[Rows] = &[
             "(scoring max ^(top 'G))",
         ],
     },
+    // The score is an amount.
     Rows {
         place: Frame::Scoring,
         fault: Some(Number),
@@ -144,10 +143,7 @@ const SCORING: &[Rows] = &[
             "(scoring max ^1000000001)",
         ],
     },
-];
-
-/// Sheets with two faults and more, of which the first in the text counts.
-const FIRST_FAULTS: &[Rows] = &[
+    // Sheets with two faults and more, of which the first in the text counts.
     // A number, then a shape.
     Rows {
         place: Frame::Sheet,
@@ -183,6 +179,7 @@ const FIRST_FAULTS: &[Rows] = &[
             "(game (setup (create players ^0) (create teams (9))) (do (cycle reverse)) (scoring max x))",
         ],
     },
+    // Two lists or atoms out of place.
     Rows {
         place: Frame::Sheet,
         fault: Some(Shape),
@@ -204,12 +201,6 @@ const FIRST_FAULTS: &[Rows] = &[
 ];
 
 #[test]
-fn sheets_have_their_shapes(rt: HostRuntime) -> Result<(), Fail> {
-    check_rows(&rt, SHEETS)?;
-    check_rows(&rt, SCORING)
-}
-
-#[test]
-fn the_first_fault_in_the_text_counts(rt: HostRuntime) -> Result<(), Fail> {
-    check_rows(&rt, FIRST_FAULTS)
+fn sheets_are_refused_for_their_first_fault(rt: HostRuntime) -> Result<(), Fail> {
+    check_rows(&rt, ROWS)
 }
