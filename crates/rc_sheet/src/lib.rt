@@ -8,6 +8,8 @@ mod grammar;
 mod keyword;
 mod literal;
 mod shape;
+#[cfg(test)]
+mod tests;
 
 pub use fault::{SheetFault, SheetKind};
 pub use grammar::{Place, Rule};

@@ -1,5 +1,5 @@
 //! How a table of fragments is run: each is put into a place of a sheet that has no other fault.
-use crate::{SheetFault, SheetKind, first_round};
+use crate::{SheetFault, SheetKind, check_shape};
 use rc_form::read_forms;
 use std::alloc::{AllocError, Global};
 use std::process::Abort;
@@ -140,7 +140,7 @@ fn check_row(
     );
     let forms = read_forms(rt.alloc(), &text, 1)?;
     let form = forms.list.first().ok_or("each row has a list")?;
-    let found = first_round(form);
+    let found = check_shape(form).err();
     let expected = match (fault, marker) {
         (Some(kind), Some(at)) => Some(SheetFault { kind, at }),
         _ => None,
