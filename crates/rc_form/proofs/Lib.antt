@@ -10,3 +10,4 @@ pub mod TopLists
 pub mod PrintedIsSpelled
 pub mod AtomsAreRead
 pub mod Placed
+pub mod Digits

@@ -4,6 +4,7 @@
 mod fault;
 mod form;
 mod lexer;
+mod literal;
 mod print;
 mod reader;
 mod reading;
@@ -11,6 +12,7 @@ mod word;
 
 pub use fault::{FormFail, FormFault, FormKind};
 pub use form::{Form, Span};
+pub use literal::{integer, natural};
 pub use print::{FormMemory, print_form, printed_form_reads_back};
 pub use reading::{Forms, read_forms, texts_are_spelled_or_faulty};
 pub use word::Word;

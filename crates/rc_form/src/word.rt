@@ -6,7 +6,7 @@ use std::marker::Model;
 pub const MOST_BYTES: usize = 64;
 
 /// 1 to 64 bytes that may stand in an atom. Contracts see the list of them.
-#[derive(Clone, Copy, PartialEq, Eq, Debug)]
+#[derive(Clone, Copy, PartialEq, Eq, Hash, Debug)]
 pub struct Word {
     bytes: [u8; 64],
     count: usize,

@@ -1,6 +1,5 @@
 pub mod AnswerLaws
 pub mod Cuts
-pub mod Digits
 pub mod Entries
 pub mod Games
 pub mod Loops

@@ -4,7 +4,6 @@
 mod answer;
 mod command;
 mod game;
-mod literal;
 mod play;
 mod running;
 mod small_text;

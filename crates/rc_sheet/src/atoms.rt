@@ -6,7 +6,7 @@ ghost use Rattle.rc_sheet.specs.Faults as spec;
 use crate::fault::SheetKind;
 use crate::grammar::Place;
 use crate::keyword::Keyword;
-use crate::literal::integer;
+use rc_form::integer;
 
 /// The largest number of a game, and the least one's opposite.
 const LIMIT: i64 = 1_000_000_000;

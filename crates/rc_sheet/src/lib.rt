@@ -6,7 +6,6 @@ mod choice;
 mod fault;
 mod grammar;
 mod keyword;
-mod literal;
 mod shape;
 #[cfg(test)]
 mod tests;

@@ -5,7 +5,7 @@ ghost use Rattle.rc_house.specs.Parts.{plan_seen, tail_seen};
 
 use super::cuts::{behind, until, words_of};
 use super::parts::{PlanParts, PlanTail};
-use crate::literal::natural;
+use rc_form::natural;
 use std::alloc::{AllocError, Global};
 
 /// What a small plan for so many players says. `None` where the text is no such plan.

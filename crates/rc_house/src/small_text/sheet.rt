@@ -7,7 +7,7 @@ ghost use Rattle.rc_model.specs.Token as token;
 
 use super::cuts::{behind, until, words_of};
 use super::parts::SheetParts;
-use crate::literal::integer;
+use rc_form::integer;
 use std::alloc::{AllocError, Global};
 
 /// What stands behind the number of cards that each player is dealt.

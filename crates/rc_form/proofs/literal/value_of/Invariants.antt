@@ -1,6 +1,6 @@
 use Rattle.std.proofs.Common.{◌≡◌, ◌<◌, ◌^◌, take}
 use Rattle.rc_model.specs.Literal as literal
-use Rattle.rc_house.proofs.literal.value_of.Given as goal
+use Rattle.rc_form.proofs.literal.value_of.Given as goal
 
 abbrev pub invariant-loop-digit : goal.invariant-loop-digit
 invariant-loop-digit l =

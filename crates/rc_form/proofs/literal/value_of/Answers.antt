@@ -1,6 +1,6 @@
 use Rattle.std.proofs.Common.{◌-◌, arith, get_or}
-use Rattle.rc_house.proofs.Digits.{digit_at, more_fits, all_fit}
-use Rattle.rc_house.proofs.literal.value_of.Goals as goal
+use Rattle.rc_form.proofs.Digits.{digit_at, more_fits, all_fit}
+use Rattle.rc_form.proofs.literal.value_of.Goals as goal
 
 pub overflow_mul-value : goal.overflow_mul-value
 overflow_mul-value c =

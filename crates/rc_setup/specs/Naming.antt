@@ -1,0 +1,32 @@
+-- Names are numbered as they are mentioned.
+use Rattle.std.specs.Prelude.{◌≡◌, ◌≢◌, ℕ, ◌≤◌, ◌==◌, if◌then◌else◌, List, [], ◌∷◌, ◌++◌, length, fold, AllPairs, slice_index, Option, None}
+use Rattle.std.specs.List.{list_any, position}
+use Rattle.std.specs.Str.{bytes_eq}
+use Rattle.rc_model.specs.Tree.{Tree, word, list}
+use Rattle.rc_model.specs.DeckText.{Names, Mention, attribute, value}
+
+-- the names and one more, which goes last where it is new
+abbrev pub with_name : List (List ℕ) → List ℕ → List (List ℕ)
+with_name names name = if list_any (bytes_eq name) names then names else names ++ name ∷ []
+
+-- the names after a mention
+abbrev pub with_mention : Names → Mention → Names
+with_mention names (attribute name) = record { attrs = with_name names.attrs name; values = names.values }
+with_mention names (value name) = record { attrs = names.attrs; values = with_name names.values name }
+
+-- the names after several mentions
+abbrev pub with_mentions : Names → List Mention → Names
+with_mentions names mentions = fold with_mention names mentions
+
+-- no name stands twice
+abbrev pub AllDiffer : List (List ℕ) → Type 0
+AllDiffer names = AllPairs ◌≢◌ names
+
+-- the numbers of the names fit in 16 bits
+abbrev pub AreFew : Names → Type 0
+AreFew names = (length names.attrs ≤ 65536) × (length names.values ≤ 65536)
+
+-- the number of the name that a tree is, if it is one of the names
+abbrev pub number_of : List (List ℕ) → Tree → Option ℕ
+number_of names (word bytes from to) = if slice_index bytes 0 == 39 then None else position (bytes_eq bytes) names
+number_of names (list parts from to) = None

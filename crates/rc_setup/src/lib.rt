@@ -1,0 +1,19 @@
+//! The deck trees and point maps of a setup, read from forms.
+//!
+//! [`names_of`] numbers the attributes and values that a deck and entries mention. With these numbers [`deck_of`] reads a
+//! deck tree and [`entries_of`] a point map. [`worths_of`] does it all, and says what each card of the deck is worth.
+#![tactic(auto)]
+
+mod mentions;
+mod naming;
+mod points_reading;
+#[cfg(test)]
+mod tests;
+mod tree_reading;
+mod worth;
+
+pub use mentions::names_of;
+pub use naming::Names;
+pub use points_reading::entries_of;
+pub use tree_reading::deck_of;
+pub use worth::worths_of;

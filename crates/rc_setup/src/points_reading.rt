@@ -1,0 +1,107 @@
+//! Point maps, read from forms.
+ghost use Rattle.std.specs.Prelude.{◌≡◌, ℕ, Some, None, List, IfOk, IfSome, IsNone, option_map};
+ghost use Rattle.rc_model.specs.Deck.{Entry};
+ghost use Rattle.rc_model.specs.DeckText.{EntriesStand};
+ghost use Rattle.rc_form.specs.Form.{tree_of, trees_of, packed};
+ghost use Rattle.rc_deck.specs.Points.{entry_of, entries_of as entries_seen};
+ghost use Rattle.rc_setup.specs.Naming.{AreFew};
+ghost use Rattle.rc_setup.specs.Reading as reading;
+
+use crate::Names;
+use rc_deck::{Memory, PointEntry, PointMap};
+use rc_form::{Form, integer};
+use std::alloc::Global;
+
+/// The point map that a form `(ENTRY ..)` stands for, each entry an `(ATTR (VALUE ..) n)`. `None` where it stands for none.
+pub fn entries_of(alloc: Global, names: &Names, entries: &Form) -> Result<Option<PointMap>, Memory>
+    requires few { AreFew names.now }
+    ensures found { IfOk result (λ found. IfSome found (λ points. EntriesStand names.now (entries_seen points) (tree_of entries.now))) }
+    ensures none { IfOk result (λ found. IsNone found → (list : List Entry) → EntriesStand names.now list (tree_of entries.now) → ⊥) }
+    ensures only { IfOk result (λ found. IfSome found
+        (λ points. (list : List Entry) → EntriesStand names.now list (tree_of entries.now) → list ≡ entries_seen points)) }
+{
+    let _attrs_differ = names.attr_count();
+    let _values_differ = names.value_count();
+    read_entries(alloc, names, entries)
+}
+
+fn read_entries(alloc: Global, names: &Names, entries: &Form) -> Result<Option<PointMap>, Memory>
+    requires few { AreFew names.now }
+    ensures { IfOk result (λ found. option_map entries_seen found ≡ reading.read_entries names.now (tree_of entries.now)) }
+{
+    let Form::List { items, .. } = entries else {
+        return Ok(None);
+    };
+    if items.is_empty() {
+        return Ok(None);
+    }
+    let mut entries = Vec::new(alloc);
+    for form in items {
+        match read_entry(alloc, names, form)? {
+            Some(entry) => entries.push(entry)?,
+            None => return Ok(None),
+        }
+    }
+    Ok(Some(PointMap { entries }))
+}
+
+fn read_entry(alloc: Global, names: &Names, form: &Form) -> Result<Option<PointEntry>, Memory>
+    requires few { AreFew names.now }
+    ensures { IfOk result (λ found. option_map entry_of found ≡ reading.read_entry names.now (tree_of form.now)) }
+{
+    let Form::List { items, .. } = form else {
+        return Ok(None);
+    };
+    let [head, second, third] = items.as_slice() else {
+        return Ok(None);
+    };
+    let Some(attr) = names.attr(head) else {
+        return Ok(None);
+    };
+    let Some(points) = read_points(third) else {
+        return Ok(None);
+    };
+    match read_value_list(alloc, names, second)? {
+        Some(values) => Ok(Some(PointEntry {
+            attr,
+            values,
+            points,
+        })),
+        None => Ok(None),
+    }
+}
+
+fn read_value_list(alloc: Global, names: &Names, form: &Form) -> Result<Option<Vec<u16>>, Memory>
+    requires few { AreFew names.now }
+    ensures { IfOk result (λ found. option_map (λ values. values.items) found ≡ reading.read_value_list names.now (tree_of form.now)) }
+{
+    let Form::List { items, .. } = form else {
+        return Ok(None);
+    };
+    if items.is_empty() {
+        return Ok(None);
+    }
+    let mut values = Vec::new(alloc);
+    for item in items {
+        match names.value(item) {
+            Some(value) => values.push(value)?,
+            None => return Ok(None),
+        }
+    }
+    Ok(Some(values))
+}
+
+// The number of a literal within the clamp.
+fn read_points(form: &Form) -> Option<i64>
+    ensures { result ≡ reading.read_points (tree_of form.now) }
+{
+    let Form::Atom { word, .. } = form else {
+        return None;
+    };
+    let points = integer(word.bytes())?;
+    if -1_000_000_000 <= points && points <= 1_000_000_000 {
+        Some(points)
+    } else {
+        None
+    }
+}

@@ -1,0 +1,86 @@
+//! What the cards of a deck are worth.
+ghost use Rattle.std.specs.Prelude.{◌≡◌, ℤ, ◌≤◌, ◌^◌, ◌↔◌, List, All, IsTrue, IfOk, IfSome, IsNone, map, vec_len};
+ghost use Rattle.rc_model.specs.Deck.{points_of, Face as Pairs};
+ghost use Rattle.rc_model.specs.DeckText.{HaveWorths, HasEachOnce};
+ghost use Rattle.rc_form.specs.Form.{tree_of};
+ghost use Rattle.rc_deck.specs.Points.{entries_of as entries_seen, IsWithinClamp};
+ghost use Rattle.rc_setup.specs.Size.{count_of_parts};
+
+use crate::{deck_of, entries_of, names_of};
+use rc_deck::{Face, Memory, PointMap, count_of, faces_of, points};
+use rc_form::Form;
+use std::alloc::Global;
+
+/// The most cards of a deck.
+const MOST_CARDS: usize = 512;
+
+/// The most attributes, and the most values.
+const MOST_NAMES: usize = 256;
+
+/// What each card of a deck is worth, from the first to the last. `None` where the forms are no deck and entries, where the
+/// deck has more than 512 cards, where there are more than 256 attributes or values, or where a card has an attribute
+/// twice.
+pub fn worths_of(alloc: Global, deck: &Form, entries: &Form) -> Result<Option<Vec<i64>>, Memory>
+    requires few { count_of_parts (tree_of entries.now) ≤ 2 ^ 23 }
+    ensures found { IfOk result (λ found. IfSome found (λ worths. HaveWorths (tree_of deck.now) (tree_of entries.now) worths.items)) }
+    ensures none { IfOk result (λ found. IsNone found
+        → (worths : List ℤ) → HaveWorths (tree_of deck.now) (tree_of entries.now) worths → ⊥) }
+    ensures only { IfOk result (λ found. IfSome found
+        (λ list. (worths : List ℤ) → HaveWorths (tree_of deck.now) (tree_of entries.now) worths → worths ≡ list.items)) }
+{
+    let names = names_of(alloc, deck, entries)?;
+    if names.attr_count() > MOST_NAMES || names.value_count() > MOST_NAMES {
+        return Ok(None);
+    }
+    let Some(tree) = deck_of(alloc, &names, deck)? else {
+        return Ok(None);
+    };
+    let Some(map) = entries_of(alloc, &names, entries)? else {
+        return Ok(None);
+    };
+    if count_of(&tree, MOST_CARDS + 1) > MOST_CARDS {
+        return Ok(None);
+    }
+    let faces = faces_of(alloc, &tree)?;
+    if !all_have_each_once(&faces) {
+        return Ok(None);
+    }
+    let worths = points_of_all(alloc, &map, &faces)?;
+    Ok(Some(worths))
+}
+
+fn points_of_all(alloc: Global, entries: &PointMap, faces: &[Face]) -> Result<Vec<i64>, Memory>
+    requires few { vec_len entries.now.entries ≤ 2 ^ 23 }
+    requires clamped { All (λ entry. IsWithinClamp entry.points) (entries_seen entries.now) }
+    ensures { IfOk result (λ worths. worths.items ≡ map (points_of (entries_seen entries.now)) faces.now) }
+{
+    let mut worths = Vec::new(alloc);
+    for face in faces {
+        worths.push(points(entries, face))?;
+    }
+    Ok(worths)
+}
+
+fn all_have_each_once(faces: &[Face]) -> bool
+    ensures { IsTrue result ↔ All HasEachOnce faces.now }
+{
+    for face in faces {
+        if !has_each_once(face) {
+            return false;
+        }
+    }
+    true
+}
+
+// A face with an attribute twice shows it among its first 257 pairs, since there are at most 256 attributes.
+fn has_each_once(face: &Face) -> bool
+    ensures { IsTrue result ↔ HasEachOnce face.now }
+{
+    let pairs = face.pairs();
+    for (place, pair) in pairs.iter().enumerate() {
+        if pairs[..place].iter().any(|earlier| earlier.0 == pair.0) {
+            return false;
+        }
+    }
+    true
+}
