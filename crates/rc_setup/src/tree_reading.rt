@@ -1,6 +1,6 @@
 //! Deck trees, read from forms.
 ghost use Rattle.std.specs.Prelude.{◌≡◌, Some, None, IsTrue, IfOk, IfSome, IsNone, option_map, codes};
-ghost use Rattle.rc_model.specs.Deck.{Groups, no_group};
+ghost use Rattle.rc_model.specs.Deck.{Groups};
 ghost use Rattle.rc_model.specs.DeckText.{DeckStands};
 ghost use Rattle.rc_form.specs.Form.{tree_of, trees_of, packed};
 ghost use Rattle.rc_deck.specs.Tree.{groups_of, groups_in, branches_in, attr_of, branches_of, value_of, inner_of};
@@ -159,7 +159,7 @@ fn read_branch(alloc: Global, names: &Names, form: &Form) -> Result<Option<Branc
 fn plain_branch(alloc: Global, names: &Names, form: &Form) -> Option<Branch>
     requires few { AreFew names.now }
     ensures { option_map (λ branch. (value_of branch, inner_of branch)) result
-        ≡ option_map (λ number. (number, no_group)) (number_of names.now.values (tree_of form.now)) }
+        ≡ option_map reading.plain (number_of names.now.values (tree_of form.now)) }
 {
     match names.value(form) {
         Some(value) => Some(Branch {

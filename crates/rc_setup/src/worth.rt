@@ -49,14 +49,14 @@ pub fn worths_of(alloc: Global, deck: &Form, entries: &Form) -> Result<Option<Ve
     Ok(Some(worths))
 }
 
-fn points_of_all(alloc: Global, map: &PointMap, faces: &[Face]) -> Result<Vec<i64>, Memory>
-    requires few { vec_len map.now.entries ≤ 2 ^ 23 }
-    requires clamped { All (λ entry. IsWithinClamp entry.points) (entries_seen map.now) }
-    ensures { IfOk result (λ worths. worths.items ≡ map (points_of (entries_seen map.now)) faces.now) }
+fn points_of_all(alloc: Global, entries: &PointMap, faces: &[Face]) -> Result<Vec<i64>, Memory>
+    requires few { vec_len entries.now.entries ≤ 2 ^ 23 }
+    requires clamped { All (λ entry. IsWithinClamp entry.points) (entries_seen entries.now) }
+    ensures { IfOk result (λ worths. worths.items ≡ map (points_of (entries_seen entries.now)) faces.now) }
 {
     let mut worths = Vec::new(alloc);
     for face in faces {
-        worths.push(points(map, face))?;
+        worths.push(points(entries, face))?;
     }
     Ok(worths)
 }

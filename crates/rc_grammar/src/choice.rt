@@ -1,0 +1,139 @@
+//! Which form a list is to be.
+ghost use Rattle.std.specs.Prelude.{◌≡◌, ◌<◌};
+ghost use Rattle.rc_form.specs.Form.{tree_of, trees_of, packed};
+ghost use Rattle.rc_grammar.specs.Faults as spec;
+
+use crate::atoms::{atom_kind, is_word};
+use crate::grammar::{Place, Rule};
+use crate::keyword::Keyword;
+use rc_form::Form;
+
+impl Rule {
+    /// The word behind the head, where both are fixed.
+    fn second_word(self) -> Option<Keyword>
+        ensures { result ≡ spec.second_word self }
+    {
+        match self.front() {
+            [Place::Word(_), Place::Word(second), ..] => Some(*second),
+            _ => None,
+        }
+    }
+
+    /// How many parts stand behind those of which there may be more.
+    fn back(self) -> usize
+        ensures { result ≡ spec.back_of self }
+    {
+        if self == Rule::Game { 1 } else { 0 }
+    }
+
+    /// Whether a list of so many parts has the number of this form's.
+    pub(crate) fn fits(self, count: usize) -> bool
+        ensures { result ≡ spec.fits count self }
+    {
+        match self.more() {
+            Some(_) => self.front().len() + self.back() < count,
+            None => count == self.front().len(),
+        }
+    }
+
+    /// The place of a part, where the form has so many.
+    pub(crate) fn place_at(self, count: usize, index: usize) -> Option<Place>
+        requires { index < count }
+        ensures { result ≡ spec.place_at self count index }
+    {
+        match self.front().get(index) {
+            Some(place) => Some(*place),
+            None if self == Rule::Game && index + 1 == count => Some(Place::Scoring),
+            None => self.more(),
+        }
+    }
+}
+
+/// The form that a list of these parts is to be, where it may be one.
+pub fn rule_of(place: Place, parts: &[Form]) -> Option<Rule>
+    ensures { result ≡ spec.rule_of place (packed (trees_of parts.now)) }
+{
+    let (head, others) = parts.split_first()?;
+    match told_rule(place, head, others) {
+        Some(rule) => Some(rule),
+        None => plain_rule(place, head),
+    }
+}
+
+/// The form that the word behind the head tells.
+fn told_rule(place: Place, head: &Form, others: &[Form]) -> Option<Rule>
+    ensures { result ≡ spec.told_rule place (tree_of head.now) (packed (trees_of others.now)) }
+{
+    for rule in place.forms() {
+        if begins(head, *rule) && is_told(rule.second_word(), others) {
+            return Some(*rule);
+        }
+    }
+    None
+}
+
+/// The form that no word behind the head tells.
+fn plain_rule(place: Place, head: &Form) -> Option<Rule>
+    ensures { result ≡ spec.plain_rule place (tree_of head.now) }
+{
+    for rule in place.forms() {
+        if begins(head, *rule) && rule.second_word().is_none() {
+            return Some(*rule);
+        }
+    }
+    None
+}
+
+/// Whether a list of this form may begin with this part.
+fn begins(head: &Form, rule: Rule) -> bool
+    ensures { result ≡ spec.begins (tree_of head.now) rule }
+{
+    match rule.front().first() {
+        Some(place) => may_begin(*place, head),
+        None => true,
+    }
+}
+
+/// Whether a list may begin with this part, where this is the place of its first part.
+fn may_begin(place: Place, head: &Form) -> bool
+    ensures { result ≡ spec.may_begin place (tree_of head.now) }
+{
+    match head {
+        Form::Atom { word, .. } => match place {
+            Place::Word(keyword) => is_word(keyword, word.bytes()),
+            Place::Holder => atom_kind(place, word.bytes()).is_none(),
+            _ => true,
+        },
+        Form::List { .. } => place == Place::Holder,
+    }
+}
+
+/// Whether the form is this word.
+pub fn is_form_word(keyword: Keyword, form: &Form) -> bool
+    ensures { result ≡ spec.is_form_word keyword (tree_of form.now) }
+{
+    match form {
+        Form::Atom { word, .. } => is_word(keyword, word.bytes()),
+        Form::List { .. } => false,
+    }
+}
+
+/// Whether the part behind the head is this word.
+pub fn is_told(second: Option<Keyword>, others: &[Form]) -> bool
+    ensures { result ≡ spec.is_told second (packed (trees_of others.now)) }
+{
+    match (second, others.first()) {
+        (Some(keyword), Some(form)) => is_form_word(keyword, form),
+        _ => false,
+    }
+}
+
+/// Whether a list that begins so may have so many parts at this place.
+pub fn some_form_fits(place: Place, head: &Form, count: usize) -> bool
+    ensures { result ≡ spec.some_form_fits place (tree_of head.now) count }
+{
+    place
+        .forms()
+        .iter()
+        .any(|rule| begins(head, *rule) && rule.fits(count))
+}

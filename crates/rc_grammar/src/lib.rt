@@ -1,0 +1,16 @@
+//! The grammar of a sheet as a table of places and forms, and the first fault of a form's shape.
+#![tactic(auto)]
+
+mod atoms;
+mod choice;
+mod fault;
+mod grammar;
+mod keyword;
+mod shape;
+#[cfg(test)]
+mod tests;
+
+pub use fault::{SheetFault, SheetKind};
+pub use grammar::{Place, Rule};
+pub use keyword::Keyword;
+pub use shape::check_shape;
