@@ -242,11 +242,16 @@ part_faults rule parts = faults_in rule (count parts) 0 parts
 abbrev pub list_faults : Place → ℕ → Trees → List SheetFault
 list_faults place from parts = told_faults place from parts (λ rule. part_faults rule parts) (rule_of place parts)
 
--- the first of these faults, and what a check answers
+-- the first of these faults
 abbrev pub first : List SheetFault → Option SheetFault
 first [] = None
 first (fault ∷ others) = Some fault
 
+-- the first fault of the shape of a form that is to be a sheet
+abbrev pub first_fault : Tree → Option SheetFault
+first_fault tree = first (faults place.Sheet tree)
+
+-- what a check answers
 abbrev pub fault_of : {A : Type 0} → Result A SheetFault → Option SheetFault
 fault_of (Ok u) = None
 fault_of (Err fault) = Some fault

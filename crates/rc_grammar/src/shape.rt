@@ -19,7 +19,7 @@ use rc_form::{Form, Span};
 pub fn check_shape(form: &Form) -> Result<(), SheetFault>
     requires placed { (size : ℕ) × IsPlaced size (tree_of form.now) }
     // The faults are listed in the order of the text; this is the first of them.
-    ensures first { spec.fault_of result ≡ spec.first (spec.faults Place.Sheet (tree_of form.now)) }
+    ensures first { spec.fault_of result ≡ spec.first_fault (tree_of form.now) }
 
     ensures fine { OnOk result (spec.faults Place.Sheet (tree_of form.now) ≡ []) }
     ensures found { IfErr result (λ fault. Contains (spec.faults Place.Sheet (tree_of form.now)) fault) }

@@ -1,16 +1,18 @@
 -- The commands, and what they make of a source.
-use Rattle.std.specs.Prelude.{◌≡◌, ℕ, ◌<◌, ◌⊎◌, List, [], ◌∷◌, length, codes}
+use Rattle.std.specs.Prelude.{Some, None, ◌≡◌, ℕ, ◌<◌, ◌⊎◌, List, [], ◌∷◌, length, codes}
 use Rattle.rc_model.specs.Transcript.{line}
 use Rattle.rc_model.specs.Tree.{Tree, printed}
 use Rattle.rc_model.specs.Spelled.{Spelled}
 use Rattle.rc_model.specs.SmallText.{HasHouse}
 use Rattle.rc_form.specs.declared.fault.FormKind.{FormKind}
 use Rattle.rc_form.specs.FormFault.{IsFormFault}
+use Rattle.rc_grammar.specs.Faults.{first_fault}
+use Rattle.rc_grammar.specs.declared.fault.SheetFault.{SheetFault}
 use Rattle.rc_house.specs.declared.status.SourceKind.{SourceKind}
 use Rattle.rc_house.specs.declared.status.SourceKind.TheVariants.{Shape}
 use Rattle.rc_house.specs.declared.command.Command.{Command}
 use Rattle.rc_house.specs.declared.command.Command.TheVariants.{Play, Sheet}
-use Rattle.rc_house.specs.Status.{source_kind}
+use Rattle.rc_house.specs.Status.{source_kind, sheet_kind}
 
 -- how many lists a command reads from the front of its source
 abbrev pub wanted : Command → ℕ
@@ -34,10 +36,31 @@ pub data Answer : Type 0 where
   unbuilt : Answer
 
 -- the first fault of the forms that are wanted, or Shape at the end where the first of them is missing
-abbrev pub HasSheetFault : List ℕ → ℕ → SourceKind → ℕ → Type 0
-HasSheetFault source want kind at =
+abbrev pub HasFormFault : List ℕ → ℕ → SourceKind → ℕ → Type 0
+HasFormFault source want kind at =
     ((form_kind : FormKind) × IsFormFault source want form_kind at × (kind ≡ source_kind form_kind))
     ⊎ (Spelled source want [] at × (kind ≡ Shape))
+
+-- the wanted lists of the source can be read, and this holds of the first
+pub record HasSheet (source : List ℕ) (want : ℕ) (P : Tree → Type 0) : Type 0 where
+  pub sheet : Tree
+  pub others : List Tree
+  pub rest : ℕ
+  pub spelled : Spelled source want (sheet ∷ others) rest
+  pub holds : P sheet
+
+-- the first fault of the shape of a form
+abbrev pub HasShapeFault : SourceKind → ℕ → Tree → Type 0
+HasShapeFault kind at sheet =
+    (found : SheetFault) × (first_fault sheet ≡ Some found) × (kind ≡ sheet_kind found.kind) × (at ≡ found.at)
+
+-- a form whose shape has no fault
+abbrev pub IsShaped : Tree → Type 0
+IsShaped sheet = first_fault sheet ≡ None
+
+-- the first fault of the source's forms, or else of its sheet
+abbrev pub HasSheetFault : List ℕ → ℕ → SourceKind → ℕ → Type 0
+HasSheetFault source want kind at = HasFormFault source want kind at ⊎ HasSheet source want (HasShapeFault kind at)
 
 -- the first list of the source, printed on a line; what follows it isn't looked at
 abbrev pub HasPrintedForm : List ℕ → List ℕ → Type 0
@@ -50,16 +73,28 @@ HasNoHouse source =
     (forms : List Tree) × (rest : ℕ) × Spelled source 2 forms rest × (0 < length forms)
     × ((bytes : List ℕ) → HasHouse source bytes → ⊥)
 
--- The command has this answer to its source.
+-- The command has this answer to its source, if the shape of the sheet has no fault.
+abbrev pub HasShapedAnswer : Command → List ℕ → Answer → Type 0
+HasShapedAnswer Play source (text bytes) = HasHouse source bytes
+HasShapedAnswer Play source (fault kind at) = HasFormFault source 2 kind at
+HasShapedAnswer Play source unbuilt = HasNoHouse source
+HasShapedAnswer Sheet source (text bytes) = HasPrintedForm source bytes
+HasShapedAnswer Sheet source (fault kind at) = HasFormFault source 1 kind at
+HasShapedAnswer Sheet source unbuilt = ⊥
+
+-- the command has this answer to its source
 abbrev pub HasAnswer : Command → List ℕ → Answer → Type 0
-HasAnswer Play source (text bytes) = HasHouse source bytes
-HasAnswer Play source (fault kind at) = HasSheetFault source 2 kind at
-HasAnswer Play source unbuilt = HasNoHouse source
-HasAnswer Sheet source (text bytes) = HasPrintedForm source bytes
-HasAnswer Sheet source (fault kind at) = HasSheetFault source 1 kind at
-HasAnswer Sheet source unbuilt = ⊥
+HasAnswer command source (text bytes) =
+    HasSheet source (wanted command) IsShaped × HasShapedAnswer command source (text bytes)
+HasAnswer command source (fault kind at) = HasSheetFault source (wanted command) kind at
+HasAnswer command source unbuilt = HasSheet source (wanted command) IsShaped × HasShapedAnswer command source unbuilt
 
 -- The command has this answer to its source, and no other.
 pub record IsAnswer (command : Command) (source : List ℕ) (answer : Answer) : Type 0 where
   pub has : HasAnswer command source answer
   pub only : (other : Answer) → HasAnswer command source other → other ≡ answer
+
+-- the same where the shape of the sheet has no fault
+pub record IsShapedAnswer (command : Command) (source : List ℕ) (answer : Answer) : Type 0 where
+  pub has : HasShapedAnswer command source answer
+  pub only : (other : Answer) → HasShapedAnswer command source other → other ≡ answer

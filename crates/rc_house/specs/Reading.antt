@@ -1,5 +1,7 @@
 -- What reading a source gives.
-use Rattle.std.specs.Prelude.{◌≡◌, ℕ, ◌≤◌, List, length, All}
+use Rattle.std.specs.Prelude.{◌≡◌, ℕ, ◌≤◌, List, [], ◌∷◌, length, Option, None, All}
+use Rattle.rc_grammar.specs.Faults.{first_fault}
+use Rattle.rc_grammar.specs.declared.fault.SheetFault.{SheetFault}
 use Rattle.rc_model.specs.Tree.{Tree}
 use Rattle.rc_model.specs.Spelled.{Spelled}
 use Rattle.rc_form.specs.declared.fault.FormKind.{FormKind}
@@ -12,3 +14,8 @@ pub record IsRead (source : List ℕ) (want : ℕ) (forms : List Tree) (rest : �
   pub only : (others : List Tree) (end : ℕ) → Spelled source want others end → (others ≡ forms) × (end ≡ rest)
   pub no_fault : (kind : FormKind) (at : ℕ) → IsFormFault source want kind at → ⊥
   pub within : rest ≤ length source
+
+-- the first fault of the shape of the first of these forms, where there is one
+abbrev pub shape_fault_of : List Tree → Option SheetFault
+shape_fault_of [] = None
+shape_fault_of (sheet ∷ others) = first_fault sheet

@@ -3,8 +3,10 @@ use Rattle.std.specs.Prelude.{ℕ, List, [], ◌++◌, codes, decimal}
 use Rattle.rc_model.specs.Transcript.{line}
 use Rattle.rc_form.specs.declared.fault.FormKind.{FormKind}
 use Rattle.rc_form.specs.declared.fault.FormKind.TheVariants as form
+use Rattle.rc_grammar.specs.declared.fault.SheetKind.{SheetKind}
+use Rattle.rc_grammar.specs.declared.fault.SheetKind.TheVariants as part
 use Rattle.rc_house.specs.declared.status.SourceKind.{SourceKind}
-use Rattle.rc_house.specs.declared.status.SourceKind.TheVariants.{BadByte, Stray, TooDeep, AtomLong, Unclosed, Shape}
+use Rattle.rc_house.specs.declared.status.SourceKind.TheVariants.{BadByte, Stray, TooDeep, AtomLong, Unclosed, Shape, Number, Twice, Unknown, WrongKind, TooMany, NoCards}
 use Rattle.rc_house.specs.declared.status.Status.{Status}
 use Rattle.rc_house.specs.declared.status.Status.TheVariants.{Done, Sheet, Memory, ReadFault, WriteFault, TooLong, Unbuilt}
 
@@ -16,6 +18,12 @@ kind_name TooDeep = codes "TooDeep"
 kind_name AtomLong = codes "AtomLong"
 kind_name Unclosed = codes "Unclosed"
 kind_name Shape = codes "Shape"
+kind_name Number = codes "Number"
+kind_name Twice = codes "Twice"
+kind_name Unknown = codes "Unknown"
+kind_name WrongKind = codes "WrongKind"
+kind_name TooMany = codes "TooMany"
+kind_name NoCards = codes "NoCards"
 
 -- the kind that a fault of forms is in a source
 abbrev pub source_kind : FormKind → SourceKind
@@ -24,6 +32,16 @@ source_kind form.Stray = Stray
 source_kind form.TooDeep = TooDeep
 source_kind form.AtomLong = AtomLong
 source_kind form.Unclosed = Unclosed
+
+-- the kind that a fault of a sheet's parts is in a source
+abbrev pub sheet_kind : SheetKind → SourceKind
+sheet_kind part.Shape = Shape
+sheet_kind part.Number = Number
+sheet_kind part.Twice = Twice
+sheet_kind part.Unknown = Unknown
+sheet_kind part.WrongKind = WrongKind
+sheet_kind part.TooMany = TooMany
+sheet_kind part.NoCards = NoCards
 
 -- the program's exit code
 abbrev pub code_of : Status → ℕ

@@ -7,11 +7,11 @@ ghost use Rattle.rc_model.specs.SmallGame as model;
 ghost use Rattle.rc_model.specs.SmallText.{IsSmall};
 ghost use Rattle.rc_form.specs.Form.{tree_of, trees_of, IsPrintable};
 ghost use Rattle.rc_house.specs.Game.{game_of};
-ghost use Rattle.rc_house.specs.Command.{fault, IsAnswer};
+ghost use Rattle.rc_house.specs.Command.{wanted, fault, IsAnswer, IsShapedAnswer};
 ghost use Rattle.rc_house.specs.declared.status.SourceKind.TheVariants.{Shape};
-ghost use Rattle.rc_house.specs.Status.{source_kind};
+ghost use Rattle.rc_house.specs.Status.{source_kind, sheet_kind};
 ghost use Rattle.rc_house.specs.Answer.{seen};
-ghost use Rattle.rc_house.specs.Reading.{IsRead};
+ghost use Rattle.rc_house.specs.Reading.{IsRead, shape_fault_of};
 
 use crate::command::Command;
 use crate::game::SmallGame;
@@ -20,6 +20,7 @@ use crate::printing::{print, print_line};
 use crate::small_text::read_game;
 use crate::status::SourceKind;
 use rc_form::{Form, FormFail, FormFault, Forms, read_forms};
+use rc_grammar::{SheetFault, check_shape};
 use std::alloc::{AllocError, Global};
 
 /// What a command answers to its source.
@@ -39,10 +40,7 @@ pub fn answer_to(alloc: Global, command: Command, source: &[u8]) -> Result<Answe
     ensures { IfOk result (λ answer. IsAnswer command source.now (seen answer)) }
 {
     match read_forms(alloc, source, command.wanted()) {
-        Ok(forms) => match command {
-            Command::Play => play_answer(alloc, source, &forms),
-            Command::Sheet => sheet_answer(alloc, source, &forms),
-        },
+        Ok(forms) => answer_of_forms(alloc, command, source, &forms),
         Err(FormFail::Fault(form_fault)) => Ok(fault_of(form_fault)),
         Err(FormFail::Memory) => Err(AllocError),
     }
@@ -58,12 +56,68 @@ fn fault_of(form_fault: FormFault) -> Answer
     }
 }
 
+/// The answer of a command to a source with these forms.
+fn answer_of_forms(
+    alloc: Global,
+    command: Command,
+    source: &[u8],
+    forms: &Forms,
+) -> Result<Answer, AllocError>
+    requires small { length source.now ≤ 1048576 }
+    requires read { IsRead source.now (wanted command) (trees_of forms.now.list.items) forms.now.rest }
+    requires printable { All (λ form. IsPrintable (tree_of form)) forms.now.list.items }
+    requires placed { All (λ form. IsPlaced (length source.now) (tree_of form)) forms.now.list.items }
+    ensures { IfOk result (λ answer. IsAnswer command source.now (seen answer)) }
+{
+    match shape_fault(forms) {
+        Some(found) => Ok(sheet_fault(found)),
+        None => shaped_answer(alloc, command, source, forms),
+    }
+}
+
+/// The first fault of the shape of the first form.
+fn shape_fault(forms: &Forms) -> Option<SheetFault>
+    requires { (size : ℕ) × All (λ form. IsPlaced size (tree_of form)) forms.now.list.items }
+    ensures { result ≡ shape_fault_of (trees_of forms.now.list.items) }
+{
+    check_shape(forms.list.first()?).err()
+}
+
+/// The answer to a source whose sheet has this fault.
+fn sheet_fault(found: SheetFault) -> Answer
+    ensures { seen result ≡ fault (sheet_kind found.kind) found.at }
+{
+    Answer::Fault {
+        kind: SourceKind::from(found.kind),
+        at: found.at,
+    }
+}
+
+/// The answer of a command to a source with these forms, where the shape of the sheet has no fault.
+fn shaped_answer(
+    alloc: Global,
+    command: Command,
+    source: &[u8],
+    forms: &Forms,
+) -> Result<Answer, AllocError>
+    requires small { length source.now ≤ 1048576 }
+    requires read { IsRead source.now (wanted command) (trees_of forms.now.list.items) forms.now.rest }
+    requires printable { All (λ form. IsPrintable (tree_of form)) forms.now.list.items }
+    requires placed { All (λ form. IsPlaced (length source.now) (tree_of form)) forms.now.list.items }
+    ensures { IfOk result (λ answer. IsShapedAnswer command source.now (seen answer)) }
+{
+    match command {
+        Command::Play => play_answer(alloc, source, forms),
+        Command::Sheet => sheet_answer(alloc, source, forms),
+    }
+}
+
 /// The answer of `sheet` to a source with these forms.
 fn sheet_answer(alloc: Global, source: &[u8], forms: &Forms) -> Result<Answer, AllocError>
     requires small { length source.now ≤ 1048576 }
     requires read { IsRead source.now 1 (trees_of forms.now.list.items) forms.now.rest }
     requires printable { All (λ form. IsPrintable (tree_of form)) forms.now.list.items }
-    ensures { IfOk result (λ answer. IsAnswer Command.Sheet source.now (seen answer)) }
+    ensures { IfOk result (λ answer. IsShapedAnswer Command.Sheet source.now (seen answer)) }
 {
     let [sheet] = forms.list.as_slice() else {
         return Ok(missing(forms));
@@ -88,7 +142,7 @@ fn play_answer(alloc: Global, source: &[u8], forms: &Forms) -> Result<Answer, Al
     requires read { IsRead source.now 2 (trees_of forms.now.list.items) forms.now.rest }
     requires printable { All (λ form. IsPrintable (tree_of form)) forms.now.list.items }
     requires placed { All (λ form. IsPlaced (length source.now) (tree_of form)) forms.now.list.items }
-    ensures { IfOk result (λ answer. IsAnswer Command.Play source.now (seen answer)) }
+    ensures { IfOk result (λ answer. IsShapedAnswer Command.Play source.now (seen answer)) }
 {
     if forms.list.is_empty() {
         return Ok(missing(forms));

@@ -4,11 +4,12 @@ ghost use Rattle.rc_house.specs.Status.{code_of, line_of, kind_name, source_kind
 
 use arrayvec::ArrayString;
 use rc_form::FormKind;
+use rc_grammar::SheetKind;
 
 /// The most bytes of a status's line.
 const LINE: usize = 64;
 
-/// What is wrong with a sheet: first the kinds of its forms.
+/// What is wrong with a sheet: first the kinds of its forms, and then those of its parts.
 #[derive(Clone, Copy, Debug, PartialEq, Eq, Hash)]
 pub enum SourceKind {
     /// A byte stands outside comments that may not.
@@ -23,13 +24,25 @@ pub enum SourceKind {
     Unclosed,
     /// A part is none of those that may stand in its place, or is missing.
     Shape,
+    /// An atom isn't a number in the range of its place.
+    Number,
+    /// A line, a name, an attribute, a player or a variable stands a second time where it may stand once.
+    Twice,
+    /// A name, a variable, a player or a stage that isn't there is meant.
+    Unknown,
+    /// A variable, a side, a location or a number is of another kind than its place wants.
+    WrongKind,
+    /// A limit is passed.
+    TooMany,
+    /// There is no deck.
+    NoCards,
 }
 
 impl SourceKind {
     /// The variant's name.
     pub(crate) fn name(self) -> &'static str
         ensures name { result.now ≡ kind_name self }
-        ensures short { length result.now ≤ 8 }
+        ensures short { length result.now ≤ 9 }
     {
         match self {
             SourceKind::BadByte => "BadByte",
@@ -38,6 +51,12 @@ impl SourceKind {
             SourceKind::AtomLong => "AtomLong",
             SourceKind::Unclosed => "Unclosed",
             SourceKind::Shape => "Shape",
+            SourceKind::Number => "Number",
+            SourceKind::Twice => "Twice",
+            SourceKind::Unknown => "Unknown",
+            SourceKind::WrongKind => "WrongKind",
+            SourceKind::TooMany => "TooMany",
+            SourceKind::NoCards => "NoCards",
         }
     }
 }
@@ -55,6 +74,25 @@ impl From<FormKind> for SourceKind {
             FormKind::TooDeep => SourceKind::TooDeep,
             FormKind::AtomLong => SourceKind::AtomLong,
             FormKind::Unclosed => SourceKind::Unclosed,
+        }
+    }
+}
+
+impl From<SheetKind> for SourceKind {
+    ghost use Rattle.std.specs.Prelude.{◌≡◌};
+    ghost use Rattle.rc_house.specs.Status.{sheet_kind};
+
+    ghost from_gives = { λ part kind. kind ≡ sheet_kind part };
+
+    fn from(kind: SheetKind) -> SourceKind {
+        match kind {
+            SheetKind::Shape => SourceKind::Shape,
+            SheetKind::Number => SourceKind::Number,
+            SheetKind::Twice => SourceKind::Twice,
+            SheetKind::Unknown => SourceKind::Unknown,
+            SheetKind::WrongKind => SourceKind::WrongKind,
+            SheetKind::TooMany => SourceKind::TooMany,
+            SheetKind::NoCards => SourceKind::NoCards,
         }
     }
 }
@@ -122,7 +160,7 @@ fn fixed_line(text: &str) -> ArrayString<LINE>
 /// A line that names a kind of fault and where it stands.
 fn fault_line(what: &str, kind: &str, at: u32) -> ArrayString<LINE>
     requires what { length what.now ≤ 8 }
-    requires kind { length kind.now ≤ 8 }
+    requires kind { length kind.now ≤ 9 }
     ensures { result.bytes ≡ what.now ++ kind.now ++ codes " " ++ decimal at ++ codes "\n" }
 {
     let mut digits = itoa::Buffer::new();

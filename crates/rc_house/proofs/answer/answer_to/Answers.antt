@@ -4,20 +4,11 @@ use Rattle.rc_house.specs.Reading.{IsRead}
 use Rattle.rc_house.proofs.AnswerLaws.{fault_answered, is_read}
 use Rattle.rc_house.proofs.answer.answer_to.Goals as goal
 
-pub play_answer-requires-clause-read : goal.play_answer-requires-clause-read
-play_answer-requires-clause-read c =
+pub answer_of_forms-requires-clause-read : goal.answer_of_forms-requires-clause-read
+answer_of_forms-requires-clause-read c =
     let forms = c.in-Ok.forms in
-    let wants = rw c.in-Play.is at c.wanted.ensures in
     let e = c.in-Ok.ensures in
-    subst (λ want. IsRead c.args.source.now want (trees_of forms.list.items) forms.rest) wants
-    (is_read c.args.source.now c.wanted.result (trees_of forms.list.items) forms.rest e.spelled e.only (λ kind at. e.sound _ _ kind at e.spelled) e.within)
-
-pub sheet_answer-requires-clause-read : goal.sheet_answer-requires-clause-read
-sheet_answer-requires-clause-read c =
-    let forms = c.in-Ok.forms in
-    let wants = rw c.in-Sheet.is at c.wanted.ensures in
-    let e = c.in-Ok.ensures in
-    subst (λ want. IsRead c.args.source.now want (trees_of forms.list.items) forms.rest) wants
+    subst (λ want. IsRead c.args.source.now want (trees_of forms.list.items) forms.rest) c.wanted.ensures
     (is_read c.args.source.now c.wanted.result (trees_of forms.list.items) forms.rest e.spelled e.only (λ kind at. e.sound _ _ kind at e.spelled) e.within)
 
 pub returns-in-Err-Fault : goal.returns-in-Err-Fault

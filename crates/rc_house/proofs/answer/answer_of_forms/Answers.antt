@@ -1,0 +1,20 @@
+use Rattle.std.proofs.Common.{◌≡◌, length, sym, ◌∙◌}
+use Rattle.std.specs.Result.{IfOk}
+use Rattle.rc_form.specs.Form.{trees_of}
+use Rattle.rc_house.specs.Answer.{seen}
+use Rattle.rc_house.specs.Command.{IsAnswer, IsShapedAnswer}
+use Rattle.rc_house.proofs.AnswerLaws.{shape_answer, if_shaped_answered}
+use Rattle.rc_house.proofs.answer.answer_of_forms.Goals as goal
+
+pub shape_fault-requires : goal.shape_fault-requires
+shape_fault-requires c = (length c.args.source.now, c.requires.placed)
+
+pub returns-in-Some : goal.returns-in-Some
+returns-in-Some c =
+    let forms = c.args.forms.now in
+    rw c.sheet_fault.ensures (shape_answer c.args.command c.args.source.now (trees_of forms.list.items) forms.rest c.in-Some.found c.requires.read (sym c.shape_fault.ensures ∙ c.in-Some.is))
+
+pub returns-in-None : goal.returns-in-None
+returns-in-None c =
+    let forms = c.args.forms.now in
+    if_shaped_answered c.args.command c.args.source.now (trees_of forms.list.items) forms.rest c.shaped_answer.result c.requires.read (sym c.shape_fault.ensures ∙ c.in-None.is) c.shaped_answer.ensures
