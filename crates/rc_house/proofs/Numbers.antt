@@ -1,9 +1,5 @@
 -- Which numbers words spell, and which bytes such words lack.
-use Rattle.std.proofs.Common.{◌≡◌, ℕ, ◌≤◌, Bool, true, false, cond, eqb, ◌&&◌, List, [], ◌∷◌, Some, None, ℤ, pos, neg_ℤ, refl, sym, ap, subst, ◌∙◌, arith, inl, inr}
-use Rattle.std.specs.Prelude.{int_le}
-use Rattle.std.specs.Int.Signed.{le_z_yes}
-use Rattle.std.proofs.Math.Dec.{T}
-use Rattle.std.proofs.lemmas.Float.{T_from_true}
+use Rattle.std.proofs.Common.{◌≡◌, ℕ, ◌≤◌, Bool, true, false, eqb, List, [], ◌∷◌, Some, ℤ, pos, neg_ℤ, refl, sym, ap, ◌∙◌, arith, inl, inr}
 use Rattle.std.specs.List.{list_all}
 use Rattle.std.proofs.lemmas.Bool.{cases_Bool, and_parts, and_from, not_from_false, ne_eqb, eqb-true, leb-true, le-leb, cond-true, cond-false, false≢true}
 use Rattle.std.proofs.lemmas.Option.{cond_some, option_and_then_some}

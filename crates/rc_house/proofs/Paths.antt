@@ -1,5 +1,5 @@
 -- The part of a tree to which a path leads.
-use Rattle.std.proofs.Common.{◌≡◌, ℕ, zero, suc, ◌+◌, ◌-◌, ◌<◌, ◌≤◌, List, [], ◌∷◌, ◌++◌, length, map, get_or, drop, Option, Some, None, refl, sym, ap, subst, ◌∙◌, arith}
+use Rattle.std.proofs.Common.{◌≡◌, ℕ, zero, suc, ◌-◌, ◌≤◌, List, [], ◌∷◌, length, map, Option, Some, None, refl, sym, ap, subst, ◌∙◌, arith}
 use Rattle.std.specs.Prelude.{Vec, option_map, option_and_then, slice_get}
 use Rattle.std.specs.Option.{option_copied}
 use Rattle.std.specs.Global.{Global}
@@ -14,7 +14,7 @@ use Rattle.rc_form.specs.declared.form.Form.TheOpen.{List as OpenList}
 use Rattle.rc_form.specs.declared.form.Form.TheFolds.{fold-roll-Form}
 use Rattle.rc_form.specs.declared.form.Span.{Span}
 use denote.Ref.{Bor}
-use Rattle.rc_form.specs.Form.{packed, tree_step, tree_of, list_tree, FitsIn, FitIn, IsPrintable}
+use Rattle.rc_form.specs.Form.{packed, tree_step, tree_of, list_tree, FitsIn, FitIn}
 use Rattle.rc_setup.specs.Size.{count_of_trees, count_of_parts}
 use Rattle.rc_house.specs.Parts.{part_in}
 

@@ -1,11 +1,9 @@
 -- Reading the numbers of the printed sheet of a small game, and its printed plan, from left to right. What is read is a value,
 -- with the bytes behind it.
-use Rattle.std.specs.Prelude.{ℕ, zero, suc, Bool, true, not, ◌&&◌, ◌==◌, nat_lt, nat_le, if◌then◌else◌, List, [], ◌∷◌, length, slice_index, codes, ℤ, pos, negsuc, neg_ℤ, int_le, Option, Some, None, option_map, option_and_then}
-use Rattle.std.specs.List.{list_all, list_any, slice_split}
+use Rattle.std.specs.Prelude.{ℕ, zero, suc, ◌&&◌, ◌==◌, nat_le, if◌then◌else◌, List, [], ◌∷◌, length, codes, ℤ, pos, negsuc, Option, Some, None, option_map, option_and_then}
+use Rattle.std.specs.List.{slice_split}
 use Rattle.std.specs.Str.{bytes_eq}
-use Rattle.rc_model.specs.Token.{is_part}
 use Rattle.rc_model.specs.Literal.{natural, integer}
-use Rattle.rc_model.specs.SmallGame.{SmallGame}
 
 infixl 10 ◌>>=◌
 abbrev pub ◌>>=◌ : {A B : Type 0} → Option A → (A → Option B) → Option B
@@ -18,10 +16,6 @@ close_byte = 41
 -- a space
 abbrev pub space_byte : ℕ
 space_byte = 32
-
--- `'`, with which a variable begins
-abbrev pub quote_byte : ℕ
-quote_byte = 39
 
 -- the bytes behind this text, if they begin with it
 unfoldable pub behind : List ℕ → List ℕ → Option (List ℕ)

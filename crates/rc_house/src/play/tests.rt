@@ -9,7 +9,6 @@ use std::alloc::{AllocError, Global};
 use std::process::Abort;
 
 /// A game without its seeds, and the lines of its text behind the match's.
-#[derive(Clone, Copy)]
 struct Row {
     name: &'static str,
     worths: &'static [i64],

@@ -12,10 +12,7 @@ pub fn part_at<'a>(form: &'a Form, path: &[usize]) -> Option<&'a Form>
 {
     let mut here = form;
     for place in path {
-        let Some(part) = part_in(here, *place) else {
-            return None;
-        };
-        here = part;
+        here = part_in(here, *place)?;
     }
     Some(here)
 }

@@ -7,7 +7,6 @@ use std::process::Abort;
 use std::test::Fail;
 
 /// The free places of a small game, and the lines of its text behind the match's. A row of a table changes some.
-#[derive(Clone, Copy)]
 struct Small {
     name: &'static str,
     players: &'static str,

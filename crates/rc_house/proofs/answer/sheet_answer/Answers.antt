@@ -1,4 +1,4 @@
-use Rattle.std.proofs.Common.{◌≢◌, length, arith, rules}
+use Rattle.std.proofs.Common.{◌≢◌, length, rules}
 use Rattle.rc_form.specs.Form.{tree_of, trees_of}
 use Rattle.rc_house.specs.declared.command.Command.TheVariants.{Sheet}
 use Rattle.rc_house.proofs.AnswerLaws.{one_tree, printed_answer, missing_answer, at_most_one}

@@ -1,4 +1,3 @@
-use Rattle.std.proofs.Common.{sym}
 use Rattle.rc_house.specs.Parts.{sheet_seen, plan_seen}
 use Rattle.rc_house.proofs.Games.{plan_found, plan_none, game_only}
 use Rattle.rc_house.proofs.small_text.read_game.Goals as goal

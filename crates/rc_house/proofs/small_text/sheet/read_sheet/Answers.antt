@@ -1,5 +1,4 @@
-use Rattle.std.proofs.Common.{◌≡◌, ◌∷◌, [], Some, None, sym, arith}
-use Rattle.rc_model.specs.SmallText.{part_at}
+use Rattle.std.proofs.Common.{◌∷◌, [], sym, arith}
 use Rattle.rc_form.specs.Form.{tree_of}
 use Rattle.rc_house.proofs.Paths.{part_has_few}
 use Rattle.rc_house.proofs.Games.{HasParts, deck_printable, entries_printable, sheet_found, sheet_known, sheet_only, sheet_none}
