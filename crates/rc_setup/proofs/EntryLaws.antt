@@ -1,8 +1,9 @@
 -- Entries are read from a form exactly where they stand there.
-use Rattle.std.proofs.Common.{◌≡◌, ◌≢◌, ℕ, Bool, true, false, cond, ◌&&◌, List, [], ◌∷◌, length, Option, Some, None, ℤ, pos, neg_ℤ, ◌≤ℤ◌, option_map, refl, sym, ap, subst, ◌∙◌}
+use Rattle.std.proofs.Common.{◌≡◌, ◌≢◌, ℕ, Bool, true, false, cond, ◌&&◌, List, [], ◌∷◌, length, Option, Some, None, ℤ, pos, neg_ℤ, ◌≤ℤ◌, option_map, inl, inr, refl, sym, ap, subst, ◌∙◌}
 use Rattle.std.specs.Prelude.{int_le}
 use Rattle.std.specs.Option.{option_and_then}
 use Rattle.std.specs.Int.Signed.{le_z_yes}
+use Rattle.std.proofs.Math.Dec.{T}
 use Rattle.std.proofs.lemmas.Bool.{cases_Bool, and_parts, and_from, cond-true, cond-false}
 use Rattle.std.proofs.lemmas.Float.{T_from_true}
 use Rattle.std.proofs.lemmas.Option.{same_Some}
@@ -50,7 +51,7 @@ unclamped_within found points e =
       | inr past ↦ let none = sym (cond-false _ _ _ past) ∙ e in absurd cc
     ]
 
-points_sound : (points : ℤ) (tree : Tree) → read_points tree ≡ Some points → IsPoints points tree
+pub points_sound : (points : ℤ) (tree : Tree) → read_points tree ≡ Some points → IsPoints points tree
 points_sound points (list parts from to) e = absurd cc
 points_sound points (word bytes from to) e = go (integer bytes) refl e
   where
@@ -66,9 +67,13 @@ points_sound points (word bytes from to) e = go (integer bytes) refl e
           most = within.2;
         }
 
+truth : (b : Bool) → T b → b ≡ true
+truth true told = refl
+truth false told = absurd told
+
 points_complete : (points : ℤ) (tree : Tree) → IsPoints points tree → read_points tree ≡ Some points
 points_complete points tree is =
-    let within : (int_le (neg_ℤ (pos 1000000000)) points && int_le points (pos 1000000000)) ≡ true = and_from _ _ (int_le_from _ _ is.least) (int_le_from _ _ is.most) in
+    let within : (int_le (neg_ℤ (pos 1000000000)) points && int_le points (pos 1000000000)) ≡ true = and_from _ _ (truth _ is.least.le) (truth _ is.most.le) in
     ap read_points is.written.2 ∙ ap (option_and_then unclamped) is.spelled ∙ cond-true _ _ _ within
 
 entry_sound : (names : Names) (entry : Entry) (tree : Tree) → read_entry names tree ≡ Some entry → EntryStands names entry tree
