@@ -9,3 +9,5 @@ pub mod GroupLemmas
 pub mod OptionLemmas
 pub mod DeckLaws
 pub mod EntryLaws
+pub mod FaceLaws
+pub mod WorthLaws
