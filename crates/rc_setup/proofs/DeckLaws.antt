@@ -65,15 +65,15 @@ mutual
       let b = both_some (λ attr branches. (attr, branches)) (number_of names.attrs head) (read_branch_list names (list inner start end)) found e in
       let branches = branches_sound names b.1 inner (unless_nil_found inner (read_branches names inner) b.1 b.3) in
       subst (λ (g : Group). IsGroup names g.0 (λ inner. (g.1 ≢ no_branch) × BranchesStand names g.1 inner) (list (cons head (cons (list inner start end) nil)) from to)) b.4 (
-        record {
-          head = head;
-          second = list inner start end;
-          inner = inner;
-          listed = (from, to, refl);
-          attribute = number_of-sound names.attrs head b.0 b.2;
-          branched = (start, end, refl);
-          branches = (branches_some names inner b.1 b.3, branches);
-        }
+      record {
+        head = head;
+        second = list inner start end;
+        inner = inner;
+        listed = (from, to, refl);
+        attribute = number_of-sound names.attrs head b.0 b.2;
+        branched = (start, end, refl);
+        branches = (branches_some names inner b.1 b.3, branches);
+      }
       )
   group_sound names found (list (cons head (cons second (cons third others))) from to) e = absurd cc
 
@@ -91,15 +91,15 @@ mutual
       let b = both_some (λ number inner. (number, inner)) (number_of names.values head) (unless_nil below (read_groups names below)) found e in
       let groups = groups_sound names b.1 below (unless_nil_found below (read_groups names below) b.1 b.3) in
       subst (λ (found : Branch). BranchesStand names (branch found.0 found.1 rest) (cons (list (cons head below) from to) trees)) b.4 (
-        deep_stands names b.0 b.1 rest (list (cons head below) from to) trees (groups_some names below b.1 b.3) (
-          record {
-            head = head;
-            inner = below;
-            listed = (from, to, refl);
-            valued = number_of-sound names.values head b.0 b.2;
-            groups = groups;
-          }
-        ) stands
+      deep_stands names b.0 b.1 rest (list (cons head below) from to) trees (groups_some names below b.1 b.3) (
+      record {
+        head = head;
+        inner = below;
+        listed = (from, to, refl);
+        valued = number_of-sound names.values head b.0 b.2;
+        groups = groups;
+      }
+      ) stands
       )
 
 -- the names of both kinds differ

@@ -42,8 +42,7 @@ unclamped_within found points e =
     elim (cases_Bool (int_le (neg_ℤ (pos 1000000000)) found && int_le found (pos 1000000000))) [
       | inl within ↦
           let same : found ≡ points = same_Some _ _ (sym (cond-true _ _ _ within) ∙ e) in
-          let parts = and_parts _ _ within in
-          (
+          let parts = and_parts _ _ within in (
             same,
             subst (λ z. neg_ℤ (pos 1000000000) ≤ℤ z) same (le_z_yes (T_from_true _ parts.0)),
             subst (λ z. z ≤ℤ pos 1000000000) same (le_z_yes (T_from_true _ parts.1)),
@@ -91,18 +90,18 @@ entry_sound names entry (list (cons head (cons (list inner start end) (cons thir
     let w = both_some (λ values points. (values, points)) (unless_nil inner (read_values names inner)) (read_points third) b.1 b.3 in
     let same : entry_with b.0 (w.0, w.1) ≡ entry = ap (entry_with b.0) w.4 ∙ b.4 in
     subst (λ en. EntryStands names en (list (cons head (cons (list inner start end) (cons third nil))) from to)) same (
-      record {
-        head = head;
-        second = list inner start end;
-        third = third;
-        values = inner;
-        listed = (from, to, refl);
-        attr = number_of-sound names.attrs head b.0 b.2;
-        inner = (start, end, refl);
-        some = values_some names inner w.0 w.2;
-        valued = values_sound names w.0 inner (unless_nil_found inner (read_values names inner) w.0 w.2);
-        points = points_sound w.1 third w.3;
-      }
+    record {
+      head = head;
+      second = list inner start end;
+      third = third;
+      values = inner;
+      listed = (from, to, refl);
+      attr = number_of-sound names.attrs head b.0 b.2;
+      inner = (start, end, refl);
+      some = values_some names inner w.0 w.2;
+      valued = values_sound names w.0 inner (unless_nil_found inner (read_values names inner) w.0 w.2);
+      points = points_sound w.1 third w.3;
+    }
     )
 entry_sound names entry (list (cons head (cons second (cons third (cons fourth others)))) from to) e = absurd cc
 

@@ -39,11 +39,11 @@ once_more face i pair lt is new once =
     let longer : map attr_of_pair (take (i + 1) face) ≡ map attr_of_pair front ++ pair.0 ∷ [] =
     ap (map attr_of_pair) (take_more face i pair lt ∙ ap (λ p. front ++ p ∷ []) (sym is)) ∙ map-append attr_of_pair front (pair ∷ []) in
     subst (AllPairs ◌≢◌) (sym longer) (
-      all_pairs_push ◌≢◌ (map attr_of_pair front) pair.0 once (
-        λ k d short same.
-            let mapped : length (map attr_of_pair front) ≡ length front = length-map front attr_of_pair in
-            let within : k < length front = omega arith in
-            let here : (get_or front k (d, 0)).0 ≡ pair.0 = sym (get_or-map attr_of_pair front k (d, 0) d within) ∙ same in
-            false≢true (sym new ∙ list_any_at (λ earlier. earlier.0 == pair.0) front k (d, 0) within (eq-eqb _ _ here))
-      )
+    all_pairs_push ◌≢◌ (map attr_of_pair front) pair.0 once (
+    λ k d short same.
+    let mapped : length (map attr_of_pair front) ≡ length front = length-map front attr_of_pair in
+    let within : k < length front = omega arith in
+    let here : (get_or front k (d, 0)).0 ≡ pair.0 = sym (get_or-map attr_of_pair front k (d, 0) d within) ∙ same in
+    false≢true (sym new ∙ list_any_at (λ earlier. earlier.0 == pair.0) front k (d, 0) within (eq-eqb _ _ here))
+    )
     )

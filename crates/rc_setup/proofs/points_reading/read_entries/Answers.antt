@@ -20,7 +20,7 @@ returns c =
     let names = c.args.names.now in
     let entries = c.loop-form.entries.items in
     let e = read_entries_of names c.args.entries.now c.in-List.items c.in-List.span c.deref-form-items.result.now c.in-List.is c.deref-form-items.ensures.value
-        (λ none. false≢true (c.if-is_empty.ensures ∙ eq-eqb _ _ (sym c.deref-form-items.ensures.len ∙ none))) in
+    (λ none. false≢true (c.if-is_empty.ensures ∙ eq-eqb _ _ (sym c.deref-form-items.ensures.len ∙ none))) in
     ap (λ list. Some list) (sym (append-nil (map entry_of entries)))
     ∙ sym (read_end (read_all_entries names) (onto_entries entries) [] c.deref-form-items.result.now c.loop-form.form-index refl c.loop-form-test.false)
     ∙ c.loop-form.invariant

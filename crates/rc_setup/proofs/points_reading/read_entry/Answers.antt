@@ -24,7 +24,7 @@ returns-in_default-attr c =
     let second = get_or items 1 head in
     let third = get_or items 2 head in
     let e = read_entry_of names c.args.form.now c.in-List.items c.in-List.span head second third c.in-List.is (omega arith) c.index.ensures
-        (get_or-any items 1 head second (omega arith)) (get_or-any items 2 head third (omega arith)) in
+    (get_or-any items 1 head second (omega arith)) (get_or-any items 2 head third (omega arith)) in
     ap (λ o. both entry_with o (both (λ values points. (values, points)) (read_value_list names (tree_of second)) (read_points (tree_of third)))) c.in_default-attr.ensures
     ∙ sym e
 
@@ -36,7 +36,7 @@ returns-in_default-read_points c =
     let second = get_or items 1 head in
     let third = c.index-2.result.now in
     let e = read_entry_of names c.args.form.now c.in-List.items c.in-List.span head second third c.in-List.is (omega arith) c.index.ensures
-        (get_or-any items 1 head second (omega arith)) c.index-2.ensures in
+    (get_or-any items 1 head second (omega arith)) c.index-2.ensures in
     let list = read_value_list names (tree_of second) in
     ap (both entry_with (Some c.in-Some.attr)) (sym (both_none (λ values points. (values, points)) list))
     ∙ ap (λ o. both entry_with (Some c.in-Some.attr) (both (λ values points. (values, points)) list o)) c.in_default-read_points.ensures

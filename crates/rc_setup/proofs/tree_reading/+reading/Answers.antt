@@ -18,8 +18,8 @@ read_branch-returns-in-Some-2 t c =
     let names = c.args.names.now in
     let below = c.in-Some.below.now in
     let e = read_branch_of names c.args.form.now c.in-List.items c.in-List.span c.deref.result.now c.in-Some.head.now below
-        c.in-List.is c.deref.ensures.value c.in-Some.ensures.cases.0
-        (λ none. false≢true (c.if-is_empty.ensures ∙ eq-eqb _ _ none)) in
+    c.in-List.is c.deref.ensures.value c.in-Some.ensures.cases.0
+    (λ none. false≢true (c.if-is_empty.ensures ∙ eq-eqb _ _ none)) in
     let groups = sym (ap (λ o. option_map (λ groups. groups_in groups.items) o) c.in-Some-2.is) ∙ c.in_ok-groups.ensures in
     ap (λ b. Some b) (branch_is c.new.result c.in-Some-value.value (groups_in c.in-Some-2.groups.items) c.new.ensures.value c.new.ensures.inner)
     ∙ ap (λ o. both (λ number inner. (number, inner)) (Some c.in-Some-value.value) o) groups
@@ -29,7 +29,7 @@ read_branch-returns-in-Some-2 t c =
 pub read_branch_list-returns-else-is_empty : goal.read_branch_list-returns-else-is_empty
 read_branch_list-returns-else-is_empty t c =
     let e = read_branch_list_of c.args.names.now c.args.form.now c.in-List.items c.in-List.span c.deref.result.now c.in-List.is c.deref.ensures.value
-        (λ none. false≢true (c.if-is_empty.ensures ∙ eq-eqb _ _ (sym c.deref.ensures.len ∙ none))) in
+    (λ none. false≢true (c.if-is_empty.ensures ∙ eq-eqb _ _ (sym c.deref.ensures.len ∙ none))) in
     rw e c.read_branches.ensures
 
 pub read_group-returns-then-len-ne2 : goal.read_group-returns-then-len-ne2
