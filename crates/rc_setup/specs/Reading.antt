@@ -25,6 +25,10 @@ Group = ℕ × Branches
 abbrev pub Branch : Type 0
 Branch = ℕ × Groups
 
+-- a value without groups
+abbrev pub plain : ℕ → Branch
+plain number = (number, no_group)
+
 abbrev mutual
   pub read_groups : Names → Trees → Option Groups
   read_groups names nil = Some no_group
@@ -50,7 +54,7 @@ abbrev mutual
   read_branches names (cons tree trees) = both (λ first rest. branch first.0 first.1 rest) (read_branch names tree) (read_branches names trees)
 
   pub read_branch : Names → Tree → Option Branch
-  read_branch names (word bytes from to) = option_map (λ number. (number, no_group)) (number_of names.values (word bytes from to))
+  read_branch names (word bytes from to) = option_map plain (number_of names.values (word bytes from to))
   read_branch names (list parts from to) = read_branch_parts names parts
 
   pub read_branch_parts : Names → Trees → Option Branch

@@ -63,11 +63,19 @@ fn add_parts(names: &mut Names, parts: &[Form]) -> Result<(), Memory>
     ensures { OnOk result (names.new ≡ with_mentions names.old (text.in_parts (packed (trees_of parts.now)))) }
 {
     for part in parts {
-        if let Form::List { items, .. } = part {
-            add_branches(names, items)?;
-        }
+        add_part(names, part)?;
     }
     Ok(())
+}
+
+#[cycle(mentions)]
+fn add_part(names: &mut Names, part: &Form) -> Result<(), Memory>
+    ensures { OnOk result (names.new ≡ with_mentions names.old (text.in_parts (cons (tree_of part.now) nil))) }
+{
+    match part {
+        Form::Atom { .. } => Ok(()),
+        Form::List { items, .. } => add_branches(names, items),
+    }
 }
 
 #[cycle(mentions)]
@@ -119,7 +127,8 @@ fn add_entry(names: &mut Names, entry: &Form) -> Result<(), Memory>
         return Ok(());
     };
     add_attr(names, head)?;
-    add_values(names, values)
+    add_values(names, values)?;
+    Ok(())
 }
 
 fn add_values(names: &mut Names, values: &[Form]) -> Result<(), Memory>

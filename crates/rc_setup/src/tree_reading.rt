@@ -1,6 +1,6 @@
 //! Deck trees, read from forms.
 ghost use Rattle.std.specs.Prelude.{◌≡◌, Some, None, IsTrue, IfOk, IfSome, IsNone, option_map, codes};
-ghost use Rattle.rc_model.specs.Deck.{Groups, no_group};
+ghost use Rattle.rc_model.specs.Deck.{Groups};
 ghost use Rattle.rc_model.specs.DeckText.{DeckStands};
 ghost use Rattle.rc_form.specs.Form.{tree_of, trees_of, packed};
 ghost use Rattle.rc_deck.specs.Tree.{groups_of, groups_in, branches_in, attr_of, branches_of, value_of, inner_of};
@@ -78,14 +78,14 @@ fn read_group(alloc: Global, names: &Names, form: &Form) -> Result<Option<Group>
     let Form::List { items, .. } = form else {
         return Ok(None);
     };
-    let [head, second] = items.as_slice() else {
+    if items.len() != 2 {
+        return Ok(None);
+    }
+    let Some(attr) = names.attr(&items[0]) else {
         return Ok(None);
     };
-    let Some(attr) = names.attr(head) else {
-        return Ok(None);
-    };
-    match read_branch_list(alloc, names, second)? {
-        Some(values) => Ok(Some(Group { attr, values })),
+    match read_branch_list(alloc, names, &items[1])? {
+        Some(values) => Ok(Some(Group::new(attr, values))),
         None => Ok(None),
     }
 }
@@ -150,7 +150,7 @@ fn read_branch(alloc: Global, names: &Names, form: &Form) -> Result<Option<Branc
         return Ok(None);
     };
     match read_groups(alloc, names, below)? {
-        Some(groups) => Ok(Some(Branch { value, groups })),
+        Some(groups) => Ok(Some(Branch::new(value, groups))),
         None => Ok(None),
     }
 }
@@ -159,13 +159,10 @@ fn read_branch(alloc: Global, names: &Names, form: &Form) -> Result<Option<Branc
 fn plain_branch(alloc: Global, names: &Names, form: &Form) -> Option<Branch>
     requires few { AreFew names.now }
     ensures { option_map (λ branch. (value_of branch, inner_of branch)) result
-        ≡ option_map (λ number. (number, no_group)) (number_of names.now.values (tree_of form.now)) }
+        ≡ option_map reading.plain (number_of names.now.values (tree_of form.now)) }
 {
     match names.value(form) {
-        Some(value) => Some(Branch {
-            value,
-            groups: Vec::new(alloc),
-        }),
+        Some(value) => Some(Branch::new(value, Vec::new(alloc))),
         None => None,
     }
 }
