@@ -19,3 +19,29 @@ pub struct Branch {
     pub value: u16,
     pub groups: Vec<Group>,
 }
+
+impl Group {
+    ghost use Rattle.std.specs.Prelude.{◌≡◌};
+    ghost use Rattle.rc_deck.specs.Tree.{attr_of, branches_of, branches_in};
+
+    /// The group of these parts. It takes no memory.
+    pub fn new(attr: u16, values: Vec<Branch>) -> Group
+        ensures attr { attr_of result ≡ attr }
+        ensures branches { branches_of result ≡ branches_in values.items }
+    {
+        Group { attr, values }
+    }
+}
+
+impl Branch {
+    ghost use Rattle.std.specs.Prelude.{◌≡◌};
+    ghost use Rattle.rc_deck.specs.Tree.{value_of, inner_of, groups_in};
+
+    /// The branch of these parts. It takes no memory.
+    pub fn new(value: u16, groups: Vec<Group>) -> Branch
+        ensures value { value_of result ≡ value }
+        ensures inner { inner_of result ≡ groups_in groups.items }
+    {
+        Branch { value, groups }
+    }
+}

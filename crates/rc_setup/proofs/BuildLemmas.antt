@@ -15,6 +15,9 @@ use Rattle.rc_setup.proofs.LoopLemmas.{Reads}
 abbrev pub seen_group : DeckGroup → Group
 seen_group g = (attr_of g, branches_of g)
 
+pub group_is : (g : DeckGroup) (attr : ℕ) (branches : Branches) → attr_of g ≡ attr → branches_of g ≡ branches → seen_group g ≡ (attr, branches)
+group_is g attr branches is-attr is-branches = ap (λ a. (a, branches_of g)) is-attr ∙ ap (λ bs. (attr, bs)) is-branches
+
 abbrev pub with_group : Group → Groups → Groups
 with_group first rest = group first.0 first.1 rest
 
@@ -38,6 +41,9 @@ reads_groups names = record {
 
 abbrev pub seen_branch : DeckBranch → Branch
 seen_branch b = (value_of b, inner_of b)
+
+pub branch_is : (b : DeckBranch) (value : ℕ) (groups : Groups) → value_of b ≡ value → inner_of b ≡ groups → seen_branch b ≡ (value, groups)
+branch_is b value groups is-value is-groups = ap (λ v. (v, inner_of b)) is-value ∙ ap (λ gs. (value, gs)) is-groups
 
 abbrev pub with_branch : Branch → Branches → Branches
 with_branch first rest = branch first.0 first.1 rest

@@ -5,3 +5,9 @@ pub mod FormLemmas
 pub mod SliceLemmas
 pub mod LoopLemmas
 pub mod BuildLemmas
+pub mod GroupLemmas
+pub mod OptionLemmas
+pub mod DeckLaws
+pub mod EntryLaws
+pub mod FaceLaws
+pub mod WorthLaws

@@ -50,10 +50,10 @@ fresh_new : (names : List (List ℕ)) (name other : List ℕ) →
 fresh_new names name other =
     let flips : bytes_eq other name ≡ bytes_eq name other = bytes_eq-flips other name in
     rw (list_any-append (bytes_eq other) names (name ∷ []), flips) (
-      elim (list_any (bytes_eq other) names) as (λ b. not (b || (bytes_eq name other || false)) ≡ (not (bytes_eq name other) && not b)) [
-        | true ↦ elim (bytes_eq name other) as (λ c. false ≡ (not c && false)) [ true ↦ refl | false ↦ refl ]
-        | false ↦ elim (bytes_eq name other) as (λ c. not (c || false) ≡ (not c && true)) [ true ↦ refl | false ↦ refl ]
-      ]
+    elim (list_any (bytes_eq other) names) as (λ b. not (b || (bytes_eq name other || false)) ≡ (not (bytes_eq name other) && not b)) [
+      | true ↦ elim (bytes_eq name other) as (λ c. false ≡ (not c && false)) [ true ↦ refl | false ↦ refl ]
+      | false ↦ elim (bytes_eq name other) as (λ c. not (c || false) ≡ (not c && true)) [ true ↦ refl | false ↦ refl ]
+    ]
     )
 
 -- names added in turn stand behind the others, each once
@@ -64,16 +64,16 @@ added (name ∷ mentioned) names =
       | inl known ↦
           let kept : with_name names name ≡ names = cond-true _ _ _ known in
           rw (kept, known) (
-            added mentioned names ∙ ap (λ rest. names ++ rest)
-            (sym (filter-filter (fresh names) (λ other. not (bytes_eq name other)) (fresh names) (λ other. fresh_known names name other known) (distinct mentioned)))
+          added mentioned names ∙ ap (λ rest. names ++ rest)
+          (sym (filter-filter (fresh names) (λ other. not (bytes_eq name other)) (fresh names) (λ other. fresh_known names name other known) (distinct mentioned)))
           )
       | inr new ↦
           let longer : with_name names name ≡ names ++ name ∷ [] = cond-false _ _ _ new in
           rw (longer, new) (
-            added mentioned (names ++ name ∷ [])
-            ∙ ap (λ rest. (names ++ name ∷ []) ++ rest)
-            (sym (filter-filter (fresh names) (λ other. not (bytes_eq name other)) (fresh (names ++ name ∷ [])) (λ other. fresh_new names name other) (distinct mentioned)))
-            ∙ append_assoc names (name ∷ []) (filter (fresh names) (filter (λ other. not (bytes_eq name other)) (distinct mentioned)))
+          added mentioned (names ++ name ∷ [])
+          ∙ ap (λ rest. (names ++ name ∷ []) ++ rest)
+          (sym (filter-filter (fresh names) (λ other. not (bytes_eq name other)) (fresh (names ++ name ∷ [])) (λ other. fresh_new names name other) (distinct mentioned)))
+          ∙ append_assoc names (name ∷ []) (filter (fresh names) (filter (λ other. not (bytes_eq name other)) (distinct mentioned)))
           )
     ]
 

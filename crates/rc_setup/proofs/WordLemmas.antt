@@ -47,8 +47,8 @@ position_word word words = rw (position_or_len-alike _ _ (word_eq word) words) r
 -- a set has no word twice
 pub words_differ : (words names : List (List ℕ)) → words ≡ names → IsDistinct eq-value.it words → AllDiffer names
 words_differ words names same distinct = subst AllDiffer same (
-  λ i j d lt within equal.
-      let apart = apart_from_distinct eq-value.it words i j d distinct lt within in
-      let told = word_eq (get_or words i d) (get_or words j d) ∙ (bytes_eq-Decides (get_or words i d) (get_or words j d)).1 equal in
-      false≢true (sym apart ∙ told)
-)
+    λ i j d lt within equal.
+    let apart = apart_from_distinct eq-value.it words i j d distinct lt within in
+    let told = word_eq (get_or words i d) (get_or words j d) ∙ (bytes_eq-Decides (get_or words i d) (get_or words j d)).1 equal in
+    false≢true (sym apart ∙ told)
+    )

@@ -52,22 +52,28 @@ fn read_entry(alloc: Global, names: &Names, form: &Form) -> Result<Option<PointE
     let Form::List { items, .. } = form else {
         return Ok(None);
     };
-    let [head, second, third] = items.as_slice() else {
+    if items.len() != 3 {
+        return Ok(None);
+    }
+    let Some(attr) = names.attr(&items[0]) else {
         return Ok(None);
     };
-    let Some(attr) = names.attr(head) else {
+    let Some(points) = read_points(&items[2]) else {
         return Ok(None);
     };
-    let Some(points) = read_points(third) else {
-        return Ok(None);
-    };
-    match read_value_list(alloc, names, second)? {
-        Some(values) => Ok(Some(PointEntry {
-            attr,
-            values,
-            points,
-        })),
+    match read_value_list(alloc, names, &items[1])? {
+        Some(values) => Ok(Some(entry_with(attr, values, points))),
         None => Ok(None),
+    }
+}
+
+fn entry_with(attr: u16, values: Vec<u16>, points: i64) -> PointEntry
+    ensures { entry_of result ≡ reading.entry_with attr (values.items, points) }
+{
+    PointEntry {
+        attr,
+        values,
+        points,
     }
 }
 

@@ -78,14 +78,14 @@ fn read_group(alloc: Global, names: &Names, form: &Form) -> Result<Option<Group>
     let Form::List { items, .. } = form else {
         return Ok(None);
     };
-    let [head, second] = items.as_slice() else {
+    if items.len() != 2 {
+        return Ok(None);
+    }
+    let Some(attr) = names.attr(&items[0]) else {
         return Ok(None);
     };
-    let Some(attr) = names.attr(head) else {
-        return Ok(None);
-    };
-    match read_branch_list(alloc, names, second)? {
-        Some(values) => Ok(Some(Group { attr, values })),
+    match read_branch_list(alloc, names, &items[1])? {
+        Some(values) => Ok(Some(Group::new(attr, values))),
         None => Ok(None),
     }
 }
@@ -150,7 +150,7 @@ fn read_branch(alloc: Global, names: &Names, form: &Form) -> Result<Option<Branc
         return Ok(None);
     };
     match read_groups(alloc, names, below)? {
-        Some(groups) => Ok(Some(Branch { value, groups })),
+        Some(groups) => Ok(Some(Branch::new(value, groups))),
         None => Ok(None),
     }
 }
@@ -162,10 +162,7 @@ fn plain_branch(alloc: Global, names: &Names, form: &Form) -> Option<Branch>
         ≡ option_map reading.plain (number_of names.now.values (tree_of form.now)) }
 {
     match names.value(form) {
-        Some(value) => Some(Branch {
-            value,
-            groups: Vec::new(alloc),
-        }),
+        Some(value) => Some(Branch::new(value, Vec::new(alloc))),
         None => None,
     }
 }

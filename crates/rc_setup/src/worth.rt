@@ -1,5 +1,6 @@
 //! What the cards of a deck are worth.
-ghost use Rattle.std.specs.Prelude.{◌≡◌, ℤ, ◌≤◌, ◌^◌, ◌↔◌, List, All, IsTrue, IfOk, IfSome, IsNone, map, vec_len};
+ghost use Rattle.std.specs.Prelude.{◌≡◌, ◌==◌, ℤ, ◌≤◌, ◌^◌, ◌↔◌, List, All, IsTrue, IfOk, IfSome, IsNone, map, vec_len};
+ghost use Rattle.std.specs.List.{list_any};
 ghost use Rattle.rc_model.specs.Deck.{points_of, Face as Pairs};
 ghost use Rattle.rc_model.specs.DeckText.{HaveWorths, HasEachOnce};
 ghost use Rattle.rc_form.specs.Form.{tree_of};
@@ -78,9 +79,15 @@ fn has_each_once(face: &Face) -> bool
 {
     let pairs = face.pairs();
     for (place, pair) in pairs.iter().enumerate() {
-        if pairs[..place].iter().any(|earlier| earlier.0 == pair.0) {
+        if has_attr(&pairs[..place], pair.0) {
             return false;
         }
     }
     true
+}
+
+fn has_attr(pairs: &[(u16, u16)], attr: u16) -> bool
+    ensures { result ≡ list_any (λ pair. pair.0 == attr) pairs.now }
+{
+    pairs.iter().any(|pair| pair.0 == attr)
 }

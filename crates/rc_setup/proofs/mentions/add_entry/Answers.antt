@@ -14,9 +14,9 @@ returns-in_default-as_slice c =
     let items = c.in-List.items in
     let span = c.in-List.span in
     sym (
-      ap (λ tree. with_mentions names (in_entry tree)) (tree_of_list _ items span c.in-List.is)
-      ∙ ap (λ forms. with_mentions names (in_entry (list (packed (trees_of forms)) span.from span.to))) (sym c.as_slice.ensures.value)
-      ∙ ap (with_mentions names) (in_entry_short c.as_slice.result.now span.from span.to c.in_default-as_slice.len_below)
+    ap (λ tree. with_mentions names (in_entry tree)) (tree_of_list _ items span c.in-List.is)
+    ∙ ap (λ forms. with_mentions names (in_entry (list (packed (trees_of forms)) span.from span.to))) (sym c.as_slice.ensures.value)
+    ∙ ap (with_mentions names) (in_entry_short c.as_slice.result.now span.from span.to c.in_default-as_slice.len_below)
     )
 
 pub returns-in_default-second : goal.returns-in_default-second
@@ -28,9 +28,9 @@ returns-in_default-second c =
     let second = c.second-item.result in
     let parts = two_up c.as_slice.result.now head second c.in-len2-up.len_at_least c.head-item.is c.second-item.is in
     sym (
-      ap (λ tree. with_mentions names (in_entry tree)) (tree_of_list _ items span c.in-List.is)
-      ∙ ap (λ forms. with_mentions names (in_entry (list (packed (trees_of forms)) span.from span.to))) (sym c.as_slice.ensures.value ∙ parts.1)
-      ∙ ap (λ tree. with_mentions names (in_entry (list (cons (tree_of head) (cons tree (packed (trees_of parts.0)))) span.from span.to))) (tree_of_atom second _ _ c.in_default-second.is)
+    ap (λ tree. with_mentions names (in_entry tree)) (tree_of_list _ items span c.in-List.is)
+    ∙ ap (λ forms. with_mentions names (in_entry (list (packed (trees_of forms)) span.from span.to))) (sym c.as_slice.ensures.value ∙ parts.1)
+    ∙ ap (λ tree. with_mentions names (in_entry (list (cons (tree_of head) (cons tree (packed (trees_of parts.0)))) span.from span.to))) (tree_of_atom second _ _ c.in_default-second.is)
     )
 
 pub returns : goal.returns
