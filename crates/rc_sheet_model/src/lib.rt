@@ -1,0 +1,3 @@
+//! The definitions of sheets that the contracts of several crates cite: sheets as trees, which form stands for which
+//! sheet, and which sheets are well formed.
+#![tactic(auto)]
