@@ -1,2 +1,10 @@
 pub mod Sheet
 pub mod Lists
+pub mod Rows
+pub mod Naming
+pub mod StandsSetup
+pub mod StandsExpressions
+pub mod StandsEffects
+pub mod StandsItems
+pub mod Stands
+pub mod Examples

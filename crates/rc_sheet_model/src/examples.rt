@@ -1,0 +1,18 @@
+//! The definitions of sheets, computed on sheets that are known. No function here does anything: each has a contract
+//! that the check proves by computing.
+ghost use Rattle.std.specs.Prelude.{◌≡◌, length, [], ◌∷◌, codes};
+ghost use Rattle.rc_model.specs.Token.{tokens};
+ghost use Rattle.rc_model.specs.Tree.{spelling};
+ghost use Rattle.rc_sheet_model.specs.Stands.{Stands};
+ghost use Rattle.rc_sheet_model.specs.Examples.{form_of, four_cards, four_cards_text};
+
+/// The form of the text is what the text spells.
+pub fn four_cards_form()
+    ensures size { length four_cards_text ≡ 463 }
+    ensures spelled { spelling (form_of four_cards_text) ≡ tokens four_cards_text }
+{}
+
+/// The form stands for the sheet.
+pub fn four_cards_stands()
+    ensures { Stands four_cards (form_of four_cards_text) }
+{}
