@@ -54,34 +54,34 @@ four_cards =
         vars = codes "'P" ∷ codes "'C" ∷ [];
       };
       decks =
-        record {
-          loc = 0;
-          groups = group 0 (branch 0 no_group (branch 1 no_group (branch 2 no_group (branch 3 no_group no_branch)))) no_group;
-        } ∷ [];
+          record {
+            loc = 0;
+            groups = group 0 (branch 0 no_group (branch 1 no_group (branch 2 no_group (branch 3 no_group no_branch)))) no_group;
+          } ∷ [];
       points =
-        (record { attr = 0; values = 0 ∷ []; points = pos 1 }
-        ∷ record { attr = 0; values = 1 ∷ []; points = pos 2 }
-        ∷ record { attr = 0; values = 2 ∷ []; points = pos 3 }
-        ∷ record { attr = 0; values = 3 ∷ []; points = pos 4 }
-        ∷ []) ∷ [];
+          (record { attr = 0; values = 0 ∷ []; points = pos 1 }
+          ∷ record { attr = 0; values = 1 ∷ []; points = pos 2 }
+          ∷ record { attr = 0; values = 2 ∷ []; points = pos 3 }
+          ∷ record { attr = 0; values = 3 ∷ []; points = pos 4 }
+          ∷ []) ∷ [];
       locs =
-        record { name = 0; kind = hloc; class = game_class }
-        ∷ record { name = 1; kind = iloc; class = player_class }
-        ∷ record { name = 2; kind = vloc; class = player_class }
-        ∷ [];
+          record { name = 0; kind = hloc; class = game_class }
+          ∷ record { name = 1; kind = iloc; class = player_class }
+          ∷ record { name = 2; kind = vloc; class = player_class }
+          ∷ [];
       nums = [];
       items = items_from (
-        do_item (effects_from (
+          do_item (effects_from (
           for_each each_player 0 (effects_from (
-            repeat (literal (pos 2)) (effects_from (
-              move (top_card (cards_in (loc_at game 0 202))) top (loc_at (who_var 0) 1 226) ∷ [])) ∷ [])) ∷ []))
-        ∷ stage 0 player_class
-            (all_of each_player 0 (eq_int (size_of (cards_in (loc_at (who_var 0) 1 289))) (literal (pos 0))))
-            (items_from (
-              choice 0 (
-                any_alt (each_card (cards_in (loc_at current_player 1 323))) 1
-                  (do_alt (effects_from (move (card_var 0) top (loc_at current_player 2 373) ∷ []))) ∷ []) ∷ []))
-        ∷ []);
+          repeat (literal (pos 2)) (effects_from (
+          move (top_card (cards_in (loc_at game 0 202))) top (loc_at (who_var 0) 1 226) ∷ [])) ∷ [])) ∷ []))
+          ∷ stage 0 player_class
+          (all_of each_player 0 (eq_int (size_of (cards_in (loc_at (who_var 0) 1 289))) (literal (pos 0))))
+          (items_from (
+          choice 0 (
+          any_alt (each_card (cards_in (loc_at current_player 1 323))) 1
+          (do_alt (effects_from (move (card_var 0) top (loc_at current_player 2 373) ∷ []))) ∷ []) ∷ []))
+          ∷ []);
       best = highest;
       score = sum_of (cards_in (loc_at (who_var 0) 2 428)) 0;
     }

@@ -7,4 +7,8 @@ pub mod StandsExpressions
 pub mod StandsEffects
 pub mod StandsItems
 pub mod Stands
+pub mod Limits
+pub mod Mentions
+pub mod Numbering
+pub mod WellFormed
 pub mod Examples

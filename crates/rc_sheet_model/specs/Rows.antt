@@ -1,10 +1,9 @@
 -- How a row of a grammar is said of a form: `Row (Atom "top" ▸ StandsLoc naming scope loc ▸ End) form`.
 use Prim.Native.String.{String}
-use Rattle.std.specs.Prelude.{◌≡◌, ℕ, ◌+◌, nat_le, true, List, codes}
+use Rattle.std.specs.Prelude.{◌≡◌, ℕ, ◌+◌, ◌-◌, ◌<◌, nat_le, true, List, codes}
 use Rattle.rc_model.specs.Tree.{Tree, word, list, Trees, nil, cons}
 
 infixr 20 ◌▸◌
-
 -- the first part is such a one, and the parts behind it are such
 abbrev pub ◌▸◌ : (Tree → Type 0) → (Trees → Type 0) → Trees → Type 0
 (First ▸ Rest) nil = ⊥
@@ -46,3 +45,13 @@ Atom text = Word (λ bytes. bytes ≡ codes text)
 abbrev pub start : Tree → ℕ
 start (word bytes from to) = from
 start (list parts from to) = from
+
+-- no more lists than these are open at one place of a form, or of parts
+abbrev mutual
+  pub IsOpenAtMost : ℕ → Tree → Type 0
+  IsOpenAtMost room (word bytes from to) = Unit {0}
+  IsOpenAtMost room (list parts from to) = (0 < room) × AreOpenAtMost (room - 1) parts
+
+  pub AreOpenAtMost : ℕ → Trees → Type 0
+  AreOpenAtMost room nil = Unit {0}
+  AreOpenAtMost room (cons tree trees) = IsOpenAtMost room tree × AreOpenAtMost room trees

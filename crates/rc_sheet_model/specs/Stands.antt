@@ -8,7 +8,6 @@ use Rattle.rc_sheet_model.specs.StandsSetup.{StandsSetup}
 use Rattle.rc_sheet_model.specs.StandsExpressions.{StandsInt}
 use Rattle.rc_sheet_model.specs.StandsItems.{StandItems}
 
-
 -- BEST
 abbrev pub StandsBest : Best → Tree → Type 0
 StandsBest highest = Atom "max"
@@ -23,5 +22,5 @@ StandsScoring sheet =
 abbrev pub Stands : Sheet → Tree → Type 0
 Stands sheet =
     Row (Atom "game"
-      ▸ Row (Atom "setup" ▸ Some (StandsSetup (naming_of sheet) sheet))
-      ▸ AtLeast 2 (StandItems (naming_of sheet) sheet.items (StandsScoring sheet ▸ End)))
+    ▸ Row (Atom "setup" ▸ Some (StandsSetup (naming_of sheet) sheet))
+    ▸ AtLeast 2 (StandItems (naming_of sheet) sheet.items (StandsScoring sheet ▸ End)))

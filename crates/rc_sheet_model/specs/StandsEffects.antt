@@ -6,7 +6,6 @@ use Rattle.rc_sheet_model.specs.Rows.{◌▸◌, End, Some, Row, Atom}
 use Rattle.rc_sheet_model.specs.Naming.{Naming, Scope, bind, sort_of, Binder}
 use Rattle.rc_sheet_model.specs.StandsExpressions.{StandsOwner, StandsLoc, StandsNum, Two, StandsCard, StandsColl, StandsInt, StandsTest, StandsRange}
 
-
 -- SPOT is `(top LOC)` or `(bottom LOC)`
 abbrev pub StandsSpot : Naming → Scope → Place → Loc → Tree → Type 0
 StandsSpot naming scope top loc = Row (Atom "top" ▸ StandsLoc naming scope loc ▸ End)
@@ -31,7 +30,7 @@ abbrev mutual
       Row (Atom "repeat" ▸ StandsInt naming scope times ▸ Some (StandEffects naming scope effects))
   StandsEffect naming scope (for_each domain bound effects) =
       Row (Atom "all" ▸ StandsRange naming scope domain ▸ Binder naming bound
-        ▸ Some (StandEffects naming (bind naming scope bound (sort_of domain)) effects))
+      ▸ Some (StandEffects naming (bind naming scope bound (sort_of domain)) effects))
   StandsEffect naming scope (next_is who) = Row (Atom "cycle" ▸ Atom "next" ▸ StandsOwner scope who ▸ End)
   StandsEffect naming scope turn_round = Row (Atom "cycle" ▸ Atom "reverse" ▸ End)
 

@@ -7,7 +7,6 @@ use Rattle.rc_sheet_model.specs.Sheet.{Class, player_sort, card_sort, group_sort
 use Rattle.rc_sheet_model.specs.Rows.{◌▸◌, End, AtLeast, Some, Row, Atom, start}
 use Rattle.rc_sheet_model.specs.Naming.{Naming, Scope, bind, sort_of, class_of, Named, Binder, InScope, Literal, KindOf, loc_class, num_class}
 
-
 -- OWNER
 abbrev pub StandsOwner : Scope → Who → Tree → Type 0
 StandsOwner scope game form = ⊥
@@ -60,7 +59,7 @@ abbrev mutual
   StandsColl naming scope (cards_in loc) = StandsLoc naming scope loc
   StandsColl naming scope (filtered cards bound t) =
       Row (Atom "filter" ▸ StandsColl naming scope cards ▸ Binder naming bound
-        ▸ StandsTest naming (bind naming scope bound card_sort) t ▸ End)
+      ▸ StandsTest naming (bind naming scope bound card_sort) t ▸ End)
   StandsColl naming scope (union_of parts) = Row (Atom "union" ▸ AtLeast 2 (StandColls naming scope parts))
 
   pub StandColls : Naming → Scope → CollExprs → Trees → Type 0
@@ -86,15 +85,15 @@ abbrev mutual
   StandsTest naming scope (eq_card a b) = Two "=" (StandsCard naming scope a) (StandsCard naming scope b)
   StandsTest naming scope (eq_attr a attr b attr') =
       Two "="
-        (Row (Atom "attr" ▸ StandsCard naming scope a ▸ Named naming.names.attrs attr ▸ End))
-        (Row (Atom "attr" ▸ StandsCard naming scope b ▸ Named naming.names.attrs attr' ▸ End))
+      (Row (Atom "attr" ▸ StandsCard naming scope a ▸ Named naming.names.attrs attr ▸ End))
+      (Row (Atom "attr" ▸ StandsCard naming scope b ▸ Named naming.names.attrs attr' ▸ End))
   StandsTest naming scope (eq_who who who') = TwoOwners "=" scope who who'
   StandsTest naming scope (ne (eq_int a b)) = Two "!=" (StandsInt naming scope a) (StandsInt naming scope b)
   StandsTest naming scope (ne (eq_card a b)) = Two "!=" (StandsCard naming scope a) (StandsCard naming scope b)
   StandsTest naming scope (ne (eq_attr a attr b attr')) =
       Two "!="
-        (Row (Atom "attr" ▸ StandsCard naming scope a ▸ Named naming.names.attrs attr ▸ End))
-        (Row (Atom "attr" ▸ StandsCard naming scope b ▸ Named naming.names.attrs attr' ▸ End))
+      (Row (Atom "attr" ▸ StandsCard naming scope a ▸ Named naming.names.attrs attr ▸ End))
+      (Row (Atom "attr" ▸ StandsCard naming scope b ▸ Named naming.names.attrs attr' ▸ End))
   StandsTest naming scope (ne (eq_who who who')) = TwoOwners "!=" scope who who'
   StandsTest naming scope (ne t) = λ form. ⊥
   StandsTest naming scope (less a b) = Two "<" (StandsInt naming scope a) (StandsInt naming scope b)
@@ -108,10 +107,10 @@ abbrev mutual
   StandsTest naming scope (not_of t) = Row (Atom "not" ▸ StandsTest naming scope t ▸ End)
   StandsTest naming scope (all_of domain bound t) =
       Row (Atom "all" ▸ StandsRange naming scope domain ▸ Binder naming bound
-        ▸ StandsTest naming (bind naming scope bound (sort_of domain)) t ▸ End)
+      ▸ StandsTest naming (bind naming scope bound (sort_of domain)) t ▸ End)
   StandsTest naming scope (any_of domain bound t) =
       Row (Atom "any" ▸ StandsRange naming scope domain ▸ Binder naming bound
-        ▸ StandsTest naming (bind naming scope bound (sort_of domain)) t ▸ End)
+      ▸ StandsTest naming (bind naming scope bound (sort_of domain)) t ▸ End)
 
   pub StandTests : Naming → Scope → Tests → Trees → Type 0
   StandTests naming scope no_test = End

@@ -7,7 +7,6 @@ use Rattle.rc_sheet_model.specs.Naming.{Naming, Scope, bind, sort_of, Binder}
 use Rattle.rc_sheet_model.specs.StandsExpressions.{StandsTest, StandsDomain}
 use Rattle.rc_sheet_model.specs.StandsEffects.{StandEffects}
 
-
 -- ALT
 abbrev pub StandsAlt : Naming → Scope → Alt → Tree → Type 0
 StandsAlt naming scope (do_alt effects) = Row (Atom "do" ▸ Some (StandEffects naming scope effects))
@@ -15,7 +14,7 @@ StandsAlt naming scope (if_alt guard effects) =
     Row (Atom "if" ▸ StandsTest naming scope guard ▸ Some (StandEffects naming scope effects))
 StandsAlt naming scope (any_alt domain bound alt) =
     Row (Atom "any" ▸ StandsDomain naming scope domain ▸ Binder naming bound
-      ▸ StandsAlt naming (bind naming scope bound (sort_of domain)) alt ▸ End)
+    ▸ StandsAlt naming (bind naming scope bound (sort_of domain)) alt ▸ End)
 
 abbrev pub StandAlts : Naming → List Alt → Trees → Type 0
 StandAlts naming [] = End
@@ -33,7 +32,7 @@ abbrev mutual
   StandsItem naming (do_item effects) = Row (Atom "do" ▸ Some (StandEffects naming [] effects))
   StandsItem naming (stage number class end body) =
       Row (Atom "stage" ▸ StandsClass class ▸ Row (Atom "end" ▸ StandsTest naming [] end ▸ End)
-        ▸ Some (StandItems naming body End))
+      ▸ Some (StandItems naming body End))
   StandsItem naming (choice site alts) = Row (Atom "choice" ▸ Some (StandAlts naming alts))
 
   -- items, and what follows them

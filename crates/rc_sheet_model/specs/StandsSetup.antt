@@ -9,7 +9,6 @@ use Rattle.rc_sheet_model.specs.Sheet.{Teams, game_class, DeckLine, Sheet}
 use Rattle.rc_sheet_model.specs.Rows.{◌▸◌, End, Some, Row, Atom}
 use Rattle.rc_sheet_model.specs.Naming.{Naming, Named, Literal, KindOf, loc_class}
 
-
 -- `(create players n)`
 abbrev pub StandsPlayers : ℕ → Tree → Type 0
 StandsPlayers players = Row (Atom "create" ▸ Atom "players" ▸ Literal (pos players) ▸ End)
@@ -40,17 +39,17 @@ abbrev mutual
   StandsBranches naming (branch value no_group rest) = Named naming.names.values value ▸ StandsBranches naming rest
   StandsBranches naming (branch value (group attr branches inner) rest) =
       Row (Named naming.names.values value
-        ▸ Row (Named naming.names.attrs attr ▸ Row (Some (StandsBranches naming branches)) ▸ End)
-        ▸ StandsGroups naming inner)
+      ▸ Row (Named naming.names.attrs attr ▸ Row (Some (StandsBranches naming branches)) ▸ End)
+      ▸ StandsGroups naming inner)
       ▸ StandsBranches naming rest
 
 -- `(create deck LOC (deck GROUP+))`, where LOC is `(game KIND NAME)`
 abbrev pub StandsDeck : Naming → DeckLine → Tree → Type 0
 StandsDeck naming line form =
     Row (Atom "create" ▸ Atom "deck"
-      ▸ Row (Atom "game" ▸ KindOf naming line.loc ▸ Named naming.names.locs line.loc ▸ End)
-      ▸ Row (Atom "deck" ▸ Some (StandsGroups naming line.groups))
-      ▸ End) form
+    ▸ Row (Atom "game" ▸ KindOf naming line.loc ▸ Named naming.names.locs line.loc ▸ End)
+    ▸ Row (Atom "deck" ▸ Some (StandsGroups naming line.groups))
+    ▸ End) form
     × (loc_class naming line.loc ≡ Present game_class)
 
 -- VALUE ..

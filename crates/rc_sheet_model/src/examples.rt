@@ -4,6 +4,8 @@ ghost use Rattle.std.specs.Prelude.{◌≡◌, length, [], ◌∷◌, codes};
 ghost use Rattle.rc_model.specs.Token.{tokens};
 ghost use Rattle.rc_model.specs.Tree.{spelling};
 ghost use Rattle.rc_sheet_model.specs.Stands.{Stands};
+ghost use Rattle.rc_sheet_model.specs.WellFormed.{IsWellFormed};
+ghost use Rattle.rc_sheet_model.specs.Numbering.{IsNumbered};
 ghost use Rattle.rc_sheet_model.specs.Examples.{form_of, four_cards, four_cards_text};
 
 /// The form of the text is what the text spells.
@@ -15,4 +17,14 @@ pub fn four_cards_form()
 /// The form stands for the sheet.
 pub fn four_cards_stands()
     ensures { Stands four_cards (form_of four_cards_text) }
+{}
+
+/// Its names are numbered as they are mentioned.
+pub fn four_cards_numbered()
+    ensures { IsNumbered four_cards }
+{}
+
+/// It is well formed.
+pub fn four_cards_well_formed()
+    ensures { IsWellFormed four_cards }
 {}

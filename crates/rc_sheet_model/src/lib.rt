@@ -4,4 +4,6 @@
 
 mod examples;
 
-pub use examples::{four_cards_form, four_cards_stands};
+pub use examples::{
+    four_cards_form, four_cards_numbered, four_cards_stands, four_cards_well_formed,
+};
