@@ -1,4 +1,4 @@
-use Rattle.std.proofs.Common.{rules, ◌≡◌, length, [], ◌∷◌, refl, ◌≤◌, All, arith}
+use Rattle.std.proofs.Common.{rules, ◌≡◌, length, [], ◌∷◌, refl, ◌≤◌, get_or, All, arith}
 use Rattle.std.proofs.lemmas.List.Elements.{All-from_recursion}
 use Rattle.rc_model.specs.Deck.{Entry}
 use Rattle.rc_sheet_model.specs.Stands.{Stands}
@@ -19,10 +19,10 @@ limits : IsWithinLimits four_cards
 limits = search rules
 
 stands : Stands four_cards (form_of four_cards_text)
-stands = search rules
+stands = search arith
 
 shallow : IsOpenAtMost most_open (form_of four_cards_text)
-shallow = search rules
+shallow = search arith
 
 items : AreItems four_cards outside four_cards.items
 items = search rules
@@ -34,7 +34,7 @@ decks : All (IsDeck four_cards) four_cards.decks
 decks = All-from_recursion (IsDeck four_cards) four_cards.decks (search rules)
 
 entries : All (All IsEntry) four_cards.points
-entries = All-from_recursion (All IsEntry) four_cards.points (All-from_recursion IsEntry _ (search rules), tt)
+entries = All-from_recursion (All IsEntry) four_cards.points (All-from_recursion IsEntry (get_or four_cards.points 0 []) (search rules), tt)
 
 some_entry : All (λ entries. 1 ≤ length entries) four_cards.points
 some_entry = All-from_recursion (λ entries. 1 ≤ length entries) four_cards.points (search rules)
