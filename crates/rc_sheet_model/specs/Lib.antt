@@ -12,3 +12,4 @@ pub mod Mentions
 pub mod Numbering
 pub mod WellFormed
 pub mod Examples
+pub mod PartExamples
