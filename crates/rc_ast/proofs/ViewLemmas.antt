@@ -1,6 +1,6 @@
 -- The tree of a value that holds a vector of others, from the trees of the vector's items.
-use Rattle.std.proofs.Common.{◌≡◌, ℕ, List, [], ◌∷◌, map, Vec, Global, refl, ap, ◌∙◌}
-use Rattle.rc_sheet_model.specs.Sheet.{Who, Loc, Num, coll, union_of, test, and_of, or_of, effect, when, repeat, for_each, item, stage}
+use Rattle.std.proofs.Common.{◌≡◌, ℕ, Vec, Global, refl, ap, ◌∙◌}
+use Rattle.rc_sheet_model.specs.Sheet.{coll, union_of, test, and_of, or_of, effect, when, repeat, for_each, item, stage}
 use Rattle.rc_ast.specs.declared.names.Class.{Class}
 use Rattle.rc_ast.specs.declared.expressions.CollExpr.{CollExpr, Union, Union', Row_of-CollExpr, end_of-CollExpr, more_of-CollExpr, items-the_row-CollExpr, items_hidden-the_row-CollExpr-0}
 use Rattle.rc_ast.specs.declared.expressions.IntExpr.{IntExpr}

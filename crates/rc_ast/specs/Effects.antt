@@ -1,5 +1,5 @@
 -- Effects as the pure trees have them. A row is a vector's items.
-use Rattle.std.specs.Prelude.{ℕ, List, map}
+use Rattle.std.specs.Prelude.{List, map}
 use Rattle.rc_sheet_model.specs.Sheet.{top, bottom, move, move_all, remember, forget, shuffle, set_to, increase, decrease, when, repeat, for_each, next_is, turn_round, Effects, no_effect, effect}
 use Rattle.rc_sheet_model.specs.Sheet.{End as PureEnd, Effect as PureEffect}
 use Rattle.rc_sheet_model.specs.Lists.{effects_from}

@@ -1,5 +1,5 @@
 -- Alternatives and items as the pure trees have them. A row is a vector's items.
-use Rattle.std.specs.Prelude.{ℕ, List, map}
+use Rattle.std.specs.Prelude.{List, map}
 use Rattle.rc_sheet_model.specs.Sheet.{do_alt, if_alt, any_alt, do_item, stage, choice, SheetItems, no_item, item}
 use Rattle.rc_sheet_model.specs.Sheet.{Alt as PureAlt, SheetItem as PureItem}
 use Rattle.rc_sheet_model.specs.Lists.{items_from}

@@ -1,5 +1,4 @@
 -- Names, owners and locations as the pure trees have them.
-use Rattle.std.specs.Prelude.{ℕ, List}
 use Rattle.rc_sheet_model.specs.Sheet.{game_class, player_class, team_class, player_sort, card_sort, group_sort, vloc, iloc, hloc, mem, game, current_player, current_team, team_of_current, team_of_var, who_var}
 use Rattle.rc_sheet_model.specs.Sheet.{Names as PureNames, Class as PureClass, Sort as PureSort, LocKind as PureKind, LocName as PureLocName, NumName as PureNumName, Who as PureWho, Loc as PureLoc, Num as PureNum}
 use Rattle.rc_ast.specs.declared.names.Names.{Names}

@@ -1,5 +1,5 @@
 -- A sheet as the pure tree has it.
-use Rattle.std.specs.Prelude.{ℕ, List, map, option_map}
+use Rattle.std.specs.Prelude.{map, option_map}
 use Rattle.rc_deck.specs.Tree.{groups_of}
 use Rattle.rc_deck.specs.Points.{entries_of}
 use Rattle.rc_sheet_model.specs.Sheet.{highest, lowest}

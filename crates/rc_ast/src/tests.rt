@@ -1,4 +1,4 @@
-ghost use Rattle.std.specs.Prelude.{◌≡◌, List, map, IfOk};
+ghost use Rattle.std.specs.Prelude.{◌≡◌, map, IfOk};
 ghost use Rattle.rc_sheet_model.specs.Sheet.{repeat, shuffle};
 ghost use Rattle.rc_sheet_model.specs.Lists.{effects_from};
 ghost use Rattle.rc_ast.specs.Names.{loc_seen};

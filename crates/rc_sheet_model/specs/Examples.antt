@@ -1,9 +1,9 @@
 -- Sheets and parts of sheets whose forms are known, to try the definitions on.
-use Rattle.std.specs.Prelude.{ℕ, ◌+◌, List, [], ◌∷◌, ◌++◌, length, reverse, codes, pos, None}
+use Rattle.std.specs.Prelude.{ℕ, ◌+◌, List, [], ◌∷◌, ◌++◌, length, codes, pos, None}
 use Rattle.rc_model.specs.Token.{Token, opening, closing, atom, odd, tokens}
 use Rattle.rc_model.specs.Tree.{Tree, word, list, Trees, nil, cons}
-use Rattle.rc_model.specs.Deck.{Groups, no_group, group, Branches, no_branch, branch, Entry}
-use Rattle.rc_sheet_model.specs.Sheet.{Names, highest, game_class, player_class, vloc, iloc, hloc, mem, LocName, game, current_player, who_var, Who, top, Loc, card_var, top_card, cards_in, sum_of, size_of, literal, eq_int, all_of, each_player, each_card, move, repeat, for_each, do_alt, any_alt, do_item, stage, choice, Sheet}
+use Rattle.rc_model.specs.Deck.{no_group, group, no_branch, branch}
+use Rattle.rc_sheet_model.specs.Sheet.{highest, game_class, player_class, vloc, iloc, hloc, game, current_player, who_var, Who, top, Loc, card_var, top_card, cards_in, sum_of, size_of, literal, eq_int, all_of, each_player, each_card, move, repeat, for_each, do_alt, any_alt, do_item, stage, choice, Sheet}
 use Rattle.rc_sheet_model.specs.Lists.{effects_from, items_from}
 
 abbrev pub packed : List Tree → Trees

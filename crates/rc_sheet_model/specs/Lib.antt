@@ -11,5 +11,6 @@ pub mod Limits
 pub mod Mentions
 pub mod Numbering
 pub mod WellFormed
+pub mod FormMentions
 pub mod Examples
 pub mod PartExamples

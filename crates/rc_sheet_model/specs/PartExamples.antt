@@ -1,10 +1,10 @@
 -- Parts of sheets whose forms are known, and sheets at their limits, to try the definitions on.
-use Rattle.std.specs.Prelude.{ℕ, ◌+◌, zero, suc, List, [], ◌∷◌, codes, pos, Option, Some, None, replicate, true, false}
+use Rattle.std.specs.Prelude.{ℕ, ◌+◌, zero, suc, List, [], ◌∷◌, codes, pos, None, replicate, true}
 use Rattle.rc_model.specs.Deck.{Groups, no_group, group, Branches, no_branch, branch}
-use Rattle.rc_sheet_model.specs.Sheet.{Names, Sort, player_sort, card_sort, group_sort, lowest, game_class, player_class, team_class, vloc, iloc, hloc, mem, LocName, NumName, Who, game, current_player, current_team, Loc, Num, literal, choice, do_alt, do_item, shuffle, each_player, all_of, eq_int, Test, repeat, Effect, stage, Sheet, DeckLine, no_item}
+use Rattle.rc_sheet_model.specs.Sheet.{Sort, player_sort, card_sort, group_sort, lowest, game_class, player_class, team_class, vloc, iloc, mem, Who, game, Loc, Num, literal, choice, do_item, shuffle, eq_int, Test, stage, Sheet, DeckLine, no_item}
 use Rattle.rc_sheet_model.specs.Lists.{effects_from, items_from}
 use Rattle.rc_sheet_model.specs.Naming.{Naming, naming_of, Variable, Scope}
-use Rattle.rc_sheet_model.specs.WellFormed.{Around, outside}
+use Rattle.rc_sheet_model.specs.WellFormed.{Around}
 use Rattle.rc_sheet_model.specs.Examples.{four_cards}
 
 -- a sheet with names of each kind

@@ -1,6 +1,5 @@
 -- Which forms stand for a sheet: one case for each row of the grammar, here and in the files for its parts.
-use Rattle.std.specs.Prelude.{ℕ}
-use Rattle.rc_model.specs.Tree.{Tree, word, list, Trees}
+use Rattle.rc_model.specs.Tree.{Tree}
 use Rattle.rc_sheet_model.specs.Sheet.{Best, highest, lowest, Sheet}
 use Rattle.rc_sheet_model.specs.Rows.{◌▸◌, End, AtLeast, Some, Row, Atom}
 use Rattle.rc_sheet_model.specs.Naming.{naming_of, self_scope}

@@ -1,5 +1,4 @@
 -- Which forms stand for effects, in a scope.
-use Rattle.std.specs.Prelude.{ℕ, codes}
 use Rattle.rc_model.specs.Tree.{Tree, Trees}
 use Rattle.rc_sheet_model.specs.Sheet.{End as Place, top, bottom, Loc, Effect, move, move_all, remember, forget, shuffle, set_to, increase, decrease, when, repeat, for_each, next_is, turn_round, Effects, no_effect, effect}
 use Rattle.rc_sheet_model.specs.Rows.{◌▸◌, End, Some, Row, Atom}

@@ -1,6 +1,6 @@
 -- Which sheets are well formed: their parts stand where they may, their names are numbered as they are mentioned, and they
 -- keep the limits.
-use Rattle.std.specs.Prelude.{◌≡◌, ℕ, ◌+◌, ◌*◌, ◌<◌, ◌≤◌, ◌==◌, nat_eq, nat_le, Bool, true, false, not, ◌||◌, ◌&&◌, List, [], ◌∷◌, ◌++◌, length, slice_get, slice_index_or, map, flat_map, sum_by, count_by, replicate, All, bytes_eq, pos, Option, Some, None, option_map, ⊤}
+use Rattle.std.specs.Prelude.{◌≡◌, ℕ, ◌+◌, ◌*◌, ◌<◌, ◌≤◌, ◌==◌, nat_eq, nat_le, Bool, true, false, not, ◌||◌, ◌&&◌, List, [], ◌∷◌, ◌++◌, length, slice_get, slice_index_or, map, flat_map, sum_by, count_by, replicate, All, bytes_eq, Option, Some, None, option_map, ⊤}
 use Rattle.std.specs.List.{list_any, list_all}
 use Rattle.rc_model.specs.Token.{is_part}
 use Rattle.rc_model.specs.Tree.{Tree}

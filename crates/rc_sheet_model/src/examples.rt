@@ -1,11 +1,12 @@
 //! The definitions of sheets, computed on sheets that are known. No function here does anything: each has a contract
 //! that the check proves by computing.
-ghost use Rattle.std.specs.Prelude.{◌≡◌, length, [], ◌∷◌, codes};
+ghost use Rattle.std.specs.Prelude.{◌≡◌, length};
 ghost use Rattle.rc_model.specs.Token.{tokens};
 ghost use Rattle.rc_model.specs.Tree.{spelling};
 ghost use Rattle.rc_sheet_model.specs.Stands.{Stands};
 ghost use Rattle.rc_sheet_model.specs.WellFormed.{IsWellFormed};
 ghost use Rattle.rc_sheet_model.specs.Numbering.{IsNumbered};
+ghost use Rattle.rc_sheet_model.specs.FormMentions.{AreNames};
 ghost use Rattle.rc_sheet_model.specs.Examples.{form_of, four_cards, four_cards_text};
 
 /// The form of the text is what the text spells.
@@ -19,9 +20,10 @@ pub fn four_cards_stands()
     ensures { Stands four_cards (form_of four_cards_text) }
 {}
 
-/// Its names are numbered as they are mentioned.
+/// Its names are numbered as they are mentioned, by the sheet and by the form.
 pub fn four_cards_numbered()
-    ensures { IsNumbered four_cards }
+    ensures sheet { IsNumbered four_cards }
+    ensures form { AreNames four_cards (form_of four_cards_text) }
 {}
 
 /// It is well formed.

@@ -9,6 +9,7 @@ pub use examples::{
     four_cards_form, four_cards_numbered, four_cards_stands, four_cards_well_formed,
 };
 pub use part_examples::{
-    binders, cycles, effects, faces, limits, lines_in_any_order, no_owners, no_sides, owners,
-    partitions, parts_of_expressions, references, scopes, sides, small_limits, teams,
+    binders, cycles, decks, effects, faces, limits, lines_in_any_order, mentions, no_owners,
+    no_sides, owners, partitions, parts_of_expressions, references, scopes, sides, small_limits,
+    stages, teams,
 };

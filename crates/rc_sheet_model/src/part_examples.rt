@@ -2,16 +2,17 @@
 //! each has a contract that the check proves by computing.
 ghost use Rattle.std.specs.Prelude.{◌≡◌, ◌∷◌, [], codes, pos, neg_ℤ, Some, None};
 ghost use Rattle.rc_model.specs.Deck.{no_group, group, no_branch, branch};
-ghost use Rattle.rc_sheet_model.specs.Sheet.{game_class, player_class, team_class, player_sort, card_sort, group_sort, top, bottom, game, current_player, current_team, team_of_current, team_of_var, who_var, card_var, top_card, bottom_card, max_card, min_card, group_var, cards_in, filtered, union_of, literal, number, size_of, sum_of, worth_of, add, subtract, multiply, eq_int, eq_card, eq_attr, eq_who, ne, less, less_eq, more, more_eq, has_value, and_of, or_of, not_of, all_of, any_of, each_player, each_card, each_group, move, move_all, remember, forget, shuffle, set_to, increase, decrease, when, repeat, for_each, next_is, turn_round, do_alt, if_alt, any_alt, do_item, stage, choice};
+ghost use Rattle.rc_sheet_model.specs.Sheet.{game_class, player_class, team_class, top, bottom, game, current_player, current_team, team_of_current, team_of_var, who_var, card_var, top_card, group_var, cards_in, filtered, union_of, literal, number, worth_of, eq_int, eq_card, eq_attr, eq_who, ne, has_value, and_of, all_of, any_of, each_player, each_card, each_group, move, move_all, remember, shuffle, increase, when, repeat, for_each, next_is, turn_round, do_alt, any_alt, do_item, stage, choice};
 ghost use Rattle.rc_sheet_model.specs.Lists.{colls_from, tests_from, effects_from, items_from};
 ghost use Rattle.rc_sheet_model.specs.Naming.{self_scope};
-ghost use Rattle.rc_sheet_model.specs.StandsExpressions.{StandsOwner, StandsLoc, StandsNum, StandsCard, StandsColl, StandsInt, StandsTest};
+ghost use Rattle.rc_sheet_model.specs.StandsExpressions.{StandsOwner, StandsLoc, StandsNum, StandsColl, StandsInt, StandsTest};
 ghost use Rattle.rc_sheet_model.specs.StandsEffects.{StandsEffect};
-ghost use Rattle.rc_sheet_model.specs.StandsItems.{StandsAlt, StandsItem};
+ghost use Rattle.rc_sheet_model.specs.StandsItems.{StandsAlt};
 ghost use Rattle.rc_sheet_model.specs.Stands.{Stands};
 ghost use Rattle.rc_sheet_model.specs.Numbering.{IsNumbered};
+ghost use Rattle.rc_sheet_model.specs.FormMentions.{AreNames, names_of};
 ghost use Rattle.rc_sheet_model.specs.Limits.{IsInRange};
-ghost use Rattle.rc_sheet_model.specs.WellFormed.{outside, IsTest, IsEffect, IsBinder, IsOwner, AreGroups, AreTeams, IsWithinLimits};
+ghost use Rattle.rc_sheet_model.specs.WellFormed.{outside, IsTest, IsEffect, IsBinder, IsOwner, IsItem, IsDeck, AreGroups, AreTeams, IsWithinLimits};
 ghost use Rattle.rc_sheet_model.specs.Examples.{form_of};
 ghost use Rattle.rc_sheet_model.specs.PartExamples.{parts, naming, three, truth, single, around_by, loc_at, num_of, swapped_text, swapped, with_cards, with_locs, with_nums, with_stages, with_choices, with_players};
 
@@ -131,6 +132,30 @@ pub fn parts_of_expressions()
 pub fn lines_in_any_order()
     ensures stands { Stands swapped (form_of swapped_text) }
     ensures numbered { IsNumbered swapped }
+    ensures names { AreNames swapped (form_of swapped_text) }
+{}
+
+/// A choice stands in a stage of players, and a stage's `end` is inside the stage.
+pub fn stages()
+    ensures choice_in_stage { IsItem parts outside
+        (stage 0 player_class truth (items_from (choice 0 (do_alt (effects_from (turn_round ∷ [])) ∷ []) ∷ []))) }
+    ensures no_stage { IsItem parts outside (choice 0 (do_alt (effects_from (shuffle (loc_at game 0 0) ∷ [])) ∷ [])) → ⊥ }
+    ensures team_stage { IsItem parts outside
+        (stage 0 team_class truth (items_from (choice 0 (do_alt (effects_from (turn_round ∷ [])) ∷ []) ∷ []))) → ⊥ }
+    ensures own_end { IsItem parts outside
+        (stage 0 team_class (eq_who current_team current_team) (items_from (do_item (effects_from (turn_round ∷ [])) ∷ []))) }
+    ensures no_owner { IsItem parts outside
+        (stage 0 game_class truth (items_from (do_item (effects_from (turn_round ∷ [])) ∷ []))) → ⊥ }
+    ensures empty { IsItem parts outside (stage 0 player_class truth (items_from [])) → ⊥ }
+{}
+
+/// A deck's cards begin in a location of the game, and not among references.
+pub fn decks()
+    ensures cards { IsDeck parts (record { loc = 0; groups = group 0 single no_group }) }
+    ensures references { IsDeck parts (record { loc = 2; groups = group 0 single no_group }) → ⊥ }
+    ensures of_teams { IsDeck parts (record { loc = 1; groups = group 0 single no_group }) → ⊥ }
+    ensures no_groups { IsDeck parts (record { loc = 0; groups = no_group }) → ⊥ }
+    ensures no_values { IsDeck parts (record { loc = 0; groups = group 0 no_branch no_group }) → ⊥ }
 {}
 
 /// Each player stands in one team.
@@ -180,4 +205,19 @@ pub fn limits()
     ensures more_stages { IsWithinLimits (with_stages 257) → ⊥ }
     ensures choices { IsWithinLimits (with_choices 64) }
     ensures more_choices { IsWithinLimits (with_choices 65) → ⊥ }
+{}
+
+/// What a form mentions, in the order of its text: a domain before its variable, and that before what follows.
+pub fn mentions()
+    ensures variables { (names_of (form_of (codes "(game (setup) (do (all (filter (game vloc A) 'X (= 0 0)) 'Y (all player 'X (shuffle (game mem B))))))"))).vars
+        ≡ codes "'X" ∷ codes "'Y" ∷ [] }
+    ensures locations { (names_of (form_of (codes "(game (setup) (do (all (filter (game vloc A) 'X (= 0 0)) 'Y (all player 'X (shuffle (game mem B))))))"))).locs
+        ≡ codes "A" ∷ codes "B" ∷ [] }
+    ensures words { (names_of (form_of (codes "(game (setup) (do (if (is 'X SUIT HEARTS) (set (game sto N) (sum 'G using M)))) (scoring max (points 'X using L)))"))).maps
+        ≡ codes "M" ∷ codes "L" ∷ [] }
+    ensures no_fixed_word { (names_of (form_of (codes "(game (setup) (do (if (is 'X using X) (forget 'X))) (scoring max 0))"))).maps ≡ [] }
+    ensures decks { (names_of (form_of (codes "(game (setup (create deck (game vloc P) (deck (A ((X (B (Y Z))) Y)))) (put points M ((C (X W) 1)))))"))).values
+        ≡ codes "X" ∷ codes "Y" ∷ codes "Z" ∷ codes "W" ∷ [] }
+    ensures attributes { (names_of (form_of (codes "(game (setup (create deck (game vloc P) (deck (A ((X (B (Y Z))) Y)))) (put points M ((C (X W) 1)))))"))).attrs
+        ≡ codes "A" ∷ codes "B" ∷ codes "C" ∷ [] }
 {}

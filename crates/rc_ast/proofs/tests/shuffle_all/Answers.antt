@@ -1,4 +1,4 @@
-use Rattle.std.proofs.Common.{map, take, length, ap, ◌∙◌, arith}
+use Rattle.std.proofs.Common.{map, ap, ◌∙◌, arith}
 use Rattle.std.proofs.lemmas.List.{take_all}
 use Rattle.rc_sheet_model.specs.Sheet.{repeat, shuffle}
 use Rattle.rc_sheet_model.specs.Lists.{effects_from}
@@ -13,4 +13,4 @@ returns c =
     c.repeated.ensures
     ∙ ap (λ count. repeat (int_seen count) (effects_seen c.loop-loc.effects.items)) c.loop-loc.invariant.0
     ∙ ap (λ es. repeat (int_seen c.args.count) (effects_from es))
-        (c.loop-loc.invariant.1 ∙ ap (map (λ loc. shuffle (loc_seen loc))) whole)
+    (c.loop-loc.invariant.1 ∙ ap (map (λ loc. shuffle (loc_seen loc))) whole)

@@ -1,8 +1,7 @@
-use Rattle.std.proofs.Common.{rules, ◌≡◌, length, [], ◌∷◌, refl, ◌≤◌, get_or, All, arith}
+use Rattle.std.proofs.Common.{rules, length, [], ◌≤◌, get_or, All, arith}
 use Rattle.std.proofs.lemmas.List.Elements.{All-from_recursion}
-use Rattle.rc_model.specs.Deck.{Entry}
 use Rattle.rc_sheet_model.specs.Stands.{Stands}
-use Rattle.rc_sheet_model.specs.WellFormed.{IsWellFormed, HasWords, IsWithinLimits, IsDeck, IsEntry, AreItems, outside, IsInt, scored}
+use Rattle.rc_sheet_model.specs.WellFormed.{HasWords, IsWithinLimits, IsDeck, IsEntry, AreItems, outside, IsInt, scored}
 use Rattle.rc_sheet_model.specs.Numbering.{IsNumbered}
 use Rattle.rc_sheet_model.specs.Rows.{IsOpenAtMost}
 use Rattle.rc_sheet_model.specs.Limits.{most_open}
