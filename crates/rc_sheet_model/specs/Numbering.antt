@@ -1,5 +1,5 @@
 -- How names, stages and choices are numbered: by the order in which they are first mentioned.
-use Rattle.std.specs.Prelude.{◌≡◌, ℕ, if◌then◌else◌, List, [], ◌∷◌, length, slice_index_or, map, flat_map, bytes_eq}
+use Rattle.std.specs.Prelude.{◌≡◌, ℕ, ◌+◌, ◌<◌, ◌⊎◌, if◌then◌else◌, List, [], ◌∷◌, length, slice_index_or, map, flat_map, bytes_eq}
 use Rattle.std.specs.List.{list_any, range_with_len}
 use Rattle.rc_sheet_model.specs.Sheet.{Sheet}
 use Rattle.rc_sheet_model.specs.Mentions.{Mention, attr_of, value_of, map_of, loc_of, num_of, var_of, mentions, stages_in, sites_in}
@@ -34,3 +34,9 @@ pub record IsNumbered (sheet : Sheet) : Type 0 where
   pub num_numbers : map (λ num. num.name) sheet.nums ≡ below (length sheet.names.nums)
   pub stages : stages_in sheet.items ≡ below (length (stages_in sheet.items))
   pub sites : sites_in sheet.items ≡ below (length (sites_in sheet.items))
+
+-- Names are numbered one by one: of these mentions, in order, each is of a name that is numbered already, or of the next
+-- one. So many names are numbered before them, and so many behind them.
+abbrev pub Extends : ℕ → List ℕ → ℕ → Type 0
+Extends before [] after = before ≡ after
+Extends before (n ∷ ns) after = ((n < before) × Extends before ns after) ⊎ ((n ≡ before) × Extends (before + 1) ns after)
