@@ -1,5 +1,6 @@
 -- The tree of a value that holds a vector of others, from the trees of the vector's items.
-use Rattle.std.proofs.Common.{◌≡◌, ℕ, Vec, Global, refl, ap, ◌∙◌}
+use Rattle.std.proofs.Common.{◌≡◌, ℕ, ◌+◌, ◌<◌, List, length, get_or, drop, Vec, Global, refl, sym, ap, ◌∙◌}
+use Rattle.std.proofs.lemmas.List.{at_drop_more}
 use Rattle.rc_sheet_model.specs.Sheet.{coll, union_of, test, and_of, or_of, effect, when, repeat, for_each, item, stage}
 use Rattle.rc_ast.specs.declared.names.Class.{Class}
 use Rattle.rc_ast.specs.declared.expressions.CollExpr.{CollExpr, Union, Union', Row_of-CollExpr, end_of-CollExpr, more_of-CollExpr, items-the_row-CollExpr, items_hidden-the_row-CollExpr-0}
@@ -90,3 +91,24 @@ pub stage_seen : (number : ℕ) (class : Class) (end : Test) (is : Vec SheetItem
 stage_seen number class end is =
     let row = items_in (Stage number class end is) in
     ap (stage number (class_seen class) (test_seen end)) (items_listed row.0 row.1 ∙ ap items_seen (items_hidden-the_row-SheetItem-0 is))
+
+-- the items of a vector from a place on are the item there and those behind it
+pub colls_seen-drop : (cs : List CollExpr) (i : ℕ) (c : CollExpr) → i < length cs → c ≡ get_or cs i c →
+    colls_seen (drop i cs) ≡ coll (coll_seen c) (colls_seen (drop (i + 1) cs))
+colls_seen-drop cs i c lt is =
+    at_drop_more colls_seen cs i c lt ∙ ap (λ x. coll (coll_seen x) (colls_seen (drop (i + 1) cs))) (sym is)
+
+pub tests_seen-drop : (ts : List Test) (i : ℕ) (t : Test) → i < length ts → t ≡ get_or ts i t →
+    tests_seen (drop i ts) ≡ test (test_seen t) (tests_seen (drop (i + 1) ts))
+tests_seen-drop ts i t lt is =
+    at_drop_more tests_seen ts i t lt ∙ ap (λ x. test (test_seen x) (tests_seen (drop (i + 1) ts))) (sym is)
+
+pub effects_seen-drop : (es : List Effect) (i : ℕ) (e : Effect) → i < length es → e ≡ get_or es i e →
+    effects_seen (drop i es) ≡ effect (effect_seen e) (effects_seen (drop (i + 1) es))
+effects_seen-drop es i e lt is =
+    at_drop_more effects_seen es i e lt ∙ ap (λ x. effect (effect_seen x) (effects_seen (drop (i + 1) es))) (sym is)
+
+pub items_seen-drop : (all : List SheetItem) (i : ℕ) (x : SheetItem) → i < length all → x ≡ get_or all i x →
+    items_seen (drop i all) ≡ item (item_seen x) (items_seen (drop (i + 1) all))
+items_seen-drop all i x lt is =
+    at_drop_more items_seen all i x lt ∙ ap (λ y. item (item_seen y) (items_seen (drop (i + 1) all))) (sym is)

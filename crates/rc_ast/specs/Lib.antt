@@ -4,3 +4,4 @@ pub mod Expressions
 pub mod Effects
 pub mod Items
 pub mod Sheet
+pub mod Examples

@@ -3,9 +3,10 @@ ghost use Rattle.rc_sheet_model.specs.Sheet.{repeat, shuffle};
 ghost use Rattle.rc_sheet_model.specs.Lists.{effects_from};
 ghost use Rattle.rc_ast.specs.Names.{loc_seen};
 ghost use Rattle.rc_ast.specs.Expressions.{int_seen};
-ghost use Rattle.rc_ast.specs.Effects.{effect_seen};
+ghost use Rattle.rc_ast.specs.Effects.{effect_seen, effects_seen};
+ghost use Rattle.rc_ast.specs.Examples.{has_shuffle, have_shuffle};
 
-use crate::{Effect, IntExpr, Loc, Who, Word};
+use crate::{Domain, Effect, IntExpr, Loc, Who, Word};
 use rc_deck::Memory;
 use std::alloc::Global;
 use std::test::Fail;
@@ -20,6 +21,33 @@ fn shuffle_all(alloc: Global, count: IntExpr, locs: &[Loc]) -> Result<Effect, Me
         effects.push(Effect::Shuffle(*loc))?;
     }
     Ok(Effect::repeated(count, effects))
+}
+
+// Whether the effect, or one inside it, shuffles.
+#[cycle(shuffling)]
+fn shuffles(effect: &Effect) -> bool
+    ensures { result ≡ has_shuffle (effect_seen effect.now) }
+{
+    match effect {
+        Effect::Shuffle(_) => true,
+        Effect::If(_, effects) => one_shuffles(effects),
+        Effect::Repeat(_, effects) => one_shuffles(effects),
+        Effect::Each(_, _, effects) => one_shuffles(effects),
+        _ => false,
+    }
+}
+
+#[cycle(shuffling)]
+fn one_shuffles(effects: &Vec<Effect>) -> bool
+    ensures { result ≡ have_shuffle (effects_seen effects.now.items) }
+{
+    let mut found = false;
+    for effect in effects {
+        if shuffles(effect) {
+            found = true;
+        }
+    }
+    found
 }
 
 #[test]
@@ -42,6 +70,23 @@ fn an_effect_is_built_in_a_loop(rt: HostRuntime) -> Result<(), Fail> {
     };
     assert!(rt; matches!(count, IntExpr::Lit(3)));
     assert_eq!(rt; effects.len(), 2);
+    Ok(())
+}
+
+#[test]
+fn an_effect_inside_another_is_found(rt: HostRuntime) -> Result<(), Fail> {
+    let loc = Loc {
+        who: Who::Game,
+        name: 0,
+        at: 40,
+    };
+    let one = shuffle_all(rt.alloc(), IntExpr::Lit(3), &[loc])?;
+    let effects = vec![in rt.alloc(); Effect::Reverse, one]?;
+    let found = shuffles(&Effect::for_each(Domain::Players, 0, effects));
+    assert!(rt; found);
+    let none = shuffle_all(rt.alloc(), IntExpr::Lit(3), &[])?;
+    let found = shuffles(&none);
+    assert!(rt; !found);
     Ok(())
 }
 

@@ -1,5 +1,5 @@
 -- Names that are numbered one by one are numbered by their first mention.
-use Rattle.std.proofs.Common.{◌≡◌, ◌≢◌, ℕ, ◌+◌, ◌≤◌, ◌<◌, Bool, true, false, ◌||◌, List, [], ◌∷◌, ◌++◌, ◌⊎◌, inl, inr, ⊎_elim, length, get_or, drop, map, bytes_eq, nat_lt, refl, sym, ap, ◌∙◌, subst, arith}
+use Rattle.std.proofs.Common.{◌≡◌, ◌≢◌, ℕ, ◌+◌, ◌≤◌, ◌<◌, true, false, List, [], ◌∷◌, ◌++◌, inl, inr, ⊎_elim, length, get_or, drop, map, bytes_eq, nat_lt, sym, ap, ◌∙◌, subst, arith}
 use Rattle.std.specs.List.{list_any, AllPairs}
 use Rattle.std.proofs.lemmas.Bool.{cond-true, cond-false, lt-ltb, le-ltb, or_left, or_right, or_from, false_from_ne_true, cases_lt}
 use Rattle.std.proofs.lemmas.List.{at_drop_more, drop_all}
