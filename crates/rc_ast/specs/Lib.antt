@@ -1,0 +1,7 @@
+pub mod Word
+pub mod Names
+pub mod Expressions
+pub mod Effects
+pub mod Items
+pub mod Sheet
+pub mod Examples

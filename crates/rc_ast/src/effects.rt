@@ -1,0 +1,57 @@
+//! What a play changes.
+ghost use Rattle.std.specs.Prelude.{◌≡◌};
+ghost use Rattle.rc_sheet_model.specs.Sheet.{when, repeat, for_each};
+ghost use Rattle.rc_ast.specs.Expressions.{int_seen, test_seen, domain_seen};
+ghost use Rattle.rc_ast.specs.Effects.{effect_seen, effects_seen};
+
+use crate::{CardExpr, CollExpr, Domain, IntExpr, Loc, Num, Test, Who};
+
+/// An end of a location's list.
+#[derive(Clone, Copy, PartialEq, Eq, Debug)]
+pub enum End {
+    Top,
+    Bottom,
+}
+
+/// An effect. `Each` runs over players or cards; the number beside the domain is that of its variable's word.
+#[derive(Debug, Drop)]
+pub enum Effect {
+    Move(CardExpr, End, Loc),
+    MoveAll(CollExpr, End, Loc),
+    Remember(CardExpr, End, Loc),
+    Forget(CardExpr),
+    Shuffle(Loc),
+    Set(Num, IntExpr),
+    Inc(Num, IntExpr),
+    Dec(Num, IntExpr),
+    If(Test, Vec<Effect>),
+    Repeat(IntExpr, Vec<Effect>),
+    Each(Domain, u32, Vec<Effect>),
+    Next(Who),
+    Reverse,
+}
+
+impl Effect {
+    /// The effects, where the test holds.
+    #[tactic(auto, using(crate::proofs::ViewLemmas::if_seen))]
+    pub fn when(test: Test, effects: Vec<Effect>) -> Effect
+        ensures { effect_seen result ≡ when (test_seen test) (effects_seen effects.items) }
+    {
+        Effect::If(test, effects)
+    }
+
+    /// The effects, so many times.
+    #[tactic(auto, using(crate::proofs::ViewLemmas::repeat_seen))]
+    pub fn repeated(count: IntExpr, effects: Vec<Effect>) -> Effect
+        ensures { effect_seen result ≡ repeat (int_seen count) (effects_seen effects.items) }
+    {
+        Effect::Repeat(count, effects)
+    }
+
+    /// The effects, for each of the players or cards.
+    pub fn for_each(domain: Domain, bound: u32, effects: Vec<Effect>) -> Effect
+        ensures { effect_seen result ≡ for_each (domain_seen domain) bound (effects_seen effects.items) }
+    {
+        Effect::Each(domain, bound, effects)
+    }
+}

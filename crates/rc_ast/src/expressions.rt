@@ -1,0 +1,123 @@
+//! Expressions for cards, lists of cards and numbers, and tests.
+ghost use Rattle.std.specs.Prelude.{◌≡◌};
+ghost use Rattle.rc_sheet_model.specs.Sheet.{union_of, and_of, or_of};
+ghost use Rattle.rc_ast.specs.Expressions.{coll_seen, colls_seen, test_seen, tests_seen};
+
+/// An owner. A variable is its place among the variables in scope, the outermost being 0.
+#[derive(Clone, Copy, PartialEq, Eq, Debug)]
+pub enum Who {
+    Game,
+    CurrentPlayer,
+    CurrentTeam,
+    TeamOfCurrent,
+    TeamOfVar(u8),
+    Var(u8),
+}
+
+/// A location, with the offset of its form.
+#[derive(Clone, Copy, PartialEq, Eq, Debug)]
+pub struct Loc {
+    pub who: Who,
+    pub name: u16,
+    pub at: u32,
+}
+
+/// A number that the game keeps.
+#[derive(Clone, Copy, PartialEq, Eq, Debug)]
+pub struct Num {
+    pub who: Who,
+    pub name: u16,
+}
+
+/// A card, or nothing. `Max` and `Min` go by the points of a map.
+#[cycle(expressions)]
+#[derive(Debug, Drop)]
+pub enum CardExpr {
+    Var(u8),
+    Top(Box<CollExpr>),
+    Bottom(Box<CollExpr>),
+    Max(Box<CollExpr>, u16),
+    Min(Box<CollExpr>, u16),
+}
+
+/// A list of cards. The number beside a binder is that of its variable's word.
+#[cycle(expressions)]
+#[derive(Debug, Drop)]
+pub enum CollExpr {
+    Var(u8),
+    Loc(Loc),
+    Filter(Box<CollExpr>, u32, Box<Test>),
+    Union(Vec<CollExpr>),
+}
+
+/// A number.
+#[cycle(expressions)]
+#[derive(Debug, Drop)]
+pub enum IntExpr {
+    Lit(i64),
+    Num(Num),
+    Size(Box<CollExpr>),
+    Sum(Box<CollExpr>, u16),
+    Points(Box<CardExpr>, u16),
+    Add(Box<IntExpr>, Box<IntExpr>),
+    Sub(Box<IntExpr>, Box<IntExpr>),
+    Mul(Box<IntExpr>, Box<IntExpr>),
+}
+
+/// A test. `All` and `Any` run over players or cards. `Ne` holds one of the four tests for equality.
+#[cycle(expressions)]
+#[derive(Debug, Drop)]
+pub enum Test {
+    EqInt(Box<IntExpr>, Box<IntExpr>),
+    EqCard(Box<CardExpr>, Box<CardExpr>),
+    EqAttr(Box<CardExpr>, u16, Box<CardExpr>, u16),
+    EqWho(Who, Who),
+    Ne(Box<Test>),
+    Less(Box<IntExpr>, Box<IntExpr>),
+    LessEq(Box<IntExpr>, Box<IntExpr>),
+    More(Box<IntExpr>, Box<IntExpr>),
+    MoreEq(Box<IntExpr>, Box<IntExpr>),
+    Is(Box<CardExpr>, u16, u16),
+    And(Vec<Test>),
+    Or(Vec<Test>),
+    Not(Box<Test>),
+    All(Domain, u32, Box<Test>),
+    Any(Domain, u32, Box<Test>),
+}
+
+/// What a variable runs over: the players, the cards of a list, or the groups of its cards with equal values.
+#[cycle(expressions)]
+#[derive(Debug, Drop)]
+pub enum Domain {
+    Players,
+    Coll(CollExpr),
+    Parts(CollExpr, u16),
+}
+
+impl CollExpr {
+    /// One list of cards after the other.
+    #[tactic(auto, using(crate::proofs::ViewLemmas::union_seen))]
+    pub fn union_of(parts: Vec<CollExpr>) -> CollExpr
+        ensures { coll_seen result ≡ union_of (colls_seen parts.items) }
+    {
+        CollExpr::Union(parts)
+    }
+}
+
+impl Test {
+    /// Whether all of the tests hold.
+    #[tactic(auto, using(crate::proofs::ViewLemmas::and_seen))]
+    pub fn and_of(tests: Vec<Test>) -> Test
+        ensures { test_seen result ≡ and_of (tests_seen tests.items) }
+    {
+        Test::And(tests)
+    }
+
+    /// Whether one of the tests holds.
+    #[tactic(auto, using(crate::proofs::ViewLemmas::or_seen))]
+    pub fn or_of(tests: Vec<Test>) -> Test
+        ensures { test_seen result ≡ or_of (tests_seen tests.items) }
+    {
+        Test::Or(tests)
+    }
+}

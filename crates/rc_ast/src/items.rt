@@ -1,0 +1,46 @@
+//! The stages and choices of a game.
+ghost use Rattle.std.specs.Prelude.{◌≡◌};
+ghost use Rattle.rc_sheet_model.specs.Sheet.{stage};
+ghost use Rattle.rc_ast.specs.Names.{class_seen};
+ghost use Rattle.rc_ast.specs.Expressions.{test_seen};
+ghost use Rattle.rc_ast.specs.Items.{item_seen, items_seen};
+
+use crate::{Class, Domain, Effect, Test};
+
+/// An alternative of a choice.
+#[derive(Debug, Drop)]
+pub enum Alt {
+    Do(Vec<Effect>),
+    If(Test, Vec<Effect>),
+    Any(Domain, u32, Box<Alt>),
+}
+
+/// A part of a game. Stages and choice sites are numbered in the order of the text.
+#[derive(Debug, Drop)]
+pub enum SheetItem {
+    Do(Vec<Effect>),
+    Stage {
+        number: u16,
+        class: Class,
+        end: Test,
+        body: Vec<SheetItem>,
+    },
+    Choice {
+        site: u8,
+        alts: Vec<Alt>,
+    },
+}
+
+impl SheetItem {
+    /// The items, round after round, until the test holds before a round.
+    pub fn stage_of(number: u16, class: Class, end: Test, body: Vec<SheetItem>) -> SheetItem
+        ensures { item_seen result ≡ stage number (class_seen class) (test_seen end) (items_seen body.items) }
+    {
+        SheetItem::Stage {
+            number,
+            class,
+            end,
+            body,
+        }
+    }
+}

@@ -1,0 +1,22 @@
+//! Sheets of card games as trees.
+//!
+//! A [`Sheet`] is what a game's form says, without its spelling: each name is a number, which is the place of its
+//! [`Word`] in [`Names`]. Contracts see these types as the pure trees of `rc_sheet_model`, by `sheet_seen`, `test_seen`
+//! and the like, in which no memory stands.
+#![tactic(auto)]
+
+mod effects;
+mod expressions;
+mod items;
+mod names;
+mod sheet;
+#[cfg(test)]
+mod tests;
+mod word;
+
+pub use effects::{Effect, End};
+pub use expressions::{CardExpr, CollExpr, Domain, IntExpr, Loc, Num, Test, Who};
+pub use items::{Alt, SheetItem};
+pub use names::{Class, LocKind, LocName, Names, NumName, Sort};
+pub use sheet::{Best, DeckLine, Sheet, Teams};
+pub use word::Word;

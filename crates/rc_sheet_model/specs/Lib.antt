@@ -1,0 +1,16 @@
+pub mod Sheet
+pub mod Lists
+pub mod Rows
+pub mod Naming
+pub mod StandsSetup
+pub mod StandsExpressions
+pub mod StandsEffects
+pub mod StandsItems
+pub mod Stands
+pub mod Limits
+pub mod Mentions
+pub mod Numbering
+pub mod WellFormed
+pub mod FormMentions
+pub mod Examples
+pub mod PartExamples

@@ -1,0 +1,42 @@
+-- How names, stages and choices are numbered: by the order in which they are first mentioned.
+use Rattle.std.specs.Prelude.{◌≡◌, ℕ, ◌+◌, ◌<◌, ◌⊎◌, if◌then◌else◌, List, [], ◌∷◌, length, slice_index_or, map, flat_map, bytes_eq}
+use Rattle.std.specs.List.{list_any, range_with_len}
+use Rattle.rc_sheet_model.specs.Sheet.{Sheet}
+use Rattle.rc_sheet_model.specs.Mentions.{Mention, attr_of, value_of, map_of, loc_of, num_of, var_of, mentions, stages_in, sites_in}
+
+-- the different ones among words, but for those that were seen, in the order in which they first stand
+abbrev pub different_from : List (List ℕ) → List (List ℕ) → List (List ℕ)
+different_from seen [] = []
+different_from seen (word ∷ words) =
+    if list_any (bytes_eq word) seen then different_from seen words else word ∷ different_from (word ∷ seen) words
+
+abbrev pub different : List (List ℕ) → List (List ℕ)
+different words = different_from [] words
+
+-- the words of one kind that a sheet mentions, in order
+abbrev pub mentioned : Sheet → (Mention → List ℕ) → List (List ℕ) → List (List ℕ)
+mentioned sheet of_kind words = map (λ n. slice_index_or words n []) (flat_map of_kind (mentions sheet))
+
+-- the numbers below n, in order
+abbrev pub below : ℕ → List ℕ
+below n = range_with_len 0 n
+
+-- The names of each kind are the different words among all mentions, in the order of their first mention. Stages and
+-- choices are counted in the order of the text.
+pub record IsNumbered (sheet : Sheet) : Type 0 where
+  pub attrs : sheet.names.attrs ≡ different (mentioned sheet attr_of sheet.names.attrs)
+  pub values : sheet.names.values ≡ different (mentioned sheet value_of sheet.names.values)
+  pub maps : sheet.names.maps ≡ different (mentioned sheet map_of sheet.names.maps)
+  pub locs : sheet.names.locs ≡ different (mentioned sheet loc_of sheet.names.locs)
+  pub nums : sheet.names.nums ≡ different (mentioned sheet num_of sheet.names.nums)
+  pub vars : sheet.names.vars ≡ different (mentioned sheet var_of sheet.names.vars)
+  pub loc_numbers : map (λ loc. loc.name) sheet.locs ≡ below (length sheet.names.locs)
+  pub num_numbers : map (λ num. num.name) sheet.nums ≡ below (length sheet.names.nums)
+  pub stages : stages_in sheet.items ≡ below (length (stages_in sheet.items))
+  pub sites : sites_in sheet.items ≡ below (length (sites_in sheet.items))
+
+-- Names are numbered one by one: of these mentions, in order, each is of a name that is numbered already, or of the next
+-- one. So many names are numbered before them, and so many behind them.
+abbrev pub Extends : ℕ → List ℕ → ℕ → Type 0
+Extends before [] after = before ≡ after
+Extends before (n ∷ ns) after = ((n < before) × Extends before ns after) ⊎ ((n ≡ before) × Extends (before + 1) ns after)

@@ -1,0 +1,17 @@
+//! The definitions of sheets that the contracts of several crates cite: sheets as trees, which form stands for which
+//! sheet, and which sheets are well formed.
+#![tactic(auto)]
+
+mod examples;
+mod laws;
+mod part_examples;
+
+pub use examples::{
+    four_cards_form, four_cards_numbered, four_cards_stands, four_cards_well_formed,
+};
+pub use laws::names_numbered_one_by_one;
+pub use part_examples::{
+    binders, cycles, decks, effects, faces, limits, lines_in_any_order, mentions, no_owners,
+    no_sides, owners, partitions, parts_of_expressions, references, scopes, sides, small_limits,
+    stages, teams,
+};
