@@ -408,8 +408,6 @@ fn other_sources_are_unbuilt(rt: HostRuntime) -> Result<(), Fail> {
     let source = source_with(rt.alloc(), PLAN)?;
     for (before, after) in [
         (SHEET, ""),
-        ("", PLAN),
-        (PLAN, SHEET),
         (source.as_str(), "x"),
         (source.as_str(), "()"),
         (source.as_str(), PLAN),
@@ -508,6 +506,57 @@ fn the_first_fault_of_the_forms_is_noted(rt: HostRuntime) -> Result<(), Fail> {
     Ok(())
 }
 
+/// Changes of `SHEET`, with the fault that each makes.
+const CHANGES: &[(&str, &str, SourceKind, &str, u32)] = &[
+    ("players 2", "players 9", SourceKind::Number, "Number", 29),
+    (
+        "hloc STOCK) (deck",
+        "hloc 'STOCK) (deck",
+        SourceKind::Shape,
+        "Shape",
+        56,
+    ),
+    (
+        "(stage player",
+        "(stage foo",
+        SourceKind::Shape,
+        "Shape",
+        253,
+    ),
+    (
+        "(scoring max",
+        "(scoring best",
+        SourceKind::Shape,
+        "Shape",
+        419,
+    ),
+    (
+        "(RANK (4) 4)",
+        "(RANK (4) 1000000001)",
+        SourceKind::Number,
+        "Number",
+        156,
+    ),
+];
+
+#[test]
+fn the_first_fault_of_the_shape_is_noted(rt: HostRuntime) -> Result<(), Fail> {
+    for word in ["sheet", "play"] {
+        for (old, new, kind, name, at) in CHANGES {
+            let sheet = SHEET.replacen(rt.alloc(), old, new, 1)?;
+            let source = format!(in rt.alloc(); "{sheet}{PLAN}")?;
+            expect_fault(&rt, word, source.as_bytes(), *kind, name, *at)?;
+        }
+        for source in ["()", "(game)", " (game) ;", PLAN] {
+            let at = u32::from(source.starts_with(" "));
+            expect_fault(&rt, word, source.as_bytes(), SourceKind::Shape, "Shape", at)?;
+        }
+    }
+    // A fault of the forms that are read comes first.
+    expect_fault(&rt, "sheet", b"(game) )", SourceKind::Shape, "Shape", 0)?;
+    expect_fault(&rt, "play", b"(game) )", SourceKind::Stray, "Stray", 7)
+}
+
 #[test]
 fn hostile_sources_of_the_largest_size_are_refused(rt: HostRuntime) -> Result<(), Fail> {
     let opens = vec![in rt.alloc(); b'('; 1_048_576]?;
@@ -535,9 +584,10 @@ fn sheet_prints_the_first_list_whatever_follows(rt: HostRuntime) -> Result<(), F
         (source.as_str(), printed),
         (SHEET, printed),
         (printed, printed),
-        ("(game)", "(game)\n"),
-        (" ( ) )", "()\n"),
-        ("(a,(b\t'c);d\n)(", "(a (b 'c))\n"),
+        (
+            " (game,(setup(create\tplayers 007));c\n(do(cycle reverse))(scoring max -0)) )",
+            "(game (setup (create players 007)) (do (cycle reverse)) (scoring max -0))\n",
+        ),
     ] {
         let end = End {
             status: Status::Done,
