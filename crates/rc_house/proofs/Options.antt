@@ -26,5 +26,5 @@ chosen false o y e = absurd cc
 
 -- what holds where an option is nothing
 pub if_none : {A P : Type 0} (o : Option A) → (IsNone o → P) → IfNone o P
-if_none None holds = holds tt
+if_none None holds = holds refl
 if_none (Some x) holds = tt
