@@ -1,6 +1,6 @@
 -- What an option that is there was made of.
 use Rattle.std.proofs.Common.{◌≡◌, Bool, true, false, cond, Option, Some, None, refl, ap, ◌∙◌}
-use Rattle.std.specs.Option.{option_map, option_and_then}
+use Rattle.std.specs.Option.{option_map, option_and_then, IsNone, IfNone}
 
 -- the value of which a mapped one was made
 pub map_some : {A B : Type 0} (f : A → B) (o : Option A) (y : B) → option_map f o ≡ Some y → (x : A) × (o ≡ Some x) × (f x ≡ y)
@@ -23,3 +23,8 @@ some_is e = cc
 pub chosen : {A : Type 0} (b : Bool) (o : Option A) (y : A) → cond b o None ≡ Some y → (b ≡ true) × (o ≡ Some y)
 chosen true o y e = (refl, e)
 chosen false o y e = absurd cc
+
+-- what holds where an option is nothing
+pub if_none : {A P : Type 0} (o : Option A) → (IsNone o → P) → IfNone o P
+if_none None holds = holds refl
+if_none (Some x) holds = tt
