@@ -1,16 +1,15 @@
 -- How the outcome of a command follows from what its parts did.
-use Rattle.std.proofs.Common.{◌≡◌, ◌<◌, ◌≤◌, ◌⊎◌, ℕ, List, [], ◌∷◌, ◌++◌, length, Option, Some, None, IfSome, inl, inr, refl, sym, ◌∙◌, ap, subst, arith}
+use Rattle.std.proofs.Common.{◌≡◌, ◌<◌, ◌≤◌, ◌⊎◌, ℕ, List, [], ◌++◌, length, Option, Some, None, inl, inr, refl, sym, ◌∙◌, ap, subst, arith}
 use Rattle.std.proofs.lemmas.List.{append-nil}
 use Rattle.rc_outside.specs.Source.{Gave, IsAtEnd}
 use Rattle.rc_house.specs.declared.command.Command.{Command}
 use Rattle.rc_house.specs.declared.command.Command.TheVariants as named
 use Rattle.rc_house.specs.declared.command.Command.TheVariants.{Play}
-use Rattle.rc_house.specs.declared.status.SourceKind.{SourceKind}
 use Rattle.rc_house.specs.declared.status.Status.{Status}
 use Rattle.rc_house.specs.declared.status.Status.TheVariants.{Done, Sheet, Memory, ReadFault, WriteFault, TooLong, Unbuilt}
-use Rattle.rc_house.specs.Command.{Answer, text, fault, unbuilt, IsCommand, HasAnswer, IsAnswer, note_of}
-use Rattle.rc_house.specs.Port.{Port, Ports, port, ports, NoCountFell}
-use Rattle.rc_house.specs.Outcome.{Answers, IsTextWith, IsTooLong, Outcome, NoPortFailed, Succeeds, Ends, status_of}
+use Rattle.rc_house.specs.Command.{Answer, text, IsCommand, HasAnswer, IsAnswer, note_of}
+use Rattle.rc_house.specs.Port.{Port, port, ports, NoCountFell}
+use Rattle.rc_house.specs.Outcome.{Answers, IsTooLong, Outcome, NoPortFailed, Succeeds, Ends, status_of}
 use Rattle.rc_house.specs.Running.{Delivers}
 
 -- what a source gave to its end is all that it told

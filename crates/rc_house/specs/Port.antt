@@ -1,5 +1,5 @@
 -- What a call did to a source or to a sink, as far as these tell it.
-use Rattle.std.specs.Prelude.{◌≡◌, ℕ, ◌≤◌, ◌⊎◌, List, [], Option}
+use Rattle.std.specs.Prelude.{ℕ, ◌≤◌, ◌⊎◌, List, Option}
 use Rattle.rc_outside.specs.Faults.{Rose}
 use Rattle.rc_outside.specs.Sink.{Got, GotFront}
 

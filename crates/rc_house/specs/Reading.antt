@@ -1,12 +1,11 @@
 -- What reading a source gives.
-use Rattle.std.specs.Prelude.{◌≡◌, ℕ, ◌≤◌, List, [], ◌∷◌, length, Option, None, All}
+use Rattle.std.specs.Prelude.{◌≡◌, ℕ, ◌≤◌, List, [], ◌∷◌, length, Option, None}
 use Rattle.rc_grammar.specs.Faults.{first_fault}
 use Rattle.rc_grammar.specs.declared.fault.SheetFault.{SheetFault}
 use Rattle.rc_model.specs.Tree.{Tree}
 use Rattle.rc_model.specs.Spelled.{Spelled}
 use Rattle.rc_form.specs.declared.fault.FormKind.{FormKind}
 use Rattle.rc_form.specs.FormFault.{IsFormFault}
-use Rattle.rc_form.specs.Form.{IsPrintable}
 
 -- These forms are the wanted lists of the source, and no others are.
 pub record IsRead (source : List ℕ) (want : ℕ) (forms : List Tree) (rest : ℕ) : Type 0 where

@@ -1,5 +1,5 @@
 //! What a command answers to the bytes of its source.
-ghost use Rattle.std.specs.Prelude.{◌≡◌, ◌≤◌, ◌<◌, [], ◌∷◌, length, IfOk, IfSome, IfNone, All};
+ghost use Rattle.std.specs.Prelude.{◌≡◌, ◌≤◌, ◌<◌, [], ◌∷◌, ℕ, length, IfOk, IfSome, IfNone, All};
 ghost use Rattle.rc_model.specs.Placed.{IsPlaced};
 ghost use Rattle.rc_model.specs.Tree.{Tree};
 ghost use Rattle.rc_model.specs.Spelled.{Spelled};

@@ -1,8 +1,5 @@
-use Rattle.std.proofs.Common.{◌≡◌, length, sym, ◌∙◌}
-use Rattle.std.specs.Result.{IfOk}
+use Rattle.std.proofs.Common.{length, sym, ◌∙◌}
 use Rattle.rc_form.specs.Form.{trees_of}
-use Rattle.rc_house.specs.Answer.{seen}
-use Rattle.rc_house.specs.Command.{IsAnswer, IsShapedAnswer}
 use Rattle.rc_house.proofs.AnswerLaws.{shape_answer, if_shaped_answered}
 use Rattle.rc_house.proofs.answer.answer_of_forms.Goals as goal
 
