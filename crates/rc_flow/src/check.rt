@@ -30,7 +30,20 @@ impl Model for Checked {
 
     ghost Value = { Sheet };
 
-    ghost coded = { Prim.hlevel (codes, group.the_row.coded, branch.the_row.coded, card.the_row.coded, coll.the_row.coded, int.the_row.coded, test.the_row.coded, domain.the_row.coded, effect.the_row.coded, alt.the_row.coded, item.the_row.coded) };
+    // Contracts tell two sheets apart by the codes of the types that hold themselves.
+    ghost coded = { Prim.hlevel (
+      codes,
+      group.the_row.coded,
+      branch.the_row.coded,
+      card.the_row.coded,
+      coll.the_row.coded,
+      int.the_row.coded,
+      test.the_row.coded,
+      domain.the_row.coded,
+      effect.the_row.coded,
+      alt.the_row.coded,
+      item.the_row.coded,
+    ) };
 
     ghost view = { λ checked. checked.sheet };
 
