@@ -1,10 +1,10 @@
 -- What is found going over locations is the least of the offsets that are out of sight.
-use Rattle.std.proofs.Common.{◌≡◌, ℕ, suc, ◌≤◌, min, Bool, true, false, not, cond, if◌then◌else◌, List, [], ◌∷◌, map, filter, length, Option, Some, None, All, ◌⊎◌, inl, inr, refl, ap, sym, ◌∙◌, arith}
+use Rattle.std.proofs.Common.{◌≡◌, ℕ, suc, ◌≤◌, min, Bool, true, false, not, cond, if◌then◌else◌, List, [], ◌∷◌, map, filter, Option, Some, None, All, ◌⊎◌, inl, inr, refl, ap, sym, ◌∙◌, arith}
 use Rattle.std.specs.List.{Contains}
 use Rattle.std.proofs.lemmas.List.Elements.{All-nil, All-cons}
 use Rattle.rc_sheet_model.specs.Sheet.{LocName, Loc, Sheet}
 use Rattle.rc_sheet_model.specs.Sight.{is_in_sight, locs_in_items, unseen_locs, unseen_offsets, IsInSight, IsUnseen}
-use Rattle.rc_flow.specs.Least.{with_offset, with_loc, least_with}
+use Rattle.rc_flow.specs.Least.{with_offset, least_with}
 
 -- the least of the offset that was found and others
 abbrev least_of : Option ℕ → List ℕ → Option ℕ
