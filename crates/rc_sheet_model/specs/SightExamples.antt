@@ -30,9 +30,15 @@ loc_names =
     ∷ record { name = lead; kind = mem; class = game_class }
     ∷ []
 
+abbrev pub pile_at : ℕ → CollExpr
+pile_at at = cards_in (loc_at game pile at)
+
+abbrev pub stock_at : ℕ → CollExpr
+stock_at at = cards_in (loc_at game stock at)
+
 -- effects that read a location which nobody sees, and the end of a stage that reads every hand
 abbrev pub dealt : Effects
-dealt = effects_from (move (top_card (cards_in (loc_at game stock 70))) top (loc_at current_player hand 80) ∷ [])
+dealt = effects_from (move (top_card (stock_at 70)) top (loc_at current_player hand 80) ∷ [])
 
 abbrev pub no_cards_left : Test
 no_cards_left = all_of each_player 0 (eq_int (size_of (cards_in (loc_at (who_var 0) hand 10))) (literal (pos 0)))

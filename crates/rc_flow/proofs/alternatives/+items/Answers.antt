@@ -18,6 +18,7 @@ in_items-loop-item-preserved t c =
     let names = map loc_name_seen c.args.names.now in
     let rest = locs_in_items (items_seen (drop (c.loop-item.item-index + 1) c.deref-item-items.result.now)) in
     ap (λ found. least_with names found rest) c.in_item-least.ensures
-    ∙ least_drop names c.loop-item.least (λ xs. locs_in_items (items_seen xs)) (λ x. locs_in_item (item_seen x)) (λ _ _. refl) c.deref-item-items.result.now
+    ∙ least_drop names c.loop-item.least (λ xs. locs_in_items (items_seen xs)) (λ x. locs_in_item (item_seen x))
+    (λ _ _. refl) c.deref-item-items.result.now
     c.loop-item.item-index c.item-item.result c.loop-item-test.true c.item-item.is
     ∙ c.loop-item.invariant

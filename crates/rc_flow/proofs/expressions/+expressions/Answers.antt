@@ -25,7 +25,8 @@ in_colls-loop-cards-preserved t c =
     let names = map loc_name_seen c.args.names.now in
     let rest = locs_in_colls (colls_seen (drop (c.loop-cards.cards-index + 1) c.deref-cards-items.result.now)) in
     ap (λ found. least_with names found rest) c.in_coll-least.ensures
-    ∙ least_drop names c.loop-cards.least (λ xs. locs_in_colls (colls_seen xs)) (λ x. locs_in_coll (coll_seen x)) (λ _ _. refl) c.deref-cards-items.result.now
+    ∙ least_drop names c.loop-cards.least (λ xs. locs_in_colls (colls_seen xs)) (λ x. locs_in_coll (coll_seen x))
+    (λ _ _. refl) c.deref-cards-items.result.now
     c.loop-cards.cards-index c.cards-item.result c.loop-cards-test.true c.cards-item.is
     ∙ c.loop-cards.invariant
 
@@ -34,6 +35,7 @@ in_tests-loop-test-preserved t c =
     let names = map loc_name_seen c.args.names.now in
     let rest = locs_in_tests (tests_seen (drop (c.loop-test.test-index + 1) c.deref-test-items.result.now)) in
     ap (λ found. least_with names found rest) c.in_test-least.ensures
-    ∙ least_drop names c.loop-test.least (λ xs. locs_in_tests (tests_seen xs)) (λ x. locs_in_test (test_seen x)) (λ _ _. refl) c.deref-test-items.result.now
+    ∙ least_drop names c.loop-test.least (λ xs. locs_in_tests (tests_seen xs)) (λ x. locs_in_test (test_seen x))
+    (λ _ _. refl) c.deref-test-items.result.now
     c.loop-test.test-index c.test-item.result c.loop-test-test.true c.test-item.is
     ∙ c.loop-test.invariant
