@@ -12,5 +12,7 @@ pub mod Mentions
 pub mod Numbering
 pub mod WellFormed
 pub mod FormMentions
+pub mod Sight
 pub mod Examples
 pub mod PartExamples
+pub mod SightExamples

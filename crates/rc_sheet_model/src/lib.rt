@@ -5,6 +5,7 @@
 mod examples;
 mod laws;
 mod part_examples;
+mod sight_examples;
 
 pub use examples::{
     four_cards_form, four_cards_numbered, four_cards_stands, four_cards_well_formed,
@@ -14,4 +15,7 @@ pub use part_examples::{
     binders, cycles, decks, effects, faces, limits, lines_in_any_order, mentions, no_owners,
     no_sides, owners, partitions, parts_of_expressions, references, scopes, sides, small_limits,
     stages, teams,
+};
+pub use sight_examples::{
+    first_by_offset, in_sight, lengths, one_first_offset, out_of_sight, places,
 };

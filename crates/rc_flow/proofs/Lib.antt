@@ -1,0 +1,3 @@
+pub mod LeastLemmas
+pub mod RowLemmas
+pub mod FirstOffset

@@ -1,0 +1,16 @@
+//! The sight rule: what a choice offers depends on nothing that its mover doesn't see.
+//!
+//! A location in a guard or a domain of a choice is a `vloc` or a `mem`, or an `iloc` of the mover or of the mover's team;
+//! but `size` may ask for the length of any location. [`check_sight`] takes a sheet that keeps the rule, and refuses
+//! another one at the first location that breaks it.
+#![tactic(auto)]
+
+mod alternatives;
+mod check;
+mod expressions;
+mod first;
+mod location;
+#[cfg(test)]
+mod tests;
+
+pub use check::{Checked, Unseen, check_sight};
