@@ -50,7 +50,7 @@ pub fn is_word(keyword: Keyword, word: &[u8]) -> bool
 }
 
 /// Whether the word begins with `'`.
-fn is_variable(word: &[u8]) -> bool
+pub fn is_variable(word: &[u8]) -> bool
     ensures { result ≡ spec.is_variable word.now }
 {
     word.first() == Some(&b'\'')

@@ -27,7 +27,7 @@ impl Rule {
     }
 
     /// Whether a list of so many parts has the number of this form's.
-    pub(crate) fn fits(self, count: usize) -> bool
+    pub fn fits(self, count: usize) -> bool
         ensures { result ≡ spec.fits count self }
     {
         match self.more() {

@@ -10,7 +10,9 @@ mod shape;
 #[cfg(test)]
 mod tests;
 
+pub use atoms::{is_variable, is_word};
+pub use choice::{is_form_word, rule_of};
 pub use fault::{SheetFault, SheetKind};
 pub use grammar::{Place, Rule};
 pub use keyword::Keyword;
-pub use shape::check_shape;
+pub use shape::{check_shape, start_of};

@@ -149,7 +149,7 @@ fn first_start(here: u32, forms: &[Form]) -> u32
 }
 
 /// Where a form begins.
-fn start_of(form: &Form) -> u32
+pub fn start_of(form: &Form) -> u32
     ensures { result ≡ spec.start_of (tree_of form.now) }
 {
     match form {
