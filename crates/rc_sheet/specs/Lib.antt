@@ -1,0 +1,9 @@
+pub mod Gives
+pub mod ResolveNames
+pub mod ResolveExpressions
+pub mod Resolver
+pub mod ResolverViews
+pub mod SecondParts
+pub mod SecondNames
+pub mod SecondFaults
+pub mod SecondExamples
