@@ -1,14 +1,11 @@
 -- Sheets and parts of sheets whose forms are known, to try the definitions on.
 use Rattle.std.specs.Prelude.{ℕ, ◌+◌, List, [], ◌∷◌, ◌++◌, length, codes, pos, None}
 use Rattle.rc_model.specs.Token.{Token, opening, closing, atom, odd, tokens}
-use Rattle.rc_model.specs.Tree.{Tree, word, list, Trees, nil, cons}
+use Rattle.rc_model.specs.Tree.{Tree, word, list, nil}
 use Rattle.rc_model.specs.Deck.{no_group, group, no_branch, branch}
 use Rattle.rc_sheet_model.specs.Sheet.{highest, game_class, player_class, vloc, iloc, hloc, game, current_player, who_var, Who, top, Loc, card_var, top_card, cards_in, sum_of, size_of, literal, eq_int, all_of, each_player, each_card, move, repeat, for_each, do_alt, any_alt, do_item, stage, choice, Sheet}
 use Rattle.rc_sheet_model.specs.Lists.{effects_from, items_from}
-
-abbrev pub packed : List Tree → Trees
-packed [] = nil
-packed (tree ∷ trees) = cons tree (packed trees)
+use Rattle.rc_sheet_model.specs.Printing.{packed}
 
 -- Reads on, with the lists that are open, the innermost first: where each begins, and its parts so far.
 abbrev pub read_on : List (ℕ × List Tree) → List Tree → List Token → List Tree
@@ -35,6 +32,11 @@ form_of text = first_of_them (read_on [] [] (tokens text))
 abbrev pub four_cards_text : List ℕ
 four_cards_text =
     codes "(game\n(setup (create players 2)\n(create deck (game hloc STOCK) (deck (RANK (1 2 3 4))))\n(put points WORTH ((RANK (1) 1) (RANK (2) 2) (RANK (3) 3) (RANK (4) 4))))\n(do (all player 'P (repeat 2 (move (top (game hloc STOCK)) (top ('P iloc HAND))))))\n(stage player (end (all player 'P (= (size ('P iloc HAND)) 0)))\n(choice (any ((current player) iloc HAND) 'C\n(do (move 'C (top ((current player) vloc PLAYED)))))))\n(scoring max (sum ('SELF vloc PLAYED) using WORTH)))\n"
+
+-- the same on one line, without the line's end
+abbrev pub four_cards_one_line : List ℕ
+four_cards_one_line =
+    codes "(game (setup (create players 2) (create deck (game hloc STOCK) (deck (RANK (1 2 3 4)))) (put points WORTH ((RANK (1) 1) (RANK (2) 2) (RANK (3) 3) (RANK (4) 4)))) (do (all player 'P (repeat 2 (move (top (game hloc STOCK)) (top ('P iloc HAND)))))) (stage player (end (all player 'P (= (size ('P iloc HAND)) 0))) (choice (any ((current player) iloc HAND) 'C (do (move 'C (top ((current player) vloc PLAYED))))))) (scoring max (sum ('SELF vloc PLAYED) using WORTH)))"
 
 abbrev loc_at : Who → ℕ → ℕ → Loc
 loc_at who name at = record { who = who; name = name; at = at }

@@ -7,6 +7,7 @@ pub mod StandsExpressions
 pub mod StandsEffects
 pub mod StandsItems
 pub mod Stands
+pub mod Printing
 pub mod Limits
 pub mod Mentions
 pub mod Numbering

@@ -1,5 +1,5 @@
 -- Parts of sheets whose forms are known, and sheets at their limits, to try the definitions on.
-use Rattle.std.specs.Prelude.{ℕ, ◌+◌, zero, suc, List, [], ◌∷◌, codes, pos, None, replicate, true}
+use Rattle.std.specs.Prelude.{ℕ, ◌+◌, zero, suc, List, [], ◌∷◌, codes, pos, None, Some, replicate, true}
 use Rattle.rc_model.specs.Deck.{Groups, no_group, group, Branches, no_branch, branch}
 use Rattle.rc_sheet_model.specs.Sheet.{Sort, player_sort, card_sort, group_sort, lowest, game_class, player_class, team_class, vloc, iloc, mem, Who, game, Loc, Num, literal, choice, do_item, shuffle, eq_int, Test, stage, Sheet, DeckLine, no_item}
 use Rattle.rc_sheet_model.specs.Lists.{effects_from, items_from}
@@ -82,6 +82,10 @@ swapped =
       best = lowest;
       score = literal (pos 0);
     }
+
+-- and with teams
+abbrev pub in_teams : Sheet
+in_teams = record swapped { players = 3; teams = Some ((0 ∷ 2 ∷ []) ∷ (1 ∷ []) ∷ []) }
 
 -- so many groups of two values, each with an attribute of its own
 abbrev pub pairs_from : ℕ → ℕ → Groups

@@ -5,6 +5,7 @@
 mod examples;
 mod laws;
 mod part_examples;
+mod printing_examples;
 mod sight_examples;
 
 pub use examples::{
@@ -16,6 +17,7 @@ pub use part_examples::{
     no_sides, owners, partitions, parts_of_expressions, references, scopes, sides, small_limits,
     stages, teams,
 };
+pub use printing_examples::{four_cards_printed, printed_parts, setup_printed};
 pub use sight_examples::{
     first_by_offset, in_sight, lengths, one_first_offset, out_of_sight, places,
 };
