@@ -1,7 +1,7 @@
 //! The second round of faults, computed on texts: setup lines, deck trees and teams. No function here does anything: each
 //! has a contract that the check proves by computing.
 ghost use Rattle.std.specs.Prelude.{codes, ◌∷◌, []};
-ghost use Rattle.rc_sheet.specs.SecondExamples.{Refused, Accepted, AllFaults, whole, setup, lines, decked, groups, bare};
+ghost use Rattle.rc_semantics.specs.SecondExamples.{Refused, Accepted, AllFaults, whole, setup, lines, decked, groups, bare};
 ghost use Rattle.rc_grammar.specs.declared.fault.SheetKind.TheVariants.{Shape, Number, Twice, Unknown, WrongKind, NoCards};
 
 /// Setup lines stand in any order. Those of players and of teams stand once, and each point map has a name of its own.

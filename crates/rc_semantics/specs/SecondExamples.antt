@@ -4,8 +4,8 @@ use Rattle.std.specs.Prelude.{◌≡◌, ℕ, ◌+◌, ◌-◌, ◌==◌, Bool, 
 use Rattle.rc_model.specs.Tree.{word, list, Trees, nil, cons}
 use Rattle.rc_sheet_model.specs.Examples.{form_of}
 use Rattle.rc_sheet_model.specs.Numbering.{below}
-use Rattle.rc_sheet.specs.SecondParts.{given_value, standing_alone, Part, atom, form}
-use Rattle.rc_sheet.specs.SecondFaults.{is_too_many, second_faults, sheet_fault}
+use Rattle.rc_semantics.specs.SecondParts.{given_value, standing_alone, Part, atom, form}
+use Rattle.rc_semantics.specs.SecondFaults.{is_too_many, second_faults, sheet_fault}
 use Rattle.rc_grammar.specs.declared.grammar.Rule.{Rule}
 use Rattle.rc_grammar.specs.declared.grammar.Rule.TheVariants as rule
 use Rattle.rc_grammar.specs.declared.fault.SheetKind.{SheetKind}

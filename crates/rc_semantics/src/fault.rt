@@ -1,6 +1,6 @@
 //! Why no sheet is made of a form.
 ghost use Rattle.std.specs.Prelude.{◌≡◌};
-ghost use Rattle.rc_sheet.specs.declared.fault.SheetFail.TheVariants.{Fault, Memory};
+ghost use Rattle.rc_semantics.specs.declared.fault.SheetFail.TheVariants.{Fault, Memory};
 
 use rc_grammar::{SheetFault, SheetKind};
 use std::alloc::{AllocError, AllocFailed};

@@ -4,7 +4,7 @@ use Rattle.rc_model.specs.Tree.{Tree, word, list, Trees, nil, cons}
 use Rattle.rc_sheet_model.specs.Sheet.{player_class, team_class, Sort, player_sort, card_sort, group_sort}
 use Rattle.rc_sheet_model.specs.WellFormed.{Around, outside, scored, in_stage, in_repeat}
 use Rattle.rc_grammar.specs.Faults.{is_word, rule_of, place_at, count}
-use Rattle.rc_sheet.specs.ResolveNames.{bound_in}
+use Rattle.rc_semantics.specs.Classes.{bound_in}
 use Rattle.rc_grammar.specs.declared.keyword.Keyword.TheVariants as keyword
 use Rattle.rc_grammar.specs.declared.grammar.Place.{Place}
 use Rattle.rc_grammar.specs.declared.grammar.Place.TheVariants as place

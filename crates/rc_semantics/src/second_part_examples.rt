@@ -1,7 +1,7 @@
 //! The second round of faults, computed on texts: variables, names, stages, owners, locations, sides and limits. No function
 //! here does anything: each has a contract that the check proves by computing.
 ghost use Rattle.std.specs.Prelude.{codes, ◌∷◌, []};
-ghost use Rattle.rc_sheet.specs.SecondExamples.{Refused, Accepted, AllFaults, whole, setup, items, item, effect, test, alternative, score};
+ghost use Rattle.rc_semantics.specs.SecondExamples.{Refused, Accepted, AllFaults, whole, setup, items, item, effect, test, alternative, score};
 ghost use Rattle.rc_grammar.specs.declared.fault.SheetKind.TheVariants.{Shape, Number, Twice, Unknown, WrongKind, TooMany};
 
 /// A variable that is in scope isn't bound again. It is in scope in what follows it in its list, and not in its own domain.

@@ -6,8 +6,8 @@ use Rattle.rc_model.specs.Tree.{Tree, word, list, Trees, nil, cons}
 use Rattle.rc_sheet_model.specs.Sheet.{Class}
 use Rattle.rc_sheet_model.specs.Numbering.{different}
 use Rattle.rc_grammar.specs.Faults.{count}
-use Rattle.rc_sheet.specs.ResolveNames.{class_at, owner_count}
-use Rattle.rc_sheet.specs.SecondParts.{Role, given_value, Part, atom, form, part_at, word_in}
+use Rattle.rc_semantics.specs.Classes.{class_at, owner_count}
+use Rattle.rc_semantics.specs.SecondParts.{Role, given_value, Part, atom, form, part_at, word_in}
 use Rattle.rc_grammar.specs.declared.grammar.Place.{Place}
 use Rattle.rc_grammar.specs.declared.grammar.Place.TheVariants as place
 use Rattle.rc_grammar.specs.declared.grammar.Rule.TheVariants as rule

@@ -1,0 +1,5 @@
+pub mod Classes
+pub mod SecondParts
+pub mod SecondNames
+pub mod SecondFaults
+pub mod SecondExamples
