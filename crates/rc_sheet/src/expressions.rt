@@ -1,0 +1,125 @@
+//! Expressions and tests.
+ghost use Rattle.std.specs.Prelude.{◌≡◌, IsTrue, IfOk, length};
+ghost use Rattle.rc_form.specs.Form.{tree_of, trees_of, packed};
+ghost use Rattle.rc_ast.specs.Expressions.{card_seen, coll_seen, int_seen, test_seen, domain_seen};
+ghost use Rattle.rc_ast.specs.Names.{who_seen, loc_seen, num_seen, sort_seen};
+ghost use Rattle.rc_grammar.specs.Faults.{fits};
+ghost use Rattle.rc_sheet.specs.ReadNames as names;
+ghost use Rattle.rc_sheet.specs.ReadExpressions as reading;
+ghost use Rattle.rc_sheet.specs.Gives.{Gives};
+ghost use Rattle.rc_sheet_model.specs.Naming as model;
+
+use crate::fail::ReadFail;
+use crate::reader::Reader;
+use crate::scope::Scope;
+use rc_ast::{CardExpr, CollExpr, Domain, IntExpr, Loc, Num, Sort, Test, Who};
+use rc_form::Form;
+use rc_grammar::{Place, Rule};
+use std::alloc::Global;
+
+/// The form that a list has at a place, which has as many parts.
+pub fn rule_at(place: Place, parts: &[Form]) -> Result<Rule, ReadFail>
+    ensures given { Gives (λ rule. rule) result (names.rule_at place (packed (trees_of parts.now))) }
+    ensures sized { IfOk result (λ rule. IsTrue (fits (length parts.now) rule)) }
+{
+    Err(ReadFail::Memory)
+}
+
+/// An owner.
+pub fn owner_at(scope: &Scope, form: &Form) -> Result<Who, ReadFail>
+    ensures { Gives who_seen result (names.owner_at scope.now (tree_of form.now)) }
+{
+    Err(ReadFail::Memory)
+}
+
+/// What a variable stands for that runs over this domain.
+pub fn sort_of(domain: &Domain) -> Sort
+    ensures { sort_seen result ≡ model.sort_of (domain_seen domain.now) }
+{
+    match domain {
+        Domain::Players => Sort::Player,
+        Domain::Coll(_) => Sort::Card,
+        Domain::Parts(_, _) => Sort::Group,
+    }
+}
+
+impl Reader {
+    /// The number of an attribute.
+    pub fn attr(&self, form: &Form) -> Result<u16, ReadFail>
+        ensures { Gives (λ number. number) result (names.name_at self.now.names.attrs (tree_of form.now)) }
+    {
+        Err(ReadFail::Memory)
+    }
+
+    /// The number of a binder's variable, and the scope behind the binder.
+    pub fn bind(&self, alloc: Global, scope: &Scope, form: &Form, sort: Sort) -> Result<(u32, Scope), ReadFail>
+        ensures given { Gives (λ bound. bound.0) result (names.binder_at self.now.names.vars scope.now (tree_of form.now)) }
+        ensures inner { IfOk result (λ bound. bound.1 ≡ model.bind self.now scope.now bound.0 (sort_seen sort)) }
+    {
+        Err(ReadFail::Memory)
+    }
+
+    /// A location.
+    pub fn location(&self, scope: &Scope, form: &Form) -> Result<Loc, ReadFail>
+        ensures { Gives loc_seen result (names.loc_at self.now scope.now (tree_of form.now)) }
+    {
+        Err(ReadFail::Memory)
+    }
+
+    /// A stored number.
+    pub fn counter(&self, scope: &Scope, form: &Form) -> Result<Num, ReadFail>
+        ensures { Gives num_seen result (names.num_at self.now scope.now (tree_of form.now)) }
+    {
+        Err(ReadFail::Memory)
+    }
+
+    /// A card.
+    pub fn card(&self, alloc: Global, scope: &Scope, form: &Form) -> Result<CardExpr, ReadFail>
+        ensures { Gives card_seen result (reading.card_at self.now scope.now (tree_of form.now)) }
+    {
+        Err(ReadFail::Memory)
+    }
+
+    /// A list of cards.
+    pub fn collection(&self, alloc: Global, scope: &Scope, form: &Form) -> Result<CollExpr, ReadFail>
+        ensures { Gives coll_seen result (reading.coll_at self.now scope.now (tree_of form.now)) }
+    {
+        Err(ReadFail::Memory)
+    }
+
+    /// The cards of a list of this form, which begins here.
+    pub fn collection_list(
+        &self,
+        alloc: Global,
+        scope: &Scope,
+        from: u32,
+        rule: Rule,
+        parts: &[Form],
+    ) -> Result<CollExpr, ReadFail>
+        requires { IsTrue (fits (length parts.now) rule) }
+        ensures { Gives coll_seen result (reading.coll_rule self.now scope.now from rule (packed (trees_of parts.now))) }
+    {
+        Err(ReadFail::Memory)
+    }
+
+    /// A number.
+    pub fn integer(&self, alloc: Global, scope: &Scope, form: &Form) -> Result<IntExpr, ReadFail>
+        ensures { Gives int_seen result (reading.int_at self.now scope.now (tree_of form.now)) }
+    {
+        Err(ReadFail::Memory)
+    }
+
+    /// A test.
+    pub fn test(&self, alloc: Global, scope: &Scope, form: &Form) -> Result<Test, ReadFail>
+        ensures { Gives test_seen result (reading.test_at self.now scope.now (tree_of form.now)) }
+    {
+        Err(ReadFail::Memory)
+    }
+
+    /// The players, or cards.
+    pub fn range(&self, alloc: Global, scope: &Scope, form: &Form) -> Result<Domain, ReadFail>
+        ensures { Gives domain_seen result (reading.range_at self.now scope.now (tree_of form.now)) }
+    {
+        Err(ReadFail::Memory)
+    }
+}
