@@ -3,3 +3,4 @@ pub mod SecondParts
 pub mod SecondNames
 pub mod SecondFaults
 pub mod SecondExamples
+pub mod Found

@@ -2,11 +2,13 @@
 //! many, and a form without cards. Its definition stands whole in `specs/SecondFaults.antt`.
 #![tactic(auto)]
 
+mod check;
 mod fault;
 mod second_examples;
 mod second_limits;
 mod second_part_examples;
 
+pub use check::check_semantics;
 pub use fault::SheetFail;
 pub use rc_grammar::{SheetFault, SheetKind};
 pub use second_examples::{attributes_again, decks, lines_again, no_cards, players_in_teams};
