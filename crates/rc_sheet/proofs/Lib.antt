@@ -1,3 +1,4 @@
 pub mod Places
 pub mod Means
 pub mod ReadsNames
+pub mod ReadsExpressions

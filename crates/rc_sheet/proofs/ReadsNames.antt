@@ -126,7 +126,7 @@ two_words first second (cons tree (cons next parts)) from to head a b n =
     let two = eqb-true (suc (count (cons tree (cons next parts)))) 2 n in absurd (omega (arith, two))
 
 -- both ways of telling a variable
-variable_same : (bytes : List ℕ) → is_variable bytes ≡ is_bound_word bytes
+pub variable_same : (bytes : List ℕ) → is_variable bytes ≡ is_bound_word bytes
 variable_same [] = refl
 variable_same (b ∷ bytes) = refl
 
@@ -176,7 +176,7 @@ place_means scope bytes =
     (λ var found. (found.0, found.1, same_bytes bytes (found.0).word found.2))
 
 -- its word and sort
-variable_is : (variable : Variable) (bytes : List ℕ) (sort : Sort) → bytes ≡ variable.word → variable.sort ≡ sort
+pub variable_is : (variable : Variable) (bytes : List ℕ) (sort : Sort) → bytes ≡ variable.word → variable.sort ≡ sort
     → variable ≡ record { word = bytes; sort = sort }
 variable_is variable bytes sort same sorts = ap₂ (λ w s. record { word = w; sort = s }) (sym same) sorts
 

@@ -52,13 +52,7 @@ impl Reader {
     }
 
     /// The number of a binder's variable, and the scope behind the binder.
-    pub fn bind(
-        &self,
-        alloc: Global,
-        scope: &Scope,
-        form: &Form,
-        sort: Sort,
-    ) -> Result<(u32, Scope), ReadFail>
+    pub fn bind(&self, alloc: Global, scope: &Scope, form: &Form, sort: Sort) -> Result<(u32, Scope), ReadFail>
         ensures given { Gives (λ bound. bound.0) result (names.binder_at self.now.names.vars scope.now (tree_of form.now)) }
         ensures inner { IfOk result (λ bound. bound.1 ≡ model.bind self.now scope.now bound.0 (sort_seen sort)) }
     {
@@ -87,12 +81,7 @@ impl Reader {
     }
 
     /// A list of cards.
-    pub fn collection(
-        &self,
-        alloc: Global,
-        scope: &Scope,
-        form: &Form,
-    ) -> Result<CollExpr, ReadFail>
+    pub fn collection(&self, alloc: Global, scope: &Scope, form: &Form) -> Result<CollExpr, ReadFail>
         ensures { Gives coll_seen result (reading.coll_at self.now scope.now (tree_of form.now)) }
     {
         Err(ReadFail::Memory)

@@ -1,10 +1,13 @@
 //! Laws of reading: what is read off a form stands for it. No function here does anything.
-ghost use Rattle.std.specs.Prelude.{◌≡◌, ℕ, Option, Some};
+ghost use Rattle.std.specs.Prelude.{◌≡◌, Option, Some};
 ghost use Rattle.rc_model.specs.Tree.{Tree};
-ghost use Rattle.rc_sheet_model.specs.Naming.{Naming, Named};
-ghost use Rattle.rc_sheet.specs.ReadNames.{name_at};
+ghost use Rattle.rc_sheet_model.specs.Sheet.{Test};
+ghost use Rattle.rc_sheet_model.specs.Naming.{Naming, Scope};
+ghost use Rattle.rc_sheet_model.specs.StandsExpressions.{StandsTest};
+ghost use Rattle.rc_sheet.specs.ReadExpressions.{test_at};
 
-/// A name that is read stands for its word.
-pub fn names_stand()
-    ensures { (naming : Naming) (tree : Tree) (n : ℕ) → name_at naming.names.attrs tree ≡ Some n → Named naming.names.attrs n tree }
+/// A test that is read stands for its form.
+pub fn tests_stand()
+    ensures { (naming : Naming) (scope : Scope) (tree : Tree) (test : Test) → test_at naming scope tree ≡ Some test
+        → StandsTest naming scope test tree }
 {}
