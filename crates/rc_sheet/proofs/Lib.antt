@@ -2,3 +2,4 @@ pub mod Places
 pub mod Means
 pub mod ReadsNames
 pub mod ReadsExpressions
+pub mod ReadsEffects
