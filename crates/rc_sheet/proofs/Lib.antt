@@ -1,3 +1,4 @@
+pub mod InTurn
 pub mod Places
 pub mod Means
 pub mod ReadsNames
