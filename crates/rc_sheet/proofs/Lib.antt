@@ -4,3 +4,4 @@ pub mod Means
 pub mod ReadsNames
 pub mod ReadsExpressions
 pub mod ReadsEffects
+pub mod ReadsItems

@@ -104,7 +104,7 @@ told_at place (cons head parts) =
     (first_or_else (told_rule place head parts) (plain_rule place head) (told_begins place head parts) (plain_begins place head parts))
 
 -- both ways of counting parts
-count_same : (parts : Trees) → row_count parts ≡ count parts
+pub count_same : (parts : Trees) → row_count parts ≡ count parts
 count_same nil = refl
 count_same (cons tree parts) = let same = count_same parts in omega (arith, same)
 

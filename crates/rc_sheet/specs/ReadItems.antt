@@ -1,11 +1,11 @@
 -- What the items and the scoring of a form say. Stages and choices are numbered in the order of the text. Where there are
 -- more stages or choices than a sheet may have nothing is read.
-use Rattle.std.specs.Prelude.{ℕ, ◌+◌, nat_lt, List, [], if◌then◌else◌, Option, Some, None, option_map}
+use Rattle.std.specs.Prelude.{ℕ, ◌+◌, nat_lt, nat_le, List, [], if◌then◌else◌, Option, Some, None, option_map}
 use Rattle.rc_model.specs.Tree.{Tree, word, list, Trees, nil, cons}
 use Rattle.rc_sheet_model.specs.Sheet.{Class, player_class, team_class, Test, IntExpr, Best, highest, lowest, Alt, SheetItem, do_item, stage, choice, SheetItems, no_item, item}
 use Rattle.rc_sheet_model.specs.Limits.{most_stages, most_sites}
 use Rattle.rc_sheet_model.specs.Naming.{Naming, self_scope}
-use Rattle.rc_grammar.specs.Faults.{is_form_word}
+use Rattle.rc_grammar.specs.Faults.{is_form_word, count}
 use Rattle.rc_sheet.specs.ReadNames.{◌>>=◌, ensure, both, rule_at}
 use Rattle.rc_sheet.specs.ReadExpressions.{int_at, test_at}
 use Rattle.rc_sheet.specs.ReadEffects.{effects_at, alts_at}
@@ -98,7 +98,8 @@ last_of nil = None
 last_of (cons tree nil) = Some tree
 last_of (cons tree (cons next trees)) = last_of (cons next trees)
 
--- the items of a sheet, and the scoring, which stands last
+-- the items of a sheet, of which there is one at least, and the scoring, which stands last
 abbrev pub body_at : Naming → Trees → Option (SheetItems × (Best × IntExpr))
 body_at naming trees =
+    ensure (nat_le 2 (count trees)) >>= λ some.
     both (option_map (λ p. p.0) (items_at naming none_begun (but_last trees))) (last_of trees >>= score_at naming)

@@ -1,13 +1,18 @@
 //! Laws of reading: what is read off a form stands for it. No function here does anything.
-ghost use Rattle.std.specs.Prelude.{◌≡◌, List, Option, Some};
-ghost use Rattle.rc_model.specs.Tree.{Tree, Trees};
-ghost use Rattle.rc_sheet_model.specs.Sheet.{Alt};
-ghost use Rattle.rc_sheet_model.specs.Naming.{Naming, Scope};
-ghost use Rattle.rc_sheet_model.specs.StandsItems.{StandAlts};
-ghost use Rattle.rc_sheet.specs.ReadEffects.{alts_at};
+ghost use Rattle.std.specs.Prelude.{◌≡◌, Option, Some};
+ghost use Rattle.rc_model.specs.Tree.{Trees};
+ghost use Rattle.rc_sheet_model.specs.Sheet.{Best, IntExpr, SheetItems};
+ghost use Rattle.rc_sheet_model.specs.Rows.{◌▸◌, End, AtLeast, Row, Atom};
+ghost use Rattle.rc_sheet_model.specs.Naming.{Naming, self_scope};
+ghost use Rattle.rc_sheet_model.specs.StandsExpressions.{StandsInt};
+ghost use Rattle.rc_sheet_model.specs.StandsItems.{StandItems};
+ghost use Rattle.rc_sheet_model.specs.Stands.{StandsBest};
+ghost use Rattle.rc_sheet.specs.ReadItems.{body_at};
 
-/// Alternatives that are read stand for their forms.
-pub fn tests_stand()
-    ensures { (naming : Naming) (parts : Trees) (alts : List Alt) → alts_at naming parts ≡ Some alts
-        → StandAlts naming alts parts }
+/// What is read as the body of a sheet, its items and the scoring, stands for its parts.
+pub fn body_stands()
+    ensures { (naming : Naming) (trees : Trees) (items : SheetItems) (best : Best) (score : IntExpr)
+        → body_at naming trees ≡ Some (items, (best, score))
+        → AtLeast 2 (StandItems naming items
+            (Row (Atom "scoring" ▸ StandsBest best ▸ StandsInt naming self_scope score ▸ End) ▸ End)) trees }
 {}
