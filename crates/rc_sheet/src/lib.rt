@@ -3,6 +3,7 @@
 
 mod expressions;
 mod fail;
+mod laws;
 mod reader;
 mod scope;
 
