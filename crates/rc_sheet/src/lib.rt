@@ -3,6 +3,7 @@
 
 mod expressions;
 mod fail;
+mod locations;
 mod names;
 mod owners;
 mod reader;
