@@ -8,6 +8,7 @@ mod names;
 mod owners;
 mod reader;
 mod scope;
+mod sides;
 
 pub use fail::ReadFail;
 pub use rc_semantics::SheetFail;
