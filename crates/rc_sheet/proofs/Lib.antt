@@ -1,3 +1,4 @@
+pub mod Counts
 pub mod InTurn
 pub mod Places
 pub mod Means

@@ -4,8 +4,12 @@
 mod expressions;
 mod fail;
 mod laws;
+mod locations;
+mod names;
+mod owners;
 mod reader;
 mod scope;
+mod sides;
 
 pub use fail::ReadFail;
 pub use rc_semantics::SheetFail;
