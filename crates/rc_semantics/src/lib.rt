@@ -3,6 +3,7 @@
 #![tactic(auto)]
 
 mod fault;
+mod role;
 mod second_examples;
 mod second_limits;
 mod second_part_examples;
