@@ -3,6 +3,8 @@
 #![tactic(auto)]
 
 mod fault;
+mod names;
+mod parts;
 mod role;
 mod second_examples;
 mod second_limits;
