@@ -2,4 +2,5 @@ pub mod Classes
 pub mod SecondParts
 pub mod SecondNames
 pub mod SecondFaults
+pub mod Summary
 pub mod SecondExamples
