@@ -3,4 +3,5 @@ pub mod Seen
 pub mod SecondParts
 pub mod SecondNames
 pub mod SecondFaults
+pub mod Summary
 pub mod SecondExamples
