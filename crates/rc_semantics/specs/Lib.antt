@@ -2,5 +2,9 @@ pub mod Classes
 pub mod SecondParts
 pub mod SecondNames
 pub mod SecondFaults
+pub mod Summary
+pub mod Faces
+pub mod Seen
+pub mod Views
+pub mod Checks
 pub mod SecondExamples
-pub mod Found

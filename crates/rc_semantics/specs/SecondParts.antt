@@ -5,24 +5,13 @@ use Rattle.rc_sheet_model.specs.Sheet.{player_class, team_class, Sort, player_so
 use Rattle.rc_sheet_model.specs.WellFormed.{Around, outside, scored, in_stage, in_repeat}
 use Rattle.rc_grammar.specs.Faults.{is_word, rule_of, place_at, count}
 use Rattle.rc_semantics.specs.Classes.{bound_in}
+pub use Rattle.rc_semantics.specs.declared.role.Role.{Role}
+pub use Rattle.rc_semantics.specs.declared.role.Role.TheVariants.{No as no_role, UsedAttribute as used_attribute, UsedValue as used_value, UsedMap as used_map, GivenValue as given_value, DeckLocation as deck_location, CardLocation as card_location, ReferenceLocation as reference_location, SecondSide as second_side}
 use Rattle.rc_grammar.specs.declared.keyword.Keyword.TheVariants as keyword
 use Rattle.rc_grammar.specs.declared.grammar.Place.{Place}
 use Rattle.rc_grammar.specs.declared.grammar.Place.TheVariants as place
 use Rattle.rc_grammar.specs.declared.grammar.Rule.{Rule}
 use Rattle.rc_grammar.specs.declared.grammar.Rule.TheVariants as rule
-
--- What a part is meant as, where its place in the grammar doesn't say it: names that an expression uses, a value that the setup
--- gives, the location of a deck, a location that takes cards or references, and the second side of an equation.
-pub data Role : Type 0 where
-  no_role : Role
-  used_attribute : Role
-  used_value : Role
-  used_map : Role
-  given_value : Role
-  deck_location : Role
-  card_location : Role
-  reference_location : Role
-  second_side : Role
 
 -- the roles of the first parts of each form
 abbrev pub front_roles : Rule → List Role
@@ -114,13 +103,23 @@ front index nil = nil
 front zero (cons tree trees) = nil
 front (suc index) (cons tree trees) = cons tree (front index trees)
 
--- Which attributes may stand in a face before the part of a form at this index: those above the form, the attribute of a group
--- before its branches, and those of the groups beside the part that stand before it.
+-- Which attributes may stand in a face before the part of a form at this index, but for those above the form: the attribute of
+-- a group before its branches, and those of the groups beside the part that stand before it.
+abbrev pub inner_attributes : Rule → Trees → ℕ → List (List ℕ)
+inner_attributes rule.Group parts index = word_in 0 parts ∷ []
+inner_attributes rule.Deck parts index = attributes_among (front index parts)
+inner_attributes rule.Branch parts index = attributes_among (front index parts)
+inner_attributes rule parts index = []
+
+-- and with those above the form
 abbrev pub above_in : List (List ℕ) → Rule → Trees → ℕ → List (List ℕ)
-above_in above rule.Group parts index = above ++ word_in 0 parts ∷ []
-above_in above rule.Deck parts index = above ++ attributes_among (front index parts)
-above_in above rule.Branch parts index = above ++ attributes_among (front index parts)
-above_in above rule parts index = above
+above_in above rule parts index = above ++ inner_attributes rule parts index
+
+-- the attributes that a part of a form leaves before the parts behind it
+abbrev pub attributes_behind : Rule → Tree → List (List ℕ)
+attributes_behind rule.Deck tree = attributes_of tree
+attributes_behind rule.Branch tree = attributes_of tree
+attributes_behind rule tree = []
 
 -- Where a part stands: its place in the grammar, its role, all parts of its list, what is around it, and which attributes may
 -- stand before it in a face.
