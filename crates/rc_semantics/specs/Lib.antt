@@ -3,4 +3,5 @@ pub mod SecondParts
 pub mod SecondNames
 pub mod SecondFaults
 pub mod Summary
+pub mod SecondWalk
 pub mod SecondExamples
