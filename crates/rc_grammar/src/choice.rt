@@ -37,7 +37,7 @@ impl Rule {
     }
 
     /// The place of a part, where the form has so many.
-    pub(crate) fn place_at(self, count: usize, index: usize) -> Option<Place>
+    pub fn place_at(self, count: usize, index: usize) -> Option<Place>
         requires { index < count }
         ensures { result ≡ spec.place_at self count index }
     {

@@ -1,4 +1,5 @@
 pub mod Classes
+pub mod Seen
 pub mod SecondParts
 pub mod SecondNames
 pub mod SecondFaults

@@ -12,6 +12,8 @@ use Rattle.rc_grammar.specs.Faults.{is_word, is_variable, rule_of, faults, first
 use Rattle.rc_semantics.specs.Classes.{same_sort, same_class, class_at}
 use Rattle.rc_semantics.specs.SecondParts.{Role, used_attribute, used_value, used_map, given_value, deck_location, card_location, reference_location, second_side, Standing, Part, atom, form, parts_of, offset_of, is_binder, part_at, word_in}
 use Rattle.rc_semantics.specs.SecondNames.{some_of, is_named, number_by, players_in, player_count, teams_in, team_count, team_players, members_in, cards_in, attributes_in, values_in, maps_in, Mention, mention_of, locations_in, numbers_of, first_mention, owned, stages_in, choices_in, different_count}
+pub use Rattle.rc_semantics.specs.declared.role.SideSort.{SideSort}
+pub use Rattle.rc_semantics.specs.declared.role.SideSort.TheVariants.{Number as number_side, Card as card_side, Value as value_side, Player as player_side, Team as team_side}
 use Rattle.rc_grammar.specs.declared.keyword.Keyword.TheVariants as keyword
 use Rattle.rc_grammar.specs.declared.grammar.Place.{Place}
 use Rattle.rc_grammar.specs.declared.grammar.Place.TheVariants as place
@@ -113,14 +115,7 @@ abbrev pub is_misused : Standing → List ℕ → Bool
 is_misused at bytes =
     is_variable bytes && some_of (sorts_at at.place) && is_other_sort (sorts_at at.place) (variable_in at.around.scope bytes)
 
--- what a side of an equation is
-pub data SideSort : Type 0 where
-  number_side : SideSort
-  card_side : SideSort
-  value_side : SideSort
-  player_side : SideSort
-  team_side : SideSort
-
+-- two sides are the same
 abbrev pub same_side : SideSort → SideSort → Bool
 same_side number_side number_side = true
 same_side card_side card_side = true

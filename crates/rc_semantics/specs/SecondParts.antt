@@ -5,24 +5,13 @@ use Rattle.rc_sheet_model.specs.Sheet.{player_class, team_class, Sort, player_so
 use Rattle.rc_sheet_model.specs.WellFormed.{Around, outside, scored, in_stage, in_repeat}
 use Rattle.rc_grammar.specs.Faults.{is_word, rule_of, place_at, count}
 use Rattle.rc_semantics.specs.Classes.{bound_in}
+pub use Rattle.rc_semantics.specs.declared.role.Role.{Role}
+pub use Rattle.rc_semantics.specs.declared.role.Role.TheVariants.{No as no_role, UsedAttribute as used_attribute, UsedValue as used_value, UsedMap as used_map, GivenValue as given_value, DeckLocation as deck_location, CardLocation as card_location, ReferenceLocation as reference_location, SecondSide as second_side}
 use Rattle.rc_grammar.specs.declared.keyword.Keyword.TheVariants as keyword
 use Rattle.rc_grammar.specs.declared.grammar.Place.{Place}
 use Rattle.rc_grammar.specs.declared.grammar.Place.TheVariants as place
 use Rattle.rc_grammar.specs.declared.grammar.Rule.{Rule}
 use Rattle.rc_grammar.specs.declared.grammar.Rule.TheVariants as rule
-
--- What a part is meant as, where its place in the grammar doesn't say it: names that an expression uses, a value that the setup
--- gives, the location of a deck, a location that takes cards or references, and the second side of an equation.
-pub data Role : Type 0 where
-  no_role : Role
-  used_attribute : Role
-  used_value : Role
-  used_map : Role
-  given_value : Role
-  deck_location : Role
-  card_location : Role
-  reference_location : Role
-  second_side : Role
 
 -- the roles of the first parts of each form
 abbrev pub front_roles : Rule → List Role

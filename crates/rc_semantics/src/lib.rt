@@ -3,6 +3,9 @@
 #![tactic(auto)]
 
 mod fault;
+mod names;
+mod parts;
+mod role;
 mod second_examples;
 mod second_laws;
 mod second_limits;
