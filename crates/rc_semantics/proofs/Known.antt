@@ -9,7 +9,7 @@ use Rattle.rc_semantics.specs.SecondParts.{Role, given_value, Part, atom, form}
 use Rattle.rc_semantics.specs.SecondNames.{some_of, is_named, players_in, player_count, teams_in, teams_by, team_count, cards_in, attributes_in, value_by, values_in, maps_in}
 use Rattle.rc_semantics.specs.Summary.{Whole, nothing_known, with_value, or_number, know, whole_of, players_of, teams_of}
 use Rattle.rc_semantics.proofs.Folds.{know_field}
-use Rattle.rc_semantics.proofs.Words.{add_word, named_fold}
+use Rattle.rc_semantics.proofs.DifferentWords.{add_word, named_fold}
 use Rattle.rc_grammar.specs.declared.grammar.Rule.TheVariants as rule
 
 -- a line of teams tells how many there are

@@ -11,7 +11,7 @@ use Rattle.rc_semantics.specs.SecondParts.{Role, given_value, Standing, Part, at
 use Rattle.rc_semantics.specs.SecondNames.{player_count, team_count, cards_in, faces_of, attributes_in, value_by, values_in, maps_in, Mention, mention_of, locations_in, numbers_of, first_mention, owned, firsts_from, stages_in, choices_in, different_count}
 use Rattle.rc_semantics.specs.SecondFaults.{passes, card_count, attribute_count, value_count, map_count, stage_count, choice_count, location_count, number_count, atom_counts, counts_of, is_too_deep, is_too_many}
 use Rattle.rc_semantics.specs.Summary.{Whole, Summary, teams_of, owners_of, Owned, new_owned, new_words, goes_over, is_value_over, is_form_over, is_over}
-use Rattle.rc_semantics.proofs.Words.{or-false, add_word, counts_different, counts_one_more}
+use Rattle.rc_semantics.proofs.DifferentWords.{or-false, add_word, counts_different, counts_one_more}
 use Rattle.rc_semantics.proofs.Totals.{goes_over_whole}
 use Rattle.rc_semantics.proofs.Owners.{adds_last}
 use Rattle.rc_semantics.proofs.Known.{Knows}

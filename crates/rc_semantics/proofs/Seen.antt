@@ -9,7 +9,7 @@ use Rattle.rc_semantics.specs.SecondParts.{Part, atom, form}
 use Rattle.rc_semantics.specs.SecondNames.{some_of, players_in, teams_in, cards_in, attributes_in, values_in, maps_in, member_by, members_in, locations_in, numbers_of, first_mention, firsts_from, stages_in, choices_in}
 use Rattle.rc_semantics.specs.Summary.{Whole, Summary, nothing_owned, nothing_seen, counted, owners_of, see, summary_of}
 use Rattle.rc_semantics.proofs.Folds.{see_field}
-use Rattle.rc_semantics.proofs.Words.{add_word}
+use Rattle.rc_semantics.proofs.DifferentWords.{add_word}
 use Rattle.rc_semantics.proofs.Totals.{counted_sum, count_one, counted_each}
 use Rattle.rc_semantics.proofs.Owners.{add_mention, first_fold, counts_owned}
 use Rattle.rc_semantics.proofs.Known.{hold, held_some, know_value}

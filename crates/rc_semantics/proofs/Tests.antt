@@ -7,7 +7,7 @@ use Rattle.rc_semantics.specs.SecondParts.{Role, used_attribute, used_value, use
 use Rattle.rc_semantics.specs.SecondNames.{some_of, is_named, number_by, teams_in, maps_in, mention_of}
 use Rattle.rc_semantics.specs.SecondFaults.{is_player_again, is_twice, is_unbound, is_unnamed, is_no_player, is_unknown, differs_from, is_misplaced, is_other_side, is_wrong_form, is_wrong_kind, lacks_cards}
 use Rattle.rc_semantics.specs.Summary.{Whole, Summary, players_of, is_member_again, is_form_again, is_again, is_not_given, is_stranger, misses_player, is_unknown_form, is_not_known, is_wrong_mention, is_wrong, is_setup_without_deck}
-use Rattle.rc_semantics.proofs.Words.{named_fold}
+use Rattle.rc_semantics.proofs.DifferentWords.{named_fold}
 use Rattle.rc_semantics.proofs.Known.{Knows}
 use Rattle.rc_semantics.proofs.Seen.{Recalls}
 use Rattle.rc_grammar.specs.declared.grammar.Place.{Place}

@@ -1,6 +1,7 @@
 -- The laws of the walk over the parts.
-use Rattle.std.specs.Prelude.{◌≡◌, List, Result, Ok, Err}
+use Rattle.std.specs.Prelude.{◌≡◌, ℕ, ◌≤◌, List, All, Option, Some, Result, Ok, Err}
 use Rattle.rc_model.specs.Tree.{Tree}
+use Rattle.rc_model.specs.Placed.{IsPlaced}
 use Rattle.rc_grammar.specs.Faults.{first, fault_of}
 use Rattle.rc_semantics.specs.SecondParts.{Part, parts_of}
 use Rattle.rc_semantics.specs.SecondFaults.{second_faults}
@@ -19,3 +20,9 @@ check_form tree = check_all (whole_of (parts_of tree)) nothing_seen (parts_of tr
 -- One walk over the parts of a form finds the first fault of the second round, and none where there is none.
 abbrev pub FindsFirst : Tree → Type 0
 FindsFirst tree = first (second_faults tree) ≡ fault_of (check_form tree)
+
+-- The first fault of a form that stands in a text is at the least offset.
+abbrev pub IsLeastFirst : Tree → Type 0
+IsLeastFirst tree =
+    (size : ℕ) (fault : SheetFault) → IsPlaced size tree → first (second_faults tree) ≡ Some fault
+    → All (λ other. fault.at ≤ other.at) (second_faults tree)

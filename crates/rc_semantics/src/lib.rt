@@ -14,7 +14,7 @@ mod second_part_examples;
 pub use fault::SheetFail;
 pub use rc_grammar::{SheetFault, SheetKind};
 pub use second_examples::{attributes_again, decks, lines_again, no_cards, players_in_teams};
-pub use second_laws::one_walk_finds_the_first;
+pub use second_laws::{one_walk_finds_the_first, the_first_is_the_least};
 pub use second_limits::{most_cards, most_names, most_owned};
 pub use second_part_examples::{
     kinds_and_classes, locations_for_cards, nested, pairs, sides_of_other_sorts, stages_around,
