@@ -56,7 +56,8 @@ mutual
   Rises-tree (Some at) (word bytes from to) low high more others rise follows =
       (rise.0, Rises-lower from (from + 1) others (omega arith) (follows (from + 1) rise.1))
   Rises-tree (Some at) (list parts from to) low high more others rise follows =
-      list_choice (rule_of at.place parts) (λ rule. parts_in at rule parts 0 parts) at parts from low high more others rise.0 rise.1 follows
+      list_choice (rule_of at.place parts) (λ rule. parts_in at rule parts 0 parts) at parts from low high more others
+      rise.0 rise.1 follows
       (λ rule. Rises-trees parts at rule parts 0 (from + 1) high more others rise.1 follows)
   Rises-tree None (word bytes from to) low high more others rise follows =
       follows low (Rise-lower low (from + 1) high more (let above = rise.0 in omega arith) rise.1)
@@ -64,8 +65,10 @@ mutual
       follows low (Rise-behind (starts (list parts from to)) more low high rise)
 
   -- the same of a form's parts
-  Rises-trees : (trees : Trees) (at : Standing) (rule : Rule) (all : Trees) (index low high : ℕ) (more : List ℕ) (others : List Part)
-      → Rise low high (all_starts trees ++ more) → Follows high more others → Rises low (parts_in at rule all index trees ++ others)
+  Rises-trees : (trees : Trees) (at : Standing) (rule : Rule) (all : Trees) (index low high : ℕ)
+      (more : List ℕ) (others : List Part)
+      → Rise low high (all_starts trees ++ more) → Follows high more others
+      → Rises low (parts_in at rule all index trees ++ others)
   Rises-trees nil at rule all index low high more others rise follows = follows low rise
   Rises-trees (cons tree trees) at rule all index low high more others rise follows =
       let here = standing_in at rule all index in
@@ -78,7 +81,8 @@ mutual
 Rises-parts : (tree : Tree) (high : ℕ) → IsPlaced high tree → Rises 0 (parts_of tree)
 Rises-parts tree high placed =
     subst (Rises 0) (append-nil (parts_of tree))
-    (Rises-tree (Some standing_alone) tree 0 high [] [] (subst (Rise 0 high) (sym (append-nil (starts tree))) placed) (λ next rise. tt))
+    (Rises-tree (Some standing_alone) tree 0 high [] [] (subst (Rise 0 high) (sym (append-nil (starts tree))) placed)
+    (λ next rise. tt))
 
 -- THEIR FAULTS
 
@@ -87,6 +91,7 @@ abbrev Ordered : ℕ → List SheetFault → Type 0
 Ordered low [] = Unit {0}
 Ordered low (fault ∷ faults) = (low ≤ fault.at) × Ordered fault.at faults
 
+-- what isn't below an offset isn't below a lower one
 Ordered-lower : (low from : ℕ) (faults : List SheetFault) → low ≤ from → Ordered from faults → Ordered low faults
 Ordered-lower low from [] below ordered = tt
 Ordered-lower low from (fault ∷ faults) below ordered = (let above = ordered.0 in omega arith, ordered.1)
@@ -103,10 +108,12 @@ abbrev AllAt : ℕ → List SheetFault → Type 0
 AllAt here [] = Unit {0}
 AllAt here (fault ∷ faults) = (fault.at ≡ here) × AllAt here faults
 
+-- and others
 AllAt-append : (here : ℕ) (faults more : List SheetFault) → AllAt here faults → AllAt here more → AllAt here (faults ++ more)
 AllAt-append here [] more first second = second
 AllAt-append here (fault ∷ faults) more first second = (first.0, AllAt-append here faults more first.1 second)
 
+-- the fault by a test
 AllAt-where : (b : Bool) (kind : SheetKind) (part : Part) → AllAt (offset_of part) (fault_where b kind part)
 AllAt-where true kind part = (refl, tt)
 AllAt-where false kind part = tt
@@ -123,7 +130,8 @@ AllAt-part all earlier part =
     AllAt-append here (twice ++ unknown ++ wrong ++ many) cards
     (AllAt-append here (twice ++ unknown ++ wrong) many
     (AllAt-append here (twice ++ unknown) wrong
-    (AllAt-append here twice unknown (AllAt-where (is_twice earlier part) Twice part) (AllAt-where (is_unknown all earlier part) Unknown part))
+    (AllAt-append here twice unknown (AllAt-where (is_twice earlier part) Twice part)
+    (AllAt-where (is_unknown all earlier part) Unknown part))
     (AllAt-where (is_wrong_kind earlier part) WrongKind part))
     (AllAt-where (is_too_many all earlier part) TooMany part))
     (AllAt-where (lacks_cards all part) NoCards part)
@@ -135,6 +143,7 @@ Ordered-at low here [] others below at ordered = Ordered-lower low here others b
 Ordered-at low here (fault ∷ faults) others below at ordered =
     let is = at.0 in (omega arith, Ordered-at fault.at here faults others (omega arith) at.1 ordered)
 
+-- the faults of parts that rise
 Ordered-behind : (all earlier parts : List Part) (low : ℕ) → Rises low parts → Ordered low (faults_behind all earlier parts)
 Ordered-behind all earlier [] low rises = tt
 Ordered-behind all earlier (part ∷ parts) low rises =
@@ -153,4 +162,5 @@ least_first low (here ∷ faults) fault ordered is =
 pub first_is_least : (size : ℕ) (tree : Tree) (fault : SheetFault) → IsPlaced size tree → first (second_faults tree) ≡ Some fault
     → All (λ other. fault.at ≤ other.at) (second_faults tree)
 first_is_least size tree fault placed is =
-    least_first 0 (second_faults tree) fault (Ordered-behind (parts_of tree) [] (parts_of tree) 0 (Rises-parts tree size placed)) is
+    least_first 0 (second_faults tree) fault
+    (Ordered-behind (parts_of tree) [] (parts_of tree) 0 (Rises-parts tree size placed)) is

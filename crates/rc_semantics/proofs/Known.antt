@@ -20,10 +20,12 @@ add_teams known parts = or_number known (count parts - 2)
 abbrev pub hold : {X : Type 0} → Bool → X → Bool
 hold b x = true
 
+-- once it is there
 pub held : {X : Type 0} (xs : List X) → fold hold true xs ≡ true
 held [] = refl
 held (x ∷ xs) = held xs
 
+-- it is there where there is one
 pub held_some : {X : Type 0} (xs : List X) → fold hold false xs ≡ some_of xs
 held_some [] = refl
 held_some (x ∷ xs) = held xs
@@ -39,13 +41,15 @@ know_teams known (atom at bytes from) = refl
 know_teams known (form at rule.CreatePlayers parts from) = refl
 know_teams known (form at rule parts from) = refl
 
-know_attributes : (known : Whole) (part : Part) → (know known part).attributes ≡ fold add_word known.attributes (attributes_in part)
+know_attributes : (known : Whole) (part : Part)
+    → (know known part).attributes ≡ fold add_word known.attributes (attributes_in part)
 know_attributes known (atom at bytes from) = refl
 know_attributes known (form at rule.CreatePlayers parts from) = refl
 know_attributes known (form at rule parts from) = refl
 
 -- a value that the setup gives
-pub know_value : (role : Role) (bytes : List ℕ) (words : List (List ℕ)) → with_value role bytes words ≡ fold add_word words (value_by role bytes)
+pub know_value : (role : Role) (bytes : List ℕ) (words : List (List ℕ))
+    → with_value role bytes words ≡ fold add_word words (value_by role bytes)
 know_value given_value bytes words = refl
 know_value role bytes words = refl
 
@@ -73,6 +77,7 @@ players_first : (numbers : List ℕ) → unwrap_or (fold or_number None numbers)
 players_first [] = refl
 players_first (n ∷ numbers) = ap (λ known. unwrap_or known 0) (first_number n numbers)
 
+-- so does the first line of teams
 first_teams : (n : ℕ) (lines : List Trees) → fold add_teams (Some n) lines ≡ Some n
 first_teams n [] = refl
 first_teams n (parts ∷ lines) = first_teams n lines
@@ -90,6 +95,7 @@ pub record Knows (all : List Part) (whole : Whole) : Type 0 where
   pub maps_known : (word : List ℕ) → is_named word whole.maps ≡ is_named word (flat_map maps_in all)
   pub deck_known : whole.has_deck ≡ some_of (flat_map cards_in all)
 
+-- how many players and teams there are
 players_of_whole : (all : List Part) → players_of (whole_of all) ≡ player_count all
 players_of_whole all =
     ap (λ known. unwrap_or known 0) (know_field (λ known. known.players) or_number players_in know_players nothing_known all)
@@ -102,12 +108,17 @@ teams_of_whole all =
     ∙ ap (unwrap_or (fold add_teams None (flat_map teams_in all))) (players_of_whole all)
     ∙ teams_first (player_count all) (flat_map teams_in all)
 
+-- the pass over all parts knows it
 pub Knows-whole : (all : List Part) → Knows all (whole_of all)
 Knows-whole all = record {
   players_known = players_of_whole all;
   teams_known = teams_of_whole all;
-  attributes_known = λ word. ap (is_named word) (know_field (λ known. known.attributes) add_word attributes_in know_attributes nothing_known all) ∙ named_fold word [] (flat_map attributes_in all);
-  values_known = λ word. ap (is_named word) (know_field (λ known. known.values) add_word values_in know_values nothing_known all) ∙ named_fold word [] (flat_map values_in all);
-  maps_known = λ word. ap (is_named word) (know_field (λ known. known.maps) add_word maps_in know_maps nothing_known all) ∙ named_fold word [] (flat_map maps_in all);
+  attributes_known = λ word.
+      ap (is_named word) (know_field (λ known. known.attributes) add_word attributes_in know_attributes nothing_known all)
+      ∙ named_fold word [] (flat_map attributes_in all);
+  values_known = λ word. ap (is_named word) (know_field (λ known. known.values) add_word values_in know_values nothing_known all)
+      ∙ named_fold word [] (flat_map values_in all);
+  maps_known = λ word. ap (is_named word) (know_field (λ known. known.maps) add_word maps_in know_maps nothing_known all)
+      ∙ named_fold word [] (flat_map maps_in all);
   deck_known = know_field (λ known. known.has_deck) hold cards_in know_deck nothing_known all ∙ held_some (flat_map cards_in all);
 }

@@ -22,15 +22,20 @@ five part twice unknown wrong many cards =
     fault_where twice Twice part ++ fault_where unknown Unknown part ++ fault_where wrong WrongKind part
     ++ fault_where many TooMany part ++ fault_where cards NoCards part
 
+-- the first kind of them, and the fault that it is
 abbrev kind_of_five : Bool → Bool → Bool → Bool → Bool → Option SheetKind
 kind_of_five twice unknown wrong many cards =
-    cond twice (Some Twice) (cond unknown (Some Unknown) (cond wrong (Some WrongKind) (cond many (Some TooMany) (cond cards (Some NoCards) None))))
+    cond twice (Some Twice)
+    (cond unknown (Some Unknown) (cond wrong (Some WrongKind) (cond many (Some TooMany) (cond cards (Some NoCards) None))))
 
 abbrev fault_at : Part → Option SheetKind → Option SheetFault
 fault_at part kind = option_map (λ kind. record { kind = kind; at = offset_of part }) kind
 
+abbrev answer : Part → Bool → Bool → Bool → Bool → Bool → Option SheetFault
+answer part twice unknown wrong many cards = fault_at part (kind_of_five twice unknown wrong many cards)
+
 first_of_five : (part : Part) (twice unknown wrong many cards : Bool)
-    → first (five part twice unknown wrong many cards) ≡ fault_at part (kind_of_five twice unknown wrong many cards)
+    → first (five part twice unknown wrong many cards) ≡ answer part twice unknown wrong many cards
 first_of_five part true unknown wrong many cards = refl
 first_of_five part false true wrong many cards = refl
 first_of_five part false false true many cards = refl
@@ -39,19 +44,24 @@ first_of_five part false false false false true = refl
 first_of_five part false false false false false = refl
 
 -- the first fault of a part, by what earlier parts left behind
-fault_law : (all : List Part) (whole : Whole) (earlier : List Part) (seen : Summary) → Knows all whole → Recalls whole earlier seen
+fault_law : (all : List Part) (whole : Whole) (earlier : List Part) (seen : Summary) → Knows all whole
+    → Recalls whole earlier seen
     → (part : Part) → first (faults_of all earlier part) ≡ fault_by whole seen part
 fault_law all whole earlier seen knows recalls part =
-    first_of_five part (is_twice earlier part) (is_unknown all earlier part) (is_wrong_kind earlier part) (is_too_many all earlier part) (lacks_cards all part)
-    ∙ ap (λ b. fault_at part (kind_of_five b (is_unknown all earlier part) (is_wrong_kind earlier part) (is_too_many all earlier part) (lacks_cards all part)))
+    first_of_five part (is_twice earlier part) (is_unknown all earlier part) (is_wrong_kind earlier part)
+    (is_too_many all earlier part) (lacks_cards all part)
+    ∙ ap (λ b. answer part b (is_unknown all earlier part) (is_wrong_kind earlier part) (is_too_many all earlier part)
+    (lacks_cards all part))
     (sym (again_is_twice all whole knows earlier seen recalls part))
-    ∙ ap (λ b. fault_at part (kind_of_five (is_again seen part) b (is_wrong_kind earlier part) (is_too_many all earlier part) (lacks_cards all part)))
+    ∙ ap (λ b. answer part (is_again seen part) b (is_wrong_kind earlier part) (is_too_many all earlier part)
+    (lacks_cards all part))
     (sym (not_known_is_unknown all whole knows earlier seen recalls part))
-    ∙ ap (λ b. fault_at part (kind_of_five (is_again seen part) (is_not_known whole seen part) b (is_too_many all earlier part) (lacks_cards all part)))
+    ∙ ap (λ b. answer part (is_again seen part) (is_not_known whole seen part) b (is_too_many all earlier part)
+    (lacks_cards all part))
     (sym (wrong_is_wrong_kind all whole knows earlier seen recalls part))
-    ∙ ap (λ b. fault_at part (kind_of_five (is_again seen part) (is_not_known whole seen part) (is_wrong seen part) b (lacks_cards all part)))
+    ∙ ap (λ b. answer part (is_again seen part) (is_not_known whole seen part) (is_wrong seen part) b (lacks_cards all part))
     (sym (over_is_too_many all whole knows earlier seen recalls part))
-    ∙ ap (λ b. fault_at part (kind_of_five (is_again seen part) (is_not_known whole seen part) (is_wrong seen part) (is_over whole seen part) b))
+    ∙ ap (λ b. answer part (is_again seen part) (is_not_known whole seen part) (is_wrong seen part) (is_over whole seen part) b)
     (sym (without_deck all whole knows earlier seen recalls part))
 
 -- the first of some faults and of more
@@ -59,7 +69,9 @@ first-append : (faults more : List SheetFault) → first (faults ++ more) ≡ or
 first-append [] more = refl
 first-append (fault ∷ faults) more = refl
 
-or_next : (fault : Option SheetFault) (next : Result Summary SheetFault) → or_fault fault (fault_of next) ≡ fault_of (or_on fault next)
+-- the walk's answer at a part
+or_next : (fault : Option SheetFault) (next : Result Summary SheetFault)
+    → or_fault fault (fault_of next) ≡ fault_of (or_on fault next)
 or_next None next = refl
 or_next (Some fault) next = refl
 
@@ -74,9 +86,11 @@ behind_law all earlier (part ∷ parts) =
     ∙ ap (λ fault. or_fault fault (first (faults_behind all (earlier ++ part ∷ []) parts)))
     (fault_law all whole earlier seen (Knows-whole all) (Recalls-summary whole earlier) part)
     ∙ ap (or_fault (fault_by whole seen part)) (behind_law all (earlier ++ part ∷ []) parts)
-    ∙ ap (λ seen'. or_fault (fault_by whole seen part) (fault_of (check_all whole seen' parts))) (see_all-append whole nothing_seen earlier (part ∷ []))
+    ∙ ap (λ seen'. or_fault (fault_by whole seen part) (fault_of (check_all whole seen' parts)))
+    (see_all-append whole nothing_seen earlier (part ∷ []))
     ∙ or_next (fault_by whole seen part) (check_all whole (see whole seen part) parts)
 
+-- the first fault of a form
 pub finds_first : (tree : Tree) → FindsFirst tree
 finds_first tree = behind_law (parts_of tree) [] (parts_of tree)
 

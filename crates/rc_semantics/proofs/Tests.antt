@@ -16,7 +16,8 @@ use Rattle.rc_grammar.specs.declared.grammar.Rule.{Rule}
 use Rattle.rc_grammar.specs.declared.grammar.Rule.TheVariants as rule
 
 -- A part of a form of which this is known, behind these parts.
-module _ (all : List Part) (whole : Whole) (knows : Knows all whole) (earlier : List Part) (seen : Summary) (recalls : Recalls whole earlier seen) where
+module _ (all : List Part) (whole : Whole) (knows : Knows all whole) (earlier : List Part) (seen : Summary)
+    (recalls : Recalls whole earlier seen) where
   -- TWICE
   member_again : (place : Place) (bytes : List ℕ) → is_member_again seen place bytes ≡ is_player_again earlier place bytes
   member_again place.Member bytes =
@@ -27,7 +28,8 @@ module _ (all : List Part) (whole : Whole) (knows : Knows all whole) (earlier : 
   map_again : (name : List ℕ) → is_named name seen.maps ≡ is_named name (flat_map maps_in earlier)
   map_again name = ap (is_named name) recalls.maps_seen ∙ named_fold name [] (flat_map maps_in earlier)
 
-  form_again : (at : Standing) (rule : Rule) (parts : Trees) (from : ℕ) → is_form_again seen at rule parts ≡ is_twice earlier (form at rule parts from)
+  form_again : (at : Standing) (rule : Rule) (parts : Trees) (from : ℕ)
+      → is_form_again seen at rule parts ≡ is_twice earlier (form at rule parts from)
   form_again at rule.CreatePlayers parts from = recalls.players_seen
   form_again at rule.CreateTeams parts from = recalls.teams_seen
   form_again at rule.PutPoints parts from = map_again (word_in 2 parts)
@@ -64,9 +66,11 @@ module _ (all : List Part) (whole : Whole) (knows : Knows all whole) (earlier : 
   not_known_is_unknown (form at rule parts from) = unknown_form at rule parts from
 
   -- WRONG KIND
-  wrong_mention : (at : Standing) (rule : Rule) (parts : Trees) → is_wrong_mention seen at rule parts ≡ is_wrong_form earlier at rule parts
+  wrong_mention : (at : Standing) (rule : Rule) (parts : Trees)
+      → is_wrong_mention seen at rule parts ≡ is_wrong_form earlier at rule parts
   wrong_mention at rule.Location parts =
-      ap (λ found. differs_from (mention_of parts) found || is_misplaced at.role (mention_of parts)) (recalls.locations_seen (word_in 2 parts))
+      ap (λ found. differs_from (mention_of parts) found || is_misplaced at.role (mention_of parts))
+      (recalls.locations_seen (word_in 2 parts))
   wrong_mention at rule.Counter parts = ap (differs_from (mention_of parts)) (recalls.numbers_seen (word_in 2 parts))
   wrong_mention at rule parts = refl
 

@@ -8,12 +8,14 @@ use Rattle.rc_semantics.specs.Summary.{counted, goes_over}
 pub counted_more : (most n total more : ℕ) → n ≡ min total (most + 1) → counted most n more ≡ min (total + more) (most + 1)
 counted_more most n total more is = omega arith
 
+-- a sum of numbers
 pub counted_sum : (most n total : ℕ) (numbers : List ℕ) → n ≡ min total (most + 1)
     → fold (counted most) n numbers ≡ min (fold (λ a x. a + x) total numbers) (most + 1)
 counted_sum most n total [] is = is
 counted_sum most n total (more ∷ numbers) is =
     counted_sum most (counted most n more) (total + more) numbers (counted_more most n total more is)
 
+-- one more thing, and a count of things
 abbrev pub count_one : ℕ → ℕ → ℕ → ℕ
 count_one most n x = counted most n 1
 

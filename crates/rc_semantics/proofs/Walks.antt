@@ -6,12 +6,14 @@ use Rattle.rc_semantics.specs.SecondWalk.{check_on}
 use Rattle.rc_grammar.specs.declared.fault.SheetFault.{SheetFault}
 
 -- what is known behind more parts
-pub know_all-append : (known : Whole) (parts more : List Part) → know_all known (parts ++ more) ≡ know_all (know_all known parts) more
+pub know_all-append : (known : Whole) (parts more : List Part)
+    → know_all known (parts ++ more) ≡ know_all (know_all known parts) more
 know_all-append known [] more = refl
 know_all-append known (part ∷ parts) more = know_all-append (know known part) parts more
 
 -- what more parts leave behind
-pub see_all-append : (whole : Whole) (seen : Summary) (parts more : List Part) → see_all whole seen (parts ++ more) ≡ see_all whole (see_all whole seen parts) more
+pub see_all-append : (whole : Whole) (seen : Summary) (parts more : List Part)
+    → see_all whole seen (parts ++ more) ≡ see_all whole (see_all whole seen parts) more
 see_all-append whole seen [] more = refl
 see_all-append whole seen (part ∷ parts) more = see_all-append whole (see whole seen part) parts more
 
@@ -36,7 +38,8 @@ check_all-fine whole seen seen' parts more fine =
     check_all-append whole seen parts more ∙ ap (λ result. check_on whole result more) fine
 
 -- behind a part with one
-pub check_all-faulty : (whole : Whole) (seen : Summary) (parts more : List Part) (fault : SheetFault) → check_all whole seen parts ≡ Err fault
+pub check_all-faulty : (whole : Whole) (seen : Summary) (parts more : List Part) (fault : SheetFault)
+    → check_all whole seen parts ≡ Err fault
     → check_all whole seen (parts ++ more) ≡ Err fault
 check_all-faulty whole seen parts more fault faulty =
     check_all-append whole seen parts more ∙ ap (λ result. check_on whole result more) faulty

@@ -1,5 +1,5 @@
 -- The laws of the walk over the parts.
-use Rattle.std.specs.Prelude.{◌≡◌, ℕ, ◌≤◌, List, All, Option, Some, Result, Ok, Err}
+use Rattle.std.specs.Prelude.{◌≡◌, ℕ, ◌≤◌, List, All, Some, Result, Ok, Err}
 use Rattle.rc_model.specs.Tree.{Tree}
 use Rattle.rc_model.specs.Placed.{IsPlaced}
 use Rattle.rc_grammar.specs.Faults.{first, fault_of}
