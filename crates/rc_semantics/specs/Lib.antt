@@ -7,4 +7,5 @@ pub mod Faces
 pub mod Seen
 pub mod Views
 pub mod Checks
+pub mod SecondWalk
 pub mod SecondExamples
