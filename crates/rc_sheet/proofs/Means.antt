@@ -75,3 +75,11 @@ place_passes test (a ∷ all) =
     means_if (position test (a ∷ all)) (λ place is.
     let at = position-Some test (a ∷ all) place a is in
     (get_or (a ∷ all) place a, slice_get-get_or (a ∷ all) place a at.0, at.1))
+
+-- what is made of two
+pub paired : {A B C : Type 0} {P : A → Type 0} {Q : B → Type 0} {R : C → Type 0} (first : Option A) (second : Option B)
+    (f : A → B → C) → Means first P → Means second Q → ((a : A) (b : B) → P a → Q b → R (f a b))
+    → Means (option_map (λ p. f p.0 p.1) (both first second)) R
+paired None second f p q more = nothing
+paired (Some a) None f p q more = nothing
+paired (Some a) (Some b) f p q more = something (f a b) (more a b p.holds q.holds)

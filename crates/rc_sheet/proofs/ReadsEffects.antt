@@ -9,7 +9,7 @@ use Rattle.rc_sheet_model.specs.StandsItems.{StandsAlt, StandAlts}
 use Rattle.rc_sheet.specs.ReadNames.{◌>>=◌, both, rule_at, name_at, binder_at, owner_at, loc_at, num_at}
 use Rattle.rc_sheet.specs.ReadExpressions.{range_of, card_at, coll_at, coll_rule, int_at, test_at, range_at}
 use Rattle.rc_sheet.specs.ReadEffects.{spot_rule, spot_at, number_rule, plain_rule, effect_at, effect_rule, effects_at, domain_rule, domain_at, alt_at, alt_rule, alts_at}
-use Rattle.rc_sheet.proofs.Means.{Means, nothing, something, weaker, mapped, behind, both_mean}
+use Rattle.rc_sheet.proofs.Means.{Means, nothing, something, weaker, mapped, behind, paired, both_mean}
 use Rattle.rc_sheet.proofs.ReadsNames.{Told, told_at, least_left, two_words, name_means, binder_means, owner_means, loc_means, num_means}
 use Rattle.rc_sheet.proofs.ReadsExpressions.{card_means, coll_means, coll_rule_means, int_means, test_means, range_means}
 use Rattle.rc_grammar.specs.declared.keyword.Keyword.TheVariants as keyword
@@ -26,24 +26,24 @@ spot_rule_means naming scope from to rule.BottomOf (cons head (cons loc nil)) to
     mapped (loc_at naming scope loc) (λ loc. (bottom, loc)) (loc_means naming scope loc) (λ l stands. (told.0, (stands, tt)))
 spot_rule_means naming scope from to rule parts told = nothing
 
-spot_means : (naming : Naming) (scope : Scope) (tree : Tree)
+pub spot_means : (naming : Naming) (scope : Scope) (tree : Tree)
     → Means (spot_at naming scope tree) (λ p. StandsSpot naming scope p.0 p.1 tree)
 spot_means naming scope (word bytes from to) = nothing
 spot_means naming scope (list parts from to) =
-    behind (rule_at place.Spot parts) _ (told_at place.Spot parts) (λ rule told. spot_rule_means naming scope from to rule parts told)
+    behind (rule_at place.Spot parts) _ (told_at place.Spot parts)
+    (λ rule told. spot_rule_means naming scope from to rule parts told)
 
 -- effects without effects in them
 number_rule_means : (naming : Naming) (scope : Scope) (from to : ℕ) (rule : Rule) (parts : Trees) → Told rule parts
     → Means (number_rule naming scope rule parts) (λ e. StandsEffect naming scope e (list parts from to))
 number_rule_means naming scope from to rule.Set (cons head (cons num (cons value nil))) told =
-    mapped _ (λ p. set_to p.0 p.1) (both_mean _ _ (num_means naming scope num) (int_means naming scope value))
-    (λ p stand. (told.0, (stand.0, (stand.1, tt))))
+    paired _ _ set_to (num_means naming scope num) (int_means naming scope value) (λ p q one other. (told.0, (one, (other, tt))))
 number_rule_means naming scope from to rule.Increase (cons head (cons num (cons value nil))) told =
-    mapped _ (λ p. increase p.0 p.1) (both_mean _ _ (num_means naming scope num) (int_means naming scope value))
-    (λ p stand. (told.0, (stand.0, (stand.1, tt))))
+    paired _ _ increase (num_means naming scope num) (int_means naming scope value)
+    (λ p q one other. (told.0, (one, (other, tt))))
 number_rule_means naming scope from to rule.Decrease (cons head (cons num (cons value nil))) told =
-    mapped _ (λ p. decrease p.0 p.1) (both_mean _ _ (num_means naming scope num) (int_means naming scope value))
-    (λ p stand. (told.0, (stand.0, (stand.1, tt))))
+    paired _ _ decrease (num_means naming scope num) (int_means naming scope value)
+    (λ p q one other. (told.0, (one, (other, tt))))
 number_rule_means naming scope from to rule.Next (cons head (cons next (cons owner nil))) told =
     mapped (owner_at scope owner) next_is (owner_means scope owner) (λ who stands. (told.0, (told.1, (stands, tt))))
 number_rule_means naming scope from to rule.Reverse nil told = absurd told
@@ -80,11 +80,11 @@ mutual
   effect_rule_means : (naming : Naming) (scope : Scope) (from to : ℕ) (rule : Rule) (parts : Trees) → Told rule parts
       → Means (effect_rule naming scope rule parts) (λ e. StandsEffect naming scope e (list parts from to))
   effect_rule_means naming scope from to rule.If (cons head (cons t effects)) told =
-      mapped _ (λ p. when p.0 p.1) (both_mean _ _ (test_means naming scope t) (effects_mean naming scope effects))
-      (λ p stand. (told.0, (stand.0, (least_left 1 2 _ effects told.2 (omega arith), stand.1))))
+      paired _ _ when (test_means naming scope t) (effects_mean naming scope effects)
+      (λ p q one other. (told.0, (one, (least_left 1 2 _ effects told.2 (omega arith), other))))
   effect_rule_means naming scope from to rule.Repeat (cons head (cons times effects)) told =
-      mapped _ (λ p. repeat p.0 p.1) (both_mean _ _ (int_means naming scope times) (effects_mean naming scope effects))
-      (λ p stand. (told.0, (stand.0, (least_left 1 2 _ effects told.2 (omega arith), stand.1))))
+      paired _ _ repeat (int_means naming scope times) (effects_mean naming scope effects)
+      (λ p q one other. (told.0, (one, (least_left 1 2 _ effects told.2 (omega arith), other))))
   effect_rule_means naming scope from to rule.Each (cons head (cons range (cons variable effects))) told =
       behind (range_at naming scope range) _ (range_means naming scope range)
       (λ domain stands. behind (binder_at naming.names.vars scope variable) _ (binder_means naming scope variable)
@@ -97,8 +97,7 @@ mutual
       → Means (effects_at naming scope parts) (λ es. StandEffects naming scope es parts)
   effects_mean naming scope nil = something no_effect tt
   effects_mean naming scope (cons part parts) =
-      mapped _ (λ p. effect p.0 p.1) (both_mean _ _ (effect_means naming scope part) (effects_mean naming scope parts))
-      (λ p stand. (stand.0, stand.1))
+      paired _ _ effect (effect_means naming scope part) (effects_mean naming scope parts) (λ p q one other. (one, other))
 
 -- DOMAIN
 range_is_domain : (naming : Naming) (scope : Scope) (domain : Domain) (tree : Tree) → StandsRange naming scope domain tree
@@ -110,12 +109,13 @@ range_is_domain naming scope (each_group cards attr) tree stands = absurd stands
 domain_rule_means : (naming : Naming) (scope : Scope) (from to : ℕ) (rule : Rule) (parts : Trees) → Told rule parts
     → Means (domain_rule naming scope from rule parts) (λ domain. StandsDomain naming scope domain (list parts from to))
 domain_rule_means naming scope from to rule.Partition (cons head (cons cards (cons attr nil))) told =
-    mapped _ (λ p. each_group p.0 p.1) (both_mean _ _ (coll_means naming scope cards) (name_means naming.names.attrs attr))
-    (λ p stand. (told.0, (stand.0, (stand.1, tt))))
+    paired _ _ each_group (coll_means naming scope cards) (name_means naming.names.attrs attr)
+    (λ p q one other. (told.0, (one, (other, tt))))
 domain_rule_means naming scope from to rule parts told =
-    mapped (coll_rule naming scope from rule parts) each_card (coll_rule_means naming scope from to rule parts told) (λ cards stands. stands)
+    mapped (coll_rule naming scope from rule parts) each_card (coll_rule_means naming scope from to rule parts told)
+    (λ cards stands. stands)
 
-domain_means : (naming : Naming) (scope : Scope) (tree : Tree)
+pub domain_means : (naming : Naming) (scope : Scope) (tree : Tree)
     → Means (domain_at naming scope tree) (λ domain. StandsDomain naming scope domain tree)
 domain_means naming scope (word bytes from to) =
     weaker (range_at naming scope (word bytes from to)) (range_means naming scope (word bytes from to))
@@ -139,8 +139,8 @@ mutual
       mapped (effects_at naming scope effects) do_alt (effects_mean naming scope effects)
       (λ es stand. (told.0, (least_left 1 1 _ effects told.2 (omega arith), stand)))
   alt_rule_means naming scope from to rule.If (cons head (cons guard effects)) told =
-      mapped _ (λ p. if_alt p.0 p.1) (both_mean _ _ (test_means naming scope guard) (effects_mean naming scope effects))
-      (λ p stand. (told.0, (stand.0, (least_left 1 2 _ effects told.2 (omega arith), stand.1))))
+      paired _ _ if_alt (test_means naming scope guard) (effects_mean naming scope effects)
+      (λ p q one other. (told.0, (one, (least_left 1 2 _ effects told.2 (omega arith), other))))
   alt_rule_means naming scope from to rule.AnyOf (cons head (cons domain (cons variable (cons alt nil)))) told =
       behind (domain_at naming scope domain) _ (domain_means naming scope domain)
       (λ d stands. behind (binder_at naming.names.vars scope variable) _ (binder_means naming scope variable)
@@ -152,4 +152,4 @@ mutual
 pub alts_mean : (naming : Naming) (parts : Trees) → Means (alts_at naming parts) (λ alts. StandAlts naming alts parts)
 alts_mean naming nil = something [] tt
 alts_mean naming (cons part parts) =
-    mapped _ (λ p. p.0 ∷ p.1) (both_mean _ _ (alt_means naming [] part) (alts_mean naming parts)) (λ p stand. (stand.0, stand.1))
+    paired _ _ ◌∷◌ (alt_means naming [] part) (alts_mean naming parts) (λ p q one other. (one, other))

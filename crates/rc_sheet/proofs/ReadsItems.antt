@@ -34,7 +34,7 @@ end_rule_means naming from to rule.End (cons head (cons t nil)) told =
     weaker (test_at naming [] t) (test_means naming [] t) (λ t' stands. (told.0, (stands, tt)))
 end_rule_means naming from to rule parts told = nothing
 
-end_means : (naming : Naming) (tree : Tree) → Means (end_at naming tree) (λ t. StandsEnd naming t tree)
+pub end_means : (naming : Naming) (tree : Tree) → Means (end_at naming tree) (λ t. StandsEnd naming t tree)
 end_means naming (word bytes from to) = nothing
 end_means naming (list parts from to) =
     behind (rule_at place.End parts) _ (told_at place.End parts) (λ rule told. end_rule_means naming from to rule parts told)
@@ -60,10 +60,12 @@ choice_means naming begun alts head parts from to is stand =
 
 mutual
   -- ITEM
-  item_means : (naming : Naming) (begun : Begun) (tree : Tree) → Means (item_at naming begun tree) (λ p. StandsItem naming p.0 tree)
+  pub item_means : (naming : Naming) (begun : Begun) (tree : Tree)
+      → Means (item_at naming begun tree) (λ p. StandsItem naming p.0 tree)
   item_means naming begun (word bytes from to) = nothing
   item_means naming begun (list parts from to) =
-      behind (rule_at place.Item parts) _ (told_at place.Item parts) (λ rule told. item_rule_means naming begun from to rule parts told)
+      behind (rule_at place.Item parts) _ (told_at place.Item parts)
+      (λ rule told. item_rule_means naming begun from to rule parts told)
 
   item_rule_means : (naming : Naming) (begun : Begun) (from to : ℕ) (rule : Rule) (parts : Trees) → Told rule parts
       → Means (item_rule naming begun rule parts) (λ p. StandsItem naming p.0 (list parts from to))
@@ -81,15 +83,16 @@ mutual
       (weaker _ (alts_mean naming alts) (λ given stand. (least_left 1 1 _ alts told.2 (omega arith), stand)))
   item_rule_means naming begun from to rule parts told = nothing
 
-  items_mean : (naming : Naming) (begun : Begun) (parts : Trees)
+  pub items_mean : (naming : Naming) (begun : Begun) (parts : Trees)
       → Means (items_at naming begun parts) (λ p. StandItems naming p.0 End parts)
   items_mean naming begun nil = something (no_item, begun) tt
   items_mean naming begun (cons part parts) =
       behind (item_at naming begun part) _ (item_means naming begun part)
-      (λ first stands. mapped (items_at naming first.1 parts) _ (items_mean naming first.1 parts) (λ later stand. (stands, stand)))
+      (λ first stands. mapped (items_at naming first.1 parts) _ (items_mean naming first.1 parts)
+      (λ later stand. (stands, stand)))
 
 -- BEST
-best_means : (tree : Tree) → Means (best_at tree) (λ best. StandsBest best tree)
+pub best_means : (tree : Tree) → Means (best_at tree) (λ best. StandsBest best tree)
 best_means tree =
     either (is_form_word keyword.Max tree) (Some highest) _ (λ is. something highest (word_form keyword.Max tree is))
     (λ is. either (is_form_word keyword.Min tree) (Some lowest) None
@@ -108,7 +111,8 @@ score_rule_means naming from to rule parts told = nothing
 pub score_means : (naming : Naming) (tree : Tree) → Means (score_at naming tree) (λ p. StandsScore naming p.0 p.1 tree)
 score_means naming (word bytes from to) = nothing
 score_means naming (list parts from to) =
-    behind (rule_at place.Scoring parts) _ (told_at place.Scoring parts) (λ rule told. score_rule_means naming from to rule parts told)
+    behind (rule_at place.Scoring parts) _ (told_at place.Scoring parts)
+    (λ rule told. score_rule_means naming from to rule parts told)
 
 -- the items before the last part, and what stands last
 joined : (naming : Naming) (Last : Tree → Type 0) (items : SheetItems) (trees : Trees) (last : Tree)
@@ -135,7 +139,9 @@ pub body_means : (naming : Naming) (trees : Trees)
 body_means naming trees =
     behind (ensure (nat_le 2 (count trees))) _ (ensured (nat_le 2 (count trees)))
     (λ u two. weaker _
-    (both_mean _ _ (mapped (items_at naming none_begun (but_last trees)) (λ p. p.0) (items_mean naming none_begun (but_last trees)) (λ p stand. stand))
+    (both_mean _ _
+    (mapped (items_at naming none_begun (but_last trees)) (λ p. p.0) (items_mean naming none_begun (but_last trees))
+    (λ p stand. stand))
     (last_means naming trees))
     (λ p all.
     (ap (nat_le 2) (count_same trees) ∙ two,

@@ -29,7 +29,8 @@ same_bytes : (xs ys : List ℕ) → bytes_eq xs ys ≡ true → xs ≡ ys
 same_bytes xs ys is = (bytes_eq-Decides xs ys).0 is
 
 -- a word that is a keyword has its bytes
-pub word_form : (keyword : Keyword) (tree : Tree) → is_form_word keyword tree ≡ true → Word (λ bytes. bytes ≡ text_of keyword) tree
+pub word_form : (keyword : Keyword) (tree : Tree) → is_form_word keyword tree ≡ true
+    → Word (λ bytes. bytes ≡ text_of keyword) tree
 word_form keyword (word bytes from to) is = same_bytes bytes (text_of keyword) is
 word_form keyword (list parts from to) is = absurd cc
 
@@ -51,7 +52,8 @@ Begins rule head parts = HeadIs (front_of rule) head × SecondIs (second_word ru
 -- and there are as many of them as the rule has
 abbrev pub Told : Rule → Trees → Type 0
 Told rule nil = ⊥
-Told rule (cons head parts) = HeadIs (front_of rule) head × SecondIs (second_word rule) parts × (fits (count (cons head parts)) rule ≡ true)
+Told rule (cons head parts) =
+    HeadIs (front_of rule) head × SecondIs (second_word rule) parts × (fits (count (cons head parts)) rule ≡ true)
 
 head_is : (places : List Place) (tree : Tree) → fits_head places tree ≡ true → HeadIs places tree
 head_is [] tree is = tt
@@ -101,7 +103,8 @@ pub told_at : (place : Place) (parts : Trees) → Means (rule_at place parts) (�
 told_at place nil = nothing
 told_at place (cons head parts) =
     sized_told head parts (rule_of place (cons head parts))
-    (first_or_else (told_rule place head parts) (plain_rule place head) (told_begins place head parts) (plain_begins place head parts))
+    (first_or_else (told_rule place head parts) (plain_rule place head)
+    (told_begins place head parts) (plain_begins place head parts))
 
 -- both ways of counting parts
 pub count_same : (parts : Trees) → row_count parts ≡ count parts
@@ -119,7 +122,7 @@ least_left least front n parts more is =
 -- two words that tell a rule are all of it
 pub two_words : (first second : Keyword) (parts : Trees) (from to : ℕ)
     → (head : Tree) → Word (λ bytes. bytes ≡ text_of first) head → SecondIs (Some second) parts → (suc (count parts) == 2) ≡ true
-    → Row ((Word (λ bytes. bytes ≡ text_of first)) ▸ (Word (λ bytes. bytes ≡ text_of second)) ▸ End) (list (cons head parts) from to)
+    → Row (Word (λ bytes. bytes ≡ text_of first) ▸ Word (λ bytes. bytes ≡ text_of second) ▸ End) (list (cons head parts) from to)
 two_words first second nil from to head a b n = absurd b
 two_words first second (cons tree nil) from to head a b n = (a, (b, tt))
 two_words first second (cons tree (cons next parts)) from to head a b n =
@@ -131,7 +134,8 @@ variable_same [] = refl
 variable_same (b ∷ bytes) = refl
 
 -- a word's place among words
-place_of : (words : List (List ℕ)) (bytes : List ℕ) → Means (position (bytes_eq bytes) words) (λ n. slice_get words n ≡ Some bytes)
+place_of : (words : List (List ℕ)) (bytes : List ℕ)
+    → Means (position (bytes_eq bytes) words) (λ n. slice_get words n ≡ Some bytes)
 place_of words bytes =
     weaker (position (bytes_eq bytes) words) (place_passes (bytes_eq bytes) words)
     (λ n found. found.1 ∙ ap Some (sym (same_bytes bytes found.0 found.2)))
@@ -170,7 +174,8 @@ classes_same class class' is = absurd cc
 
 -- the variable in a place of a scope
 pub place_means : (scope : Scope) (bytes : List ℕ)
-    → Means (place_in scope bytes) (λ var. (variable : Variable) × (slice_get scope var ≡ Some variable) × (bytes ≡ variable.word))
+    → Means (place_in scope bytes)
+    (λ var. (variable : Variable) × (slice_get scope var ≡ Some variable) × (bytes ≡ variable.word))
 place_means scope bytes =
     weaker (place_in scope bytes) (place_passes (λ variable. bytes_eq bytes variable.word) scope)
     (λ var found. (found.0, found.1, same_bytes bytes (found.0).word found.2))

@@ -8,4 +8,5 @@ mod reader;
 mod scope;
 
 pub use fail::ReadFail;
+pub use laws::{body_stands, effects_stand, expressions_stand, names_stand};
 pub use rc_semantics::SheetFail;
