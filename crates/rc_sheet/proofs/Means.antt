@@ -1,6 +1,6 @@
 -- What holds of what is read, where something is read.
-use Rattle.std.proofs.Common.{◌≡◌, ℕ, Bool, true, false, cond, ◌&&◌, List, [], ◌∷◌, get_or, Option, Some, None, IfSome, slice_get, position, find, option_map, refl, subst, ap, ◌∙◌}
-use Rattle.std.proofs.lemmas.Option.{slice_get-get_or, none-some}
+use Rattle.std.proofs.Common.{◌≡◌, Bool, true, false, cond, List, [], ◌∷◌, get_or, Option, Some, None, IfSome, slice_get, position, find, option_map, refl, subst}
+use Rattle.std.proofs.lemmas.Option.{slice_get-get_or}
 use Rattle.std.proofs.lemmas.List.Quantifiers.{position-Some}
 use Rattle.rc_sheet.specs.ReadNames.{◌>>=◌, both, ensure}
 
@@ -12,6 +12,7 @@ pub record Means {A : Type 0} (found : Option A) (P : A → Type 0) : Type 0 whe
 pub nothing : {A : Type 0} {P : A → Type 0} → Means None P
 nothing = record { holds = tt }
 
+-- this was read
 pub something : {A : Type 0} {P : A → Type 0} (a : A) → P a → Means (Some a) P
 something a p = record { holds = p }
 

@@ -1,17 +1,17 @@
 -- What is read stands for its form: cards, lists of cards, numbers, sides and tests.
-use Rattle.std.proofs.Common.{◌≡◌, ℕ, ◌+◌, Bool, true, false, cond, nat_le, List, Option, Some, None, slice_get, option_map, refl, sym, subst, ap, ◌∙◌, arith}
+use Rattle.std.proofs.Common.{◌≡◌, ℕ, true, List, Option, Some, None, slice_get, option_map, refl, sym, subst, ap, ◌∙◌, arith}
 use Rattle.rc_model.specs.Literal.{integer}
 use Rattle.rc_model.specs.Tree.{Tree, word, list, Trees, nil, cons}
-use Rattle.rc_sheet_model.specs.Sheet.{Sort, player_sort, card_sort, group_sort, Who, who_var, CardExpr, card_var, top_card, bottom_card, max_card, min_card, CollExpr, group_var, cards_in, filtered, union_of, CollExprs, no_coll, coll, IntExpr, literal, number, size_of, sum_of, worth_of, add, subtract, multiply, Test, eq_int, eq_card, eq_attr, eq_who, ne, less, less_eq, more, more_eq, has_value, and_of, or_of, not_of, all_of, any_of, Tests, no_test, test, Domain, each_player, each_card, each_group}
-use Rattle.rc_sheet_model.specs.Rows.{◌▸◌, End, Row, Word, Atom}
-use Rattle.rc_sheet_model.specs.Naming.{Naming, Variable, Scope, bind, sort_of, class_of, Named, Binder, InScope}
+use Rattle.rc_sheet_model.specs.Sheet.{Sort, player_sort, card_sort, group_sort, Who, who_var, CardExpr, card_var, top_card, bottom_card, max_card, min_card, CollExpr, group_var, cards_in, union_of, no_coll, coll, IntExpr, literal, number, size_of, sum_of, worth_of, add, subtract, multiply, Test, eq_int, eq_card, eq_attr, eq_who, ne, less, less_eq, more, more_eq, and_of, or_of, not_of, no_test, test, each_player, each_card}
+use Rattle.rc_sheet_model.specs.Rows.{◌▸◌, End, Row, Atom}
+use Rattle.rc_sheet_model.specs.Naming.{Naming, Variable, Scope, bind, sort_of, class_of, Named}
 use Rattle.rc_sheet_model.specs.Naming.{is_variable as is_bound_word}
 use Rattle.rc_sheet_model.specs.StandsExpressions.{StandsOwner, StandsCard, StandsColl, StandColls, StandsInt, StandsTest, StandTests, StandsRange}
 use Rattle.rc_semantics.specs.Classes.{same_class}
 use Rattle.rc_grammar.specs.Faults.{is_variable, is_form_word}
-use Rattle.rc_sheet.specs.ReadNames.{◌>>=◌, both, rule_at, name_at, binder_at, place_in, variable_in, owner_rule, loc_parts, num_parts, map_at}
+use Rattle.rc_sheet.specs.ReadNames.{◌>>=◌, rule_at, name_at, binder_at, place_in, variable_in, loc_parts, num_parts}
 use Rattle.rc_sheet.specs.ReadExpressions.{range_of, Side, number_side, card_side, value_side, owner_side, side_of_sort, variable_side, side_word, equal_test, side_by, card_at, card_rule, coll_at, coll_rule, colls_at, int_at, int_rule, side_at, value_parts, test_at, test_rule, tests_at, range_at}
-use Rattle.rc_sheet.proofs.Means.{Means, nothing, something, means_if, weaker, mapped, behind, paired, both_mean, either, ensured}
+use Rattle.rc_sheet.proofs.Means.{Means, nothing, something, means_if, weaker, mapped, behind, paired, both_mean, either}
 use Rattle.rc_sheet.proofs.ReadsNames.{word_form, Told, told_at, least_left, variable_same, name_means, binder_means, classes_same, place_means, variable_is, variable_means, owner_rule_means, loc_parts_mean, num_parts_mean, map_means}
 use Rattle.rc_grammar.specs.declared.keyword.Keyword.TheVariants as keyword
 use Rattle.rc_grammar.specs.declared.grammar.Place.TheVariants as place
@@ -35,6 +35,7 @@ literal_means bytes = means_if (integer bytes) (λ value is. is)
 abbrev pub StandsValue : Naming → Scope → CardExpr → ℕ → Tree → Type 0
 StandsValue naming scope card attr = Row (Atom "attr" ▸ StandsCard naming scope card ▸ Named naming.names.attrs attr ▸ End)
 
+-- a side
 abbrev pub StandsSide : Naming → Scope → Side → Tree → Type 0
 StandsSide naming scope (number_side value) tree = StandsInt naming scope value tree
 StandsSide naming scope (card_side card) tree = StandsCard naming scope card tree
@@ -49,6 +50,7 @@ sort_side_means naming scope bytes from to var player_sort found is = something 
 sort_side_means naming scope bytes from to var card_sort found is = something (card_side (card_var var)) (found, is)
 sort_side_means naming scope bytes from to var group_sort found is = nothing
 
+-- the variable in a place of the scope
 variable_side_means : (naming : Naming) (scope : Scope) (bytes : List ℕ) (from to var : ℕ) (variable : Variable)
     → slice_get scope var ≡ Some variable → bytes ≡ variable.word → is_bound_word bytes ≡ true
     → Means (variable_side var (slice_get scope var)) (λ side. StandsSide naming scope side (word bytes from to))
@@ -58,6 +60,7 @@ variable_side_means naming scope bytes from to var variable found same is =
     subst (λ o. Means (variable_side var o) (λ side. StandsSide naming scope side (word bytes from to))) (sym found')
     (sort_side_means naming scope bytes from to var variable.sort found' is)
 
+-- an atom as a side
 side_word_means : (naming : Naming) (scope : Scope) (bytes : List ℕ) (from to : ℕ)
     → Means (side_word scope bytes) (λ side. StandsSide naming scope side (word bytes from to))
 unfolding side_word
@@ -103,6 +106,7 @@ Compares naming scope (eq_attr a attr b attr') x y = StandsValue naming scope a 
 Compares naming scope (eq_who a b) x y = StandsOwner scope a x × StandsOwner scope b y × (class_of a ≡ class_of b)
 Compares naming scope t x y = ⊥
 
+-- what two sides make
 equal_means : (naming : Naming) (scope : Scope) (a b : Side) (x y : Tree) → StandsSide naming scope a x
     → StandsSide naming scope b y
     → Means (equal_test a b) (λ t. Compares naming scope t x y)
@@ -114,6 +118,7 @@ equal_means naming scope (owner_side a) (owner_side b) x y p q =
     (λ is. something (eq_who a b) (p, q, classes_same (class_of a) (class_of b) is)) (λ is. nothing)
 equal_means naming scope a b x y p q = nothing
 
+-- the form of an equation
 is_equal : (naming : Naming) (scope : Scope) (t : Test) (head x y : Tree) (from to : ℕ) → Atom "=" head
     → Compares naming scope t x y
     → StandsTest naming scope t (list (cons head (cons x (cons y nil))) from to)
@@ -123,6 +128,7 @@ is_equal naming scope (eq_attr a attr b attr') head x y from to is two = (is, (t
 is_equal naming scope (eq_who a b) head x y from to is two = ((is, (two.0, (two.1, tt))), two.2)
 is_equal naming scope t head x y from to is two = absurd two
 
+-- the form of its denial
 is_unequal : (naming : Naming) (scope : Scope) (t : Test) (head x y : Tree) (from to : ℕ) → Atom "!=" head
     → Compares naming scope t x y
     → StandsTest naming scope (ne t) (list (cons head (cons x (cons y nil))) from to)
@@ -142,6 +148,7 @@ mutual
       behind (rule_at place.Card parts) _ (told_at place.Card parts)
       (λ rule told. card_rule_means naming scope from to rule parts told)
 
+  -- by its rule
   card_rule_means : (naming : Naming) (scope : Scope) (from to : ℕ) (rule : Rule) (parts : Trees) → Told rule parts
       → Means (card_rule naming scope rule parts) (λ card. StandsCard naming scope card (list parts from to))
   card_rule_means naming scope from to rule.TopCard (cons head (cons cards nil)) told =
@@ -165,6 +172,7 @@ mutual
       behind (rule_at place.Collection parts) _ (told_at place.Collection parts)
       (λ rule told. coll_rule_means naming scope from to rule parts told)
 
+  -- by its rule
   pub coll_rule_means : (naming : Naming) (scope : Scope) (from to : ℕ) (rule : Rule) (parts : Trees) → Told rule parts
       → Means (coll_rule naming scope from rule parts) (λ cards. StandsColl naming scope cards (list parts from to))
   coll_rule_means naming scope from to rule.Location parts told =
@@ -180,6 +188,7 @@ mutual
       (λ cs stand. (told.0, (least_left 2 2 _ parts told.2 (omega arith), stand)))
   coll_rule_means naming scope from to rule parts told = nothing
 
+  -- lists of cards, one after the other
   pub colls_mean : (naming : Naming) (scope : Scope) (parts : Trees)
       → Means (colls_at naming scope parts) (λ cs. StandColls naming scope cs parts)
   colls_mean naming scope nil = something no_coll tt
@@ -194,6 +203,7 @@ mutual
       behind (rule_at place.Integer parts) _ (told_at place.Integer parts)
       (λ rule told. int_rule_means naming scope from to rule parts told)
 
+  -- by its rule
   int_rule_means : (naming : Naming) (scope : Scope) (from to : ℕ) (rule : Rule) (parts : Trees) → Told rule parts
       → Means (int_rule naming scope rule parts) (λ value. StandsInt naming scope value (list parts from to))
   int_rule_means naming scope from to rule.Counter parts told =
@@ -224,6 +234,7 @@ mutual
       (int_rule_means naming scope from to rule parts told) (card_rule_means naming scope from to rule parts told)
       (value_parts_mean naming scope parts) (owner_rule_means scope from to rule parts told))
 
+  -- `(attr CARD ATTR)`, whatever its head is
   value_parts_mean : (naming : Naming) (scope : Scope) (parts : Trees)
       → Means (value_parts naming scope parts)
       (λ p. ((λ head. Unit {0}) ▸ StandsCard naming scope p.0 ▸ Named naming.names.attrs p.1 ▸ End) parts)
@@ -240,6 +251,7 @@ mutual
       behind (rule_at place.Test parts) _ (told_at place.Test parts)
       (λ rule told. test_rule_means naming scope from to rule parts told)
 
+  -- by its rule
   test_rule_means : (naming : Naming) (scope : Scope) (from to : ℕ) (rule : Rule) (parts : Trees) → Told rule parts
       → Means (test_rule naming scope rule parts) (λ t. StandsTest naming scope t (list parts from to))
   test_rule_means naming scope from to rule.Equal (cons head (cons a (cons b nil))) told =
@@ -287,6 +299,7 @@ mutual
       (λ t' holds. (told.0, (stands, (binds, (holds, tt)))))))
   test_rule_means naming scope from to rule parts told = nothing
 
+  -- tests, one after the other
   pub tests_mean : (naming : Naming) (scope : Scope) (parts : Trees)
       → Means (tests_at naming scope parts) (λ ts. StandTests naming scope ts parts)
   tests_mean naming scope nil = something no_test tt

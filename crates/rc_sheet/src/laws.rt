@@ -79,5 +79,5 @@ pub fn body_stands()
     ensures body { (naming : Naming) (trees : Trees) (all : sheet.SheetItems) (best : sheet.Best) (score : sheet.IntExpr)
         → item_reading.body_at naming trees ≡ Some (all, (best, score))
         → AtLeast 2 (items.StandItems naming all
-            (Row (Atom "scoring" ▸ StandsBest best ▸ expressions.StandsInt naming self_scope score ▸ End) ▸ End)) trees }
+        (Row (Atom "scoring" ▸ StandsBest best ▸ expressions.StandsInt naming self_scope score ▸ End) ▸ End)) trees }
 {}
