@@ -1,6 +1,6 @@
 -- What holds of what is read, where something is read.
-use Rattle.std.proofs.Common.{◌≡◌, ℕ, Bool, true, false, cond, ◌&&◌, List, [], ◌∷◌, get_or, Option, Some, None, IfSome, slice_get, position, find, option_map, refl, subst, ap, ◌∙◌}
-use Rattle.std.proofs.lemmas.Option.{slice_get-get_or, none-some}
+use Rattle.std.proofs.Common.{◌≡◌, Bool, true, false, cond, List, [], ◌∷◌, get_or, Option, Some, None, IfSome, slice_get, position, find, option_map, refl, subst}
+use Rattle.std.proofs.lemmas.Option.{slice_get-get_or}
 use Rattle.std.proofs.lemmas.List.Quantifiers.{position-Some}
 use Rattle.rc_sheet.specs.ReadNames.{◌>>=◌, both, ensure}
 
@@ -12,6 +12,7 @@ pub record Means {A : Type 0} (found : Option A) (P : A → Type 0) : Type 0 whe
 pub nothing : {A : Type 0} {P : A → Type 0} → Means None P
 nothing = record { holds = tt }
 
+-- this was read
 pub something : {A : Type 0} {P : A → Type 0} (a : A) → P a → Means (Some a) P
 something a p = record { holds = p }
 
@@ -75,3 +76,11 @@ place_passes test (a ∷ all) =
     means_if (position test (a ∷ all)) (λ place is.
     let at = position-Some test (a ∷ all) place a is in
     (get_or (a ∷ all) place a, slice_get-get_or (a ∷ all) place a at.0, at.1))
+
+-- what is made of two
+pub paired : {A B C : Type 0} {P : A → Type 0} {Q : B → Type 0} {R : C → Type 0} (first : Option A) (second : Option B)
+    (f : A → B → C) → Means first P → Means second Q → ((a : A) (b : B) → P a → Q b → R (f a b))
+    → Means (option_map (λ p. f p.0 p.1) (both first second)) R
+paired None second f p q more = nothing
+paired (Some a) None f p q more = nothing
+paired (Some a) (Some b) f p q more = something (f a b) (more a b p.holds q.holds)

@@ -1,15 +1,15 @@
 -- What is read stands for its form: spots, effects, domains and alternatives.
-use Rattle.std.proofs.Common.{◌≡◌, ℕ, Bool, List, [], ◌∷◌, Option, Some, None, option_map, refl, arith}
+use Rattle.std.proofs.Common.{ℕ, [], ◌∷◌, arith}
 use Rattle.rc_model.specs.Tree.{Tree, word, list, Trees, nil, cons}
-use Rattle.rc_sheet_model.specs.Sheet.{top, bottom, End, Loc, CollExpr, Domain, each_player, each_card, each_group, Effect, move, move_all, remember, forget, shuffle, set_to, increase, decrease, when, repeat, for_each, next_is, turn_round, Effects, no_effect, effect, Alt, do_alt, if_alt, any_alt}
+use Rattle.rc_sheet_model.specs.Sheet.{top, bottom, Domain, each_player, each_card, each_group, move, move_all, remember, forget, shuffle, set_to, increase, decrease, when, repeat, next_is, turn_round, no_effect, effect, do_alt, if_alt}
 use Rattle.rc_sheet_model.specs.Naming.{Naming, Scope, bind, sort_of}
-use Rattle.rc_sheet_model.specs.StandsExpressions.{StandsColl, StandsDomain, StandsRange}
+use Rattle.rc_sheet_model.specs.StandsExpressions.{StandsDomain, StandsRange}
 use Rattle.rc_sheet_model.specs.StandsEffects.{StandsSpot, StandsEffect, StandEffects}
 use Rattle.rc_sheet_model.specs.StandsItems.{StandsAlt, StandAlts}
-use Rattle.rc_sheet.specs.ReadNames.{◌>>=◌, both, rule_at, name_at, binder_at, owner_at, loc_at, num_at}
-use Rattle.rc_sheet.specs.ReadExpressions.{range_of, card_at, coll_at, coll_rule, int_at, test_at, range_at}
+use Rattle.rc_sheet.specs.ReadNames.{rule_at, binder_at, owner_at, loc_at}
+use Rattle.rc_sheet.specs.ReadExpressions.{card_at, coll_rule, range_at}
 use Rattle.rc_sheet.specs.ReadEffects.{spot_rule, spot_at, number_rule, plain_rule, effect_at, effect_rule, effects_at, domain_rule, domain_at, alt_at, alt_rule, alts_at}
-use Rattle.rc_sheet.proofs.Means.{Means, nothing, something, weaker, mapped, behind, both_mean}
+use Rattle.rc_sheet.proofs.Means.{Means, nothing, something, weaker, mapped, behind, paired, both_mean}
 use Rattle.rc_sheet.proofs.ReadsNames.{Told, told_at, least_left, two_words, name_means, binder_means, owner_means, loc_means, num_means}
 use Rattle.rc_sheet.proofs.ReadsExpressions.{card_means, coll_means, coll_rule_means, int_means, test_means, range_means}
 use Rattle.rc_grammar.specs.declared.keyword.Keyword.TheVariants as keyword
@@ -17,7 +17,7 @@ use Rattle.rc_grammar.specs.declared.grammar.Place.TheVariants as place
 use Rattle.rc_grammar.specs.declared.grammar.Rule.{Rule}
 use Rattle.rc_grammar.specs.declared.grammar.Rule.TheVariants as rule
 
--- SPOT
+-- a spot, by its rule
 spot_rule_means : (naming : Naming) (scope : Scope) (from to : ℕ) (rule : Rule) (parts : Trees) → Told rule parts
     → Means (spot_rule naming scope rule parts) (λ p. StandsSpot naming scope p.0 p.1 (list parts from to))
 spot_rule_means naming scope from to rule.TopOf (cons head (cons loc nil)) told =
@@ -26,24 +26,25 @@ spot_rule_means naming scope from to rule.BottomOf (cons head (cons loc nil)) to
     mapped (loc_at naming scope loc) (λ loc. (bottom, loc)) (loc_means naming scope loc) (λ l stands. (told.0, (stands, tt)))
 spot_rule_means naming scope from to rule parts told = nothing
 
-spot_means : (naming : Naming) (scope : Scope) (tree : Tree)
+-- a spot
+pub spot_means : (naming : Naming) (scope : Scope) (tree : Tree)
     → Means (spot_at naming scope tree) (λ p. StandsSpot naming scope p.0 p.1 tree)
 spot_means naming scope (word bytes from to) = nothing
 spot_means naming scope (list parts from to) =
-    behind (rule_at place.Spot parts) _ (told_at place.Spot parts) (λ rule told. spot_rule_means naming scope from to rule parts told)
+    behind (rule_at place.Spot parts) _ (told_at place.Spot parts)
+    (λ rule told. spot_rule_means naming scope from to rule parts told)
 
--- effects without effects in them
+-- effects on numbers and on stages
 number_rule_means : (naming : Naming) (scope : Scope) (from to : ℕ) (rule : Rule) (parts : Trees) → Told rule parts
     → Means (number_rule naming scope rule parts) (λ e. StandsEffect naming scope e (list parts from to))
 number_rule_means naming scope from to rule.Set (cons head (cons num (cons value nil))) told =
-    mapped _ (λ p. set_to p.0 p.1) (both_mean _ _ (num_means naming scope num) (int_means naming scope value))
-    (λ p stand. (told.0, (stand.0, (stand.1, tt))))
+    paired _ _ set_to (num_means naming scope num) (int_means naming scope value) (λ p q one other. (told.0, (one, (other, tt))))
 number_rule_means naming scope from to rule.Increase (cons head (cons num (cons value nil))) told =
-    mapped _ (λ p. increase p.0 p.1) (both_mean _ _ (num_means naming scope num) (int_means naming scope value))
-    (λ p stand. (told.0, (stand.0, (stand.1, tt))))
+    paired _ _ increase (num_means naming scope num) (int_means naming scope value)
+    (λ p q one other. (told.0, (one, (other, tt))))
 number_rule_means naming scope from to rule.Decrease (cons head (cons num (cons value nil))) told =
-    mapped _ (λ p. decrease p.0 p.1) (both_mean _ _ (num_means naming scope num) (int_means naming scope value))
-    (λ p stand. (told.0, (stand.0, (stand.1, tt))))
+    paired _ _ decrease (num_means naming scope num) (int_means naming scope value)
+    (λ p q one other. (told.0, (one, (other, tt))))
 number_rule_means naming scope from to rule.Next (cons head (cons next (cons owner nil))) told =
     mapped (owner_at scope owner) next_is (owner_means scope owner) (λ who stands. (told.0, (told.1, (stands, tt))))
 number_rule_means naming scope from to rule.Reverse nil told = absurd told
@@ -51,6 +52,7 @@ number_rule_means naming scope from to rule.Reverse (cons head parts) told =
     something turn_round (two_words keyword.Cycle keyword.Reverse parts from to head told.0 told.1 told.2)
 number_rule_means naming scope from to rule parts told = nothing
 
+-- the same on cards
 plain_rule_means : (naming : Naming) (scope : Scope) (from to : ℕ) (rule : Rule) (parts : Trees) → Told rule parts
     → Means (plain_rule naming scope rule parts) (λ e. StandsEffect naming scope e (list parts from to))
 plain_rule_means naming scope from to rule.Move (cons head (cons card (cons spot nil))) told =
@@ -77,14 +79,15 @@ mutual
       behind (rule_at place.Effect parts) _ (told_at place.Effect parts)
       (λ rule told. effect_rule_means naming scope from to rule parts told)
 
+  -- by its rule
   effect_rule_means : (naming : Naming) (scope : Scope) (from to : ℕ) (rule : Rule) (parts : Trees) → Told rule parts
       → Means (effect_rule naming scope rule parts) (λ e. StandsEffect naming scope e (list parts from to))
   effect_rule_means naming scope from to rule.If (cons head (cons t effects)) told =
-      mapped _ (λ p. when p.0 p.1) (both_mean _ _ (test_means naming scope t) (effects_mean naming scope effects))
-      (λ p stand. (told.0, (stand.0, (least_left 1 2 _ effects told.2 (omega arith), stand.1))))
+      paired _ _ when (test_means naming scope t) (effects_mean naming scope effects)
+      (λ p q one other. (told.0, (one, (least_left 1 2 _ effects told.2 (omega arith), other))))
   effect_rule_means naming scope from to rule.Repeat (cons head (cons times effects)) told =
-      mapped _ (λ p. repeat p.0 p.1) (both_mean _ _ (int_means naming scope times) (effects_mean naming scope effects))
-      (λ p stand. (told.0, (stand.0, (least_left 1 2 _ effects told.2 (omega arith), stand.1))))
+      paired _ _ repeat (int_means naming scope times) (effects_mean naming scope effects)
+      (λ p q one other. (told.0, (one, (least_left 1 2 _ effects told.2 (omega arith), other))))
   effect_rule_means naming scope from to rule.Each (cons head (cons range (cons variable effects))) told =
       behind (range_at naming scope range) _ (range_means naming scope range)
       (λ domain stands. behind (binder_at naming.names.vars scope variable) _ (binder_means naming scope variable)
@@ -93,29 +96,32 @@ mutual
       (λ es stand. (told.0, (stands, (binds, (least_left 1 3 _ effects told.2 (omega arith), stand)))))))
   effect_rule_means naming scope from to rule parts told = plain_rule_means naming scope from to rule parts told
 
+  -- effects, one after the other
   pub effects_mean : (naming : Naming) (scope : Scope) (parts : Trees)
       → Means (effects_at naming scope parts) (λ es. StandEffects naming scope es parts)
   effects_mean naming scope nil = something no_effect tt
   effects_mean naming scope (cons part parts) =
-      mapped _ (λ p. effect p.0 p.1) (both_mean _ _ (effect_means naming scope part) (effects_mean naming scope parts))
-      (λ p stand. (stand.0, stand.1))
+      paired _ _ effect (effect_means naming scope part) (effects_mean naming scope parts) (λ p q one other. (one, other))
 
--- DOMAIN
+-- what is no partition
 range_is_domain : (naming : Naming) (scope : Scope) (domain : Domain) (tree : Tree) → StandsRange naming scope domain tree
     → StandsDomain naming scope domain tree
 range_is_domain naming scope each_player tree stands = stands
 range_is_domain naming scope (each_card cards) tree stands = stands
 range_is_domain naming scope (each_group cards attr) tree stands = absurd stands
 
+-- by its rule
 domain_rule_means : (naming : Naming) (scope : Scope) (from to : ℕ) (rule : Rule) (parts : Trees) → Told rule parts
     → Means (domain_rule naming scope from rule parts) (λ domain. StandsDomain naming scope domain (list parts from to))
 domain_rule_means naming scope from to rule.Partition (cons head (cons cards (cons attr nil))) told =
-    mapped _ (λ p. each_group p.0 p.1) (both_mean _ _ (coll_means naming scope cards) (name_means naming.names.attrs attr))
-    (λ p stand. (told.0, (stand.0, (stand.1, tt))))
+    paired _ _ each_group (coll_means naming scope cards) (name_means naming.names.attrs attr)
+    (λ p q one other. (told.0, (one, (other, tt))))
 domain_rule_means naming scope from to rule parts told =
-    mapped (coll_rule naming scope from rule parts) each_card (coll_rule_means naming scope from to rule parts told) (λ cards stands. stands)
+    mapped (coll_rule naming scope from rule parts) each_card (coll_rule_means naming scope from to rule parts told)
+    (λ cards stands. stands)
 
-domain_means : (naming : Naming) (scope : Scope) (tree : Tree)
+-- a domain
+pub domain_means : (naming : Naming) (scope : Scope) (tree : Tree)
     → Means (domain_at naming scope tree) (λ domain. StandsDomain naming scope domain tree)
 domain_means naming scope (word bytes from to) =
     weaker (range_at naming scope (word bytes from to)) (range_means naming scope (word bytes from to))
@@ -133,14 +139,15 @@ mutual
       behind (rule_at place.Alternative parts) _ (told_at place.Alternative parts)
       (λ rule told. alt_rule_means naming scope from to rule parts told)
 
+  -- by its rule
   alt_rule_means : (naming : Naming) (scope : Scope) (from to : ℕ) (rule : Rule) (parts : Trees) → Told rule parts
       → Means (alt_rule naming scope rule parts) (λ alt. StandsAlt naming scope alt (list parts from to))
   alt_rule_means naming scope from to rule.Do (cons head effects) told =
       mapped (effects_at naming scope effects) do_alt (effects_mean naming scope effects)
       (λ es stand. (told.0, (least_left 1 1 _ effects told.2 (omega arith), stand)))
   alt_rule_means naming scope from to rule.If (cons head (cons guard effects)) told =
-      mapped _ (λ p. if_alt p.0 p.1) (both_mean _ _ (test_means naming scope guard) (effects_mean naming scope effects))
-      (λ p stand. (told.0, (stand.0, (least_left 1 2 _ effects told.2 (omega arith), stand.1))))
+      paired _ _ if_alt (test_means naming scope guard) (effects_mean naming scope effects)
+      (λ p q one other. (told.0, (one, (least_left 1 2 _ effects told.2 (omega arith), other))))
   alt_rule_means naming scope from to rule.AnyOf (cons head (cons domain (cons variable (cons alt nil)))) told =
       behind (domain_at naming scope domain) _ (domain_means naming scope domain)
       (λ d stands. behind (binder_at naming.names.vars scope variable) _ (binder_means naming scope variable)
@@ -149,7 +156,8 @@ mutual
       (λ a holds. (told.0, (stands, (binds, (holds, tt)))))))
   alt_rule_means naming scope from to rule parts told = nothing
 
+-- alternatives, one after the other
 pub alts_mean : (naming : Naming) (parts : Trees) → Means (alts_at naming parts) (λ alts. StandAlts naming alts parts)
 alts_mean naming nil = something [] tt
 alts_mean naming (cons part parts) =
-    mapped _ (λ p. p.0 ∷ p.1) (both_mean _ _ (alt_means naming [] part) (alts_mean naming parts)) (λ p stand. (stand.0, stand.1))
+    paired _ _ ◌∷◌ (alt_means naming [] part) (alts_mean naming parts) (λ p q one other. (one, other))

@@ -12,4 +12,5 @@ mod scope;
 mod sides;
 
 pub use fail::ReadFail;
+pub use laws::{body_stands, effects_stand, expressions_stand, names_stand};
 pub use rc_semantics::SheetFail;
