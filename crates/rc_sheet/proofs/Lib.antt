@@ -2,6 +2,7 @@ pub mod Counts
 pub mod InTurn
 pub mod Places
 pub mod Means
+pub mod Fine
 pub mod ReadsNames
 pub mod ReadsExpressions
 pub mod ReadsEffects
