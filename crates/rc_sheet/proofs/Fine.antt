@@ -1,14 +1,16 @@
 -- Parts of a form that a second round found nothing wrong with, where the naming of the sheet is fixed.
-use Rattle.std.proofs.Common.{◌≡◌, ℕ, ◌≤◌, Bool, true, false, ◌||◌, nat_le, List, flat_map, slice_get, position, bytes_eq, Option, Some}
+use Rattle.std.proofs.Common.{◌≡◌, ℕ, true, false, ◌||◌, nat_le, List, length, flat_map, slice_get, position, bytes_eq, Option, Some}
 use Rattle.rc_model.specs.Tree.{Tree, Trees}
 use Rattle.rc_sheet_model.specs.Sheet.{LocName, NumName}
 use Rattle.rc_sheet_model.specs.Limits.{most_variables, most_repeats}
 use Rattle.rc_sheet_model.specs.Naming.{Naming}
 use Rattle.rc_sheet_model.specs.Naming.{kind_word as kind_bytes}
 use Rattle.rc_semantics.specs.Classes.{class_at}
-use Rattle.rc_semantics.specs.SecondParts.{Role, used_attribute, used_value, used_map, given_value, Standing, Part, atom, form, part_at, word_in, parts_of}
+use Rattle.rc_semantics.specs.SecondParts.{Standing, Part, atom, form, part_at, word_in, parts_of}
 use Rattle.rc_semantics.specs.SecondNames.{is_named, attributes_in, values_in, maps_in, Mention, mention_of}
 use Rattle.rc_semantics.specs.SecondFaults.{is_bound, is_unbound, is_in_stage, is_misused, is_other_side, is_misplaced}
+use Rattle.rc_semantics.specs.declared.role.Role.{Role}
+use Rattle.rc_semantics.specs.declared.role.Role.TheVariants.{UsedAttribute as used_attribute, UsedValue as used_value, UsedMap as used_map, GivenValue as given_value}
 use Rattle.rc_grammar.specs.declared.grammar.Rule.{Rule}
 use Rattle.rc_grammar.specs.declared.grammar.Rule.TheVariants as rule
 
