@@ -2,6 +2,8 @@ pub mod Counts
 pub mod InTurn
 pub mod Places
 pub mod Means
+pub mod Finds
+pub mod GoodParts
 pub mod Fine
 pub mod ReadsNames
 pub mod ReadsExpressions

@@ -3,6 +3,7 @@
 
 mod expressions;
 mod fail;
+mod fine_laws;
 mod laws;
 mod locations;
 mod names;

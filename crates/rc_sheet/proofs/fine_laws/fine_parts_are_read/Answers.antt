@@ -1,0 +1,6 @@
+use Rattle.std.proofs.Common.{refl}
+use Rattle.rc_sheet.proofs.GoodParts.{two_parts}
+use Rattle.rc_sheet.proofs.fine_laws.fine_parts_are_read.Goals as goal
+
+pub returns : goal.returns
+returns c = record { check = λ n. refl }
