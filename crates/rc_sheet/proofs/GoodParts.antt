@@ -16,6 +16,11 @@ use Rattle.rc_sheet.specs.ReadNames.{◌>>=◌, sized, rule_at}
 use Rattle.rc_sheet.proofs.Fine.{Given, IsFine, IsFineAtom, IsFineForm}
 use Rattle.rc_sheet.proofs.Finds.{Finds, where_true}
 
+infixr 5 ◌▹◌
+-- the proof for the first form of a place, and those for the others
+abbrev pub ◌▹◌ : {A B : Type 0} → A → B → A × B
+first ▹ others = (first, others)
+
 -- P holds of each of the trees
 abbrev pub Each : (Tree → Type 0) → Trees → Type 0
 Each P nil = Unit {0}

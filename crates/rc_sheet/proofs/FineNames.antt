@@ -1,0 +1,236 @@
+-- What a form's fine parts say is found and well formed: names, variables, owners, locations and stored numbers.
+use Rattle.std.proofs.Common.{◌≡◌, ℕ, ◌+◌, ◌<◌, Bool, true, false, not, ◌&&◌, ◌||◌, ◌==◌, cond, nat_le, nat_lt, List, [], ◌∷◌, length, Option, Some, None, is_none, is_some, slice_get, slice_index, slice_index_or, get_or, position, find, option_map, option_to_list, bytes_eq, codes, refl, sym, subst, ap, ◌∙◌, arith, eqb-true, lt-ltb, leb-true, leb-false}
+use Rattle.std.specs.List.{AllByRecursion, list_any, position_or_len}
+use Rattle.std.proofs.lemmas.Bool.{and_parts, or_parts, not-true, not-false, and_from, false_from_ne_true}
+use Rattle.std.proofs.lemmas.Option.{same_Some, slice_get_within, get_or_from_slice_get}
+use Rattle.std.proofs.lemmas.List.Folds.{find_at}
+use Rattle.std.proofs.lemmas.Slice.Eq.{bytes_eq-Decides}
+use Rattle.rc_model.specs.Tree.{Tree, word, list, Trees, nil, cons}
+use Rattle.rc_sheet_model.specs.Sheet.{Class, game_class, player_class, team_class, Sort, player_sort, card_sort, group_sort, LocKind, vloc, iloc, hloc, mem, LocName, NumName, Who, game, current_player, current_team, team_of_current, team_of_var, who_var, Sheet}
+use Rattle.rc_sheet_model.specs.Limits.{most_variables}
+use Rattle.rc_sheet_model.specs.Naming.{Naming, naming_of, Variable, Scope, bind, class_of, loc_class, num_class}
+use Rattle.rc_sheet_model.specs.Naming.{kind_word as kind_bytes}
+use Rattle.rc_sheet_model.specs.WellFormed.{Around, IsAttr, IsValue, IsMap, HasSort, IsInStage, IsOwner, IsHolder, var_word, IsBinder, behind, is_mem, holds_references, IsLoc, IsPlace, IsNum}
+use Rattle.rc_semantics.specs.Classes.{same_sort, same_class, class_of_rule, class_at, bound_in}
+use Rattle.rc_semantics.specs.SecondParts.{Standing, Part, atom, form, part_at, bytes_of, word_in, is_binder}
+use Rattle.rc_semantics.specs.SecondNames.{some_of, is_named, Mention, mention_of}
+use Rattle.rc_semantics.specs.SecondFaults.{is_bound, is_unbound, is_misused, is_other_sort, is_misplaced, sorts_at}
+use Rattle.rc_semantics.specs.SecondFaults.{variable_in as variable_found}
+use Rattle.rc_grammar.specs.Keyword.{text_of}
+use Rattle.rc_grammar.specs.Grammar.{forms_of}
+use Rattle.rc_grammar.specs.Faults.{is_word, is_variable, is_kind, is_form_word, unless, atom_kind, atom_faults, faults_at, rule_of, count, fits}
+use Rattle.rc_semantics.specs.declared.role.Role.{Role}
+use Rattle.rc_semantics.specs.declared.role.Role.TheVariants.{No as no_role, UsedAttribute as used_attribute, UsedValue as used_value, UsedMap as used_map, CardLocation as card_location, ReferenceLocation as reference_location}
+use Rattle.rc_grammar.specs.declared.keyword.Keyword.{Keyword}
+use Rattle.rc_grammar.specs.declared.keyword.Keyword.TheVariants as keyword
+use Rattle.rc_grammar.specs.declared.grammar.Place.{Place}
+use Rattle.rc_grammar.specs.declared.grammar.Place.TheVariants as place
+use Rattle.rc_grammar.specs.declared.grammar.Rule.{Rule}
+use Rattle.rc_grammar.specs.declared.grammar.Rule.TheVariants as rule
+use Rattle.rc_grammar.specs.declared.fault.SheetKind.{SheetKind}
+use Rattle.rc_grammar.specs.declared.fault.SheetKind.TheVariants.{Shape, Number}
+use Rattle.rc_grammar.specs.declared.fault.SheetFault.{SheetFault}
+use Rattle.rc_sheet.specs.ReadNames.{◌>>=◌, ensure, rule_at, name_at, binder_at, has_sort, place_in, sorted, variable_in, player_of_rule, player_at, team_of, team_parts, owner_rule, owner_at, holder_at, kind_word, is_loc_name, is_num_name, loc_parts, loc_rule, loc_at, num_parts, num_rule, num_at, map_at}
+use Rattle.rc_sheet.proofs.Fine.{Given, IsNamed, HasNumber, IsFineAtom, IsLocMention, IsNumMention, IsFineBinder}
+use Rattle.rc_sheet.proofs.Means.{means_so, found_passes}
+use Rattle.rc_sheet.proofs.ReadsNames.{same_bytes, sorts_same, kind_is}
+use Rattle.rc_sheet.proofs.Finds.{Finds, finds, finds_if, implies, makes, follows, where_true, where_false, whether, ensures_so}
+use Rattle.rc_sheet.proofs.GoodParts.{◌▹◌, two_parts, three_parts, IsGood, IsGoodForm, AreGood, finds_by, list_finds, no_list}
+
+-- an atom that its place doesn't refuse passes the test there
+passes_test : (b : Bool) (kind : SheetKind) (from : ℕ)
+    → option_to_list {X = SheetFault} (option_map (λ kind. record { kind = kind; at = from }) (unless b kind)) ≡ [] → b ≡ true
+passes_test true kind from is = refl
+passes_test false kind from is = absurd cc
+
+-- the last of three, where the first two hold
+third_false : (a b c : Bool) → (a && b && c) ≡ false → a ≡ true → b ≡ true → c ≡ false
+third_false true true c is p q = is
+third_false true false c is p q = absurd cc
+third_false false b c is p q = absurd cc
+
+-- something is found
+something_found : {A : Type 0} (found : Option A) → is_none found ≡ false → (x : A) × (found ≡ Some x)
+something_found None is = absurd cc
+something_found (Some x) is = (x, refl)
+
+-- the place of what is found
+pub found_place : {A : Type 0} (test : A → Bool) (all : List A) (x : A) → find test all ≡ Some x
+    → (i : ℕ) × (position test all ≡ Some i) × (slice_get all i ≡ Some x)
+found_place test all x is =
+    let i = position_or_len test all in
+    let there : slice_get all i ≡ Some x = sym (find_at test all) ∙ is in
+    let less : nat_lt i (length all) ≡ true = lt-ltb i (length all) (slice_get_within all i x there) in
+    (i, ap (λ b. cond b (Some i) None) less, there)
+
+-- one that passes is found
+passing_found : {A : Type 0} (test : A → Bool) (all : List A) → list_any test all ≡ true → (x : A) × (find test all ≡ Some x)
+passing_found test [] is = absurd cc
+passing_found test (x ∷ all) is = by (test x) is (passing_found test all)
+  where
+    by : (b : Bool) → (b || list_any test all) ≡ true → (list_any test all ≡ true → (y : _) × (find test all ≡ Some y))
+        → (y : _) × (cond b (Some x) (find test all) ≡ Some y)
+    by true is later = (x, refl)
+    by false is later = later is
+
+-- a word among words has a number
+pub named_place : (bytes : List ℕ) (words : List (List ℕ)) → IsNamed bytes words
+    → (n : ℕ) × (position (bytes_eq bytes) words ≡ Some n) × (slice_get words n ≡ Some bytes)
+named_place bytes words is =
+    let found = passing_found (bytes_eq bytes) words is in
+    let at = found_place (bytes_eq bytes) words found.0 found.1 in
+    let passes = means_so (find (bytes_eq bytes) words) found.0 (found_passes (bytes_eq bytes) words) found.1 in
+    (at.0, at.1, at.2 ∙ ap Some (sym (same_bytes bytes found.0 passes)))
+
+-- a variable is no fixed word
+pub no_keyword : (bytes : List ℕ) → is_variable bytes ≡ true
+    → (is_word keyword.Game bytes ≡ false) × (is_word keyword.Player bytes ≡ false)
+no_keyword [] is = absurd cc
+no_keyword (b ∷ bytes) is =
+    let first : b ≡ 39 = eqb-true b 39 is in
+    (
+      subst (λ b. is_word keyword.Game (b ∷ bytes) ≡ false) (sym first) refl,
+      subst (λ b. is_word keyword.Player (b ∷ bytes) ≡ false) (sym first) refl,
+    )
+
+-- a variable of one sort, where its place takes no other
+of_sort : (sort : Sort) (sorts : List Sort) (found : Option Variable) (variable : Variable) → sorts ≡ sort ∷ []
+    → found ≡ Some variable → is_other_sort sorts found ≡ false → same_sort variable.sort sort ≡ true
+of_sort sort sorts found variable one is other =
+    let kept = subst (λ o. is_other_sort sorts o ≡ false) is other in
+    let taken = not-false (list_any (same_sort variable.sort) sorts) kept in
+    or_false (same_sort variable.sort sort) (subst (λ sorts. list_any (same_sort variable.sort) sorts ≡ true) one taken)
+  where
+    or_false : (b : Bool) → (b || false) ≡ true → b ≡ true
+    or_false true is = refl
+    or_false false is = absurd cc
+
+-- an attribute, a value and a map that the setup gives are the sheet's
+pub record Gives (sheet : Sheet) (given : Given) : Type 0 where
+  pub attrs : (bytes : List ℕ) (n : ℕ) → IsNamed bytes given.attributes
+      → position (bytes_eq bytes) sheet.names.attrs ≡ Some n → IsAttr sheet n
+  pub values : (bytes : List ℕ) (n : ℕ) → IsNamed bytes given.values
+      → position (bytes_eq bytes) sheet.names.values ≡ Some n → IsValue sheet n
+  pub maps : (bytes : List ℕ) (n : ℕ) → IsNamed bytes given.maps
+      → position (bytes_eq bytes) sheet.names.maps ≡ Some n → IsMap sheet n
+
+module _ (sheet : Sheet) (given : Given) where
+  abbrev pub Good : Standing → Tree → Type 0
+  Good = IsGood given (naming_of sheet)
+
+  abbrev pub GoodForm : Standing → Rule → Trees → Type 0
+  GoodForm = IsGoodForm given (naming_of sheet)
+
+  -- a variable of the one sort that its place takes
+  pub variable_finds : (at : Standing) (sort : Sort) (bytes : List ℕ) → is_variable bytes ≡ true → sorts_at at.place ≡ sort ∷ []
+      → IsFineAtom given (naming_of sheet) at bytes
+      → Finds (variable_in at.around.scope sort bytes) (HasSort at.around sort)
+  unfolding variable_in
+  variable_finds at sort bytes is sorts fine =
+      let scope = at.around.scope in
+      let found = variable_found scope bytes in
+      let some : some_of (sorts_at at.place) ≡ true = ap some_of sorts in
+      let bound = something_found found (third_false (is_variable bytes) (some_of (sorts_at at.place)) (is_none found) fine.bound is some) in
+      let there = found_place (λ variable. bytes_eq bytes variable.word) scope bound.0 bound.1 in
+      let kept = third_false (is_variable bytes) (some_of (sorts_at at.place)) (is_other_sort (sorts_at at.place) found) fine.sort_fits is some in
+      let fits = of_sort sort (sorts_at at.place) found bound.0 sorts bound.1 kept in
+      where_true (is_variable bytes) (place_in scope bytes >>= sorted scope sort) None is
+      (follows {P = λ var. var ≡ there.0} (place_in scope bytes) (sorted scope sort) (finds_if _ there.0 there.1 refl)
+      (λ var same. where_true (has_sort sort (slice_get scope var)) (Some var) None
+      (ap (λ var. has_sort sort (slice_get scope var)) same ∙ ap (has_sort sort) there.2 ∙ fits)
+      (finds var
+      (ap (λ var. option_map (λ variable. variable.sort) (slice_get scope var)) same
+      ∙ ap (option_map (λ variable. variable.sort)) there.2 ∙ ap Some (sorts_same _ sort fits)))))
+
+  -- a variable that an owner's place takes is a player
+  abbrev pub OwnerAt : Around → Tree → Who → Type 0
+  OwnerAt around tree who = IsOwner around who × (class_of who ≡ class_at tree)
+
+  who_finds : (at : Standing) (bytes : List ℕ) (from to : ℕ) → is_variable bytes ≡ true
+      → sorts_at at.place ≡ player_sort ∷ [] → IsFineAtom given (naming_of sheet) at bytes
+      → Finds (option_map who_var (variable_in at.around.scope player_sort bytes)) (OwnerAt at.around (word bytes from to))
+  who_finds at bytes from to is sorts fine =
+      makes (variable_in at.around.scope player_sort bytes) who_var (variable_finds at player_sort bytes is sorts fine)
+      (λ var has. (has, sym (ap (λ b. cond b game_class player_class) (no_keyword bytes is).0)))
+
+  -- PLAYER
+  abbrev pub IsPlayer : Around → Who → Type 0
+  IsPlayer around current_player = around.player_stage ≡ true
+  IsPlayer around (who_var var) = HasSort around player_sort var
+  IsPlayer around who = ⊥
+
+  -- at an atom
+  word_is_variable : (at : Standing) (place : Place) (bytes : List ℕ) (from to : ℕ) → at.place ≡ place
+      → atom_faults place bytes from ≡ option_to_list {X = SheetFault} (option_map (λ kind. record { kind = kind; at = from }) (unless (is_variable bytes) Shape))
+      → Good at (word bytes from to) → is_variable bytes ≡ true
+  word_is_variable at place bytes from to here same good =
+      passes_test (is_variable bytes) Shape from (sym same ∙ subst (λ p. atom_faults p bytes from ≡ []) here good.shaped)
+
+  pub player_finds : (at : Standing) (tree : Tree) → at.place ≡ place.Player → Good at tree
+      → Finds (player_at at.around.scope tree) (IsPlayer at.around)
+  unfolding player_at
+  player_finds at (word bytes from to) here good =
+      makes (variable_in at.around.scope player_sort bytes) who_var
+      (variable_finds at player_sort bytes (word_is_variable at place.Player bytes from to here refl good) (ap sorts_at here)
+      good.fine.0) (λ var has. has)
+  player_finds at (list parts from to) here good =
+      list_finds given (naming_of sheet) player_of_rule place.Player at parts from to here good
+      ((λ form. finds current_player form.fine.fits), tt)
+
+  -- the team of a player
+  team_is_owner : (around : Around) (who : Who) → IsPlayer around who
+      → IsOwner around (team_of who) × (class_of (team_of who) ≡ team_class)
+  team_is_owner around current_player is = (is, refl)
+  team_is_owner around (who_var var) is = (is, refl)
+  team_is_owner around who is = absurd is
+
+  -- OWNER, as a list, also where a holder may stand
+  owner_list_finds : (at : Standing) (parts : Trees) (from to : ℕ) → rule_of at.place parts ≡ rule_of place.Owner parts
+      → Good at (list parts from to)
+      → Finds (rule_at place.Owner parts >>= λ rule. owner_rule at.around.scope rule parts) (OwnerAt at.around (list parts from to))
+  owner_list_finds at parts from to same good =
+      finds_by given (naming_of sheet) (λ rule. owner_rule at.around.scope rule parts) place.Owner at parts from to same good
+      ((λ form. finds current_player (form.fine.fits, sym (ap class_of_rule (sym same ∙ form.told))))
+        ▹ (λ form. finds current_team (form.fine.fits, sym (ap class_of_rule (sym same ∙ form.told))))
+        ▹ (λ form. three_parts (λ parts. GoodForm at rule.TeamOf parts → rule_of place.Owner parts ≡ Some rule.TeamOf
+        → Finds (team_parts at.around.scope parts) (OwnerAt at.around (list parts from to))) parts form.fit
+        (λ head second player form told. makes (player_at at.around.scope player) team_of
+        (player_finds _ player refl form.good.1.1.0)
+        (λ who is. let owner = team_is_owner at.around who is in (owner.0, owner.1 ∙ sym (ap class_of_rule told))))
+        form (sym same ∙ form.told))
+        ▹ tt)
+
+  pub owner_finds : (at : Standing) (tree : Tree) → at.place ≡ place.Owner → Good at tree
+      → Finds (owner_at at.around.scope tree) (OwnerAt at.around tree)
+  unfolding owner_at
+  owner_finds at (word bytes from to) here good =
+      who_finds at bytes from to (word_is_variable at place.Owner bytes from to here refl good) (ap sorts_at here) good.fine.0
+  owner_finds at (list parts from to) here good =
+      owner_list_finds at parts from to (ap (λ p. rule_of p parts) here) good
+
+  -- HOLDER
+  abbrev pub HolderAt : Around → Tree → Who → Type 0
+  HolderAt around tree who = IsHolder around who × (class_of who ≡ class_at tree)
+
+  owner_holds : (around : Around) (tree : Tree) (who : Who) → OwnerAt around tree who → HolderAt around tree who
+  owner_holds around tree game is = absurd is.0
+  owner_holds around tree who is = is
+
+  same_owners : (parts : Trees) → rule_of place.Holder parts ≡ rule_of place.Owner parts
+  same_owners nil = refl
+  same_owners (cons head parts) = refl
+
+  pub holder_finds : (at : Standing) (tree : Tree) → at.place ≡ place.Holder → Good at tree
+      → Finds (holder_at at.around.scope tree) (HolderAt at.around tree)
+  unfolding owner_at
+  holder_finds at (word bytes from to) here good =
+      let taken = passes_test (is_word keyword.Game bytes || is_variable bytes) Shape from
+          (subst (λ p. atom_faults p bytes from ≡ []) here good.shaped) in
+      whether (is_word keyword.Game bytes) (Some game) _
+      (λ is. finds game (tt, sym (ap (λ b. cond b game_class player_class) is)))
+      (λ other. implies _
+      (who_finds at bytes from to (ap (λ b. b || is_variable bytes) (sym other) ∙ taken) (ap sorts_at here) good.fine.0)
+      (λ who is. owner_holds at.around (word bytes from to) who is))
+  holder_finds at (list parts from to) here good =
+      implies _ (owner_list_finds at parts from to (ap (λ p. rule_of p parts) here ∙ same_owners parts) good)
+      (λ who is. owner_holds at.around (list parts from to) who is)
