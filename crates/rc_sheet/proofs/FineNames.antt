@@ -1,7 +1,7 @@
 -- What a form's fine parts say is found and well formed: names, variables, owners, locations and stored numbers.
 use Rattle.std.proofs.Common.{◌≡◌, ℕ, ◌+◌, ◌<◌, Bool, true, false, not, ◌&&◌, ◌||◌, ◌==◌, cond, nat_le, nat_lt, List, [], ◌∷◌, length, Option, Some, None, is_none, is_some, slice_get, slice_index, slice_index_or, get_or, position, find, option_map, option_to_list, bytes_eq, codes, refl, sym, subst, ap, ◌∙◌, arith, eqb-true, lt-ltb, leb-true, leb-false}
 use Rattle.std.specs.List.{AllByRecursion, list_any, position_or_len}
-use Rattle.std.proofs.lemmas.Bool.{and_parts, or_parts, not-true, not-false, and_from, false_from_ne_true}
+use Rattle.std.proofs.lemmas.Bool.{not-true, not-false, and_from, or_from, false_from_ne_true, true≢false}
 use Rattle.std.proofs.lemmas.Option.{same_Some, slice_get_within, get_or_from_slice_get}
 use Rattle.std.proofs.lemmas.List.Folds.{find_at}
 use Rattle.std.proofs.lemmas.Slice.Eq.{bytes_eq-Decides}
@@ -104,6 +104,45 @@ of_sort sort sorts found variable one is other =
     or_false : (b : Bool) → (b || false) ≡ true → b ≡ true
     or_false true is = refl
     or_false false is = absurd cc
+
+-- either word is the other
+same_either_way : (xs ys : List ℕ) → bytes_eq xs ys ≡ false → bytes_eq ys xs ≡ false
+same_either_way xs ys is =
+    false_from_ne_true (bytes_eq ys xs)
+    (λ same. true≢false (sym ((bytes_eq-Decides xs ys).1 (sym (same_bytes ys xs same))) ∙ is))
+
+-- a word that no variable in scope has
+not_in_scope : (bytes : List ℕ) (scope : Scope) → is_some (variable_found scope bytes) ≡ false
+    → list_any (λ variable. bytes_eq variable.word bytes) scope ≡ false
+not_in_scope bytes [] is = refl
+not_in_scope bytes (variable ∷ scope) is =
+    by (bytes_eq bytes variable.word) refl is (λ is. not_in_scope bytes scope is)
+  where
+    by : (b : Bool) → bytes_eq bytes variable.word ≡ b
+        → is_some (cond b (Some variable) (variable_found scope bytes)) ≡ false
+        → (is_some (variable_found scope bytes) ≡ false
+        → list_any (λ variable. bytes_eq variable.word bytes) scope ≡ false)
+        → (bytes_eq variable.word bytes || list_any (λ variable. bytes_eq variable.word bytes) scope) ≡ false
+    by true same is later = absurd cc
+    by false same is later =
+        or_from (bytes_eq variable.word bytes) _ (same_either_way bytes variable.word same) (later is)
+
+-- the word of a kind is the keyword of no other
+kind_fits : (kind : LocKind) (bytes : List ℕ) → kind_bytes kind ≡ bytes → is_word (kind_word kind) bytes ≡ true
+kind_fits kind bytes is = (bytes_eq-Decides bytes (text_of (kind_word kind))).1 (sym is ∙ sym (kind_is kind))
+
+-- whether locations hold references is told by the word of their kind
+kind_tells : (kind : LocKind) (bytes : List ℕ) → kind_bytes kind ≡ bytes → is_mem kind ≡ is_word keyword.Mem bytes
+kind_tells vloc bytes is = ap (is_word keyword.Mem) is
+kind_tells iloc bytes is = ap (is_word keyword.Mem) is
+kind_tells hloc bytes is = ap (is_word keyword.Mem) is
+kind_tells mem bytes is = ap (is_word keyword.Mem) is
+
+-- a class is the same as itself
+class_same : (class : Class) → same_class class class ≡ true
+class_same game_class = refl
+class_same player_class = refl
+class_same team_class = refl
 
 -- an attribute, a value and a map that the setup gives are the sheet's
 pub record Gives (sheet : Sheet) (given : Given) : Type 0 where
@@ -234,3 +273,88 @@ module _ (sheet : Sheet) (given : Given) where
   holder_finds at (list parts from to) here good =
       implies _ (owner_list_finds at parts from to (ap (λ p. rule_of p parts) here ∙ same_owners parts) good)
       (λ who is. owner_holds at.around (list parts from to) who is)
+
+  -- a plain word that has this number
+  pub name_finds : {P : ℕ → Type 0} (words : List (List ℕ)) (at : Standing) (tree : Tree) (n : ℕ) → at.place ≡ place.Name
+      → Good at tree → position (bytes_eq (bytes_of tree)) words ≡ Some n → P n → Finds (name_at words tree) P
+  unfolding name_at
+  name_finds words at (word bytes from to) n here good is p =
+      let plain = passes_test (not (is_variable bytes)) Shape from
+          (subst (λ p. atom_faults p bytes from ≡ []) here good.shaped) in
+      where_false (is_variable bytes) None (position (bytes_eq bytes) words) (not-true (is_variable bytes) plain)
+      (finds_if (position (bytes_eq bytes) words) n is p)
+  name_finds words at (list parts from to) n here good is p =
+      absurd (no_list given (naming_of sheet) place.Name at parts from to here good refl)
+
+  -- what is said of a name's number, where the name is an atom of this role
+  role_of_name : (at : Standing) (tree : Tree) (role : Role) → at.place ≡ place.Name → at.role ≡ role → Good at tree
+      → HasNumber given (naming_of sheet) role (bytes_of tree)
+  role_of_name at (word bytes from to) role here is good =
+      subst (λ r. HasNumber given (naming_of sheet) r bytes) is good.fine.0.numbered
+  role_of_name at (list parts from to) role here is good =
+      absurd (no_list given (naming_of sheet) place.Name at parts from to here good refl)
+
+  -- the name of an attribute, of a value and of a map that are used
+  pub attr_finds : Gives sheet given → (at : Standing) (tree : Tree) → at.place ≡ place.Name → at.role ≡ used_attribute
+      → Good at tree → Finds (name_at sheet.names.attrs tree) (IsAttr sheet)
+  attr_finds gives at tree here is good =
+      let named = role_of_name at tree used_attribute here is good in
+      let n = named_place (bytes_of tree) sheet.names.attrs named.1 in
+      name_finds sheet.names.attrs at tree n.0 here good n.1 (gives.attrs (bytes_of tree) n.0 named.0 n.1)
+
+  pub value_finds : Gives sheet given → (at : Standing) (tree : Tree) → at.place ≡ place.Name → at.role ≡ used_value
+      → Good at tree → Finds (name_at sheet.names.values tree) (IsValue sheet)
+  value_finds gives at tree here is good =
+      let named = role_of_name at tree used_value here is good in
+      let n = named_place (bytes_of tree) sheet.names.values named.1 in
+      name_finds sheet.names.values at tree n.0 here good n.1 (gives.values (bytes_of tree) n.0 named.0 n.1)
+
+  -- a fixed word stands at its place
+  pub keyword_is : (keyword : Keyword) (at : Standing) (tree : Tree) → at.place ≡ place.Word keyword → Good at tree
+      → is_form_word keyword tree ≡ true
+  keyword_is keyword at (word bytes from to) here good =
+      passes_test (is_word keyword bytes) Shape from (subst (λ p. atom_faults p bytes from ≡ []) here good.shaped)
+  keyword_is keyword at (list parts from to) here good =
+      absurd (no_list given (naming_of sheet) (place.Word keyword) at parts from to here good refl)
+
+  -- `using MAP`
+  pub map_finds : Gives sheet given → (at at' : Standing) (using map : Tree) → at.place ≡ place.Word keyword.Using
+      → Good at using → at'.place ≡ place.Name → at'.role ≡ used_map → Good at' map
+      → Finds (map_at (naming_of sheet) using map) (IsMap sheet)
+  unfolding map_at
+  map_finds gives at at' using map there fixed here is good =
+      let named = role_of_name at' map used_map here is good in
+      let n = named_place (bytes_of map) sheet.names.maps named.1 in
+      where_true (is_form_word keyword.Using using) (name_at sheet.names.maps map) None
+      (keyword_is keyword.Using at using there fixed)
+      (name_finds sheet.names.maps at' map n.0 here good n.1 (gives.maps (bytes_of map) n.0 named.0 n.1))
+
+  -- a binder's variable, behind which the scope is the form's
+  abbrev pub BinderAt : Around → List ℕ → ℕ → Type 0
+  BinderAt around bytes bound =
+      IsBinder sheet around bound × ((sort : Sort) → behind sheet around bound sort ≡ bound_in around bytes sort)
+
+  pub binder_finds : (outer at : Standing) (parts : Trees) (tree : Tree) → IsFineBinder (naming_of sheet) outer parts
+      → part_at 2 parts ≡ tree → at.place ≡ place.Variable → Good at tree
+      → Finds (binder_at sheet.names.vars outer.around.scope tree) (BinderAt outer.around (bytes_of tree))
+  unfolding binder_at
+  binder_finds outer at parts (word bytes from to) fine third here good =
+      let scope = outer.around.scope in
+      let word_is : word_in 2 parts ≡ bytes = ap bytes_of third in
+      let variable = word_is_variable at place.Variable bytes from to here refl good in
+      let n = named_place bytes sheet.names.vars (subst (λ w. IsNamed w sheet.names.vars) word_is fine.numbered) in
+      let same : var_word sheet n.0 ≡ bytes = get_or_from_slice_get sheet.names.vars n.0 bytes [] n.2 in
+      let fresh = not_in_scope bytes scope (subst (λ w. is_some (variable_found scope w) ≡ false) word_is fine.fresh) in
+      where_true (is_variable bytes && nat_le (length scope) most_variables) (position (bytes_eq bytes) sheet.names.vars) None
+      (and_from _ _ variable fine.room)
+      (finds_if (position (bytes_eq bytes) sheet.names.vars) n.0 n.1
+      (
+        (
+          slice_get_within sheet.names.vars n.0 bytes n.2,
+          subst (λ w. list_any (λ variable. bytes_eq variable.word w) scope ≡ false) (sym same) fresh,
+          leb-false most_variables outer.around.binders fine.few,
+        ),
+        (λ sort. ap (λ w. bound_in outer.around w sort) same),
+      ))
+  binder_finds outer at parts (list inner from to) fine third here good =
+      absurd (no_list given (naming_of sheet) place.Variable at inner from to here good refl)
