@@ -40,6 +40,12 @@ pub follows : {A B : Type 0} {P : A → Type 0} {Q : B → Type 0} (found : Opti
 follows None f is more = absurd is.holds
 follows (Some a) f is more = more a is.holds
 
+-- what is read behind just this
+pub follows_this : {A B : Type 0} {Q : B → Type 0} (found : Option A) (a : A) (f : A → Option B) → Finds found (λ x. x ≡ a)
+    → Finds (f a) Q → Finds (found >>= f) Q
+follows_this None a f is next = absurd is.holds
+follows_this {Q = Q} (Some x) a f is next = subst (λ x. Finds (f x) Q) (sym is.holds) next
+
 -- one and another
 pub finds_both : {A B : Type 0} {P : A → Type 0} {Q : B → Type 0} (first : Option A) (second : Option B) → Finds first P
     → Finds second Q → Finds (both first second) (λ p. P p.0 × Q p.1)

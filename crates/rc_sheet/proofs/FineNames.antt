@@ -6,13 +6,13 @@ use Rattle.std.proofs.lemmas.Option.{same_Some, slice_get_within, get_or_from_sl
 use Rattle.std.proofs.lemmas.List.Folds.{find_at}
 use Rattle.std.proofs.lemmas.Slice.Eq.{bytes_eq-Decides}
 use Rattle.rc_model.specs.Tree.{Tree, word, list, Trees, nil, cons}
-use Rattle.rc_sheet_model.specs.Sheet.{Class, game_class, player_class, team_class, Sort, player_sort, card_sort, group_sort, LocKind, vloc, iloc, hloc, mem, LocName, NumName, Who, game, current_player, current_team, team_of_current, team_of_var, who_var, Sheet}
+use Rattle.rc_sheet_model.specs.Sheet.{Class, game_class, player_class, team_class, Sort, player_sort, card_sort, group_sort, LocKind, vloc, iloc, hloc, mem, LocName, NumName, Who, game, current_player, current_team, team_of_current, team_of_var, who_var, Loc, Num, Sheet}
 use Rattle.rc_sheet_model.specs.Limits.{most_variables}
 use Rattle.rc_sheet_model.specs.Naming.{Naming, naming_of, Variable, Scope, bind, class_of, loc_class, num_class}
 use Rattle.rc_sheet_model.specs.Naming.{kind_word as kind_bytes}
-use Rattle.rc_sheet_model.specs.WellFormed.{Around, IsAttr, IsValue, IsMap, HasSort, IsInStage, IsOwner, IsHolder, var_word, IsBinder, behind, is_mem, holds_references, IsLoc, IsPlace, IsNum}
+use Rattle.rc_sheet_model.specs.WellFormed.{Around, IsAttr, IsValue, IsMap, HasSort, IsInStage, IsOwner, IsHolder, var_word, IsBinder, behind, is_mem, holds_references, IsLoc, IsNum}
 use Rattle.rc_semantics.specs.Classes.{same_sort, same_class, class_of_rule, class_at, bound_in}
-use Rattle.rc_semantics.specs.SecondParts.{Standing, Part, atom, form, part_at, bytes_of, word_in, is_binder}
+use Rattle.rc_semantics.specs.SecondParts.{Standing, part_at, bytes_of, word_in, is_binder}
 use Rattle.rc_semantics.specs.SecondNames.{some_of, is_named, Mention, mention_of}
 use Rattle.rc_semantics.specs.SecondFaults.{is_bound, is_unbound, is_misused, is_other_sort, is_misplaced, sorts_at}
 use Rattle.rc_semantics.specs.SecondFaults.{variable_in as variable_found}
@@ -34,7 +34,7 @@ use Rattle.rc_sheet.specs.ReadNames.{◌>>=◌, ensure, rule_at, name_at, binder
 use Rattle.rc_sheet.proofs.Fine.{Given, IsNamed, HasNumber, IsFineAtom, IsLocMention, IsNumMention, IsFineBinder}
 use Rattle.rc_sheet.proofs.Means.{means_so, found_passes}
 use Rattle.rc_sheet.proofs.ReadsNames.{same_bytes, sorts_same, kind_is}
-use Rattle.rc_sheet.proofs.Finds.{Finds, finds, finds_if, implies, makes, follows, where_true, where_false, whether, ensures_so}
+use Rattle.rc_sheet.proofs.Finds.{Finds, finds, finds_if, implies, makes, follows, follows_this, where_true, where_false, whether, ensures_so}
 use Rattle.rc_sheet.proofs.GoodParts.{◌▹◌, two_parts, three_parts, IsGood, IsGoodForm, AreGood, finds_by, list_finds, no_list}
 
 -- an atom that its place doesn't refuse passes the test there
@@ -358,3 +358,99 @@ module _ (sheet : Sheet) (given : Given) where
       ))
   binder_finds outer at parts (list inner from to) fine third here good =
       absurd (no_list given (naming_of sheet) place.Variable at inner from to here good refl)
+
+  -- the word of a kind
+  kind_is_told : (kind : LocKind) (at : Standing) (tree : Tree) → at.place ≡ place.Kind → Good at tree
+      → kind_bytes kind ≡ bytes_of tree → is_form_word (kind_word kind) tree ≡ true
+  kind_is_told kind at (word bytes from to) here good is = kind_fits kind bytes is
+  kind_is_told kind at (list parts from to) here good is =
+      absurd (no_list given (naming_of sheet) place.Kind at parts from to here good refl)
+
+  -- a location, which holds cards or references as the word of its kind says
+  abbrev pub LocAt : Around → List ℕ → Loc → Type 0
+  LocAt around kind loc =
+      IsLoc sheet around loc × (holds_references sheet loc.name ≡ Some (is_word keyword.Mem kind))
+
+  pub loc_parts_finds : (at : Standing) (parts : Trees) (from : ℕ) → GoodForm at rule.Location parts
+      → Finds (loc_parts (naming_of sheet) at.around.scope from parts) (LocAt at.around (word_in 1 parts))
+  unfolding loc_parts
+  loc_parts_finds at parts from form =
+      three_parts (λ parts. GoodForm at rule.Location parts
+      → Finds (loc_parts (naming_of sheet) at.around.scope from parts) (LocAt at.around (word_in 1 parts))) parts form.fit
+      (λ holder kind name form.
+      let m = form.fine.fits.1 in
+      follows (holder_at at.around.scope holder) _ (holder_finds _ holder refl form.good.0)
+      (λ who holds.
+      let class : m.loc.class ≡ class_of who = m.same_class ∙ sym holds.1 in
+      let fits = and_from _ _ (kind_is_told m.loc.kind _ kind refl form.good.1.0 m.same_kind)
+          (ap (λ c. same_class c (class_of who)) class ∙ class_same (class_of who)) in
+      follows_this (name_at sheet.names.locs name) m.number _
+      (name_finds sheet.names.locs _ name m.number refl form.good.1.1.0 m.numbered refl)
+      (follows_this (ensure (is_loc_name kind (class_of who) (slice_get sheet.locs m.number))) tt _
+      (ensures_so _ (ap (is_loc_name kind (class_of who)) m.is ∙ fits) refl)
+      (finds _ (
+        (holds.0, ap (option_map (λ loc. loc.class)) m.is ∙ ap Some class),
+        ap (option_map (λ loc. is_mem loc.kind)) m.is ∙ ap Some (kind_tells m.loc.kind (bytes_of kind) m.same_kind),
+      ))))) form
+
+  -- the locations of a name hold what a role wants
+  abbrev pub IsPlaced : Role → ℕ → Type 0
+  IsPlaced card_location name = holds_references sheet name ≡ Some false
+  IsPlaced reference_location name = holds_references sheet name ≡ Some true
+  IsPlaced role name = Unit {0}
+
+  is_placed : (role : Role) (mention : Mention) (name : ℕ)
+      → holds_references sheet name ≡ Some (is_word keyword.Mem mention.kind) → is_misplaced role mention ≡ false
+      → IsPlaced role name
+  is_placed card_location mention name holds fits = holds ∙ ap Some fits
+  is_placed reference_location mention name holds fits = holds ∙ ap Some (not-false _ fits)
+  is_placed role mention name holds fits = tt
+
+  -- a location, as its role wants it
+  pub loc_finds : (at : Standing) (tree : Tree) → at.place ≡ place.Location → Good at tree
+      → Finds (loc_at (naming_of sheet) at.around.scope tree)
+      (λ loc. IsLoc sheet at.around loc × IsPlaced at.role loc.name)
+  unfolding loc_at
+  loc_finds at (word bytes from to) here good =
+      absurd (refused (subst (λ p. atom_faults p bytes from ≡ []) here good.shaped))
+    where
+      refused : atom_faults place.Location bytes from ≡ [] → ⊥
+      refused is = cc
+  loc_finds at (list parts from to) here good =
+      list_finds given (naming_of sheet) (loc_rule (naming_of sheet) at.around.scope from parts) place.Location at parts from to
+      here good
+      ((λ form. implies _ (loc_parts_finds at parts from form)
+      (λ loc is. (is.0, is_placed at.role (mention_of parts) loc.name is.1 form.fine.fits.0)))
+      ▹ tt)
+
+  -- a stored number
+  pub num_parts_finds : (at : Standing) (parts : Trees) → GoodForm at rule.Counter parts
+      → Finds (num_parts (naming_of sheet) at.around.scope parts) (IsNum sheet at.around)
+  unfolding num_parts
+  num_parts_finds at parts form =
+      three_parts (λ parts. GoodForm at rule.Counter parts
+      → Finds (num_parts (naming_of sheet) at.around.scope parts) (IsNum sheet at.around)) parts form.fit
+      (λ holder sto name form.
+      let m = form.fine.fits in
+      follows_this (ensure (is_form_word keyword.Sto sto)) tt _
+      (ensures_so _ (keyword_is keyword.Sto _ sto refl form.good.1.0) refl)
+      (follows (holder_at at.around.scope holder) _ (holder_finds _ holder refl form.good.0)
+      (λ who holds.
+      let class : m.num.class ≡ class_of who = m.same_class ∙ sym holds.1 in
+      follows_this (name_at sheet.names.nums name) m.number _
+      (name_finds sheet.names.nums _ name m.number refl form.good.1.1.0 m.numbered refl)
+      (follows_this (ensure (is_num_name (class_of who) (slice_get sheet.nums m.number))) tt _
+      (ensures_so _ (ap (is_num_name (class_of who)) m.is ∙ ap (λ c. same_class c (class_of who)) class ∙ class_same (class_of who)) refl)
+      (finds _ (holds.0, ap (option_map (λ num. num.class)) m.is ∙ ap Some class)))))) form
+
+  pub num_finds : (at : Standing) (tree : Tree) → at.place ≡ place.Counter → Good at tree
+      → Finds (num_at (naming_of sheet) at.around.scope tree) (IsNum sheet at.around)
+  unfolding num_at
+  num_finds at (word bytes from to) here good =
+      absurd (refused (subst (λ p. atom_faults p bytes from ≡ []) here good.shaped))
+    where
+      refused : atom_faults place.Counter bytes from ≡ [] → ⊥
+      refused is = cc
+  num_finds at (list parts from to) here good =
+      list_finds given (naming_of sheet) (num_rule (naming_of sheet) at.around.scope parts) place.Counter at parts from to here
+      good ((λ form. num_parts_finds at parts form) ▹ tt)
