@@ -38,7 +38,7 @@ use Rattle.rc_sheet.proofs.Finds.{Finds, finds, finds_if, implies, makes, follow
 use Rattle.rc_sheet.proofs.GoodParts.{◌▹◌, two_parts, three_parts, IsGood, IsGoodForm, AreGood, finds_by, list_finds, no_list}
 
 -- an atom that its place doesn't refuse passes the test there
-passes_test : (b : Bool) (kind : SheetKind) (from : ℕ)
+pub passes_test : (b : Bool) (kind : SheetKind) (from : ℕ)
     → option_to_list {X = SheetFault} (option_map (λ kind. record { kind = kind; at = from }) (unless b kind)) ≡ [] → b ≡ true
 passes_test true kind from is = refl
 passes_test false kind from is = absurd cc
@@ -93,17 +93,10 @@ no_keyword (b ∷ bytes) is =
       subst (λ b. is_word keyword.Player (b ∷ bytes) ≡ false) (sym first) refl,
     )
 
--- a variable of one sort, where its place takes no other
-of_sort : (sort : Sort) (sorts : List Sort) (found : Option Variable) (variable : Variable) → sorts ≡ sort ∷ []
-    → found ≡ Some variable → is_other_sort sorts found ≡ false → same_sort variable.sort sort ≡ true
-of_sort sort sorts found variable one is other =
-    let kept = subst (λ o. is_other_sort sorts o ≡ false) is other in
-    let taken = not-false (list_any (same_sort variable.sort) sorts) kept in
-    or_false (same_sort variable.sort sort) (subst (λ sorts. list_any (same_sort variable.sort) sorts ≡ true) one taken)
-  where
-    or_false : (b : Bool) → (b || false) ≡ true → b ≡ true
-    or_false true is = refl
-    or_false false is = absurd cc
+-- the first of two, where the second fails
+or_false : (b : Bool) → (b || false) ≡ true → b ≡ true
+or_false true is = refl
+or_false false is = absurd cc
 
 -- either word is the other
 same_either_way : (xs ys : List ℕ) → bytes_eq xs ys ≡ false → bytes_eq ys xs ≡ false
@@ -160,6 +153,38 @@ module _ (sheet : Sheet) (given : Given) where
   abbrev pub GoodForm : Standing → Rule → Trees → Type 0
   GoodForm = IsGoodForm given (naming_of sheet)
 
+  -- a variable in scope, at a place of it, and of a sort that its own place takes
+  pub record IsBound (at : Standing) (bytes : List ℕ) : Type 0 where
+    pub variable : Variable
+    pub found : variable_found at.around.scope bytes ≡ Some variable
+    pub var : ℕ
+    pub placed : place_in at.around.scope bytes ≡ Some var
+    pub there : slice_get at.around.scope var ≡ Some variable
+    pub fits : list_any (same_sort variable.sort) (sorts_at at.place) ≡ true
+
+  pub bound_variable : (at : Standing) (bytes : List ℕ) → is_variable bytes ≡ true → some_of (sorts_at at.place) ≡ true
+      → IsFineAtom given (naming_of sheet) at bytes → IsBound at bytes
+  bound_variable at bytes is some fine =
+      let found = variable_found at.around.scope bytes in
+      let bound = something_found found
+          (third_false (is_variable bytes) (some_of (sorts_at at.place)) (is_none found) fine.bound is some) in
+      let place = found_place (λ variable. bytes_eq bytes variable.word) at.around.scope bound.0 bound.1 in
+      let kept = third_false (is_variable bytes) (some_of (sorts_at at.place)) (is_other_sort (sorts_at at.place) found)
+          fine.sort_fits is some in
+      record {
+        variable = bound.0;
+        found = bound.1;
+        var = place.0;
+        placed = place.1;
+        there = place.2;
+        fits = not-false _ (subst (λ o. is_other_sort (sorts_at at.place) o ≡ false) bound.1 kept);
+      }
+
+  -- its place has its sort
+  pub has_its_sort : (at : Standing) (bytes : List ℕ) (sort : Sort) (bound : IsBound at bytes) → bound.variable.sort ≡ sort
+      → HasSort at.around sort bound.var
+  has_its_sort at bytes sort bound is = ap (option_map (λ variable. variable.sort)) bound.there ∙ ap Some is
+
   -- a variable of the one sort that its place takes
   pub variable_finds : (at : Standing) (sort : Sort) (bytes : List ℕ) → is_variable bytes ≡ true → sorts_at at.place ≡ sort ∷ []
       → IsFineAtom given (naming_of sheet) at bytes
@@ -167,19 +192,12 @@ module _ (sheet : Sheet) (given : Given) where
   unfolding variable_in
   variable_finds at sort bytes is sorts fine =
       let scope = at.around.scope in
-      let found = variable_found scope bytes in
-      let some : some_of (sorts_at at.place) ≡ true = ap some_of sorts in
-      let bound = something_found found (third_false (is_variable bytes) (some_of (sorts_at at.place)) (is_none found) fine.bound is some) in
-      let there = found_place (λ variable. bytes_eq bytes variable.word) scope bound.0 bound.1 in
-      let kept = third_false (is_variable bytes) (some_of (sorts_at at.place)) (is_other_sort (sorts_at at.place) found) fine.sort_fits is some in
-      let fits = of_sort sort (sorts_at at.place) found bound.0 sorts bound.1 kept in
+      let bound = bound_variable at bytes is (ap some_of sorts) fine in
+      let fits = or_false _ (subst (λ sorts. list_any (same_sort bound.variable.sort) sorts ≡ true) sorts bound.fits) in
       where_true (is_variable bytes) (place_in scope bytes >>= sorted scope sort) None is
-      (follows {P = λ var. var ≡ there.0} (place_in scope bytes) (sorted scope sort) (finds_if _ there.0 there.1 refl)
-      (λ var same. where_true (has_sort sort (slice_get scope var)) (Some var) None
-      (ap (λ var. has_sort sort (slice_get scope var)) same ∙ ap (has_sort sort) there.2 ∙ fits)
-      (finds var
-      (ap (λ var. option_map (λ variable. variable.sort) (slice_get scope var)) same
-      ∙ ap (option_map (λ variable. variable.sort)) there.2 ∙ ap Some (sorts_same _ sort fits)))))
+      (follows_this (place_in scope bytes) bound.var (sorted scope sort) (finds_if _ bound.var bound.placed refl)
+      (where_true (has_sort sort (slice_get scope bound.var)) (Some bound.var) None (ap (has_sort sort) bound.there ∙ fits)
+      (finds bound.var (has_its_sort at bytes sort bound (sorts_same _ sort fits)))))
 
   -- a variable that an owner's place takes is a player
   abbrev pub OwnerAt : Around → Tree → Who → Type 0
@@ -199,7 +217,7 @@ module _ (sheet : Sheet) (given : Given) where
   IsPlayer around who = ⊥
 
   -- at an atom
-  word_is_variable : (at : Standing) (place : Place) (bytes : List ℕ) (from to : ℕ) → at.place ≡ place
+  pub word_is_variable : (at : Standing) (place : Place) (bytes : List ℕ) (from to : ℕ) → at.place ≡ place
       → atom_faults place bytes from ≡ option_to_list {X = SheetFault} (option_map (λ kind. record { kind = kind; at = from }) (unless (is_variable bytes) Shape))
       → Good at (word bytes from to) → is_variable bytes ≡ true
   word_is_variable at place bytes from to here same good =
@@ -223,21 +241,46 @@ module _ (sheet : Sheet) (given : Given) where
   team_is_owner around (who_var var) is = (is, refl)
   team_is_owner around who is = absurd is
 
-  -- OWNER, as a list, also where a holder may stand
+  -- OWNER, by each of its forms
+  abbrev pub IsOwnerOf : Around → Class → Who → Type 0
+  IsOwnerOf around class who = IsOwner around who × (class_of who ≡ class)
+
+  pub current_player_finds : (at : Standing) (parts : Trees) → GoodForm at rule.CurrentPlayer parts
+      → Finds (owner_rule at.around.scope rule.CurrentPlayer parts) (IsOwnerOf at.around player_class)
+  current_player_finds at parts form = finds current_player (form.fine.fits, refl)
+
+  pub current_team_finds : (at : Standing) (parts : Trees) → GoodForm at rule.CurrentTeam parts
+      → Finds (owner_rule at.around.scope rule.CurrentTeam parts) (IsOwnerOf at.around team_class)
+  current_team_finds at parts form = finds current_team (form.fine.fits, refl)
+
+  pub team_of_finds : (at : Standing) (parts : Trees) → GoodForm at rule.TeamOf parts
+      → Finds (owner_rule at.around.scope rule.TeamOf parts) (IsOwnerOf at.around team_class)
+  team_of_finds at parts form =
+      three_parts (λ parts. GoodForm at rule.TeamOf parts
+      → Finds (team_parts at.around.scope parts) (IsOwnerOf at.around team_class)) parts form.fit
+      (λ head second player form. makes (player_at at.around.scope player) team_of (player_finds _ player refl form.good.1.1.0)
+      (λ who is. team_is_owner at.around who is)) form
+
+  -- its class is the one that its form tells
+  of_its_class : (at : Standing) (parts : Trees) (from to : ℕ) (found : Rule) (class : Class) (who : Option Who)
+      → rule_of place.Owner parts ≡ Some found → class_of_rule (Some found) ≡ class → Finds who (IsOwnerOf at.around class)
+      → Finds who (OwnerAt at.around (list parts from to))
+  of_its_class at parts from to found class who told is finds =
+      implies who finds (λ who owner. (owner.0, owner.1 ∙ sym is ∙ sym (ap class_of_rule told)))
+
+  -- as a list, also where a holder may stand
   owner_list_finds : (at : Standing) (parts : Trees) (from to : ℕ) → rule_of at.place parts ≡ rule_of place.Owner parts
       → Good at (list parts from to)
       → Finds (rule_at place.Owner parts >>= λ rule. owner_rule at.around.scope rule parts) (OwnerAt at.around (list parts from to))
   owner_list_finds at parts from to same good =
       finds_by given (naming_of sheet) (λ rule. owner_rule at.around.scope rule parts) place.Owner at parts from to same good
-      ((λ form. finds current_player (form.fine.fits, sym (ap class_of_rule (sym same ∙ form.told))))
-        ▹ (λ form. finds current_team (form.fine.fits, sym (ap class_of_rule (sym same ∙ form.told))))
-        ▹ (λ form. three_parts (λ parts. GoodForm at rule.TeamOf parts → rule_of place.Owner parts ≡ Some rule.TeamOf
-        → Finds (team_parts at.around.scope parts) (OwnerAt at.around (list parts from to))) parts form.fit
-        (λ head second player form told. makes (player_at at.around.scope player) team_of
-        (player_finds _ player refl form.good.1.1.0)
-        (λ who is. let owner = team_is_owner at.around who is in (owner.0, owner.1 ∙ sym (ap class_of_rule told))))
-        form (sym same ∙ form.told))
-        ▹ tt)
+      ((λ form. of_its_class at parts from to rule.CurrentPlayer player_class _ (sym same ∙ form.told) refl
+      (current_player_finds at parts form))
+      ▹ (λ form. of_its_class at parts from to rule.CurrentTeam team_class _ (sym same ∙ form.told) refl
+      (current_team_finds at parts form))
+      ▹ (λ form. of_its_class at parts from to rule.TeamOf team_class _ (sym same ∙ form.told) refl
+      (team_of_finds at parts form))
+      ▹ tt)
 
   pub owner_finds : (at : Standing) (tree : Tree) → at.place ≡ place.Owner → Good at tree
       → Finds (owner_at at.around.scope tree) (OwnerAt at.around tree)
