@@ -5,6 +5,7 @@ pub mod Means
 pub mod Finds
 pub mod GoodParts
 pub mod Fine
+pub mod GoodForms
 pub mod FineNames
 pub mod ReadsNames
 pub mod ReadsExpressions

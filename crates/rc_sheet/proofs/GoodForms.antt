@@ -1,0 +1,125 @@
+-- What a form of good parts says, by how many parts it has, where R holds of each part.
+use Rattle.std.proofs.Common.{◌≡◌, ℕ, zero, suc, ◌+◌, ◌≤◌, true, false, ◌==◌, nat_lt, List, [], ◌∷◌, Option, Some, refl, sym, subst, ◌∙◌, arith, ltb-true, lt-ltb}
+use Rattle.std.specs.List.{AllByRecursion}
+use Rattle.std.proofs.lemmas.Bool.{true≢false}
+use Rattle.rc_model.specs.Tree.{Tree, list, Trees, nil, cons}
+use Rattle.rc_sheet_model.specs.Naming.{Naming}
+use Rattle.rc_semantics.specs.SecondParts.{Standing, standing_in}
+use Rattle.rc_grammar.specs.Grammar.{forms_of}
+use Rattle.rc_grammar.specs.Faults.{rule_of, count, fits}
+use Rattle.rc_grammar.specs.declared.grammar.Place.{Place}
+use Rattle.rc_grammar.specs.declared.grammar.Rule.{Rule}
+use Rattle.rc_sheet.specs.ReadNames.{◌>>=◌, rule_at}
+use Rattle.rc_sheet.proofs.Fine.{Given}
+use Rattle.rc_sheet.proofs.Finds.{Finds}
+use Rattle.rc_sheet.proofs.GoodParts.{Each, two_parts, three_parts, four_parts, IsGood, GoodAt, AreGood, IsGoodForm, list_finds}
+
+-- from so many on
+pub one_behind : (P : ℕ → Type 0) → ((j : ℕ) → P (suc j)) → (i : ℕ) → 1 ≤ i → P i
+one_behind P more zero le = absurd (omega (arith, le))
+one_behind P more (suc i) le = more i
+
+pub two_behind : (P : ℕ → Type 0) → ((j : ℕ) → P (suc (suc j))) → (i : ℕ) → 2 ≤ i → P i
+two_behind P more zero le = absurd (omega (arith, le))
+two_behind P more (suc zero) le = absurd (omega (arith, le))
+two_behind P more (suc (suc i)) le = more i
+
+pub three_behind : (P : ℕ → Type 0) → ((j : ℕ) → P (suc (suc (suc j)))) → (i : ℕ) → 3 ≤ i → P i
+three_behind P more zero le = absurd (omega (arith, le))
+three_behind P more (suc zero) le = absurd (omega (arith, le))
+three_behind P more (suc (suc zero)) le = absurd (omega (arith, le))
+three_behind P more (suc (suc (suc i))) le = more i
+
+module _ (given : Given) (naming : Naming) (R : Tree → Type 0) where
+  -- a form of this rule says what is P
+  pub record Says {A : Type 0} (at : Standing) (rule : Rule) (read : Rule → Trees → Option A) (P : A → Type 0) (parts : Trees) : Type 0 where
+    pub says : Each R parts → IsGoodForm given naming at rule parts → Finds (read rule parts) P
+
+  -- what is said of a form of these parts
+  abbrev pub SaysOf : {A : Type 0} → Standing → Rule → (Rule → Trees → Option A) → (A → Type 0) → Trees → Type 0
+  SaysOf at rule read P parts = Each R parts → IsGoodForm given naming at rule parts → Finds (read rule parts) P
+
+  pub with_two : {A : Type 0} {at : Standing} {rule : Rule} {read : Rule → Trees → Option A} {P : A → Type 0} {parts : Trees}
+      → ((n : ℕ) → fits n rule ≡ (n == 2)) → ((a b : Tree) → SaysOf at rule read P (cons a (cons b nil)))
+      → Says at rule read P parts
+  with_two {at = at} {rule = rule} {read = read} {P = P} {parts = parts} two then =
+      record { says = λ each form. two_parts (SaysOf at rule read P) parts (sym (two (count parts)) ∙ form.fit) then each form }
+
+  pub with_three : {A : Type 0} {at : Standing} {rule : Rule} {read : Rule → Trees → Option A} {P : A → Type 0} {parts : Trees}
+      → ((n : ℕ) → fits n rule ≡ (n == 3)) → ((a b c : Tree) → SaysOf at rule read P (cons a (cons b (cons c nil))))
+      → Says at rule read P parts
+  with_three {at = at} {rule = rule} {read = read} {P = P} {parts = parts} three then =
+      record { says = λ each form. three_parts (SaysOf at rule read P) parts (sym (three (count parts)) ∙ form.fit) then each form }
+
+  pub with_four : {A : Type 0} {at : Standing} {rule : Rule} {read : Rule → Trees → Option A} {P : A → Type 0} {parts : Trees}
+      → ((n : ℕ) → fits n rule ≡ (n == 4))
+      → ((a b c d : Tree) → SaysOf at rule read P (cons a (cons b (cons c (cons d nil)))))
+      → Says at rule read P parts
+  with_four {at = at} {rule = rule} {read = read} {P = P} {parts = parts} four then =
+      record { says = λ each form. four_parts (SaysOf at rule read P) parts (sym (four (count parts)) ∙ form.fit) then each form }
+
+  -- so many parts and one more at least
+  pub behind_one : {A : Type 0} {at : Standing} {rule : Rule} {read : Rule → Trees → Option A} {P : A → Type 0} {parts : Trees}
+      → ((n : ℕ) → fits n rule ≡ nat_lt 1 n)
+      → ((a : Tree) (rest : Trees) → 1 ≤ count rest → SaysOf at rule read P (cons a rest)) → Says at rule read P parts
+  behind_one {parts = nil} more then = record { says = λ each form. absurd (true≢false (sym form.fit ∙ more 0)) }
+  behind_one {parts = cons a rest} more then =
+      record {
+        says = λ each form.
+            let less = ltb-true 1 (suc (count rest)) (sym (more (suc (count rest))) ∙ form.fit) in
+            then a rest (omega (arith, less)) each form;
+      }
+
+  pub behind_two : {A : Type 0} {at : Standing} {rule : Rule} {read : Rule → Trees → Option A} {P : A → Type 0} {parts : Trees}
+      → ((n : ℕ) → fits n rule ≡ nat_lt 2 n)
+      → ((a b : Tree) (rest : Trees) → 1 ≤ count rest → SaysOf at rule read P (cons a (cons b rest)))
+      → Says at rule read P parts
+  behind_two {parts = nil} more then = record { says = λ each form. absurd (true≢false (sym form.fit ∙ more 0)) }
+  behind_two {parts = cons a nil} more then = record { says = λ each form. absurd (true≢false (sym form.fit ∙ more 1)) }
+  behind_two {parts = cons a (cons b rest)} more then =
+      record {
+        says = λ each form.
+            let n = suc (suc (count rest)) in
+            let less = ltb-true 2 n (sym (more n) ∙ form.fit) in
+            then a b rest (omega (arith, less)) each form;
+      }
+
+  pub behind_three : {A : Type 0} {at : Standing} {rule : Rule} {read : Rule → Trees → Option A} {P : A → Type 0} {parts : Trees}
+      → ((n : ℕ) → fits n rule ≡ nat_lt 3 n)
+      → ((a b c : Tree) (rest : Trees) → 1 ≤ count rest → SaysOf at rule read P (cons a (cons b (cons c rest))))
+      → Says at rule read P parts
+  behind_three {parts = nil} more then = record { says = λ each form. absurd (true≢false (sym form.fit ∙ more 0)) }
+  behind_three {parts = cons a nil} more then = record { says = λ each form. absurd (true≢false (sym form.fit ∙ more 1)) }
+  behind_three {parts = cons a (cons b nil)} more then =
+      record { says = λ each form. absurd (true≢false (sym form.fit ∙ more 2)) }
+  behind_three {parts = cons a (cons b (cons c rest))} more then =
+      record {
+        says = λ each form.
+            let n = suc (suc (suc (count rest))) in
+            let less = ltb-true 3 n (sym (more n) ∙ form.fit) in
+            then a b c rest (omega (arith, less)) each form;
+      }
+
+  -- a list says what each of the forms of its place says
+  pub list_says : {A : Type 0} {P : A → Type 0} (read : Rule → Trees → Option A) (place : Place) (at : Standing)
+      (parts : Trees) (from to : ℕ) → at.place ≡ place → Each R parts → IsGood given naming at (list parts from to)
+      → AllByRecursion (λ rule. Says at rule read P parts) (forms_of place)
+      → Finds (rule_at place parts >>= λ rule. read rule parts) P
+  list_says {P = P} read place at parts from to here each good all =
+      list_finds given naming (λ rule. read rule parts) place at parts from to here good (told (forms_of place) all)
+    where
+      told : (rules : List Rule) → AllByRecursion (λ rule. Says at rule read P parts) rules
+          → AllByRecursion (λ rule. IsGoodForm given naming at rule parts → Finds (read rule parts) P) rules
+      told [] all = tt
+      told (rule ∷ rules) all = ((λ form. (all.0).says each form), told rules all.1)
+
+  -- parts that all stand alike stand so each
+  pub rest_good : (at : Standing) (rule : Rule) (all : Trees) (alike : Standing) (index : ℕ) (trees : Trees)
+      → ((i : ℕ) → index ≤ i → standing_in at rule all i ≡ Some alike) → AreGood given naming at rule all index trees
+      → Each (IsGood given naming alike) trees
+  rest_good at rule all alike index nil same good = tt
+  rest_good at rule all alike index (cons tree trees) same good =
+      (
+        subst (λ o. GoodAt given naming o tree) (same index (omega arith)) good.0,
+        rest_good at rule all alike (index + 1) trees (λ i le. same i (omega (arith, le))) good.1,
+      )
