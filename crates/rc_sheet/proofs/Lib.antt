@@ -7,6 +7,7 @@ pub mod GoodParts
 pub mod Fine
 pub mod GoodForms
 pub mod FineNames
+pub mod FineExpressions
 pub mod ReadsNames
 pub mod ReadsExpressions
 pub mod ReadsEffects

@@ -1,0 +1,162 @@
+-- What a form's fine parts say is found and well formed: cards, lists of cards, numbers, sides and tests.
+use Rattle.std.proofs.Common.{◌≡◌, ℕ, suc, ◌≤◌, Bool, true, false, not, ◌&&◌, ◌||◌, ◌==◌, cond, List, [], ◌∷◌, length, ℤ, pos, neg_ℤ, int_le, Option, Some, None, slice_get, option_map, refl, sym, subst, ap, ◌∙◌, arith}
+use Rattle.std.specs.List.{list_any}
+use Rattle.std.proofs.lemmas.Bool.{and_parts, not-false}
+use Rattle.std.proofs.lemmas.Int.{ints}
+use Rattle.rc_model.specs.Literal.{integer}
+use Rattle.rc_model.specs.Tree.{Tree, word, list, Trees, nil, cons}
+use Rattle.rc_sheet_model.specs.Sheet.{Class, game_class, player_class, team_class, Sort, player_sort, card_sort, group_sort, Who, game, who_var, CardExpr, card_var, top_card, bottom_card, max_card, min_card, CollExpr, group_var, cards_in, filtered, union_of, CollExprs, no_coll, coll, IntExpr, literal, number, size_of, sum_of, worth_of, add, subtract, multiply, Test, eq_int, eq_card, eq_attr, eq_who, ne, less, less_eq, more, more_eq, has_value, and_of, or_of, not_of, all_of, any_of, Tests, no_test, test, Domain, each_player, each_card, each_group, Sheet}
+use Rattle.rc_sheet_model.specs.Lists.{coll_list, test_list}
+use Rattle.rc_sheet_model.specs.Limits.{IsInRange}
+use Rattle.rc_sheet_model.specs.Naming.{naming_of, Scope, bind, sort_of, class_of}
+use Rattle.rc_sheet_model.specs.WellFormed.{Around, is_equality, IsAttr, HasSort, IsOwner, behind, IsCard, IsColl, AreColls, IsInt, IsTest, AreTests, IsRange}
+use Rattle.rc_semantics.specs.Classes.{same_sort, same_class, bound_in}
+use Rattle.rc_semantics.specs.SecondParts.{Standing, standing_in, sort_by_form, sort_over, bytes_of}
+use Rattle.rc_semantics.specs.SecondFaults.{sorts_at, same_side, side_of_variable, side_of_form, side_of, differ, is_other_side}
+use Rattle.rc_semantics.specs.SecondFaults.{side_of_sort as sort_side}
+use Rattle.rc_semantics.specs.declared.role.Role.TheVariants.{No as no_role, UsedAttribute as used_attribute}
+use Rattle.rc_semantics.specs.declared.role.SideSort.{SideSort}
+use Rattle.rc_semantics.specs.declared.role.SideSort.TheVariants as sorts
+use Rattle.rc_grammar.specs.Faults.{is_word, is_variable, is_form_word, is_within, is_number, atom_faults, may_begin, plain_rule, rule_of, count}
+use Rattle.rc_grammar.specs.declared.keyword.Keyword.TheVariants as keyword
+use Rattle.rc_grammar.specs.declared.grammar.Place.{Place}
+use Rattle.rc_grammar.specs.declared.grammar.Place.TheVariants as place
+use Rattle.rc_grammar.specs.declared.grammar.Rule.{Rule}
+use Rattle.rc_grammar.specs.declared.grammar.Rule.TheVariants as rule
+use Rattle.rc_grammar.specs.declared.fault.SheetKind.TheVariants.{Shape, Number}
+use Rattle.rc_sheet.specs.ReadNames.{◌>>=◌, both, rule_at, name_at, binder_at, place_in, variable_in, owner_rule, loc_parts, num_parts}
+use Rattle.rc_sheet.specs.ReadExpressions.{range_of, Side, number_side, card_side, value_side, owner_side, side_of_sort, variable_side, side_word, equal_test, side_by, card_at, card_rule, coll_at, coll_rule, colls_at, int_at, int_rule, side_at, value_parts, test_at, test_rule, tests_at, range_at}
+use Rattle.rc_sheet.proofs.Fine.{Given}
+use Rattle.rc_sheet.proofs.Finds.{Finds, finds, finds_if, implies, makes, follows, follows_this, finds_both, joins, where_true, where_false, whether}
+use Rattle.rc_sheet.proofs.GoodParts.{◌▹◌, Each, by_parts, IsGood, IsGoodForm, good_form, rule_among, no_list}
+use Rattle.rc_sheet.proofs.GoodForms.{one_behind, Says, with_two, with_three, with_four, behind_one, list_says, rest_good}
+use Rattle.rc_sheet.proofs.FineNames.{passes_test, no_keyword, Gives, Good, GoodForm, IsBound, bound_variable, has_its_sort, variable_finds, word_is_variable, IsOwnerOf, current_player_finds, current_team_finds, team_of_finds, attr_finds, value_finds, map_finds, BinderAt, binder_finds, LocAt, loc_parts_finds, num_parts_finds}
+
+-- a number that is written, within its range
+pub integer_finds : (bytes : List ℕ) → is_number bytes ≡ true → Finds (integer bytes) IsInRange
+integer_finds bytes is = by (integer bytes) is
+  where
+    by : (found : Option ℤ) → is_within (neg_ℤ (pos 1000000000)) (pos 1000000000) found ≡ true → Finds found IsInRange
+    by None is = absurd cc
+    by (Some z) is =
+        let both = and_parts (int_le (neg_ℤ (pos 1000000000)) z) (int_le z (pos 1000000000)) is in
+        let least = both.0 in
+        let most = both.1 in
+        finds z (omega (arith, ints, least), omega (arith, ints, most))
+
+-- nothing is told by a second word
+untold : (b : Bool) → (b && false) ≡ false
+untold true = refl
+untold false = refl
+
+-- the first of three forms that a head may begin is no fourth
+card_form : (h f u p : Bool) (found : Rule)
+    → cond (h && true) (Some rule.Location) (cond (f && true) (Some rule.Filter) (cond (u && true) (Some rule.Union) None)) ≡ Some found
+    → sort_by_form (cond (h && true) (Some rule.Location) (cond (f && true) (Some rule.Filter)
+    (cond (u && true) (Some rule.Union) (cond (p && true) (Some rule.Partition) None)))) ≡ card_sort
+card_form true f u p found is = refl
+card_form false true u p found is = refl
+card_form false false true p found is = refl
+card_form false false false p found is = absurd cc
+
+-- a list that is one of cards is none of groups
+pub no_groups : (parts : Trees) (found : Rule) → rule_of place.Collection parts ≡ Some found
+    → sort_by_form (rule_of place.Domain parts) ≡ card_sort
+no_groups nil found is = refl
+no_groups (cons head parts) found is =
+    let h = may_begin place.Holder head in
+    let f = may_begin (place.Word keyword.Filter) head in
+    let u = may_begin (place.Word keyword.Union) head in
+    let p = may_begin (place.Word keyword.Partition) head in
+    let is' : plain_rule place.Collection head ≡ Some found = rw (untold h, untold f, untold u) at is in
+    rw (untold h, untold f, untold u, untold p) (card_form h f u p found is')
+
+-- the sort of a side, and of an owner of this class
+abbrev pub side_of_class : Class → SideSort
+side_of_class game_class = sorts.Value
+side_of_class player_class = sorts.Player
+side_of_class team_class = sorts.Team
+
+abbrev pub sort_of_side : Side → SideSort
+sort_of_side (number_side value) = sorts.Number
+sort_of_side (card_side card) = sorts.Card
+sort_of_side (value_side card attr) = sorts.Value
+sort_of_side (owner_side who) = side_of_class (class_of who)
+
+-- owners of one sort as sides are of one class
+same_of_sides : (class class' : Class) → same_side (side_of_class class) (side_of_class class') ≡ true → class ≡ class'
+same_of_sides game_class game_class is = refl
+same_of_sides player_class player_class is = refl
+same_of_sides team_class team_class is = refl
+same_of_sides class class' is = absurd cc
+
+-- sides that don't differ are of one sort
+no_difference : (first second : Option SideSort) (sort sort' : SideSort) → first ≡ Some sort → second ≡ Some sort'
+    → differ first second ≡ false → same_side sort sort' ≡ true
+no_difference first second sort sort' is is' other =
+    not-false (same_side sort sort')
+    (subst (λ o. differ (Some sort) o ≡ false) is' (subst (λ o. differ o second ≡ false) is other))
+
+module _ (sheet : Sheet) (given : Given) where
+  -- a side is well formed, and of this sort
+  abbrev pub IsSide : Around → Side → Type 0
+  IsSide around (number_side value) = IsInt sheet around value
+  IsSide around (card_side card) = IsCard sheet around card
+  IsSide around (value_side card attr) = IsCard sheet around card × IsAttr sheet attr
+  IsSide around (owner_side who) = IsOwner around who
+
+  abbrev pub SideAt : Around → Option SideSort → Side → Type 0
+  SideAt around sort side = IsSide around side × (sort ≡ Some (sort_of_side side))
+
+  -- what a variable runs over, of the sort that its tree tells
+  abbrev pub RangeAt : Around → Tree → Domain → Type 0
+  RangeAt around tree domain = IsRange sheet around domain × (sort_over tree ≡ sort_of domain)
+
+  -- a tree at each place of an expression
+  pub record Reads (tree : Tree) : Type 0 where
+    pub card : (at : Standing) → at.place ≡ place.Card → Good sheet given at tree
+        → Finds (card_at (naming_of sheet) at.around.scope tree) (IsCard sheet at.around)
+    pub coll : (at : Standing) → at.place ≡ place.Collection → Good sheet given at tree
+        → Finds (coll_at (naming_of sheet) at.around.scope tree) (IsColl sheet at.around)
+    pub range : (at : Standing) → at.place ≡ place.Members → Good sheet given at tree
+        → Finds (range_at (naming_of sheet) at.around.scope tree) (RangeAt at.around tree)
+    pub int : (at : Standing) → at.place ≡ place.Integer → Good sheet given at tree
+        → Finds (int_at (naming_of sheet) at.around.scope tree) (IsInt sheet at.around)
+    pub side : (at : Standing) → at.place ≡ place.Side → Good sheet given at tree
+        → Finds (side_at (naming_of sheet) at.around.scope tree) (SideAt at.around (side_of at.around.scope tree))
+    pub test : (at : Standing) → at.place ≡ place.Test → Good sheet given at tree
+        → Finds (test_at (naming_of sheet) at.around.scope tree) (IsTest sheet at.around)
+
+  -- a form of this rule says what is P
+  abbrev SaysCard : Standing → Rule → Trees → Type 0
+  SaysCard at rule parts =
+      Says given (naming_of sheet) Reads at rule (card_rule (naming_of sheet) at.around.scope) (IsCard sheet at.around) parts
+
+  abbrev SaysColl : Standing → ℕ → Rule → Trees → Type 0
+  SaysColl at from rule parts =
+      Says given (naming_of sheet) Reads at rule (coll_rule (naming_of sheet) at.around.scope from) (IsColl sheet at.around) parts
+
+  abbrev SaysInt : Standing → Rule → Trees → Type 0
+  SaysInt at rule parts =
+      Says given (naming_of sheet) Reads at rule (int_rule (naming_of sheet) at.around.scope) (IsInt sheet at.around) parts
+
+  abbrev SaysTest : Standing → Rule → Trees → Type 0
+  SaysTest at rule parts =
+      Says given (naming_of sheet) Reads at rule (test_rule (naming_of sheet) at.around.scope) (IsTest sheet at.around) parts
+
+  -- CARD, by each of its forms
+  top_says : (at : Standing) (parts : Trees) → SaysCard at rule.TopCard parts
+  top_says at parts =
+      with_two given (naming_of sheet) Reads (λ n. refl)
+      (λ head cards each form. makes _ top_card (each.1.0.coll _ refl form.good.1.0) (λ c is. is))
+
+  bottom_says : (at : Standing) (parts : Trees) → SaysCard at rule.BottomCard parts
+  bottom_says at parts =
+      with_two given (naming_of sheet) Reads (λ n. refl)
+      (λ head cards each form. makes _ bottom_card (each.1.0.coll _ refl form.good.1.0) (λ c is. is))
+
+  max_says : Gives sheet given → (at : Standing) (parts : Trees) → SaysCard at rule.MaxCard parts
+  max_says gives at parts =
+      with_four given (naming_of sheet) Reads (λ n. refl)
+      (λ head cards using map each form. joins _ _ max_card (each.1.0.coll _ refl form.good.1.0)
+      (map_finds sheet given gives _ _ using map refl form.good.1.1.0 refl refl form.good.1.1.1.0) (λ c n is used. (is, used)))
