@@ -1,5 +1,5 @@
 -- What a form's fine parts say is found and well formed: cards, lists of cards, numbers, sides and tests.
-use Rattle.std.proofs.Common.{◌≡◌, ℕ, suc, ◌≤◌, Bool, true, false, not, ◌&&◌, ◌||◌, ◌==◌, cond, List, [], ◌∷◌, length, ℤ, pos, neg_ℤ, int_le, Option, Some, None, slice_get, option_map, refl, sym, subst, ap, ◌∙◌, arith}
+use Rattle.std.proofs.Common.{◌≡◌, ℕ, zero, suc, ◌≤◌, Bool, true, false, not, ◌&&◌, ◌||◌, ◌==◌, cond, List, [], ◌∷◌, length, ℤ, pos, neg_ℤ, int_le, Option, Some, None, slice_get, option_map, refl, sym, subst, ap, ◌∙◌, arith}
 use Rattle.std.specs.List.{list_any}
 use Rattle.std.proofs.lemmas.Bool.{and_parts, not-false}
 use Rattle.std.proofs.lemmas.Int.{ints}
@@ -29,8 +29,8 @@ use Rattle.rc_sheet.specs.ReadExpressions.{range_of, Side, number_side, card_sid
 use Rattle.rc_sheet.proofs.Fine.{Given}
 use Rattle.rc_sheet.proofs.Finds.{Finds, finds, finds_if, implies, makes, follows, follows_this, finds_both, joins, where_true, where_false, whether}
 use Rattle.rc_sheet.proofs.GoodParts.{◌▹◌, Each, by_parts, IsGood, IsGoodForm, good_form, rule_among, no_list}
-use Rattle.rc_sheet.proofs.GoodForms.{one_behind, Says, with_two, with_three, with_four, behind_one, list_says, rest_good}
-use Rattle.rc_sheet.proofs.FineNames.{passes_test, no_keyword, Gives, Good, GoodForm, IsBound, bound_variable, has_its_sort, variable_finds, word_is_variable, IsOwnerOf, current_player_finds, current_team_finds, team_of_finds, attr_finds, value_finds, map_finds, BinderAt, binder_finds, LocAt, loc_parts_finds, num_parts_finds}
+use Rattle.rc_sheet.proofs.GoodForms.{one_behind, plain_part, Says, with_two, with_three, with_four, behind_one, behind_two, list_says_by, list_says, rest_good}
+use Rattle.rc_sheet.proofs.FineNames.{passes_test, no_keyword, Gives, Good, GoodForm, IsBound, bound_variable, has_its_sort, variable_finds, word_is_variable, IsOwnerOf, current_player_finds, current_team_finds, team_of_finds, attr_finds, value_finds, map_finds, BinderAt, binder_finds, behind_binder, LocAt, loc_parts_finds, num_parts_finds}
 
 -- a number that is written, within its range
 pub integer_finds : (bytes : List ℕ) → is_number bytes ≡ true → Finds (integer bytes) IsInRange
@@ -144,6 +144,10 @@ module _ (sheet : Sheet) (given : Given) where
   SaysTest at rule parts =
       Says given (naming_of sheet) Reads at rule (test_rule (naming_of sheet) at.around.scope) (IsTest sheet at.around) parts
 
+  -- a test, in what is around it
+  abbrev TestIn : Tree → Around → Type 0
+  TestIn t around = Finds (test_at (naming_of sheet) around.scope t) (IsTest sheet around)
+
   -- CARD, by each of its forms
   top_says : (at : Standing) (parts : Trees) → SaysCard at rule.TopCard parts
   top_says at parts =
@@ -160,3 +164,139 @@ module _ (sheet : Sheet) (given : Given) where
       with_four given (naming_of sheet) Reads (λ n. refl)
       (λ head cards using map each form. joins _ _ max_card (each.1.0.coll _ refl form.good.1.0)
       (map_finds sheet given gives _ _ using map refl form.good.1.1.0 refl refl form.good.1.1.1.0) (λ c n is used. (is, used)))
+
+  min_says : Gives sheet given → (at : Standing) (parts : Trees) → SaysCard at rule.MinCard parts
+  min_says gives at parts =
+      with_four given (naming_of sheet) Reads (λ n. refl)
+      (λ head cards using map each form. joins _ _ min_card (each.1.0.coll _ refl form.good.1.0)
+      (map_finds sheet given gives _ _ using map refl form.good.1.1.0 refl refl form.good.1.1.1.0) (λ c n is used. (is, used)))
+
+  -- the sort of a list of cards, as what a variable runs over
+  coll_sort : (at : Standing) (tree : Tree) → at.place ≡ place.Collection → Good sheet given at tree
+      → sort_over tree ≡ card_sort
+  coll_sort at (word bytes from to) here good =
+      let variable = word_is_variable sheet given at place.Collection bytes from to here refl good in
+      ap (λ b. cond b player_sort card_sort) (no_keyword bytes variable).1
+  coll_sort at (list parts from to) here good =
+      let found = good_form given (naming_of sheet) at parts from to good in
+      no_groups parts found.0 (ap (λ p. rule_of p parts) (sym here) ∙ found.1.told)
+
+  -- COLL, by each of its forms
+  pub location_says : (at : Standing) (from : ℕ) (parts : Trees) → SaysColl at from rule.Location parts
+  location_says at from parts =
+      record { says = λ each form. makes _ cards_in (loc_parts_finds sheet given at parts from form) (λ loc is. is.0) }
+
+  pub filter_says : (at : Standing) (from : ℕ) (parts : Trees) → SaysColl at from rule.Filter parts
+  filter_says at from parts =
+      with_four given (naming_of sheet) Reads (λ n. refl)
+      (λ head cards variable t each form. follows _ _ (each.1.0.coll _ refl form.good.1.0)
+      (λ c is. follows _ _ (binder_finds sheet given at _ _ variable form.fine.fits refl refl form.good.1.1.0)
+      (λ bound binds. makes _ _
+      (behind_binder sheet given (TestIn t) at.around (bytes_of variable) bound card_sort (sort_over cards) binds
+      (coll_sort _ cards refl form.good.1.0) (each.1.1.1.0.test _ refl form.good.1.1.1.0))
+      (λ t' holds. (is, binds.0, holds)))))
+
+  -- lists of cards, one after the other
+  colls_find : (at : Standing) (parts : Trees) → at.place ≡ place.Collection → Each Reads parts
+      → Each (Good sheet given at) parts
+      → Finds (colls_at (naming_of sheet) at.around.scope parts)
+      (λ cs. AreColls sheet at.around cs × (length (coll_list cs) ≡ count parts))
+  colls_find at nil here each good = finds no_coll (tt, refl)
+  colls_find at (cons part parts) here each good =
+      joins _ _ coll (each.0.coll at here good.0) (colls_find at parts here each.1 good.1)
+      (λ c cs is are. ((is, are.0), ap (λ n. suc n) are.1))
+
+  union_parts : (at : Standing) (all : Trees) (i : ℕ) → 1 ≤ i
+      → standing_in at rule.Union all i ≡ Some (plain_part at place.Collection all)
+  union_parts at all zero le = absurd (omega (arith, le))
+  union_parts at all (suc zero) le = refl
+  union_parts at all (suc (suc i)) le = refl
+
+  pub union_says : (at : Standing) (from : ℕ) (parts : Trees) → SaysColl at from rule.Union parts
+  union_says at from parts =
+      behind_two given (naming_of sheet) Reads (λ n. refl)
+      (λ head first rest some each form.
+      let alike = rest_good given (naming_of sheet) Reads at rule.Union (cons head (cons first rest)) _ 1 (cons first rest)
+          (union_parts at (cons head (cons first rest))) form.good.1 in
+      makes _ union_of (colls_find _ (cons first rest) refl each.1 alike)
+      (λ cs are. let long = are.1 in (omega (arith, some, long), are.0)))
+
+  -- a list of cards
+  coll_word_finds : (at : Standing) (bytes : List ℕ) (from to : ℕ) → is_variable bytes ≡ true
+      → sorts_at at.place ≡ group_sort ∷ [] → Good sheet given at (word bytes from to)
+      → Finds (coll_at (naming_of sheet) at.around.scope (word bytes from to)) (IsColl sheet at.around)
+  coll_word_finds at bytes from to is sorts good =
+      makes (variable_in at.around.scope group_sort bytes) group_var
+      (variable_finds sheet given at group_sort bytes is sorts good.fine.0) (λ var has. has)
+
+  coll_list_finds : (at : Standing) (parts : Trees) (from to : ℕ) → rule_of at.place parts ≡ rule_of place.Collection parts
+      → Each Reads parts → Good sheet given at (list parts from to)
+      → Finds (coll_at (naming_of sheet) at.around.scope (list parts from to)) (IsColl sheet at.around)
+  coll_list_finds at parts from to same each good =
+      list_says_by given (naming_of sheet) Reads (coll_rule (naming_of sheet) at.around.scope from) place.Collection at parts
+      from to same each good
+      (location_says at from parts ▹ filter_says at from parts ▹ union_says at from parts ▹ tt)
+
+  -- what a variable runs over, but in an alternative
+  range_word_finds : (at : Standing) (bytes : List ℕ) (from to : ℕ) → (is_word keyword.Player bytes || is_variable bytes) ≡ true
+      → sorts_at at.place ≡ group_sort ∷ [] → Good sheet given at (word bytes from to)
+      → Finds (range_at (naming_of sheet) at.around.scope (word bytes from to)) (RangeAt at.around (word bytes from to))
+  range_word_finds at bytes from to taken sorts good =
+      whether (is_word keyword.Player bytes) (Some each_player) _
+      (λ is. finds each_player (tt, ap (λ b. cond b player_sort card_sort) is))
+      (λ other. makes _ each_card
+      (coll_word_finds at bytes from to (ap (λ b. b || is_variable bytes) (sym other) ∙ taken) sorts good)
+      (λ c is. (is, ap (λ b. cond b player_sort card_sort) other)))
+
+  same_ranges : (parts : Trees) → rule_of place.Members parts ≡ rule_of place.Collection parts
+  same_ranges nil = refl
+  same_ranges (cons head parts) = refl
+
+  range_list_finds : (at : Standing) (parts : Trees) (from to : ℕ) → at.place ≡ place.Members
+      → Each Reads parts → Good sheet given at (list parts from to)
+      → Finds (range_at (naming_of sheet) at.around.scope (list parts from to)) (RangeAt at.around (list parts from to))
+  range_list_finds at parts from to here each good =
+      let same = ap (λ p. rule_of p parts) here ∙ same_ranges parts in
+      let found = good_form given (naming_of sheet) at parts from to good in
+      makes _ each_card (coll_list_finds at parts from to same each good)
+      (λ c is. (is, no_groups parts found.0 (sym same ∙ found.1.told)))
+
+  -- INT, by each of its forms
+  counter_says : (at : Standing) (parts : Trees) → SaysInt at rule.Counter parts
+  counter_says at parts =
+      record { says = λ each form. makes _ number (num_parts_finds sheet given at parts form) (λ num is. is) }
+
+  size_says : (at : Standing) (parts : Trees) → SaysInt at rule.Size parts
+  size_says at parts =
+      with_two given (naming_of sheet) Reads (λ n. refl)
+      (λ head cards each form. makes _ size_of (each.1.0.coll _ refl form.good.1.0) (λ c is. is))
+
+  sum_says : Gives sheet given → (at : Standing) (parts : Trees) → SaysInt at rule.Sum parts
+  sum_says gives at parts =
+      with_four given (naming_of sheet) Reads (λ n. refl)
+      (λ head cards using map each form. joins _ _ sum_of (each.1.0.coll _ refl form.good.1.0)
+      (map_finds sheet given gives _ _ using map refl form.good.1.1.0 refl refl form.good.1.1.1.0) (λ c n is used. (is, used)))
+
+  points_says : Gives sheet given → (at : Standing) (parts : Trees) → SaysInt at rule.PointsOf parts
+  points_says gives at parts =
+      with_four given (naming_of sheet) Reads (λ n. refl)
+      (λ head card using map each form. joins _ _ worth_of (each.1.0.card _ refl form.good.1.0)
+      (map_finds sheet given gives _ _ using map refl form.good.1.1.0 refl refl form.good.1.1.1.0) (λ c n is used. (is, used)))
+
+  plus_says : (at : Standing) (parts : Trees) → SaysInt at rule.Plus parts
+  plus_says at parts =
+      with_three given (naming_of sheet) Reads (λ n. refl)
+      (λ head a b each form. joins _ _ add (each.1.0.int _ refl form.good.1.0) (each.1.1.0.int _ refl form.good.1.1.0)
+      (λ a b is is'. (is, is')))
+
+  minus_says : (at : Standing) (parts : Trees) → SaysInt at rule.Minus parts
+  minus_says at parts =
+      with_three given (naming_of sheet) Reads (λ n. refl)
+      (λ head a b each form. joins _ _ subtract (each.1.0.int _ refl form.good.1.0) (each.1.1.0.int _ refl form.good.1.1.0)
+      (λ a b is is'. (is, is')))
+
+  times_says : (at : Standing) (parts : Trees) → SaysInt at rule.Times parts
+  times_says at parts =
+      with_three given (naming_of sheet) Reads (λ n. refl)
+      (λ head a b each form. joins _ _ multiply (each.1.0.int _ refl form.good.1.0) (each.1.1.0.int _ refl form.good.1.1.0)
+      (λ a b is is'. (is, is')))

@@ -402,6 +402,12 @@ module _ (sheet : Sheet) (given : Given) where
   binder_finds outer at parts (list inner from to) fine third here good =
       absurd (no_list given (naming_of sheet) place.Variable at inner from to here good refl)
 
+  -- what holds behind a binder, where its variable's sort is known
+  pub behind_binder : (F : Around → Type 0) (around : Around) (bytes : List ℕ) (bound : ℕ) (sort sort' : Sort)
+      → BinderAt around bytes bound → sort' ≡ sort → F (bound_in around bytes sort') → F (behind sheet around bound sort)
+  behind_binder F around bytes bound sort sort' binds same holds =
+      subst F (ap (bound_in around bytes) same ∙ sym (binds.1 sort)) holds
+
   -- the word of a kind
   kind_is_told : (kind : LocKind) (at : Standing) (tree : Tree) → at.place ≡ place.Kind → Good at tree
       → kind_bytes kind ≡ bytes_of tree → is_form_word (kind_word kind) tree ≡ true

@@ -1,10 +1,11 @@
 -- What a form of good parts says, by how many parts it has, where R holds of each part.
-use Rattle.std.proofs.Common.{◌≡◌, ℕ, zero, suc, ◌+◌, ◌≤◌, true, false, ◌==◌, nat_lt, List, [], ◌∷◌, Option, Some, refl, sym, subst, ◌∙◌, arith, ltb-true, lt-ltb}
+use Rattle.std.proofs.Common.{◌≡◌, ℕ, zero, suc, ◌+◌, ◌≤◌, true, false, ◌==◌, nat_lt, List, [], ◌∷◌, ◌++◌, Option, Some, refl, sym, subst, ap, ◌∙◌, arith, ltb-true, lt-ltb}
 use Rattle.std.specs.List.{AllByRecursion}
 use Rattle.std.proofs.lemmas.Bool.{true≢false}
 use Rattle.rc_model.specs.Tree.{Tree, list, Trees, nil, cons}
 use Rattle.rc_sheet_model.specs.Naming.{Naming}
 use Rattle.rc_semantics.specs.SecondParts.{Standing, standing_in}
+use Rattle.rc_semantics.specs.declared.role.Role.TheVariants.{No as no_role}
 use Rattle.rc_grammar.specs.Grammar.{forms_of}
 use Rattle.rc_grammar.specs.Faults.{rule_of, count, fits}
 use Rattle.rc_grammar.specs.declared.grammar.Place.{Place}
@@ -12,7 +13,7 @@ use Rattle.rc_grammar.specs.declared.grammar.Rule.{Rule}
 use Rattle.rc_sheet.specs.ReadNames.{◌>>=◌, rule_at}
 use Rattle.rc_sheet.proofs.Fine.{Given}
 use Rattle.rc_sheet.proofs.Finds.{Finds}
-use Rattle.rc_sheet.proofs.GoodParts.{Each, two_parts, three_parts, four_parts, IsGood, GoodAt, AreGood, IsGoodForm, list_finds}
+use Rattle.rc_sheet.proofs.GoodParts.{Each, two_parts, three_parts, four_parts, IsGood, GoodAt, AreGood, IsGoodForm, finds_by}
 
 -- from so many on
 pub one_behind : (P : ℕ → Type 0) → ((j : ℕ) → P (suc j)) → (i : ℕ) → 1 ≤ i → P i
@@ -29,6 +30,11 @@ three_behind P more zero le = absurd (omega (arith, le))
 three_behind P more (suc zero) le = absurd (omega (arith, le))
 three_behind P more (suc (suc zero)) le = absurd (omega (arith, le))
 three_behind P more (suc (suc (suc i))) le = more i
+
+-- how a part stands that has no role of its own and nothing more around it
+abbrev pub plain_part : Standing → Place → Trees → Standing
+plain_part at place all =
+    record { place = place; role = no_role; beside = all; around = at.around; above = at.above ++ [] }
 
 module _ (given : Given) (naming : Naming) (R : Tree → Type 0) where
   -- a form of this rule says what is P
@@ -100,18 +106,25 @@ module _ (given : Given) (naming : Naming) (R : Tree → Type 0) where
             then a b c rest (omega (arith, less)) each form;
       }
 
-  -- a list says what each of the forms of its place says
-  pub list_says : {A : Type 0} {P : A → Type 0} (read : Rule → Trees → Option A) (place : Place) (at : Standing)
-      (parts : Trees) (from to : ℕ) → at.place ≡ place → Each R parts → IsGood given naming at (list parts from to)
-      → AllByRecursion (λ rule. Says at rule read P parts) (forms_of place)
+  -- a list says what each of the forms of its place says, or of another place with the same forms
+  pub list_says_by : {A : Type 0} {P : A → Type 0} (read : Rule → Trees → Option A) (place : Place) (at : Standing)
+      (parts : Trees) (from to : ℕ) → rule_of at.place parts ≡ rule_of place parts → Each R parts
+      → IsGood given naming at (list parts from to) → AllByRecursion (λ rule. Says at rule read P parts) (forms_of place)
       → Finds (rule_at place parts >>= λ rule. read rule parts) P
-  list_says {P = P} read place at parts from to here each good all =
-      list_finds given naming (λ rule. read rule parts) place at parts from to here good (told (forms_of place) all)
+  list_says_by {P = P} read place at parts from to same each good all =
+      finds_by given naming (λ rule. read rule parts) place at parts from to same good (told (forms_of place) all)
     where
       told : (rules : List Rule) → AllByRecursion (λ rule. Says at rule read P parts) rules
           → AllByRecursion (λ rule. IsGoodForm given naming at rule parts → Finds (read rule parts) P) rules
       told [] all = tt
       told (rule ∷ rules) all = ((λ form. (all.0).says each form), told rules all.1)
+
+  pub list_says : {A : Type 0} {P : A → Type 0} (read : Rule → Trees → Option A) (place : Place) (at : Standing)
+      (parts : Trees) (from to : ℕ) → at.place ≡ place → Each R parts → IsGood given naming at (list parts from to)
+      → AllByRecursion (λ rule. Says at rule read P parts) (forms_of place)
+      → Finds (rule_at place parts >>= λ rule. read rule parts) P
+  list_says read place at parts from to here each good all =
+      list_says_by read place at parts from to (ap (λ p. rule_of p parts) here) each good all
 
   -- parts that all stand alike stand so each
   pub rest_good : (at : Standing) (rule : Rule) (all : Trees) (alike : Standing) (index : ℕ) (trees : Trees)
