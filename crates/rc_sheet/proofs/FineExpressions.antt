@@ -13,7 +13,9 @@ use Rattle.rc_sheet_model.specs.WellFormed.{Around, is_equality, IsAttr, HasSort
 use Rattle.rc_semantics.specs.Classes.{same_sort, same_class, bound_in}
 use Rattle.rc_semantics.specs.SecondParts.{Standing, standing_in, sort_by_form, sort_over, bytes_of}
 use Rattle.rc_semantics.specs.SecondFaults.{sorts_at, same_side, side_of_variable, side_of_form, side_of, differ, is_other_side}
+use Rattle.rc_semantics.specs.SecondNames.{some_of}
 use Rattle.rc_semantics.specs.SecondFaults.{side_of_sort as sort_side}
+use Rattle.rc_semantics.specs.SecondFaults.{variable_in as variable_found}
 use Rattle.rc_semantics.specs.declared.role.Role.TheVariants.{No as no_role, UsedAttribute as used_attribute}
 use Rattle.rc_semantics.specs.declared.role.SideSort.{SideSort}
 use Rattle.rc_semantics.specs.declared.role.SideSort.TheVariants as sorts
@@ -300,3 +302,142 @@ module _ (sheet : Sheet) (given : Given) where
       with_three given (naming_of sheet) Reads (λ n. refl)
       (λ head a b each form. joins _ _ multiply (each.1.0.int _ refl form.good.1.0) (each.1.1.0.int _ refl form.good.1.1.0)
       (λ a b is is'. (is, is')))
+
+  -- SIDE: what a list says as a side
+  abbrev side_read : Scope → Rule → Trees → Option Side
+  side_read scope rule parts =
+      side_by rule (int_rule (naming_of sheet) scope rule parts) (card_rule (naming_of sheet) scope rule parts)
+      (value_parts (naming_of sheet) scope parts) (owner_rule scope rule parts)
+
+  abbrev SaysSide : Standing → Rule → Trees → Type 0
+  SaysSide at rule parts =
+      Says given (naming_of sheet) Reads at rule (side_read at.around.scope)
+      (SideAt at.around (side_of_form (rule_of place.Side parts))) parts
+
+  -- its sort is the one that its form tells
+  sort_told : (at : Standing) (parts : Trees) (found : Rule) (sort : SideSort) → at.place ≡ place.Side
+      → rule_of at.place parts ≡ Some found → side_of_form (Some found) ≡ Some sort
+      → side_of_form (rule_of place.Side parts) ≡ Some sort
+  sort_told at parts found sort here told is =
+      ap (λ p. side_of_form (rule_of p parts)) (sym here) ∙ ap side_of_form told ∙ is
+
+  -- a number as a side
+  int_side : (at : Standing) (found : Rule) (parts : Trees) → at.place ≡ place.Side
+      → ((value : Option IntExpr) (card : Option CardExpr) (pair : Option (CardExpr × ℕ)) (who : Option Who)
+      → side_by found value card pair who ≡ option_map number_side value)
+      → side_of_form (Some found) ≡ Some sorts.Number → SaysInt at found parts → SaysSide at found parts
+  int_side at found parts here same sort says =
+      record {
+        says = λ each form.
+            subst (λ o. Finds o (SideAt at.around (side_of_form (rule_of place.Side parts)))) (sym (same _ _ _ _))
+            (makes _ number_side (says.says each form) (λ v is. (is, sort_told at parts found _ here form.told sort)));
+      }
+
+  -- a card as a side
+  card_as_side : (at : Standing) (found : Rule) (parts : Trees) → at.place ≡ place.Side
+      → ((value : Option IntExpr) (card : Option CardExpr) (pair : Option (CardExpr × ℕ)) (who : Option Who)
+      → side_by found value card pair who ≡ option_map card_side card)
+      → side_of_form (Some found) ≡ Some sorts.Card → SaysCard at found parts → SaysSide at found parts
+  card_as_side at found parts here same sort says =
+      record {
+        says = λ each form.
+            subst (λ o. Finds o (SideAt at.around (side_of_form (rule_of place.Side parts)))) (sym (same _ _ _ _))
+            (makes _ card_side (says.says each form) (λ v is. (is, sort_told at parts found _ here form.told sort)));
+      }
+
+  -- an owner as a side
+  owner_as_side : (at : Standing) (found : Rule) (parts : Trees) (class : Class) → at.place ≡ place.Side
+      → ((value : Option IntExpr) (card : Option CardExpr) (pair : Option (CardExpr × ℕ)) (who : Option Who)
+      → side_by found value card pair who ≡ option_map owner_side who)
+      → side_of_form (Some found) ≡ Some (side_of_class class)
+      → (GoodForm sheet given at found parts → Finds (owner_rule at.around.scope found parts) (IsOwnerOf sheet given at.around class))
+      → SaysSide at found parts
+  owner_as_side at found parts class here same sort says =
+      record {
+        says = λ each form.
+            subst (λ o. Finds o (SideAt at.around (side_of_form (rule_of place.Side parts)))) (sym (same _ _ _ _))
+            (makes _ owner_side (says form)
+            (λ who is. (is.0, sort_told at parts found _ here form.told sort ∙ ap (λ c. Some (side_of_class c)) (sym is.1))));
+      }
+
+  -- a card's value
+  values_say : Gives sheet given → (at : Standing) (parts : Trees)
+      → Says given (naming_of sheet) Reads at rule.AttributeOf (λ found parts. value_parts (naming_of sheet) at.around.scope parts)
+      (λ p. IsCard sheet at.around p.0 × IsAttr sheet p.1) parts
+  values_say gives at parts =
+      with_three given (naming_of sheet) Reads (λ n. refl)
+      (λ head card attr each form. finds_both _ _ (each.1.0.card _ refl form.good.1.0)
+      (attr_finds sheet given gives _ attr refl refl form.good.1.1.0))
+
+  -- the same as a side
+  attribute_says : Gives sheet given → (at : Standing) (parts : Trees) → at.place ≡ place.Side
+      → SaysSide at rule.AttributeOf parts
+  attribute_says gives at parts here =
+      record {
+        says = λ each form. makes _ (λ p. value_side p.0 p.1) ((values_say gives at parts).says each form)
+            (λ p is. (is, sort_told at parts rule.AttributeOf _ here form.told refl));
+      }
+
+  -- a variable as a side, of its sort
+  sort_finds : (around : Around) (var : ℕ) (sort : Sort) → HasSort around sort var
+      → list_any (same_sort sort) (player_sort ∷ card_sort ∷ []) ≡ true
+      → Finds (side_of_sort var sort) (SideAt around (sort_side sort))
+  sort_finds around var player_sort has fits = finds (owner_side (who_var var)) (has, refl)
+  sort_finds around var card_sort has fits = finds (card_side (card_var var)) (has, refl)
+  sort_finds around var group_sort has fits = absurd cc
+
+  variable_side_finds : (at : Standing) (bytes : List ℕ) → is_variable bytes ≡ true → at.place ≡ place.Side
+      → (bound : IsBound sheet given at bytes)
+      → Finds (variable_side bound.var (slice_get at.around.scope bound.var))
+      (SideAt at.around (cond (is_variable bytes) (side_of_variable (variable_found at.around.scope bytes)) (Some sorts.Number)))
+  variable_side_finds at bytes is here bound =
+      let sort = bound.variable.sort in
+      let told : cond (is_variable bytes) (side_of_variable (variable_found at.around.scope bytes)) (Some sorts.Number) ≡ sort_side sort
+          = ap (λ b. cond b (side_of_variable (variable_found at.around.scope bytes)) (Some sorts.Number)) is
+          ∙ ap side_of_variable bound.found in
+      let fits = subst (λ p. list_any (same_sort sort) (sorts_at p) ≡ true) here bound.fits in
+      subst
+      (λ o. Finds (variable_side bound.var o) (SideAt at.around
+      (cond (is_variable bytes) (side_of_variable (variable_found at.around.scope bytes)) (Some sorts.Number)))) (sym bound.there)
+      (implies _ (sort_finds at.around bound.var sort (has_its_sort sheet given at bytes sort bound refl) fits)
+      (λ side has. (has.0, told ∙ has.1)))
+
+  -- an atom as a side
+  side_word_finds : (at : Standing) (bytes : List ℕ) (from to : ℕ) → at.place ≡ place.Side
+      → Good sheet given at (word bytes from to)
+      → Finds (side_word at.around.scope bytes) (SideAt at.around (side_of at.around.scope (word bytes from to)))
+  unfolding side_word
+  side_word_finds at bytes from to here good =
+      let taken = passes_test (is_variable bytes || is_number bytes) Number from
+          (subst (λ p. atom_faults p bytes from ≡ []) here good.shaped) in
+      whether (is_variable bytes) (place_in at.around.scope bytes >>= (λ place. variable_side place (slice_get at.around.scope place))) _
+      (λ is.
+      let bound = bound_variable sheet given at bytes is (ap (λ p. some_of (sorts_at p)) here) good.fine.0 in
+      follows_this (place_in at.around.scope bytes) bound.var _ (finds_if _ bound.var bound.placed refl)
+      (variable_side_finds at bytes is here bound))
+      (λ other. makes (integer bytes) (λ value. number_side (literal value))
+      (integer_finds bytes (ap (λ b. b || is_number bytes) (sym other) ∙ taken))
+      (λ v is. (is, ap (λ b. cond b (side_of_variable (variable_found at.around.scope bytes)) (Some sorts.Number)) other)))
+
+  side_list_finds : Gives sheet given → (at : Standing) (parts : Trees) (from to : ℕ) → at.place ≡ place.Side
+      → Each Reads parts → Good sheet given at (list parts from to)
+      → Finds (side_at (naming_of sheet) at.around.scope (list parts from to))
+      (SideAt at.around (side_of at.around.scope (list parts from to)))
+  side_list_finds gives at parts from to here each good =
+      list_says given (naming_of sheet) Reads (side_read at.around.scope) place.Side at parts from to here each good
+      (int_side at rule.Counter parts here (λ v c p w. refl) refl (counter_says at parts)
+      ▹ int_side at rule.Size parts here (λ v c p w. refl) refl (size_says at parts)
+      ▹ int_side at rule.Sum parts here (λ v c p w. refl) refl (sum_says gives at parts)
+      ▹ int_side at rule.PointsOf parts here (λ v c p w. refl) refl (points_says gives at parts)
+      ▹ int_side at rule.Plus parts here (λ v c p w. refl) refl (plus_says at parts)
+      ▹ int_side at rule.Minus parts here (λ v c p w. refl) refl (minus_says at parts)
+      ▹ int_side at rule.Times parts here (λ v c p w. refl) refl (times_says at parts)
+      ▹ card_as_side at rule.TopCard parts here (λ v c p w. refl) refl (top_says at parts)
+      ▹ card_as_side at rule.BottomCard parts here (λ v c p w. refl) refl (bottom_says at parts)
+      ▹ card_as_side at rule.MaxCard parts here (λ v c p w. refl) refl (max_says gives at parts)
+      ▹ card_as_side at rule.MinCard parts here (λ v c p w. refl) refl (min_says gives at parts)
+      ▹ owner_as_side at rule.CurrentPlayer parts player_class here (λ v c p w. refl) refl (current_player_finds sheet given at parts)
+      ▹ owner_as_side at rule.CurrentTeam parts team_class here (λ v c p w. refl) refl (current_team_finds sheet given at parts)
+      ▹ owner_as_side at rule.TeamOf parts team_class here (λ v c p w. refl) refl (team_of_finds sheet given at parts)
+      ▹ attribute_says gives at parts here
+      ▹ tt)
