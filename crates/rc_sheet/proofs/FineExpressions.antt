@@ -1,7 +1,7 @@
 -- What a form's fine parts say is found and well formed: cards, lists of cards, numbers, sides and tests.
 use Rattle.std.proofs.Common.{◌≡◌, ℕ, zero, suc, ◌≤◌, Bool, true, false, not, ◌&&◌, ◌||◌, ◌==◌, cond, List, [], ◌∷◌, length, ℤ, pos, neg_ℤ, int_le, Option, Some, None, slice_get, option_map, refl, sym, subst, ap, ◌∙◌, arith}
 use Rattle.std.specs.List.{list_any}
-use Rattle.std.proofs.lemmas.Bool.{and_parts, not-false}
+use Rattle.std.proofs.lemmas.Bool.{and_parts, not-false, true≢false}
 use Rattle.std.proofs.lemmas.Int.{ints}
 use Rattle.rc_model.specs.Literal.{integer}
 use Rattle.rc_model.specs.Tree.{Tree, word, list, Trees, nil, cons}
@@ -32,7 +32,7 @@ use Rattle.rc_sheet.proofs.Fine.{Given}
 use Rattle.rc_sheet.proofs.Finds.{Finds, finds, finds_if, implies, makes, follows, follows_this, finds_both, joins, where_true, where_false, whether}
 use Rattle.rc_sheet.proofs.GoodParts.{◌▹◌, Each, by_parts, IsGood, IsGoodForm, good_form, rule_among, no_list}
 use Rattle.rc_sheet.proofs.GoodForms.{one_behind, plain_part, Says, with_two, with_three, with_four, behind_one, behind_two, list_says_by, list_says, rest_good}
-use Rattle.rc_sheet.proofs.FineNames.{passes_test, no_keyword, Gives, Good, GoodForm, IsBound, bound_variable, has_its_sort, variable_finds, word_is_variable, IsOwnerOf, current_player_finds, current_team_finds, team_of_finds, attr_finds, value_finds, map_finds, BinderAt, binder_finds, behind_binder, LocAt, loc_parts_finds, num_parts_finds}
+use Rattle.rc_sheet.proofs.FineNames.{passes_test, no_keyword, class_same, Gives, Good, GoodForm, IsBound, bound_variable, has_its_sort, variable_finds, word_is_variable, IsOwnerOf, current_player_finds, current_team_finds, team_of_finds, attr_finds, value_finds, map_finds, BinderAt, binder_finds, behind_binder, LocAt, loc_parts_finds, num_parts_finds}
 
 -- a number that is written, within its range
 pub integer_finds : (bytes : List ℕ) → is_number bytes ≡ true → Finds (integer bytes) IsInRange
@@ -441,3 +441,213 @@ module _ (sheet : Sheet) (given : Given) where
       ▹ owner_as_side at rule.TeamOf parts team_class here (λ v c p w. refl) refl (team_of_finds sheet given at parts)
       ▹ attribute_says gives at parts here
       ▹ tt)
+
+  -- BOOL: two sides of one sort make an equation
+  abbrev pub IsEquation : Around → Test → Type 0
+  IsEquation around t = (is_equality t ≡ true) × IsTest sheet around t
+
+  -- an owner is of no other sort, on either side
+  abbrev Apart : SideSort → Who → Type 0
+  Apart sort who =
+      (same_side sort (side_of_class (class_of who)) ≡ false) × (same_side (side_of_class (class_of who)) sort ≡ false)
+
+  owner_differs : (around : Around) (who : Who) → IsOwner around who
+      → Apart sorts.Number who × Apart sorts.Card who × Apart sorts.Value who
+  owner_differs around game is = absurd is
+  owner_differs around who is = ((refl, refl), (refl, refl), (refl, refl))
+
+  equal_finds : (around : Around) (a b : Side) → IsSide around a → IsSide around b
+      → same_side (sort_of_side a) (sort_of_side b) ≡ true → Finds (equal_test a b) (IsEquation around)
+  equal_finds around (number_side a) (number_side b) p q is = finds (eq_int a b) (refl, (p, q))
+  equal_finds around (card_side a) (card_side b) p q is = finds (eq_card a b) (refl, (p, q))
+  equal_finds around (value_side a attr) (value_side b attr') p q is =
+      finds (eq_attr a attr b attr') (refl, (p.0, p.1, q.0, q.1))
+  equal_finds around (owner_side a) (owner_side b) p q is =
+      let same = same_of_sides (class_of a) (class_of b) is in
+      where_true (same_class (class_of a) (class_of b)) (Some (eq_who a b)) None
+      (ap (λ c. same_class c (class_of b)) same ∙ class_same (class_of b)) (finds (eq_who a b) (refl, (p, q, same)))
+  equal_finds around (owner_side who) (number_side b) p q is = absurd (true≢false (sym is ∙ (owner_differs around who p).0.1))
+  equal_finds around (owner_side who) (card_side b) p q is = absurd (true≢false (sym is ∙ (owner_differs around who p).1.1))
+  equal_finds around (owner_side who) (value_side b attr) p q is = absurd (true≢false (sym is ∙ (owner_differs around who p).2.1))
+  equal_finds around (number_side a) (owner_side who) p q is = absurd (true≢false (sym is ∙ (owner_differs around who q).0.0))
+  equal_finds around (card_side a) (owner_side who) p q is = absurd (true≢false (sym is ∙ (owner_differs around who q).1.0))
+  equal_finds around (value_side a attr) (owner_side who) p q is = absurd (true≢false (sym is ∙ (owner_differs around who q).2.0))
+  equal_finds around a b p q is = absurd cc
+
+  -- what two sides say that don't differ
+  compares : (around : Around) (a b : Tree)
+      → Finds (side_at (naming_of sheet) around.scope a) (SideAt around (side_of around.scope a))
+      → Finds (side_at (naming_of sheet) around.scope b) (SideAt around (side_of around.scope b))
+      → differ (side_of around.scope a) (side_of around.scope b) ≡ false
+      → Finds (both (side_at (naming_of sheet) around.scope a) (side_at (naming_of sheet) around.scope b)
+      >>= λ p. equal_test p.0 p.1) (IsEquation around)
+  compares around a b first second fits =
+      follows _ (λ p. equal_test p.0 p.1) (finds_both _ _ first second)
+      (λ p are. equal_finds around p.0 p.1 are.0.0 are.1.0
+      (no_difference _ _ (sort_of_side p.0) (sort_of_side p.1) are.0.1 are.1.1 fits))
+
+  -- a second side is of the sort of the first
+  sides_fit : (at : Standing) (tree : Tree) → Good sheet given at tree → is_other_side at at.role ≡ false
+  sides_fit at (word bytes from to) good = good.fine.0.sides_fit
+  sides_fit at (list parts from to) good =
+      (good_form given (naming_of sheet) at parts from to good).1.fine.sides_fit
+
+  equal_says : (at : Standing) (parts : Trees) → SaysTest at rule.Equal parts
+  equal_says at parts =
+      with_three given (naming_of sheet) Reads (λ n. refl)
+      (λ head a b each form. implies _
+      (compares at.around a b (each.1.0.side _ refl form.good.1.0) (each.1.1.0.side _ refl form.good.1.1.0)
+      (sides_fit _ b form.good.1.1.0))
+      (λ t is. is.1))
+
+  unequal_says : (at : Standing) (parts : Trees) → SaysTest at rule.NotEqual parts
+  unequal_says at parts =
+      with_three given (naming_of sheet) Reads (λ n. refl)
+      (λ head a b each form. makes _ ne
+      (compares at.around a b (each.1.0.side _ refl form.good.1.0) (each.1.1.0.side _ refl form.good.1.1.0)
+      (sides_fit _ b form.good.1.1.0))
+      (λ t is. is))
+
+  less_says : (at : Standing) (parts : Trees) → SaysTest at rule.Less parts
+  less_says at parts =
+      with_three given (naming_of sheet) Reads (λ n. refl)
+      (λ head a b each form. joins _ _ less (each.1.0.int _ refl form.good.1.0) (each.1.1.0.int _ refl form.good.1.1.0)
+      (λ a b is is'. (is, is')))
+
+  less_eq_says : (at : Standing) (parts : Trees) → SaysTest at rule.LessOrEqual parts
+  less_eq_says at parts =
+      with_three given (naming_of sheet) Reads (λ n. refl)
+      (λ head a b each form. joins _ _ less_eq (each.1.0.int _ refl form.good.1.0) (each.1.1.0.int _ refl form.good.1.1.0)
+      (λ a b is is'. (is, is')))
+
+  more_says : (at : Standing) (parts : Trees) → SaysTest at rule.More parts
+  more_says at parts =
+      with_three given (naming_of sheet) Reads (λ n. refl)
+      (λ head a b each form. joins _ _ more (each.1.0.int _ refl form.good.1.0) (each.1.1.0.int _ refl form.good.1.1.0)
+      (λ a b is is'. (is, is')))
+
+  more_eq_says : (at : Standing) (parts : Trees) → SaysTest at rule.MoreOrEqual parts
+  more_eq_says at parts =
+      with_three given (naming_of sheet) Reads (λ n. refl)
+      (λ head a b each form. joins _ _ more_eq (each.1.0.int _ refl form.good.1.0) (each.1.1.0.int _ refl form.good.1.1.0)
+      (λ a b is is'. (is, is')))
+
+  is_says : Gives sheet given → (at : Standing) (parts : Trees) → SaysTest at rule.Is parts
+  is_says gives at parts =
+      with_four given (naming_of sheet) Reads (λ n. refl)
+      (λ head card attr value each form. follows _ _ (each.1.0.card _ refl form.good.1.0)
+      (λ c is. follows _ _ (attr_finds sheet given gives _ attr refl refl form.good.1.1.0)
+      (λ n named. makes _ _ (value_finds sheet given gives _ value refl refl form.good.1.1.1.0)
+      (λ v valued. (is, named, valued)))))
+
+  -- tests, one after the other
+  tests_find : (at : Standing) (parts : Trees) → at.place ≡ place.Test → Each Reads parts
+      → Each (Good sheet given at) parts
+      → Finds (tests_at (naming_of sheet) at.around.scope parts)
+      (λ ts. AreTests sheet at.around ts × (length (test_list ts) ≡ count parts))
+  tests_find at nil here each good = finds no_test (tt, refl)
+  tests_find at (cons part parts) here each good =
+      joins _ _ test (each.0.test at here good.0) (tests_find at parts here each.1 good.1)
+      (λ t ts is are. ((is, are.0), ap (λ n. suc n) are.1))
+
+  and_says : (at : Standing) (parts : Trees) → SaysTest at rule.And parts
+  and_says at parts =
+      behind_one given (naming_of sheet) Reads (λ n. refl)
+      (λ head rest some each form.
+      let alike = rest_good given (naming_of sheet) Reads at rule.And (cons head rest) (plain_part at place.Test (cons head rest)) 1 rest
+          (one_behind _ (λ j. refl)) form.good.1 in
+      makes _ and_of (tests_find _ rest refl each.1 alike) (λ ts are. let long = are.1 in (omega (arith, some, long), are.0)))
+
+  or_says : (at : Standing) (parts : Trees) → SaysTest at rule.Or parts
+  or_says at parts =
+      behind_one given (naming_of sheet) Reads (λ n. refl)
+      (λ head rest some each form.
+      let alike = rest_good given (naming_of sheet) Reads at rule.Or (cons head rest) (plain_part at place.Test (cons head rest)) 1 rest
+          (one_behind _ (λ j. refl)) form.good.1 in
+      makes _ or_of (tests_find _ rest refl each.1 alike) (λ ts are. let long = are.1 in (omega (arith, some, long), are.0)))
+
+  not_says : (at : Standing) (parts : Trees) → SaysTest at rule.Not parts
+  not_says at parts =
+      with_two given (naming_of sheet) Reads (λ n. refl)
+      (λ head t each form. makes _ not_of (each.1.0.test _ refl form.good.1.0) (λ t is. is))
+
+  all_says : (at : Standing) (parts : Trees) → SaysTest at rule.ForAll parts
+  all_says at parts =
+      with_four given (naming_of sheet) Reads (λ n. refl)
+      (λ head range variable t each form. follows _ _ (each.1.0.range _ refl form.good.1.0)
+      (λ domain is. follows _ _ (binder_finds sheet given at _ _ variable form.fine.fits refl refl form.good.1.1.0)
+      (λ bound binds. makes _ _
+      (behind_binder sheet given (TestIn t) at.around (bytes_of variable) bound (sort_of domain) (sort_over range) binds
+      is.1 (each.1.1.1.0.test _ refl form.good.1.1.1.0))
+      (λ t' holds. (is.0, binds.0, holds)))))
+
+  any_says : (at : Standing) (parts : Trees) → SaysTest at rule.ForAny parts
+  any_says at parts =
+      with_four given (naming_of sheet) Reads (λ n. refl)
+      (λ head range variable t each form. follows _ _ (each.1.0.range _ refl form.good.1.0)
+      (λ domain is. follows _ _ (binder_finds sheet given at _ _ variable form.fine.fits refl refl form.good.1.1.0)
+      (λ bound binds. makes _ _
+      (behind_binder sheet given (TestIn t) at.around (bytes_of variable) bound (sort_of domain) (sort_over range) binds
+      is.1 (each.1.1.1.0.test _ refl form.good.1.1.1.0))
+      (λ t' holds. (is.0, binds.0, holds)))))
+
+  test_list_finds : Gives sheet given → (at : Standing) (parts : Trees) (from to : ℕ) → at.place ≡ place.Test
+      → Each Reads parts → Good sheet given at (list parts from to)
+      → Finds (test_at (naming_of sheet) at.around.scope (list parts from to)) (IsTest sheet at.around)
+  test_list_finds gives at parts from to here each good =
+      list_says given (naming_of sheet) Reads (test_rule (naming_of sheet) at.around.scope) place.Test at parts from to here
+      each good
+      (equal_says at parts ▹ unequal_says at parts ▹ less_says at parts ▹ less_eq_says at parts ▹ more_says at parts
+      ▹ more_eq_says at parts ▹ is_says gives at parts ▹ and_says at parts ▹ or_says at parts ▹ not_says at parts
+      ▹ all_says at parts ▹ any_says at parts ▹ tt)
+
+  -- ALL PLACES OF A TREE
+
+  -- an atom is refused at a place of tests
+  refused : (at : Standing) (bytes : List ℕ) (from to : ℕ) → at.place ≡ place.Test → Good sheet given at (word bytes from to) → ⊥
+  refused at bytes from to here good =
+      no_shape (subst (λ p. atom_faults p bytes from ≡ []) here good.shaped)
+    where
+      no_shape : atom_faults place.Test bytes from ≡ [] → ⊥
+      no_shape is = cc
+
+  words_read : (bytes : List ℕ) (from to : ℕ) → Reads (word bytes from to)
+  words_read bytes from to =
+      record {
+        card = λ at here good. makes _ card_var
+            (variable_finds sheet given at card_sort bytes
+            (word_is_variable sheet given at place.Card bytes from to here refl good) (ap sorts_at here) good.fine.0)
+            (λ var has. has);
+        coll = λ at here good. coll_word_finds at bytes from to
+            (word_is_variable sheet given at place.Collection bytes from to here refl good) (ap sorts_at here) good;
+        range = λ at here good. range_word_finds at bytes from to
+            (passes_test (is_word keyword.Player bytes || is_variable bytes) Shape from
+            (subst (λ p. atom_faults p bytes from ≡ []) here good.shaped)) (ap sorts_at here) good;
+        int = λ at here good. makes _ literal
+            (integer_finds bytes (passes_test (is_number bytes) Number from
+            (subst (λ p. atom_faults p bytes from ≡ []) here good.shaped))) (λ value is. is);
+        side = λ at here good. side_word_finds at bytes from to here good;
+        test = λ at here good. absurd (refused at bytes from to here good);
+      }
+
+  lists_read : Gives sheet given → (parts : Trees) (from to : ℕ) → Each Reads parts → Reads (list parts from to)
+  lists_read gives parts from to each =
+      record {
+        card = λ at here good.
+            list_says given (naming_of sheet) Reads (card_rule (naming_of sheet) at.around.scope) place.Card at parts from to here
+            each good
+            (top_says at parts ▹ bottom_says at parts ▹ max_says gives at parts ▹ min_says gives at parts ▹ tt);
+        coll = λ at here good. coll_list_finds at parts from to (ap (λ p. rule_of p parts) here) each good;
+        range = λ at here good. range_list_finds at parts from to here each good;
+        int = λ at here good.
+            list_says given (naming_of sheet) Reads (int_rule (naming_of sheet) at.around.scope) place.Integer at parts from to here
+            each good
+            (counter_says at parts ▹ size_says at parts ▹ sum_says gives at parts ▹ points_says gives at parts
+            ▹ plus_says at parts ▹ minus_says at parts ▹ times_says at parts ▹ tt);
+        side = λ at here good. side_list_finds gives at parts from to here each good;
+        test = λ at here good. test_list_finds gives at parts from to here each good;
+      }
+
+  -- each tree is read at each place of an expression where it stands well
+  pub reads : Gives sheet given → (tree : Tree) → Reads tree
+  reads gives = by_parts words_read (lists_read gives)

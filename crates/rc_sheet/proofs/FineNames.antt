@@ -132,7 +132,7 @@ kind_tells hloc bytes is = ap (is_word keyword.Mem) is
 kind_tells mem bytes is = ap (is_word keyword.Mem) is
 
 -- a class is the same as itself
-class_same : (class : Class) → same_class class class ≡ true
+pub class_same : (class : Class) → same_class class class ≡ true
 class_same game_class = refl
 class_same player_class = refl
 class_same team_class = refl
