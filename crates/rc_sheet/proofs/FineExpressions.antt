@@ -240,7 +240,7 @@ module _ (sheet : Sheet) (given : Given) where
       (location_says at from parts ▹ filter_says at from parts ▹ union_says at from parts ▹ tt)
 
   -- what a variable runs over, but in an alternative
-  range_word_finds : (at : Standing) (bytes : List ℕ) (from to : ℕ) → (is_word keyword.Player bytes || is_variable bytes) ≡ true
+  pub range_word_finds : (at : Standing) (bytes : List ℕ) (from to : ℕ) → (is_word keyword.Player bytes || is_variable bytes) ≡ true
       → sorts_at at.place ≡ group_sort ∷ [] → Good sheet given at (word bytes from to)
       → Finds (range_at (naming_of sheet) at.around.scope (word bytes from to)) (RangeAt at.around (word bytes from to))
   range_word_finds at bytes from to taken sorts good =

@@ -8,6 +8,7 @@ pub mod Fine
 pub mod GoodForms
 pub mod FineNames
 pub mod FineExpressions
+pub mod FineEffects
 pub mod ReadsNames
 pub mod ReadsExpressions
 pub mod ReadsEffects
