@@ -1,11 +1,11 @@
 -- What a form's fine parts say is found and well formed: spots, effects, domains and alternatives.
 use Rattle.std.proofs.Common.{◌≡◌, ℕ, suc, ◌≤◌, ◌||◌, true, cond, nat_lt, nat_le, List, [], ◌∷◌, length, ◌++◌, Option, Some, option_map, refl, sym, subst, ap, ◌∙◌, arith, lt-ltb, leb-false}
 use Rattle.rc_model.specs.Tree.{Tree, word, list, Trees, nil, cons}
-use Rattle.rc_sheet_model.specs.Sheet.{Class, game_class, player_class, team_class, Sort, card_sort, End, top, bottom, Loc, Domain, each_player, each_card, each_group, Effect, move, move_all, remember, forget, shuffle, set_to, increase, decrease, when, repeat, for_each, next_is, turn_round, no_effect, effect, do_alt, if_alt, any_alt, Sheet}
+use Rattle.rc_sheet_model.specs.Sheet.{Class, game_class, player_class, team_class, Sort, card_sort, group_sort, End, top, bottom, Loc, Domain, each_player, each_card, each_group, Effect, move, move_all, remember, forget, shuffle, set_to, increase, decrease, when, repeat, for_each, next_is, turn_round, no_effect, effect, do_alt, if_alt, any_alt, Sheet}
 use Rattle.rc_sheet_model.specs.Lists.{effect_list}
 use Rattle.rc_sheet_model.specs.Limits.{most_repeats}
 use Rattle.rc_sheet_model.specs.Naming.{naming_of, sort_of, class_of}
-use Rattle.rc_sheet_model.specs.WellFormed.{Around, in_repeat, IsInStage, IsLoc, IsPlace, IsRange, IsDomain, IsEffect, AreEffects, IsAlt, AreAlts}
+use Rattle.rc_sheet_model.specs.WellFormed.{Around, in_repeat, IsInStage, IsLoc, IsColl, IsRange, IsDomain, IsEffect, AreEffects, IsAlt, AreAlts}
 use Rattle.rc_semantics.specs.Classes.{bound_in}
 use Rattle.rc_semantics.specs.SecondParts.{Standing, standing_in, sort_by_form, sort_over, bytes_of, part_at, word_in}
 use Rattle.rc_semantics.specs.SecondFaults.{sorts_at, is_in_stage}
@@ -24,7 +24,7 @@ use Rattle.rc_sheet.proofs.Finds.{Finds, finds, implies, makes, follows, finds_b
 use Rattle.rc_sheet.proofs.GoodParts.{◌▹◌, Each, by_parts, each_by_parts, IsGood, IsGoodForm}
 use Rattle.rc_sheet.proofs.GoodForms.{one_behind, two_behind, three_behind, plain_part, Says, with_two, with_three, with_four, behind_one, behind_two, behind_three, list_says, rest_good}
 use Rattle.rc_sheet.proofs.FineNames.{passes_test, Gives, Good, IsPlaced, loc_finds, num_finds, owner_finds, attr_finds, binder_finds, behind_binder}
-use Rattle.rc_sheet.proofs.FineExpressions.{Reads, reads, range_word_finds, location_says, filter_says, union_says}
+use Rattle.rc_sheet.proofs.FineExpressions.{Reads, reads, words_read, lists_read, range_word_finds, location_says, filter_says, union_says}
 
 -- a stage of an owner's class is around
 stage_around : (around : Around) (class : Class) → is_in_stage around class ≡ true → IsInStage around class
@@ -205,3 +205,137 @@ module _ (sheet : Sheet) (given : Given) (gives : Gives sheet given) where
     where
       refused : (bytes : List ℕ) (from : ℕ) → atom_faults place.Effect bytes from ≡ [] → ⊥
       refused bytes from is = cc
+
+  -- DOMAIN, of the sort that its form tells
+  abbrev pub DomainAt : Around → Sort → Domain → Type 0
+  DomainAt around sort domain = IsDomain sheet around domain × (sort ≡ sort_of domain)
+
+  abbrev SaysDomain : Standing → ℕ → Rule → Trees → Type 0
+  SaysDomain at from rule parts =
+      Says given (naming_of sheet) (Reads sheet given) at rule (domain_rule (naming_of sheet) at.around.scope from)
+      (DomainAt at.around (sort_by_form (rule_of place.Domain parts))) parts
+
+  -- the sort that its form tells
+  sort_told : (at : Standing) (parts : Trees) (found : Rule) → at.place ≡ place.Domain → rule_of at.place parts ≡ Some found
+      → sort_by_form (rule_of place.Domain parts) ≡ sort_by_form (Some found)
+  sort_told at parts found here told = ap (λ p. sort_by_form (rule_of p parts)) (sym here) ∙ ap sort_by_form told
+
+  -- cards as a domain
+  cards_say : (at : Standing) (from : ℕ) (found : Rule) (parts : Trees) → at.place ≡ place.Domain
+      → domain_rule (naming_of sheet) at.around.scope from found parts
+      ≡ option_map each_card (coll_rule (naming_of sheet) at.around.scope from found parts)
+      → sort_by_form (Some found) ≡ card_sort
+      → Says given (naming_of sheet) (Reads sheet given) at found (coll_rule (naming_of sheet) at.around.scope from)
+      (IsColl sheet at.around) parts
+      → SaysDomain at from found parts
+  cards_say at from found parts here same sort cards =
+      record {
+        says = λ each form.
+            subst (λ o. Finds o (DomainAt at.around (sort_by_form (rule_of place.Domain parts)))) (sym same)
+            (makes _ each_card (cards.says each form) (λ c is. (is, sort_told at parts found here form.told ∙ sort)));
+      }
+
+  -- groups as a domain, of the sort that stands there
+  groups_say : (at : Standing) (from : ℕ) (parts : Trees)
+      → Says given (naming_of sheet) (Reads sheet given) at rule.Partition (domain_rule (naming_of sheet) at.around.scope from)
+      (λ domain. IsDomain sheet at.around domain × (sort_of domain ≡ group_sort)) parts
+  groups_say at from parts =
+      with_three given (naming_of sheet) (Reads sheet given) (λ n. refl)
+      (λ head cards attr each form. joins _ _ each_group (each.1.0.coll _ refl form.good.1.0)
+      (attr_finds sheet given gives _ attr refl refl form.good.1.1.0) (λ c n is named. ((is, named), refl)))
+
+  partition_says : (at : Standing) (from : ℕ) (parts : Trees) → at.place ≡ place.Domain
+      → SaysDomain at from rule.Partition parts
+  partition_says at from parts here =
+      record {
+        says = λ each form. implies _ ((groups_say at from parts).says each form)
+            (λ domain is. (is.0, sort_told at parts rule.Partition here form.told ∙ sym is.1));
+      }
+
+  pub domain_finds : (at : Standing) (tree : Tree) → at.place ≡ place.Domain → Good sheet given at tree
+      → Finds (domain_at (naming_of sheet) at.around.scope tree) (DomainAt at.around (sort_over tree))
+  domain_finds at (word bytes from to) here good =
+      implies _ (range_word_finds sheet given at bytes from to
+      (passes_test (is_word keyword.Player bytes || is_variable bytes) Shape from
+      (subst (λ p. atom_faults p bytes from ≡ []) here good.shaped)) (ap sorts_at here) good)
+      (λ domain is. (range_is_domain sheet at.around domain is.0, is.1))
+  domain_finds at (list parts from to) here good =
+      list_says given (naming_of sheet) (Reads sheet given) (domain_rule (naming_of sheet) at.around.scope from) place.Domain at
+      parts from to here (each_by_parts (words_read sheet given) (lists_read sheet given gives) parts) good
+      (cards_say at from rule.Location parts here refl refl (location_says sheet given at from parts)
+      ▹ cards_say at from rule.Filter parts here refl refl (filter_says sheet given at from parts)
+      ▹ cards_say at from rule.Union parts here refl refl (union_says sheet given at from parts)
+      ▹ partition_says at from parts here
+      ▹ tt)
+
+  -- ALT
+  pub record Offers (tree : Tree) : Type 0 where
+    pub alt : (at : Standing) → at.place ≡ place.Alternative → Good sheet given at tree
+        → Finds (alt_at (naming_of sheet) at.around.scope tree) (IsAlt sheet at.around)
+
+  abbrev SaysAlt : Standing → Rule → Trees → Type 0
+  SaysAlt at rule parts =
+      Says given (naming_of sheet) Offers at rule (alt_rule (naming_of sheet) at.around.scope) (IsAlt sheet at.around) parts
+
+  -- an alternative, in what is around it
+  abbrev AltIn : Tree → Around → Type 0
+  AltIn alt around = Finds (alt_at (naming_of sheet) around.scope alt) (IsAlt sheet around)
+
+  -- each of these trees is read at the place of an effect
+  pub each_acts : (parts : Trees) → Each Acts parts
+  each_acts nil = tt
+  each_acts (cons part parts) = (acts part, each_acts parts)
+
+  do_alt_says : (at : Standing) (parts : Trees) → SaysAlt at rule.Do parts
+  do_alt_says at parts =
+      behind_one given (naming_of sheet) Offers (λ n. refl)
+      (λ head rest some each form.
+      let alike = rest_good given (naming_of sheet) Offers at rule.Do (cons head rest)
+          (plain_part at place.Effect (cons head rest)) 1 rest (one_behind _ (λ j. refl)) form.good.1 in
+      makes _ do_alt (effects_find _ rest refl (each_acts rest) alike)
+      (λ es are. let long = are.1 in (omega (arith, some, long), are.0)))
+
+  if_alt_says : (at : Standing) (parts : Trees) → SaysAlt at rule.If parts
+  if_alt_says at parts =
+      behind_two given (naming_of sheet) Offers (λ n. refl)
+      (λ head t rest some each form.
+      let alike = rest_good given (naming_of sheet) Offers at rule.If (cons head (cons t rest))
+          (plain_part at place.Effect (cons head (cons t rest))) 2 rest (two_behind _ (λ j. refl)) form.good.1.1 in
+      joins _ _ if_alt ((reads sheet given gives t).test _ refl form.good.1.0) (effects_find _ rest refl (each_acts rest) alike)
+      (λ t es is are. let long = are.1 in (is, omega (arith, some, long), are.0)))
+
+  any_alt_says : (at : Standing) (parts : Trees) → SaysAlt at rule.AnyOf parts
+  any_alt_says at parts =
+      with_four given (naming_of sheet) Offers (λ n. refl)
+      (λ head domain variable alt each form. follows _ _ (domain_finds _ domain refl form.good.1.0)
+      (λ d is. follows _ _ (binder_finds sheet given at _ _ variable form.fine.fits refl refl form.good.1.1.0)
+      (λ bound binds. makes _ _
+      (behind_binder sheet given (AltIn alt) at.around (bytes_of variable) bound (sort_of d) (sort_over domain) binds
+      is.1 (each.1.1.1.0.alt _ refl form.good.1.1.1.0))
+      (λ a offered. (is.0, binds.0, offered)))))
+
+  -- each tree is read at the place of an alternative where it stands well
+  pub offers : (tree : Tree) → Offers tree
+  offers =
+      by_parts
+      (λ bytes from to. record {
+        alt = λ at here good. absurd (refused bytes from (subst (λ p. atom_faults p bytes from ≡ []) here good.shaped));
+      })
+      (λ parts from to each. record {
+        alt = λ at here good.
+            list_says given (naming_of sheet) Offers (alt_rule (naming_of sheet) at.around.scope) place.Alternative at parts from to
+            here each good (do_alt_says at parts ▹ if_alt_says at parts ▹ any_alt_says at parts ▹ tt);
+      })
+    where
+      refused : (bytes : List ℕ) (from : ℕ) → atom_faults place.Alternative bytes from ≡ [] → ⊥
+      refused bytes from is = cc
+
+  -- alternatives, one after the other, where nothing is in scope
+  pub alts_find : (at : Standing) (parts : Trees) → at.place ≡ place.Alternative → at.around.scope ≡ []
+      → Each (Good sheet given at) parts
+      → Finds (alts_at (naming_of sheet) parts) (λ alts. AreAlts sheet at.around alts × (length alts ≡ count parts))
+  alts_find at nil here free good = finds [] (tt, refl)
+  alts_find at (cons part parts) here free good =
+      joins _ _ ◌∷◌
+      (subst (λ scope. Finds (alt_at (naming_of sheet) scope part) (IsAlt sheet at.around)) free ((offers part).alt at here good.0))
+      (alts_find at parts here free good.1) (λ a later is are. ((is, are.0), ap (λ n. suc n) are.1))

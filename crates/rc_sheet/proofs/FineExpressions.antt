@@ -611,7 +611,7 @@ module _ (sheet : Sheet) (given : Given) where
       no_shape : atom_faults place.Test bytes from ≡ [] → ⊥
       no_shape is = cc
 
-  words_read : (bytes : List ℕ) (from to : ℕ) → Reads (word bytes from to)
+  pub words_read : (bytes : List ℕ) (from to : ℕ) → Reads (word bytes from to)
   words_read bytes from to =
       record {
         card = λ at here good. makes _ card_var
@@ -630,7 +630,7 @@ module _ (sheet : Sheet) (given : Given) where
         test = λ at here good. absurd (refused at bytes from to here good);
       }
 
-  lists_read : Gives sheet given → (parts : Trees) (from to : ℕ) → Each Reads parts → Reads (list parts from to)
+  pub lists_read : Gives sheet given → (parts : Trees) (from to : ℕ) → Each Reads parts → Reads (list parts from to)
   lists_read gives parts from to each =
       record {
         card = λ at here good.
