@@ -1,7 +1,7 @@
 -- What a form's fine parts say is found and well formed: spots, effects, domains and alternatives.
 use Rattle.std.proofs.Common.{◌≡◌, ℕ, suc, ◌≤◌, ◌||◌, true, cond, nat_lt, nat_le, List, [], ◌∷◌, length, ◌++◌, Option, Some, option_map, refl, sym, subst, ap, ◌∙◌, arith, lt-ltb, leb-false}
 use Rattle.rc_model.specs.Tree.{Tree, word, list, Trees, nil, cons}
-use Rattle.rc_sheet_model.specs.Sheet.{Class, game_class, player_class, team_class, Sort, card_sort, group_sort, End, top, bottom, Loc, Domain, each_player, each_card, each_group, Effect, move, move_all, remember, forget, shuffle, set_to, increase, decrease, when, repeat, for_each, next_is, turn_round, no_effect, effect, do_alt, if_alt, any_alt, Sheet}
+use Rattle.rc_sheet_model.specs.Sheet.{Class, game_class, player_class, team_class, Sort, card_sort, group_sort, End, top, bottom, Loc, Domain, each_player, each_card, each_group, Effect, move, move_all, remember, forget, shuffle, set_to, increase, decrease, when, repeat, for_each, next_is, turn_round, Effects, no_effect, effect, do_alt, if_alt, any_alt, Sheet}
 use Rattle.rc_sheet_model.specs.Lists.{effect_list}
 use Rattle.rc_sheet_model.specs.Limits.{most_repeats}
 use Rattle.rc_sheet_model.specs.Naming.{naming_of, sort_of, class_of}
@@ -84,10 +84,11 @@ module _ (sheet : Sheet) (given : Given) (gives : Gives sheet given) where
       Says given (naming_of sheet) Acts at rule (effect_rule (naming_of sheet) at.around.scope) (IsEffect sheet at.around) parts
 
   -- effects, as many as their parts, in what is around them
+  abbrev pub AreEffectsOf : Trees → Around → Effects → Type 0
+  AreEffectsOf parts around es = AreEffects sheet around es × (length (effect_list es) ≡ count parts)
+
   abbrev pub EffectsIn : Trees → Around → Type 0
-  EffectsIn parts around =
-      Finds (effects_at (naming_of sheet) around.scope parts)
-      (λ es. AreEffects sheet around es × (length (effect_list es) ≡ count parts))
+  EffectsIn parts around = Finds (effects_at (naming_of sheet) around.scope parts) (AreEffectsOf parts around)
 
   pub effects_find : (at : Standing) (parts : Trees) → at.place ≡ place.Effect → Each Acts parts
       → Each (Good sheet given at) parts → EffectsIn parts at.around

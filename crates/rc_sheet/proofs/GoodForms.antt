@@ -1,7 +1,6 @@
 -- What a form of good parts says, by how many parts it has, where R holds of each part.
 use Rattle.std.proofs.Common.{◌≡◌, ℕ, zero, suc, ◌+◌, ◌≤◌, true, false, ◌==◌, nat_lt, List, [], ◌∷◌, ◌++◌, Option, Some, refl, sym, subst, ap, ◌∙◌, arith, ltb-true, lt-ltb}
 use Rattle.std.specs.List.{AllByRecursion}
-use Rattle.std.proofs.lemmas.Bool.{true≢false}
 use Rattle.rc_model.specs.Tree.{Tree, list, Trees, nil, cons}
 use Rattle.rc_sheet_model.specs.Naming.{Naming}
 use Rattle.rc_semantics.specs.SecondParts.{Standing, standing_in}
@@ -13,7 +12,7 @@ use Rattle.rc_grammar.specs.declared.grammar.Rule.{Rule}
 use Rattle.rc_sheet.specs.ReadNames.{◌>>=◌, rule_at}
 use Rattle.rc_sheet.proofs.Fine.{Given}
 use Rattle.rc_sheet.proofs.Finds.{Finds}
-use Rattle.rc_sheet.proofs.GoodParts.{Each, two_parts, three_parts, four_parts, IsGood, GoodAt, AreGood, IsGoodForm, finds_by}
+use Rattle.rc_sheet.proofs.GoodParts.{Each, two_parts, three_parts, four_parts, one_and_more, two_and_more, three_and_more, IsGood, GoodAt, AreGood, IsGoodForm, finds_by}
 
 -- from so many on
 pub one_behind : (P : ℕ → Type 0) → ((j : ℕ) → P (suc j)) → (i : ℕ) → 1 ≤ i → P i
@@ -68,43 +67,20 @@ module _ (given : Given) (naming : Naming) (R : Tree → Type 0) where
   pub behind_one : {A : Type 0} {at : Standing} {rule : Rule} {read : Rule → Trees → Option A} {P : A → Type 0} {parts : Trees}
       → ((n : ℕ) → fits n rule ≡ nat_lt 1 n)
       → ((a : Tree) (rest : Trees) → 1 ≤ count rest → SaysOf at rule read P (cons a rest)) → Says at rule read P parts
-  behind_one {parts = nil} more then = record { says = λ each form. absurd (true≢false (sym form.fit ∙ more 0)) }
-  behind_one {parts = cons a rest} more then =
-      record {
-        says = λ each form.
-            let less = ltb-true 1 (suc (count rest)) (sym (more (suc (count rest))) ∙ form.fit) in
-            then a rest (omega (arith, less)) each form;
-      }
+  behind_one {at = at} {rule = rule} {read = read} {P = P} {parts = parts} more then =
+      record { says = λ each form. one_and_more (SaysOf at rule read P) parts (sym (more (count parts)) ∙ form.fit) then each form }
 
   pub behind_two : {A : Type 0} {at : Standing} {rule : Rule} {read : Rule → Trees → Option A} {P : A → Type 0} {parts : Trees}
       → ((n : ℕ) → fits n rule ≡ nat_lt 2 n)
-      → ((a b : Tree) (rest : Trees) → 1 ≤ count rest → SaysOf at rule read P (cons a (cons b rest)))
-      → Says at rule read P parts
-  behind_two {parts = nil} more then = record { says = λ each form. absurd (true≢false (sym form.fit ∙ more 0)) }
-  behind_two {parts = cons a nil} more then = record { says = λ each form. absurd (true≢false (sym form.fit ∙ more 1)) }
-  behind_two {parts = cons a (cons b rest)} more then =
-      record {
-        says = λ each form.
-            let n = suc (suc (count rest)) in
-            let less = ltb-true 2 n (sym (more n) ∙ form.fit) in
-            then a b rest (omega (arith, less)) each form;
-      }
+      → ((a b : Tree) (rest : Trees) → 1 ≤ count rest → SaysOf at rule read P (cons a (cons b rest))) → Says at rule read P parts
+  behind_two {at = at} {rule = rule} {read = read} {P = P} {parts = parts} more then =
+      record { says = λ each form. two_and_more (SaysOf at rule read P) parts (sym (more (count parts)) ∙ form.fit) then each form }
 
   pub behind_three : {A : Type 0} {at : Standing} {rule : Rule} {read : Rule → Trees → Option A} {P : A → Type 0} {parts : Trees}
       → ((n : ℕ) → fits n rule ≡ nat_lt 3 n)
-      → ((a b c : Tree) (rest : Trees) → 1 ≤ count rest → SaysOf at rule read P (cons a (cons b (cons c rest))))
-      → Says at rule read P parts
-  behind_three {parts = nil} more then = record { says = λ each form. absurd (true≢false (sym form.fit ∙ more 0)) }
-  behind_three {parts = cons a nil} more then = record { says = λ each form. absurd (true≢false (sym form.fit ∙ more 1)) }
-  behind_three {parts = cons a (cons b nil)} more then =
-      record { says = λ each form. absurd (true≢false (sym form.fit ∙ more 2)) }
-  behind_three {parts = cons a (cons b (cons c rest))} more then =
-      record {
-        says = λ each form.
-            let n = suc (suc (suc (count rest))) in
-            let less = ltb-true 3 n (sym (more n) ∙ form.fit) in
-            then a b c rest (omega (arith, less)) each form;
-      }
+      → ((a b c : Tree) (rest : Trees) → 1 ≤ count rest → SaysOf at rule read P (cons a (cons b (cons c rest)))) → Says at rule read P parts
+  behind_three {at = at} {rule = rule} {read = read} {P = P} {parts = parts} more then =
+      record { says = λ each form. three_and_more (SaysOf at rule read P) parts (sym (more (count parts)) ∙ form.fit) then each form }
 
   -- a list says what each of the forms of its place says, or of another place with the same forms
   pub list_says_by : {A : Type 0} {P : A → Type 0} (read : Rule → Trees → Option A) (place : Place) (at : Standing)

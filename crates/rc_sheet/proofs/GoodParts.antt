@@ -1,6 +1,6 @@
 -- Trees that stand well in a form: of their place's shape, with no fine print against their parts. What stands so in a list
 -- says so of each of its parts.
-use Rattle.std.proofs.Common.{◌≡◌, ℕ, suc, ◌+◌, ◌≤◌, ◌<◌, Bool, true, false, cond, List, [], ◌∷◌, ◌++◌, length, All, Option, Some, None, slice_get, option_map, find, not, ◌==◌, refl, sym, subst, ap, ◌∙◌, arith, eqb-true, ltb-true}
+use Rattle.std.proofs.Common.{◌≡◌, ℕ, suc, ◌+◌, ◌≤◌, ◌<◌, Bool, true, false, cond, List, [], ◌∷◌, ◌++◌, length, All, Option, Some, None, slice_get, option_map, find, nat_lt, ◌==◌, refl, sym, subst, ap, ◌∙◌, arith, eqb-true, ltb-true}
 use Rattle.std.specs.List.{AllByRecursion}
 use Rattle.std.proofs.lemmas.Option.{same_Some}
 use Rattle.std.proofs.lemmas.List.Elements.{recursion_from_All}
@@ -76,6 +76,27 @@ four_parts P (cons a (cons b nil)) is then = absurd cc
 four_parts P (cons a (cons b (cons c nil))) is then = absurd cc
 four_parts P (cons a (cons b (cons c (cons d (cons e parts))))) is then =
     let four = eqb-true (count (cons a (cons b (cons c (cons d (cons e parts)))))) 4 is in absurd (omega (arith, four))
+
+-- so many parts, and one more at least
+pub one_and_more : (P : Trees → Type 0) (parts : Trees) → nat_lt 1 (count parts) ≡ true
+    → ((a : Tree) (rest : Trees) → 1 ≤ count rest → P (cons a rest)) → P parts
+one_and_more P nil is then = absurd cc
+one_and_more P (cons a rest) is then = let more = ltb-true 1 (count (cons a rest)) is in then a rest (omega (arith, more))
+
+pub two_and_more : (P : Trees → Type 0) (parts : Trees) → nat_lt 2 (count parts) ≡ true
+    → ((a b : Tree) (rest : Trees) → 1 ≤ count rest → P (cons a (cons b rest))) → P parts
+two_and_more P nil is then = absurd cc
+two_and_more P (cons a nil) is then = absurd cc
+two_and_more P (cons a (cons b rest)) is then =
+    let more = ltb-true 2 (count (cons a (cons b rest))) is in then a b rest (omega (arith, more))
+
+pub three_and_more : (P : Trees → Type 0) (parts : Trees) → nat_lt 3 (count parts) ≡ true
+    → ((a b c : Tree) (rest : Trees) → 1 ≤ count rest → P (cons a (cons b (cons c rest)))) → P parts
+three_and_more P nil is then = absurd cc
+three_and_more P (cons a nil) is then = absurd cc
+three_and_more P (cons a (cons b nil)) is then = absurd cc
+three_and_more P (cons a (cons b (cons c rest))) is then =
+    let more = ltb-true 3 (count (cons a (cons b (cons c rest)))) is in then a b c rest (omega (arith, more))
 
 -- a form that fits has no fault but those of its parts
 no_fault : {A : Type 0} (b c : Bool) (x y : A) (inner : List A) → cond b (cond c (x ∷ inner) inner) (y ∷ []) ≡ []

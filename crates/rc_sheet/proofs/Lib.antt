@@ -9,6 +9,7 @@ pub mod GoodForms
 pub mod FineNames
 pub mod FineExpressions
 pub mod FineEffects
+pub mod FineItems
 pub mod ReadsNames
 pub mod ReadsExpressions
 pub mod ReadsEffects
