@@ -33,7 +33,7 @@ use Rattle.rc_sheet.proofs.FineEffects.{AreEffectsOf, effects_find, each_acts, a
 -- HOW MANY STAGES AND CHOICES
 
 -- those of appended parts
-length_of_both : {A : Type 0} (f : Part → List A) (xs ys : List Part)
+pub length_of_both : {A : Type 0} (f : Part → List A) (xs ys : List Part)
     → length (flat_map f (xs ++ ys)) ≡ length (flat_map f xs) + length (flat_map f ys)
 length_of_both f xs ys =
     ap (λ all. length all) (flat_map-append f xs ys) ∙ length-append (flat_map f xs) (flat_map f ys)
@@ -86,7 +86,7 @@ alike_parts at rule all alike index (cons tree trees) same =
     (alike_parts at rule all alike (index + 1) trees (λ i le. same i (omega (arith, le))))
 
 -- the last of four lists of parts has no more than all of them
-last_of_four : {A : Type 0} (f : Part → List A) (a b c d : List Part)
+pub last_of_four : {A : Type 0} (f : Part → List A) (a b c d : List Part)
     → length (flat_map f d) ≤ length (flat_map f (a ++ (b ++ (c ++ d))))
 last_of_four f a b c d =
     let first = length_of_both f a (b ++ (c ++ d)) in

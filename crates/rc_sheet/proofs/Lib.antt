@@ -10,6 +10,7 @@ pub mod FineNames
 pub mod FineExpressions
 pub mod FineEffects
 pub mod FineItems
+pub mod FineBody
 pub mod ReadsNames
 pub mod ReadsExpressions
 pub mod ReadsEffects

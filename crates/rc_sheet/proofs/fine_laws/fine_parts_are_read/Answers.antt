@@ -1,5 +1,5 @@
 use Rattle.std.proofs.Common.{refl}
-use Rattle.rc_sheet.proofs.FineItems.{plays}
+use Rattle.rc_sheet.proofs.FineBody.{game_is_fine}
 use Rattle.rc_sheet.proofs.fine_laws.fine_parts_are_read.Goals as goal
 
 pub returns : goal.returns
