@@ -1,6 +1,6 @@
 -- What a form's fine parts say is found and well formed: the scoring, and the body of a sheet.
-use Rattle.std.proofs.Common.{◌≡◌, ℕ, suc, Bool, ◌+◌, ◌≤◌, ◌||◌, ◌==◌, true, false, nat_lt, nat_le, List, [], ◌∷◌, ◌++◌, length, flat_map, Option, Some, None, option_map, refl, sym, subst, ap, ◌∙◌, arith, le-leb, eq-eqb, ne_eqb}
-use Rattle.std.specs.List.{All, AllByRecursion}
+use Rattle.std.proofs.Common.{◌≡◌, ℕ, Bool, ◌+◌, ◌≤◌, ◌||◌, ◌==◌, true, false, nat_le, List, [], ◌∷◌, ◌++◌, length, Some, None, option_map, refl, sym, subst, ap, ◌∙◌, arith, le-leb, eq-eqb, ne_eqb}
+use Rattle.std.specs.List.{All}
 use Rattle.std.proofs.lemmas.List.Elements.{recursion_from_All}
 use Rattle.rc_model.specs.Tree.{Tree, word, list, Trees, nil, cons}
 use Rattle.rc_sheet_model.specs.Sheet.{IntExpr, Best, highest, lowest, SheetItems, Sheet}
@@ -11,22 +11,20 @@ use Rattle.rc_sheet_model.specs.WellFormed.{outside, scored, IsInt, AreItems}
 use Rattle.rc_semantics.specs.SecondParts.{Standing, standing_in, standing_alone, Part, form, parts_at, parts_in, with_form, parts_of}
 use Rattle.rc_semantics.specs.SecondNames.{stages_in, choices_in}
 use Rattle.rc_semantics.specs.SecondFaults.{stage_count, choice_count}
-use Rattle.rc_semantics.specs.declared.role.Role.TheVariants.{No as no_role}
-use Rattle.rc_grammar.specs.Faults.{is_word, is_form_word, atom_faults, faults, rule_of, count, behind_front}
+use Rattle.rc_grammar.specs.Faults.{is_word, atom_faults, faults, rule_of, count, behind_front}
 use Rattle.rc_grammar.specs.declared.keyword.Keyword.TheVariants as keyword
-use Rattle.rc_grammar.specs.declared.grammar.Place.{Place}
 use Rattle.rc_grammar.specs.declared.grammar.Place.TheVariants as place
 use Rattle.rc_grammar.specs.declared.grammar.Rule.TheVariants as rule
 use Rattle.rc_grammar.specs.declared.fault.SheetKind.TheVariants.{Shape}
-use Rattle.rc_sheet.specs.ReadNames.{◌>>=◌, ensure, both}
+use Rattle.rc_sheet.specs.ReadNames.{◌>>=◌, ensure}
 use Rattle.rc_sheet.specs.ReadItems.{none_begun, items_at, best_at, score_rule, score_at, but_last, last_of, body_at}
 use Rattle.rc_sheet.proofs.Fine.{Given, IsFine}
-use Rattle.rc_sheet.proofs.Finds.{Finds, finds, finds_if, implies, makes, follows, follows_this, finds_both, whether, where_true, ensures_so}
+use Rattle.rc_sheet.proofs.Finds.{Finds, finds, finds_if, implies, makes, follows_this, finds_both, whether, where_true, ensures_so}
 use Rattle.rc_sheet.proofs.GoodParts.{◌▹◌, Each, each_by_parts, three_and_more, GoodAt, AreGood, good_form, rule_among, no_list}
 use Rattle.rc_sheet.proofs.GoodForms.{two_behind, plain_part, with_three, list_says}
 use Rattle.rc_sheet.proofs.FineNames.{passes_test, Gives, Good, GoodForm}
 use Rattle.rc_sheet.proofs.FineExpressions.{reads}
-use Rattle.rc_sheet.proofs.FineItems.{length_of_both, last_of_four, HasRoom, parts_alike, ItemsAt, Plays, items_find, plays}
+use Rattle.rc_sheet.proofs.FineItems.{length_of_both, last_of_four, HasRoom, parts_alike, Plays, items_find, plays}
 
 -- which scores are best
 best_finds : (bytes : List ℕ) (from to : ℕ) → (is_word keyword.Max bytes || is_word keyword.Min bytes) ≡ true
@@ -224,7 +222,7 @@ module _ (sheet : Sheet) (given : Given) (gives : Gives sheet given) where
       refused is = cc
   game_is_fine (list parts from to) shaped fine stages sites =
       let good = good_form given (naming_of sheet) standing_alone parts from to
-          (record { shaped = shaped; fine = recursion_from_All (IsFine given (naming_of sheet)) _ fine }) in
+      (record { shaped = shaped; fine = recursion_from_All (IsFine given (naming_of sheet)) _ fine }) in
       let same = ap (with_form standing_alone parts from (λ found. parts_in standing_alone found parts 0 parts)) good.1.told in
       let room : HasRoom none_begun (parts_of (list parts from to)) = record { stages = omega (arith, stages); sites = omega (arith, sites) } in
       rule_among

@@ -1,27 +1,25 @@
 -- What a form's fine parts say is found and well formed: spots, effects, domains and alternatives.
-use Rattle.std.proofs.Common.{◌≡◌, ℕ, suc, ◌≤◌, ◌||◌, true, cond, nat_lt, nat_le, List, [], ◌∷◌, length, ◌++◌, Option, Some, option_map, refl, sym, subst, ap, ◌∙◌, arith, lt-ltb, leb-false}
+use Rattle.std.proofs.Common.{◌≡◌, ℕ, suc, ◌≤◌, ◌||◌, true, cond, List, [], ◌∷◌, length, Some, option_map, refl, sym, subst, ap, ◌∙◌, arith, lt-ltb, leb-false}
 use Rattle.rc_model.specs.Tree.{Tree, word, list, Trees, nil, cons}
-use Rattle.rc_sheet_model.specs.Sheet.{Class, game_class, player_class, team_class, Sort, card_sort, group_sort, End, top, bottom, Loc, Domain, each_player, each_card, each_group, Effect, move, move_all, remember, forget, shuffle, set_to, increase, decrease, when, repeat, for_each, next_is, turn_round, Effects, no_effect, effect, do_alt, if_alt, any_alt, Sheet}
+use Rattle.rc_sheet_model.specs.Sheet.{Class, game_class, player_class, team_class, Sort, card_sort, group_sort, End, top, bottom, Loc, Domain, each_player, each_card, each_group, move, move_all, remember, forget, shuffle, set_to, increase, decrease, when, repeat, next_is, turn_round, Effects, no_effect, effect, do_alt, if_alt, Sheet}
 use Rattle.rc_sheet_model.specs.Lists.{effect_list}
 use Rattle.rc_sheet_model.specs.Limits.{most_repeats}
-use Rattle.rc_sheet_model.specs.Naming.{naming_of, sort_of, class_of}
+use Rattle.rc_sheet_model.specs.Naming.{naming_of, sort_of}
 use Rattle.rc_sheet_model.specs.WellFormed.{Around, in_repeat, IsInStage, IsLoc, IsColl, IsRange, IsDomain, IsEffect, AreEffects, IsAlt, AreAlts}
 use Rattle.rc_semantics.specs.Classes.{bound_in}
 use Rattle.rc_semantics.specs.SecondParts.{Standing, standing_in, sort_by_form, sort_over, bytes_of, part_at, word_in}
 use Rattle.rc_semantics.specs.SecondFaults.{sorts_at, is_in_stage}
-use Rattle.rc_semantics.specs.declared.role.Role.TheVariants.{No as no_role, CardLocation as card_location, ReferenceLocation as reference_location}
 use Rattle.rc_grammar.specs.Faults.{is_word, is_variable, atom_faults, rule_of, count}
 use Rattle.rc_grammar.specs.declared.keyword.Keyword.TheVariants as keyword
 use Rattle.rc_grammar.specs.declared.grammar.Place.TheVariants as place
 use Rattle.rc_grammar.specs.declared.grammar.Rule.{Rule}
 use Rattle.rc_grammar.specs.declared.grammar.Rule.TheVariants as rule
 use Rattle.rc_grammar.specs.declared.fault.SheetKind.TheVariants.{Shape}
-use Rattle.rc_sheet.specs.ReadNames.{owner_at, loc_at}
-use Rattle.rc_sheet.specs.ReadExpressions.{coll_rule, range_at}
+use Rattle.rc_sheet.specs.ReadExpressions.{coll_rule}
 use Rattle.rc_sheet.specs.ReadEffects.{spot_rule, spot_at, effect_at, effect_rule, effects_at, domain_rule, domain_at, alt_at, alt_rule, alts_at}
 use Rattle.rc_sheet.proofs.Fine.{Given}
 use Rattle.rc_sheet.proofs.Finds.{Finds, finds, implies, makes, follows, finds_both, joins}
-use Rattle.rc_sheet.proofs.GoodParts.{◌▹◌, Each, by_parts, each_by_parts, IsGood, IsGoodForm}
+use Rattle.rc_sheet.proofs.GoodParts.{◌▹◌, Each, by_parts, each_by_parts}
 use Rattle.rc_sheet.proofs.GoodForms.{one_behind, two_behind, three_behind, plain_part, Says, with_two, with_three, with_four, behind_one, behind_two, behind_three, list_says, rest_good}
 use Rattle.rc_sheet.proofs.FineNames.{passes_test, Gives, Good, IsPlaced, loc_finds, num_finds, owner_finds, attr_finds, binder_finds, behind_binder}
 use Rattle.rc_sheet.proofs.FineExpressions.{Reads, reads, words_read, lists_read, range_word_finds, location_says, filter_says, union_says}
@@ -161,7 +159,7 @@ module _ (sheet : Sheet) (given : Given) (gives : Gives sheet given) where
       behind_two given (naming_of sheet) Acts (λ n. refl)
       (λ head t rest some each form.
       let alike = rest_good given (naming_of sheet) Acts at rule.If (cons head (cons t rest))
-          (plain_part at place.Effect (cons head (cons t rest))) 2 rest (two_behind _ (λ j. refl)) form.good.1.1 in
+      (plain_part at place.Effect (cons head (cons t rest))) 2 rest (two_behind _ (λ j. refl)) form.good.1.1 in
       joins _ _ when ((reads sheet given gives t).test _ refl form.good.1.0) (effects_find _ rest refl each.1.1 alike)
       (λ t es is are. let long = are.1 in (is, omega (arith, some, long), are.0)))
 
@@ -170,7 +168,7 @@ module _ (sheet : Sheet) (given : Given) (gives : Gives sheet given) where
       behind_two given (naming_of sheet) Acts (λ n. refl)
       (λ head times rest some each form.
       let alike = rest_good given (naming_of sheet) Acts at rule.Repeat (cons head (cons times rest)) _ 2 rest
-          (in_repeats at (cons head (cons times rest))) form.good.1.1 in
+      (in_repeats at (cons head (cons times rest))) form.good.1.1 in
       joins _ _ repeat ((reads sheet given gives times).int _ refl form.good.1.0) (effects_find _ rest refl each.1.1 alike)
       (λ t es is are.
       let long = are.1 in (is, leb-false most_repeats at.around.repeats form.fine.fits, omega (arith, some, long), are.0)))
@@ -180,7 +178,7 @@ module _ (sheet : Sheet) (given : Given) (gives : Gives sheet given) where
       behind_three given (naming_of sheet) Acts (λ n. refl)
       (λ head range variable rest some each form.
       let alike = rest_good given (naming_of sheet) Acts at rule.Each (cons head (cons range (cons variable rest))) _ 3 rest
-          (in_all at (cons head (cons range (cons variable rest)))) form.good.1.1.1 in
+      (in_all at (cons head (cons range (cons variable rest)))) form.good.1.1.1 in
       follows _ _ ((reads sheet given gives range).range _ refl form.good.1.0)
       (λ domain is. follows _ _ (binder_finds sheet given at _ _ variable form.fine.fits refl refl form.good.1.1.0)
       (λ bound binds. makes _ _
@@ -292,7 +290,7 @@ module _ (sheet : Sheet) (given : Given) (gives : Gives sheet given) where
       behind_one given (naming_of sheet) Offers (λ n. refl)
       (λ head rest some each form.
       let alike = rest_good given (naming_of sheet) Offers at rule.Do (cons head rest)
-          (plain_part at place.Effect (cons head rest)) 1 rest (one_behind _ (λ j. refl)) form.good.1 in
+      (plain_part at place.Effect (cons head rest)) 1 rest (one_behind _ (λ j. refl)) form.good.1 in
       makes _ do_alt (effects_find _ rest refl (each_acts rest) alike)
       (λ es are. let long = are.1 in (omega (arith, some, long), are.0)))
 
@@ -301,7 +299,7 @@ module _ (sheet : Sheet) (given : Given) (gives : Gives sheet given) where
       behind_two given (naming_of sheet) Offers (λ n. refl)
       (λ head t rest some each form.
       let alike = rest_good given (naming_of sheet) Offers at rule.If (cons head (cons t rest))
-          (plain_part at place.Effect (cons head (cons t rest))) 2 rest (two_behind _ (λ j. refl)) form.good.1.1 in
+      (plain_part at place.Effect (cons head (cons t rest))) 2 rest (two_behind _ (λ j. refl)) form.good.1.1 in
       joins _ _ if_alt ((reads sheet given gives t).test _ refl form.good.1.0) (effects_find _ rest refl (each_acts rest) alike)
       (λ t es is are. let long = are.1 in (is, omega (arith, some, long), are.0)))
 

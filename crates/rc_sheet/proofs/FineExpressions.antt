@@ -1,38 +1,36 @@
 -- What a form's fine parts say is found and well formed: cards, lists of cards, numbers, sides and tests.
-use Rattle.std.proofs.Common.{◌≡◌, ℕ, zero, suc, ◌≤◌, Bool, true, false, not, ◌&&◌, ◌||◌, ◌==◌, cond, List, [], ◌∷◌, length, ℤ, pos, neg_ℤ, int_le, Option, Some, None, slice_get, option_map, refl, sym, subst, ap, ◌∙◌, arith}
+use Rattle.std.proofs.Common.{◌≡◌, ℕ, zero, suc, ◌≤◌, Bool, true, false, ◌&&◌, ◌||◌, cond, List, [], ◌∷◌, length, ℤ, pos, neg_ℤ, int_le, Option, Some, None, slice_get, option_map, refl, sym, subst, ap, ◌∙◌, arith}
 use Rattle.std.specs.List.{list_any}
 use Rattle.std.proofs.lemmas.Bool.{and_parts, not-false, true≢false}
 use Rattle.std.proofs.lemmas.Int.{ints}
 use Rattle.rc_model.specs.Literal.{integer}
 use Rattle.rc_model.specs.Tree.{Tree, word, list, Trees, nil, cons}
-use Rattle.rc_sheet_model.specs.Sheet.{Class, game_class, player_class, team_class, Sort, player_sort, card_sort, group_sort, Who, game, who_var, CardExpr, card_var, top_card, bottom_card, max_card, min_card, CollExpr, group_var, cards_in, filtered, union_of, CollExprs, no_coll, coll, IntExpr, literal, number, size_of, sum_of, worth_of, add, subtract, multiply, Test, eq_int, eq_card, eq_attr, eq_who, ne, less, less_eq, more, more_eq, has_value, and_of, or_of, not_of, all_of, any_of, Tests, no_test, test, Domain, each_player, each_card, each_group, Sheet}
+use Rattle.rc_sheet_model.specs.Sheet.{Class, game_class, player_class, team_class, Sort, player_sort, card_sort, group_sort, Who, game, who_var, CardExpr, card_var, top_card, bottom_card, max_card, min_card, group_var, cards_in, union_of, no_coll, coll, IntExpr, literal, number, size_of, sum_of, worth_of, add, subtract, multiply, Test, eq_int, eq_card, eq_attr, eq_who, ne, less, less_eq, more, more_eq, and_of, or_of, not_of, no_test, test, Domain, each_player, each_card, Sheet}
 use Rattle.rc_sheet_model.specs.Lists.{coll_list, test_list}
 use Rattle.rc_sheet_model.specs.Limits.{IsInRange}
-use Rattle.rc_sheet_model.specs.Naming.{naming_of, Scope, bind, sort_of, class_of}
-use Rattle.rc_sheet_model.specs.WellFormed.{Around, is_equality, IsAttr, HasSort, IsOwner, behind, IsCard, IsColl, AreColls, IsInt, IsTest, AreTests, IsRange}
-use Rattle.rc_semantics.specs.Classes.{same_sort, same_class, bound_in}
+use Rattle.rc_sheet_model.specs.Naming.{naming_of, Scope, sort_of, class_of}
+use Rattle.rc_sheet_model.specs.WellFormed.{Around, is_equality, IsAttr, HasSort, IsOwner, IsCard, IsColl, AreColls, IsInt, IsTest, AreTests, IsRange}
+use Rattle.rc_semantics.specs.Classes.{same_sort, same_class}
 use Rattle.rc_semantics.specs.SecondParts.{Standing, standing_in, sort_by_form, sort_over, bytes_of}
 use Rattle.rc_semantics.specs.SecondFaults.{sorts_at, same_side, side_of_variable, side_of_form, side_of, differ, is_other_side}
 use Rattle.rc_semantics.specs.SecondNames.{some_of}
 use Rattle.rc_semantics.specs.SecondFaults.{side_of_sort as sort_side}
 use Rattle.rc_semantics.specs.SecondFaults.{variable_in as variable_found}
-use Rattle.rc_semantics.specs.declared.role.Role.TheVariants.{No as no_role, UsedAttribute as used_attribute}
 use Rattle.rc_semantics.specs.declared.role.SideSort.{SideSort}
 use Rattle.rc_semantics.specs.declared.role.SideSort.TheVariants as sorts
-use Rattle.rc_grammar.specs.Faults.{is_word, is_variable, is_form_word, is_within, is_number, atom_faults, may_begin, plain_rule, rule_of, count}
+use Rattle.rc_grammar.specs.Faults.{is_word, is_variable, is_within, is_number, atom_faults, may_begin, plain_rule, rule_of, count}
 use Rattle.rc_grammar.specs.declared.keyword.Keyword.TheVariants as keyword
-use Rattle.rc_grammar.specs.declared.grammar.Place.{Place}
 use Rattle.rc_grammar.specs.declared.grammar.Place.TheVariants as place
 use Rattle.rc_grammar.specs.declared.grammar.Rule.{Rule}
 use Rattle.rc_grammar.specs.declared.grammar.Rule.TheVariants as rule
 use Rattle.rc_grammar.specs.declared.fault.SheetKind.TheVariants.{Shape, Number}
-use Rattle.rc_sheet.specs.ReadNames.{◌>>=◌, both, rule_at, name_at, binder_at, place_in, variable_in, owner_rule, loc_parts, num_parts}
-use Rattle.rc_sheet.specs.ReadExpressions.{range_of, Side, number_side, card_side, value_side, owner_side, side_of_sort, variable_side, side_word, equal_test, side_by, card_at, card_rule, coll_at, coll_rule, colls_at, int_at, int_rule, side_at, value_parts, test_at, test_rule, tests_at, range_at}
+use Rattle.rc_sheet.specs.ReadNames.{◌>>=◌, both, place_in, variable_in, owner_rule}
+use Rattle.rc_sheet.specs.ReadExpressions.{Side, number_side, card_side, value_side, owner_side, side_of_sort, variable_side, side_word, equal_test, side_by, card_at, card_rule, coll_at, coll_rule, colls_at, int_at, int_rule, side_at, value_parts, test_at, test_rule, tests_at, range_at}
 use Rattle.rc_sheet.proofs.Fine.{Given}
-use Rattle.rc_sheet.proofs.Finds.{Finds, finds, finds_if, implies, makes, follows, follows_this, finds_both, joins, where_true, where_false, whether}
-use Rattle.rc_sheet.proofs.GoodParts.{◌▹◌, Each, by_parts, IsGood, IsGoodForm, good_form, rule_among, no_list}
+use Rattle.rc_sheet.proofs.Finds.{Finds, finds, finds_if, implies, makes, follows, follows_this, finds_both, joins, where_true, whether}
+use Rattle.rc_sheet.proofs.GoodParts.{◌▹◌, Each, by_parts, good_form}
 use Rattle.rc_sheet.proofs.GoodForms.{one_behind, plain_part, Says, with_two, with_three, with_four, behind_one, behind_two, list_says_by, list_says, rest_good}
-use Rattle.rc_sheet.proofs.FineNames.{passes_test, no_keyword, class_same, Gives, Good, GoodForm, IsBound, bound_variable, has_its_sort, variable_finds, word_is_variable, IsOwnerOf, current_player_finds, current_team_finds, team_of_finds, attr_finds, value_finds, map_finds, BinderAt, binder_finds, behind_binder, LocAt, loc_parts_finds, num_parts_finds}
+use Rattle.rc_sheet.proofs.FineNames.{passes_test, no_keyword, class_same, Gives, Good, GoodForm, IsBound, bound_variable, has_its_sort, variable_finds, word_is_variable, IsOwnerOf, current_player_finds, current_team_finds, team_of_finds, attr_finds, value_finds, map_finds, binder_finds, behind_binder, loc_parts_finds, num_parts_finds}
 
 -- a number that is written, within its range
 pub integer_finds : (bytes : List ℕ) → is_number bytes ≡ true → Finds (integer bytes) IsInRange
@@ -219,7 +217,7 @@ module _ (sheet : Sheet) (given : Given) where
       behind_two given (naming_of sheet) Reads (λ n. refl)
       (λ head first rest some each form.
       let alike = rest_good given (naming_of sheet) Reads at rule.Union (cons head (cons first rest)) _ 1 (cons first rest)
-          (union_parts at (cons head (cons first rest))) form.good.1 in
+      (union_parts at (cons head (cons first rest))) form.good.1 in
       makes _ union_of (colls_find _ (cons first rest) refl each.1 alike)
       (λ cs are. let long = are.1 in (omega (arith, some, long), are.0)))
 
@@ -393,8 +391,8 @@ module _ (sheet : Sheet) (given : Given) where
   variable_side_finds at bytes is here bound =
       let sort = bound.variable.sort in
       let told : cond (is_variable bytes) (side_of_variable (variable_found at.around.scope bytes)) (Some sorts.Number) ≡ sort_side sort
-          = ap (λ b. cond b (side_of_variable (variable_found at.around.scope bytes)) (Some sorts.Number)) is
-          ∙ ap side_of_variable bound.found in
+      = ap (λ b. cond b (side_of_variable (variable_found at.around.scope bytes)) (Some sorts.Number)) is
+      ∙ ap side_of_variable bound.found in
       let fits = subst (λ p. list_any (same_sort sort) (sorts_at p) ≡ true) here bound.fits in
       subst
       (λ o. Finds (variable_side bound.var o) (SideAt at.around
@@ -409,7 +407,7 @@ module _ (sheet : Sheet) (given : Given) where
   unfolding side_word
   side_word_finds at bytes from to here good =
       let taken = passes_test (is_variable bytes || is_number bytes) Number from
-          (subst (λ p. atom_faults p bytes from ≡ []) here good.shaped) in
+      (subst (λ p. atom_faults p bytes from ≡ []) here good.shaped) in
       whether (is_variable bytes) (place_in at.around.scope bytes >>= (λ place. variable_side place (slice_get at.around.scope place))) _
       (λ is.
       let bound = bound_variable sheet given at bytes is (ap (λ p. some_of (sorts_at p)) here) good.fine.0 in
@@ -555,7 +553,7 @@ module _ (sheet : Sheet) (given : Given) where
       behind_one given (naming_of sheet) Reads (λ n. refl)
       (λ head rest some each form.
       let alike = rest_good given (naming_of sheet) Reads at rule.And (cons head rest) (plain_part at place.Test (cons head rest)) 1 rest
-          (one_behind _ (λ j. refl)) form.good.1 in
+      (one_behind _ (λ j. refl)) form.good.1 in
       makes _ and_of (tests_find _ rest refl each.1 alike) (λ ts are. let long = are.1 in (omega (arith, some, long), are.0)))
 
   or_says : (at : Standing) (parts : Trees) → SaysTest at rule.Or parts
@@ -563,7 +561,7 @@ module _ (sheet : Sheet) (given : Given) where
       behind_one given (naming_of sheet) Reads (λ n. refl)
       (λ head rest some each form.
       let alike = rest_good given (naming_of sheet) Reads at rule.Or (cons head rest) (plain_part at place.Test (cons head rest)) 1 rest
-          (one_behind _ (λ j. refl)) form.good.1 in
+      (one_behind _ (λ j. refl)) form.good.1 in
       makes _ or_of (tests_find _ rest refl each.1 alike) (λ ts are. let long = are.1 in (omega (arith, some, long), are.0)))
 
   not_says : (at : Standing) (parts : Trees) → SaysTest at rule.Not parts

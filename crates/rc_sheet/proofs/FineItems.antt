@@ -1,32 +1,28 @@
 -- What a form's fine parts say is found and well formed: items, the scoring, and the body of a sheet.
-use Rattle.std.proofs.Common.{◌≡◌, ℕ, zero, suc, ◌+◌, ◌≤◌, ◌<◌, ◌||◌, ◌==◌, true, false, cond, nat_lt, nat_le, List, [], ◌∷◌, ◌++◌, length, length-append, flat_map, Option, Some, None, option_map, refl, sym, subst, ap, ◌∙◌, arith, lt-ltb, le-leb, eq-eqb, ne_eqb}
-use Rattle.std.specs.List.{AllByRecursion}
+use Rattle.std.proofs.Common.{◌≡◌, ℕ, suc, ◌+◌, ◌≤◌, ◌<◌, nat_lt, List, [], ◌∷◌, ◌++◌, length, length-append, flat_map, Option, Some, refl, sym, subst, ap, ◌∙◌, arith, lt-ltb}
 use Rattle.std.proofs.lemmas.Grind.{flat_map-append}
 use Rattle.rc_model.specs.Tree.{Tree, word, list, Trees, nil, cons}
-use Rattle.rc_sheet_model.specs.Sheet.{Class, game_class, player_class, team_class, Test, IntExpr, Best, highest, lowest, Alt, SheetItem, do_item, stage, choice, SheetItems, no_item, item, Sheet}
+use Rattle.rc_sheet_model.specs.Sheet.{Class, player_class, team_class, Test, SheetItem, do_item, stage, choice, SheetItems, no_item, Sheet}
 use Rattle.rc_sheet_model.specs.Lists.{item_list}
 use Rattle.rc_sheet_model.specs.Limits.{most_stages, most_sites}
 use Rattle.rc_sheet_model.specs.Naming.{naming_of}
-use Rattle.rc_sheet_model.specs.WellFormed.{Around, outside, scored, in_stage, IsInStage, IsInt, IsTest, AreAlts, IsItem, AreItems}
-use Rattle.rc_semantics.specs.SecondParts.{Standing, standing_in, standing_alone, Part, atom, form, parts_at, parts_in, with_form, parts_of}
+use Rattle.rc_sheet_model.specs.WellFormed.{Around, in_stage, IsTest, IsItem, AreItems}
+use Rattle.rc_semantics.specs.SecondParts.{Standing, standing_in, Part, form, parts_at, parts_in, with_form}
 use Rattle.rc_semantics.specs.SecondNames.{stages_in, choices_in}
 use Rattle.rc_semantics.specs.SecondFaults.{stage_count, choice_count}
-use Rattle.rc_grammar.specs.Faults.{is_word, is_form_word, atom_faults, rule_of, count, fits, behind_front}
-use Rattle.rc_grammar.specs.declared.keyword.Keyword.TheVariants as keyword
-use Rattle.rc_grammar.specs.declared.grammar.Place.{Place}
+use Rattle.rc_grammar.specs.Faults.{atom_faults, rule_of, count}
 use Rattle.rc_grammar.specs.declared.grammar.Place.TheVariants as place
 use Rattle.rc_grammar.specs.declared.grammar.Rule.{Rule}
 use Rattle.rc_grammar.specs.declared.grammar.Rule.TheVariants as rule
-use Rattle.rc_grammar.specs.declared.fault.SheetKind.TheVariants.{Shape}
-use Rattle.rc_sheet.specs.ReadNames.{◌>>=◌, ensure, both, rule_at}
-use Rattle.rc_sheet.specs.ReadExpressions.{test_at, int_at}
-use Rattle.rc_sheet.specs.ReadEffects.{effects_at, alts_at}
-use Rattle.rc_sheet.specs.ReadItems.{Begun, none_begun, with_stage, with_site, stage_of, choice_of, end_rule, end_at, item_at, item_rule, items_at, best_at, score_rule, score_at, but_last, last_of, body_at}
+use Rattle.rc_sheet.specs.ReadNames.{ensure}
+use Rattle.rc_sheet.specs.ReadExpressions.{test_at}
+use Rattle.rc_sheet.specs.ReadEffects.{effects_at}
+use Rattle.rc_sheet.specs.ReadItems.{Begun, with_stage, with_site, stage_of, end_rule, end_at, item_at, item_rule, items_at}
 use Rattle.rc_sheet.proofs.Fine.{Given}
-use Rattle.rc_sheet.proofs.Finds.{Finds, finds, finds_if, implies, makes, follows, follows_this, finds_both, joins, where_true, whether, ensures_so}
-use Rattle.rc_sheet.proofs.GoodParts.{◌▹◌, Each, by_parts, each_by_parts, one_and_more, three_and_more, IsGood, GoodAt, AreGood, IsGoodForm, good_form, list_finds, rule_among, no_list}
-use Rattle.rc_sheet.proofs.GoodForms.{one_behind, two_behind, three_behind, plain_part, Says, with_two, with_three, list_says, rest_good}
-use Rattle.rc_sheet.proofs.FineNames.{passes_test, Gives, Good, GoodForm}
+use Rattle.rc_sheet.proofs.Finds.{Finds, finds, makes, follows, follows_this, finds_both, ensures_so}
+use Rattle.rc_sheet.proofs.GoodParts.{◌▹◌, Each, by_parts, each_by_parts, one_and_more, three_and_more, list_finds}
+use Rattle.rc_sheet.proofs.GoodForms.{one_behind, three_behind, plain_part, with_two, list_says, rest_good}
+use Rattle.rc_sheet.proofs.FineNames.{Gives, Good, GoodForm}
 use Rattle.rc_sheet.proofs.FineExpressions.{reads}
 use Rattle.rc_sheet.proofs.FineEffects.{AreEffectsOf, effects_find, each_acts, alts_find}
 
@@ -178,7 +174,7 @@ module _ (sheet : Sheet) (given : Given) (gives : Gives sheet given) where
       (λ head rest some each good room.
       let all = cons head rest in
       let alike = rest_good given (naming_of sheet) Plays at rule.Do all (plain_part at place.Effect all) 1 rest
-          (one_behind _ (λ j. refl)) good.good.1 in
+      (one_behind _ (λ j. refl)) good.good.1 in
       makes _ (λ effects. (do_item effects, begun))
       (subst (λ scope. Finds (effects_at (naming_of sheet) scope rest) (AreEffectsOf sheet given gives rest at.around)) free
       (effects_find sheet given gives _ rest refl (each_acts sheet given gives rest) alike))
@@ -202,8 +198,7 @@ module _ (sheet : Sheet) (given : Given) (gives : Gives sheet given) where
       (finds_both _ _ ends
       (finds_items (fewer begun (with_stage begun) inner parts (omega (arith, stages)) (omega (arith, sites)) room)))
       (λ p are.
-      let long = are.1.1 in
-      (
+      let long = are.1.1 in (
         makes_stage p.0 p.1.0 are.0 (omega (arith, some, long)) are.1.0,
         farther begun (with_stage begun) p.1.1 inner parts (omega (arith, stages)) (omega (arith, sites)) are.1.2,
       )))
@@ -248,7 +243,7 @@ module _ (sheet : Sheet) (given : Given) (gives : Gives sheet given) where
       (λ head rest some each good room.
       let all = cons head rest in
       let alike = rest_good given (naming_of sheet) Plays at rule.Choice all (plain_part at place.Alternative all) 1 rest
-          (one_behind _ (λ j. refl)) good.good.1 in
+      (one_behind _ (λ j. refl)) good.good.1 in
       let most = room.sites in
       follows_this (ensure (nat_lt begun.sites most_sites)) tt _
       (ensures_so _ (lt-ltb begun.sites most_sites (omega (arith, most))) refl)

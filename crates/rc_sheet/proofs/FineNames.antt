@@ -1,26 +1,25 @@
 -- What a form's fine parts say is found and well formed: names, variables, owners, locations and stored numbers.
-use Rattle.std.proofs.Common.{◌≡◌, ℕ, ◌+◌, ◌<◌, Bool, true, false, not, ◌&&◌, ◌||◌, ◌==◌, cond, nat_le, nat_lt, List, [], ◌∷◌, length, Option, Some, None, is_none, is_some, slice_get, slice_index, slice_index_or, get_or, position, find, option_map, option_to_list, bytes_eq, codes, refl, sym, subst, ap, ◌∙◌, arith, eqb-true, lt-ltb, leb-true, leb-false}
-use Rattle.std.specs.List.{AllByRecursion, list_any, position_or_len}
+use Rattle.std.proofs.Common.{◌≡◌, ℕ, Bool, true, false, not, ◌&&◌, ◌||◌, cond, nat_le, nat_lt, List, [], ◌∷◌, length, Option, Some, None, is_none, is_some, slice_get, position, find, option_map, option_to_list, bytes_eq, refl, sym, subst, ap, ◌∙◌, eqb-true, lt-ltb, leb-false}
+use Rattle.std.specs.List.{list_any, position_or_len}
 use Rattle.std.proofs.lemmas.Bool.{not-true, not-false, and_from, or_from, false_from_ne_true, true≢false}
-use Rattle.std.proofs.lemmas.Option.{same_Some, slice_get_within, get_or_from_slice_get}
+use Rattle.std.proofs.lemmas.Option.{slice_get_within, get_or_from_slice_get}
 use Rattle.std.proofs.lemmas.List.Folds.{find_at}
 use Rattle.std.proofs.lemmas.Slice.Eq.{bytes_eq-Decides}
 use Rattle.rc_model.specs.Tree.{Tree, word, list, Trees, nil, cons}
-use Rattle.rc_sheet_model.specs.Sheet.{Class, game_class, player_class, team_class, Sort, player_sort, card_sort, group_sort, LocKind, vloc, iloc, hloc, mem, LocName, NumName, Who, game, current_player, current_team, team_of_current, team_of_var, who_var, Loc, Num, Sheet}
+use Rattle.rc_sheet_model.specs.Sheet.{Class, game_class, player_class, team_class, Sort, player_sort, LocKind, vloc, iloc, hloc, mem, Who, game, current_player, current_team, who_var, Loc, Sheet}
 use Rattle.rc_sheet_model.specs.Limits.{most_variables}
-use Rattle.rc_sheet_model.specs.Naming.{Naming, naming_of, Variable, Scope, bind, class_of, loc_class, num_class}
+use Rattle.rc_sheet_model.specs.Naming.{naming_of, Variable, Scope, class_of}
 use Rattle.rc_sheet_model.specs.Naming.{kind_word as kind_bytes}
-use Rattle.rc_sheet_model.specs.WellFormed.{Around, IsAttr, IsValue, IsMap, HasSort, IsInStage, IsOwner, IsHolder, var_word, IsBinder, behind, is_mem, holds_references, IsLoc, IsNum}
+use Rattle.rc_sheet_model.specs.WellFormed.{Around, IsAttr, IsValue, IsMap, HasSort, IsOwner, IsHolder, var_word, IsBinder, behind, is_mem, holds_references, IsLoc, IsNum}
 use Rattle.rc_semantics.specs.Classes.{same_sort, same_class, class_of_rule, class_at, bound_in}
-use Rattle.rc_semantics.specs.SecondParts.{Standing, part_at, bytes_of, word_in, is_binder}
-use Rattle.rc_semantics.specs.SecondNames.{some_of, is_named, Mention, mention_of}
-use Rattle.rc_semantics.specs.SecondFaults.{is_bound, is_unbound, is_misused, is_other_sort, is_misplaced, sorts_at}
+use Rattle.rc_semantics.specs.SecondParts.{Standing, part_at, bytes_of, word_in}
+use Rattle.rc_semantics.specs.SecondNames.{some_of, Mention, mention_of}
+use Rattle.rc_semantics.specs.SecondFaults.{is_other_sort, is_misplaced, sorts_at}
 use Rattle.rc_semantics.specs.SecondFaults.{variable_in as variable_found}
 use Rattle.rc_grammar.specs.Keyword.{text_of}
-use Rattle.rc_grammar.specs.Grammar.{forms_of}
-use Rattle.rc_grammar.specs.Faults.{is_word, is_variable, is_kind, is_form_word, unless, atom_kind, atom_faults, faults_at, rule_of, count, fits}
+use Rattle.rc_grammar.specs.Faults.{is_word, is_variable, is_form_word, unless, atom_faults, rule_of, fits}
 use Rattle.rc_semantics.specs.declared.role.Role.{Role}
-use Rattle.rc_semantics.specs.declared.role.Role.TheVariants.{No as no_role, UsedAttribute as used_attribute, UsedValue as used_value, UsedMap as used_map, CardLocation as card_location, ReferenceLocation as reference_location}
+use Rattle.rc_semantics.specs.declared.role.Role.TheVariants.{UsedAttribute as used_attribute, UsedValue as used_value, UsedMap as used_map, CardLocation as card_location, ReferenceLocation as reference_location}
 use Rattle.rc_grammar.specs.declared.keyword.Keyword.{Keyword}
 use Rattle.rc_grammar.specs.declared.keyword.Keyword.TheVariants as keyword
 use Rattle.rc_grammar.specs.declared.grammar.Place.{Place}
@@ -28,14 +27,14 @@ use Rattle.rc_grammar.specs.declared.grammar.Place.TheVariants as place
 use Rattle.rc_grammar.specs.declared.grammar.Rule.{Rule}
 use Rattle.rc_grammar.specs.declared.grammar.Rule.TheVariants as rule
 use Rattle.rc_grammar.specs.declared.fault.SheetKind.{SheetKind}
-use Rattle.rc_grammar.specs.declared.fault.SheetKind.TheVariants.{Shape, Number}
+use Rattle.rc_grammar.specs.declared.fault.SheetKind.TheVariants.{Shape}
 use Rattle.rc_grammar.specs.declared.fault.SheetFault.{SheetFault}
 use Rattle.rc_sheet.specs.ReadNames.{◌>>=◌, ensure, rule_at, name_at, binder_at, has_sort, place_in, sorted, variable_in, player_of_rule, player_at, team_of, team_parts, owner_rule, owner_at, holder_at, kind_word, is_loc_name, is_num_name, loc_parts, loc_rule, loc_at, num_parts, num_rule, num_at, map_at}
-use Rattle.rc_sheet.proofs.Fine.{Given, IsNamed, HasNumber, IsFineAtom, IsLocMention, IsNumMention, IsFineBinder}
+use Rattle.rc_sheet.proofs.Fine.{Given, IsNamed, HasNumber, IsFineAtom, IsFineBinder}
 use Rattle.rc_sheet.proofs.Means.{means_so, found_passes}
 use Rattle.rc_sheet.proofs.ReadsNames.{same_bytes, sorts_same, kind_is}
 use Rattle.rc_sheet.proofs.Finds.{Finds, finds, finds_if, implies, makes, follows, follows_this, where_true, where_false, whether, ensures_so}
-use Rattle.rc_sheet.proofs.GoodParts.{◌▹◌, two_parts, three_parts, IsGood, IsGoodForm, AreGood, finds_by, list_finds, no_list}
+use Rattle.rc_sheet.proofs.GoodParts.{◌▹◌, three_parts, IsGood, IsGoodForm, finds_by, list_finds, no_list}
 
 -- an atom that its place doesn't refuse passes the test there
 pub passes_test : (b : Bool) (kind : SheetKind) (from : ℕ)
@@ -87,8 +86,7 @@ pub no_keyword : (bytes : List ℕ) → is_variable bytes ≡ true
     → (is_word keyword.Game bytes ≡ false) × (is_word keyword.Player bytes ≡ false)
 no_keyword [] is = absurd cc
 no_keyword (b ∷ bytes) is =
-    let first : b ≡ 39 = eqb-true b 39 is in
-    (
+    let first : b ≡ 39 = eqb-true b 39 is in (
       subst (λ b. is_word keyword.Game (b ∷ bytes) ≡ false) (sym first) refl,
       subst (λ b. is_word keyword.Player (b ∷ bytes) ≡ false) (sym first) refl,
     )
@@ -167,10 +165,10 @@ module _ (sheet : Sheet) (given : Given) where
   bound_variable at bytes is some fine =
       let found = variable_found at.around.scope bytes in
       let bound = something_found found
-          (third_false (is_variable bytes) (some_of (sorts_at at.place)) (is_none found) fine.bound is some) in
+      (third_false (is_variable bytes) (some_of (sorts_at at.place)) (is_none found) fine.bound is some) in
       let place = found_place (λ variable. bytes_eq bytes variable.word) at.around.scope bound.0 bound.1 in
       let kept = third_false (is_variable bytes) (some_of (sorts_at at.place)) (is_other_sort (sorts_at at.place) found)
-          fine.sort_fits is some in
+      fine.sort_fits is some in
       record {
         variable = bound.0;
         found = bound.1;
@@ -307,7 +305,7 @@ module _ (sheet : Sheet) (given : Given) where
   unfolding owner_at
   holder_finds at (word bytes from to) here good =
       let taken = passes_test (is_word keyword.Game bytes || is_variable bytes) Shape from
-          (subst (λ p. atom_faults p bytes from ≡ []) here good.shaped) in
+      (subst (λ p. atom_faults p bytes from ≡ []) here good.shaped) in
       whether (is_word keyword.Game bytes) (Some game) _
       (λ is. finds game (tt, sym (ap (λ b. cond b game_class player_class) is)))
       (λ other. implies _
@@ -323,7 +321,7 @@ module _ (sheet : Sheet) (given : Given) where
   unfolding name_at
   name_finds words at (word bytes from to) n here good is p =
       let plain = passes_test (not (is_variable bytes)) Shape from
-          (subst (λ p. atom_faults p bytes from ≡ []) here good.shaped) in
+      (subst (λ p. atom_faults p bytes from ≡ []) here good.shaped) in
       where_false (is_variable bytes) None (position (bytes_eq bytes) words) (not-true (is_variable bytes) plain)
       (finds_if (position (bytes_eq bytes) words) n is p)
   name_finds words at (list parts from to) n here good is p =
@@ -390,8 +388,7 @@ module _ (sheet : Sheet) (given : Given) where
       let fresh = not_in_scope bytes scope (subst (λ w. is_some (variable_found scope w) ≡ false) word_is fine.fresh) in
       where_true (is_variable bytes && nat_le (length scope) most_variables) (position (bytes_eq bytes) sheet.names.vars) None
       (and_from _ _ variable fine.room)
-      (finds_if (position (bytes_eq bytes) sheet.names.vars) n.0 n.1
-      (
+      (finds_if (position (bytes_eq bytes) sheet.names.vars) n.0 n.1 (
         (
           slice_get_within sheet.names.vars n.0 bytes n.2,
           subst (λ w. list_any (λ variable. bytes_eq variable.word w) scope ≡ false) (sym same) fresh,
@@ -432,7 +429,7 @@ module _ (sheet : Sheet) (given : Given) where
       (λ who holds.
       let class : m.loc.class ≡ class_of who = m.same_class ∙ sym holds.1 in
       let fits = and_from _ _ (kind_is_told m.loc.kind _ kind refl form.good.1.0 m.same_kind)
-          (ap (λ c. same_class c (class_of who)) class ∙ class_same (class_of who)) in
+      (ap (λ c. same_class c (class_of who)) class ∙ class_same (class_of who)) in
       follows_this (name_at sheet.names.locs name) m.number _
       (name_finds sheet.names.locs _ name m.number refl form.good.1.1.0 m.numbered refl)
       (follows_this (ensure (is_loc_name kind (class_of who) (slice_get sheet.locs m.number))) tt _

@@ -1,5 +1,5 @@
 -- What a form of good parts says, by how many parts it has, where R holds of each part.
-use Rattle.std.proofs.Common.{◌≡◌, ℕ, zero, suc, ◌+◌, ◌≤◌, true, false, ◌==◌, nat_lt, List, [], ◌∷◌, ◌++◌, Option, Some, refl, sym, subst, ap, ◌∙◌, arith, ltb-true, lt-ltb}
+use Rattle.std.proofs.Common.{◌≡◌, ℕ, zero, suc, ◌+◌, ◌≤◌, ◌==◌, nat_lt, List, [], ◌∷◌, ◌++◌, Option, Some, sym, subst, ap, ◌∙◌, arith}
 use Rattle.std.specs.List.{AllByRecursion}
 use Rattle.rc_model.specs.Tree.{Tree, list, Trees, nil, cons}
 use Rattle.rc_sheet_model.specs.Naming.{Naming}
@@ -107,8 +107,7 @@ module _ (given : Given) (naming : Naming) (R : Tree → Type 0) where
       → ((i : ℕ) → index ≤ i → standing_in at rule all i ≡ Some alike) → AreGood given naming at rule all index trees
       → Each (IsGood given naming alike) trees
   rest_good at rule all alike index nil same good = tt
-  rest_good at rule all alike index (cons tree trees) same good =
-      (
-        subst (λ o. GoodAt given naming o tree) (same index (omega arith)) good.0,
-        rest_good at rule all alike (index + 1) trees (λ i le. same i (omega (arith, le))) good.1,
-      )
+  rest_good at rule all alike index (cons tree trees) same good = (
+    subst (λ o. GoodAt given naming o tree) (same index (omega arith)) good.0,
+    rest_good at rule all alike (index + 1) trees (λ i le. same i (omega (arith, le))) good.1,
+  )

@@ -1,20 +1,18 @@
 -- Trees that stand well in a form: of their place's shape, with no fine print against their parts. What stands so in a list
 -- says so of each of its parts.
-use Rattle.std.proofs.Common.{◌≡◌, ℕ, suc, ◌+◌, ◌≤◌, ◌<◌, Bool, true, false, cond, List, [], ◌∷◌, ◌++◌, length, All, Option, Some, None, slice_get, option_map, find, nat_lt, ◌==◌, refl, sym, subst, ap, ◌∙◌, arith, eqb-true, ltb-true}
+use Rattle.std.proofs.Common.{◌≡◌, ℕ, ◌+◌, ◌≤◌, Bool, true, false, cond, List, [], ◌∷◌, ◌++◌, Option, Some, None, option_map, find, nat_lt, ◌==◌, refl, sym, subst, ap, ◌∙◌, arith, eqb-true, ltb-true}
 use Rattle.std.specs.List.{AllByRecursion}
 use Rattle.std.proofs.lemmas.Option.{same_Some}
-use Rattle.std.proofs.lemmas.List.Elements.{recursion_from_All}
 use Rattle.rc_model.specs.Tree.{Tree, word, list, Trees, nil, cons}
 use Rattle.rc_sheet_model.specs.Naming.{Naming}
-use Rattle.rc_semantics.specs.SecondParts.{Standing, Part, atom, form, parts_at, parts_in, standing_in, with_form}
-use Rattle.rc_grammar.specs.Grammar.{forms_of, front_of}
-use Rattle.rc_grammar.specs.Faults.{faults_at, faults_in, told_faults, rule_faults, lacks_players, shape, told_rule, plain_rule, or_else, rule_of, place_at, count, fits}
-use Rattle.rc_grammar.specs.declared.fault.SheetFault.{SheetFault}
+use Rattle.rc_semantics.specs.SecondParts.{Standing, parts_at, parts_in, standing_in, with_form}
+use Rattle.rc_grammar.specs.Grammar.{forms_of}
+use Rattle.rc_grammar.specs.Faults.{faults_at, faults_in, told_faults, lacks_players, told_rule, plain_rule, or_else, rule_of, place_at, count, fits}
 use Rattle.rc_grammar.specs.declared.grammar.Place.{Place}
 use Rattle.rc_grammar.specs.declared.grammar.Rule.{Rule}
 use Rattle.rc_sheet.specs.ReadNames.{◌>>=◌, sized, rule_at}
-use Rattle.rc_sheet.proofs.Fine.{Given, IsFine, IsFineAtom, IsFineForm}
-use Rattle.rc_sheet.proofs.Finds.{Finds, where_true}
+use Rattle.rc_sheet.proofs.Fine.{Given, IsFine, IsFineForm}
+use Rattle.rc_sheet.proofs.Finds.{Finds}
 
 infixr 5 ◌▹◌
 -- the proof for the first form of a place, and those for the others
@@ -177,8 +175,7 @@ module _ (given : Given) (naming : Naming) where
   are_good at rule all index nil shaped fine = tt
   are_good at rule all index (cons tree trees) shaped fine =
       let none = none_of_both (faults_at (place_at rule (count all) index) tree) _ shaped in
-      let both = all_of_both (IsFine given naming) (parts_at (standing_in at rule all index) tree) _ fine in
-      (
+      let both = all_of_both (IsFine given naming) (parts_at (standing_in at rule all index) tree) _ fine in (
         good_at (place_at rule (count all) index) _ tree (λ place. refl) none.0 both.0,
         are_good at rule all (index + 1) trees none.1 both.1,
       )
