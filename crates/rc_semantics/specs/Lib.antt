@@ -3,7 +3,7 @@ pub mod SecondParts
 pub mod SecondNames
 pub mod SecondFaults
 pub mod Summary
-pub mod Faces
+pub mod Groups
 pub mod Seen
 pub mod Views
 pub mod Checks
