@@ -6,7 +6,7 @@ use Rattle.std.proofs.Math.Nat.{min-eq_left, min-eq_right, mul-suc, mul_assoc, m
 -- a factor may be cut
 times_by : (a b : ℕ) → (513 < a) ⊎ (a ≤ 513) → min (min a 513 * b) 513 ≡ min (a * b) 513
 times_by a b (inr le) = ap (λ n. min (n * b) 513) (min-eq_left le)
-times_by a zero (inl lt) = ap (λ n. min (n * 0) 513) (min-eq_right (omega (arith, lt)))
+times_by a zero (inl lt) = omega arith
 times_by a (suc b) (inl lt) =
     ap (λ n. min (n * suc b) 513) (min-eq_right (omega (arith, lt)))
     ∙ min-eq_right (omega (arith, mul-suc 513 b))
