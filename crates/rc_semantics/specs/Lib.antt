@@ -7,4 +7,5 @@ pub mod Groups
 pub mod Seen
 pub mod Views
 pub mod Checks
+pub mod Entered
 pub mod SecondExamples

@@ -3,6 +3,7 @@ ghost use Rattle.std.specs.Prelude.{◌≡◌, ◌<◌, ℕ, List, [], ◌∷◌
 ghost use Rattle.rc_model.specs.Tree.{list};
 ghost use Rattle.rc_form.specs.Form.{tree_of, trees_of, packed};
 ghost use Rattle.rc_semantics.specs.Checks.{Checks};
+ghost use Rattle.rc_semantics.specs.Entered.{entered};
 ghost use Rattle.rc_semantics.specs.Seen.{standing_seen, inner_seen};
 ghost use Rattle.rc_semantics.specs.Summary as spec;
 ghost use Rattle.rc_semantics.specs.SecondParts as parts_spec;
@@ -171,8 +172,9 @@ impl<'a> Walk<'a> {
     }
 
     /// The attribute of a group may stand before its branches.
+    #[tactic(auto, using(crate::proofs::Above::at_start))]
     fn enter(&mut self, rule: Rule, parts: &'a [Form]) -> Result<(), SheetFail>
-        ensures above { OnOk result (self.new.above ≡ parts_spec.above_in self.old.above rule (packed (trees_of parts.now)) 0) }
+        ensures above { OnOk result (self.new.above ≡ self.old.above ++ entered rule (packed (trees_of parts.now))) }
         ensures seen { self.new.seen ≡ self.old.seen }
         ensures memory { OnErr result (result ≡ Err SheetFail.Memory) }
     {
