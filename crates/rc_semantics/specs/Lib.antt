@@ -1,8 +1,11 @@
 pub mod Classes
-pub mod Seen
 pub mod SecondParts
 pub mod SecondNames
 pub mod SecondFaults
 pub mod Summary
 pub mod SecondWalk
+pub mod Faces
+pub mod Seen
+pub mod Views
+pub mod Checks
 pub mod SecondExamples

@@ -103,13 +103,23 @@ front index nil = nil
 front zero (cons tree trees) = nil
 front (suc index) (cons tree trees) = cons tree (front index trees)
 
--- Which attributes may stand in a face before the part of a form at this index: those above the form, the attribute of a group
--- before its branches, and those of the groups beside the part that stand before it.
+-- Which attributes may stand in a face before the part of a form at this index, but for those above the form: the attribute of
+-- a group before its branches, and those of the groups beside the part that stand before it.
+abbrev pub inner_attributes : Rule → Trees → ℕ → List (List ℕ)
+inner_attributes rule.Group parts index = word_in 0 parts ∷ []
+inner_attributes rule.Deck parts index = attributes_among (front index parts)
+inner_attributes rule.Branch parts index = attributes_among (front index parts)
+inner_attributes rule parts index = []
+
+-- and with those above the form
 abbrev pub above_in : List (List ℕ) → Rule → Trees → ℕ → List (List ℕ)
-above_in above rule.Group parts index = above ++ word_in 0 parts ∷ []
-above_in above rule.Deck parts index = above ++ attributes_among (front index parts)
-above_in above rule.Branch parts index = above ++ attributes_among (front index parts)
-above_in above rule parts index = above
+above_in above rule parts index = above ++ inner_attributes rule parts index
+
+-- the attributes that a part of a form leaves before the parts behind it
+abbrev pub attributes_behind : Rule → Tree → List (List ℕ)
+attributes_behind rule.Deck tree = attributes_of tree
+attributes_behind rule.Branch tree = attributes_of tree
+attributes_behind rule tree = []
 
 -- Where a part stands: its place in the grammar, its role, all parts of its list, what is around it, and which attributes may
 -- stand before it in a face.

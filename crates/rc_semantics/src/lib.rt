@@ -2,15 +2,28 @@
 //! many, and a form without cards. Its definition stands whole in `specs/SecondFaults.antt`.
 #![tactic(auto)]
 
+mod around;
+mod check;
+mod faces;
 mod fault;
+mod kinds;
 mod names;
+mod owned;
 mod parts;
 mod role;
 mod second_examples;
 mod second_laws;
 mod second_limits;
 mod second_part_examples;
+mod sides;
+mod standing;
+mod summary;
+#[cfg(test)]
+mod tests;
+mod walk;
+mod whole;
 
+pub use check::check_semantics;
 pub use fault::SheetFail;
 pub use rc_grammar::{SheetFault, SheetKind};
 pub use second_examples::{attributes_again, decks, lines_again, no_cards, players_in_teams};

@@ -1,8 +1,14 @@
 //! Words of a form, as they come.
-ghost use Rattle.std.specs.Prelude.{◌≡◌, [], ◌∷◌, ◌++◌, length, take, Err, OnOk, OnErr};
+ghost use Rattle.std.specs.Prelude.{◌≡◌, ◌∷◌, ◌++◌, [], OnOk, OnErr, Err, length, take};
+ghost use Rattle.rc_form.specs.Form.{tree_of, trees_of, packed};
 ghost use Rattle.rc_semantics.specs.SecondNames.{is_named};
+ghost use Rattle.rc_semantics.specs.SecondParts.{attributes_of, attributes_among};
+ghost use Rattle.rc_semantics.specs.Summary.{with_word};
+ghost use Rattle.rc_semantics.specs.Seen.{words_seen};
 
 use crate::fault::SheetFail;
+use indexmap::IndexSet;
+use rc_form::Form;
 use std::alloc::Global;
 use std::marker::Model;
 
@@ -13,11 +19,13 @@ pub struct Names<'a> {
 }
 
 impl<'a> Model for Names<'a> {
-    ghost use Rattle.std.specs.Prelude.{ℕ, List, map};
+    ghost use Rattle.std.specs.Prelude.{ℕ, List};
 
     ghost Value = { List (List ℕ) };
 
-    ghost view = { λ names. map (λ word. word.now) names.words.items };
+    ghost use Rattle.rc_semantics.specs.Seen.{words_seen};
+
+    ghost view = { λ names. words_seen names.words.items };
 }
 
 impl<'a> Names<'a> {
@@ -41,7 +49,7 @@ impl<'a> Names<'a> {
     pub fn contains(&self, word: &[u8]) -> bool
         ensures { result ≡ is_named word.now self.now }
     {
-        self.words.iter().any(|other| word == *other)
+        contains_word(&self.words, word)
     }
 
     /// Takes one more.
@@ -53,10 +61,104 @@ impl<'a> Names<'a> {
         Ok(())
     }
 
+    /// Takes the attribute of a group, and those of the groups in its branches.
+    #[cycle(attributes)]
+    pub fn push_attributes(&mut self, group: &'a Form) -> Result<(), SheetFail>
+        ensures after { OnOk result (self.new ≡ self.old ++ attributes_of (tree_of group.now)) }
+        ensures memory { OnErr result (result ≡ Err SheetFail.Memory) }
+    {
+        let Form::List { items, .. } = group else {
+            return Ok(());
+        };
+        let [Form::Atom { word, .. }, Form::List { items, .. }] = items.as_slice() else {
+            return Ok(());
+        };
+        self.push(word.bytes())?;
+        for branch in items {
+            if let Form::List { items, .. } = branch {
+                self.push_all_attributes(items)?;
+            }
+        }
+        Ok(())
+    }
+
+    /// Takes the attributes of the groups among these.
+    #[cycle(attributes)]
+    fn push_all_attributes(&mut self, groups: &'a [Form]) -> Result<(), SheetFail>
+        ensures after { OnOk result (self.new ≡ self.old ++ attributes_among (packed (trees_of groups.now))) }
+        ensures memory { OnErr result (result ≡ Err SheetFail.Memory) }
+    {
+        for group in groups {
+            self.push_attributes(group)?;
+        }
+        Ok(())
+    }
+
     /// Keeps so many of the first.
     pub fn truncate(&mut self, count: usize)
         ensures { self.new ≡ take count self.old }
     {
         self.words.truncate(count);
+    }
+}
+
+fn contains_word(words: &[&[u8]], word: &[u8]) -> bool
+    ensures { result ≡ is_named word.now (words_seen words.now) }
+{
+    for other in words {
+        if word == *other {
+            return true;
+        }
+    }
+    false
+}
+
+/// Different words of a form, in the order in which they came first. Contracts see the list of them.
+#[derive(Drop)]
+pub struct DifferentNames<'a> {
+    words: IndexSet<&'a [u8]>,
+}
+
+impl<'a> Model for DifferentNames<'a> {
+    ghost use Rattle.std.specs.Prelude.{ℕ, List};
+
+    ghost Value = { List (List ℕ) };
+
+    ghost use Rattle.rc_semantics.specs.Seen.{words_seen};
+
+    ghost view = { λ names. words_seen names.words.keys };
+}
+
+impl<'a> DifferentNames<'a> {
+    /// No words.
+    pub fn new(alloc: Global) -> DifferentNames<'a>
+        ensures { result ≡ [] }
+    {
+        DifferentNames {
+            words: IndexSet::new(alloc),
+        }
+    }
+
+    /// How many there are.
+    pub fn len(&self) -> usize
+        ensures { result ≡ length self.now }
+    {
+        self.words.len()
+    }
+
+    /// Whether this is one of them.
+    pub fn contains(&self, word: &[u8]) -> bool
+        ensures { result ≡ is_named word.now self.now }
+    {
+        self.words.contains(&word)
+    }
+
+    /// Takes a word, where it is a new one.
+    pub fn insert(&mut self, word: &'a [u8]) -> Result<(), SheetFail>
+        ensures after { OnOk result (self.new ≡ with_word word.now self.old) }
+        ensures memory { OnErr result (result ≡ Err SheetFail.Memory) }
+    {
+        self.words.insert(word)?;
+        Ok(())
     }
 }

@@ -1,0 +1,38 @@
+//! The first fault of the second round.
+ghost use Rattle.std.specs.Prelude.{◌≡◌, [], Some, IfOk, IfErr};
+ghost use Rattle.rc_form.specs.Form.{tree_of};
+ghost use Rattle.rc_grammar.specs.Faults.{faults, first};
+ghost use Rattle.rc_semantics.specs.Checks.{IfFault};
+ghost use Rattle.rc_semantics.specs.SecondFaults.{second_faults};
+
+use crate::around::Around;
+use crate::fault::SheetFail;
+use crate::role::Role;
+use crate::standing::Standing;
+use crate::walk::Walk;
+use crate::whole::Whole;
+use rc_form::Form;
+use rc_grammar::Place;
+use std::alloc::Global;
+
+/// Looks at what a form means whose shape is right. The error is the fault with the smallest offset of the second round, or
+/// that there was no memory: what stands a second time, is unknown, is of the wrong kind or is one too many, and a form
+/// without cards. Of two faults of one part it is the one that stands earlier in that row.
+///
+/// One walk learns what the whole form gives, and a second looks at its parts in the order of the text and stops at the first
+/// fault. Both take time in line with the form, but for look-ups in a face's attributes and among at most 256 names.
+pub fn check_semantics(alloc: Global, form: &Form) -> Result<(), SheetFail>
+    requires shaped { faults Place.Sheet (tree_of form.now) ≡ [] }
+    ensures fine { IfOk result (λ _. second_faults (tree_of form.now) ≡ []) }
+    ensures found { IfErr result (λ fail. IfFault fail (λ fault. first (second_faults (tree_of form.now)) ≡ Some fault)) }
+{
+    let whole = Whole::of(alloc, form)?;
+    let around = Around::outside(alloc);
+    let at = Standing {
+        place: Place::Sheet,
+        role: Role::No,
+        beside: &[],
+        around: &around,
+    };
+    Walk::new(alloc).part(&whole, &at, form)
+}
