@@ -4,6 +4,7 @@ pub mod SecondNames
 pub mod SecondFaults
 pub mod Summary
 pub mod Groups
+pub mod SecondWalk
 pub mod Seen
 pub mod Views
 pub mod Checks

@@ -1,0 +1,166 @@
+-- The faults of the second round stand in the order of the text.
+use Rattle.std.proofs.Common.{◌≡◌, ℕ, ◌+◌, ◌≤◌, Bool, true, false, List, [], ◌∷◌, ◌++◌, Option, Some, None, refl, sym, subst, arith}
+use Rattle.std.specs.List.{All}
+use Rattle.std.proofs.lemmas.List.{append_assoc, append-nil}
+use Rattle.std.proofs.lemmas.List.Elements.{All-nil, All-cons}
+use Rattle.rc_model.specs.Tree.{Tree, word, list, Trees, nil, cons}
+use Rattle.rc_model.specs.Placed.{starts, all_starts, Rise, IsPlaced}
+use Rattle.rc_grammar.specs.Faults.{first, rule_of}
+use Rattle.rc_semantics.specs.SecondParts.{Standing, Part, with_form, parts_at, parts_in, parts_of, standing_in, standing_alone, offset_of}
+use Rattle.rc_semantics.specs.SecondFaults.{is_twice, is_unknown, is_wrong_kind, is_too_many, lacks_cards, fault_where, faults_of, faults_behind, second_faults}
+use Rattle.rc_grammar.specs.declared.grammar.Rule.{Rule}
+use Rattle.rc_grammar.specs.declared.fault.SheetKind.{SheetKind}
+use Rattle.rc_grammar.specs.declared.fault.SheetKind.TheVariants.{Twice, Unknown, WrongKind, TooMany, NoCards}
+use Rattle.rc_grammar.specs.declared.fault.SheetFault.{SheetFault}
+
+-- THE PARTS
+
+-- the offsets of parts don't fall, and none is below this one
+abbrev Rises : ℕ → List Part → Type 0
+Rises low [] = Unit {0}
+Rises low (part ∷ parts) = (low ≤ offset_of part) × Rises (offset_of part) parts
+
+-- what isn't below an offset isn't below a lower one
+Rises-lower : (low from : ℕ) (parts : List Part) → low ≤ from → Rises from parts → Rises low parts
+Rises-lower low from [] below rises = tt
+Rises-lower low from (part ∷ parts) below rises = (let above = rises.0 in omega arith, rises.1)
+
+-- what rises from a number on rises from a lower one on
+Rise-lower : (low from high : ℕ) (numbers : List ℕ) → low ≤ from → Rise from high numbers → Rise low high numbers
+Rise-lower low from high [] below rise = omega arith
+Rise-lower low from high (n ∷ numbers) below rise = (let above = rise.0 in omega arith, rise.1)
+
+-- the numbers behind some rise too
+Rise-behind : (before numbers : List ℕ) (low high : ℕ) → Rise low high (before ++ numbers) → Rise low high numbers
+Rise-behind [] numbers low high rise = rise
+Rise-behind (n ∷ before) numbers low high rise =
+    Rise-lower low (n + 1) high numbers (let above = rise.0 in omega arith) (Rise-behind before numbers (n + 1) high rise.1)
+
+-- what follows from the starts behind a tree, from wherever they rise
+abbrev Follows : ℕ → List ℕ → List Part → Type 0
+Follows high more others = (next : ℕ) → Rise next high more → Rises next others
+
+-- a list of a form or of none, and then others
+list_choice : (found : Option Rule) (inner : Rule → List Part) (at : Standing) (parts : Trees) (from low high : ℕ) (more : List ℕ)
+    (others : List Part) → low ≤ from → Rise (from + 1) high (all_starts parts ++ more) → Follows high more others
+    → ((rule : Rule) → Rises (from + 1) (inner rule ++ others)) → Rises low (with_form at parts from inner found ++ others)
+list_choice None inner at parts from low high more others above rise follows within =
+    follows low (Rise-lower low (from + 1) high more (omega arith) (Rise-behind (all_starts parts) more (from + 1) high rise))
+list_choice (Some rule) inner at parts from low high more others above rise follows within =
+    (above, Rises-lower from (from + 1) (inner rule ++ others) (omega arith) (within rule))
+
+mutual
+  -- the parts of a tree, and then others
+  Rises-tree : (at : Option Standing) (tree : Tree) (low high : ℕ) (more : List ℕ) (others : List Part)
+      → Rise low high (starts tree ++ more) → Follows high more others → Rises low (parts_at at tree ++ others)
+  Rises-tree (Some at) (word bytes from to) low high more others rise follows =
+      (rise.0, Rises-lower from (from + 1) others (omega arith) (follows (from + 1) rise.1))
+  Rises-tree (Some at) (list parts from to) low high more others rise follows =
+      list_choice (rule_of at.place parts) (λ rule. parts_in at rule parts 0 parts) at parts from low high more others
+      rise.0 rise.1 follows
+      (λ rule. Rises-trees parts at rule parts 0 (from + 1) high more others rise.1 follows)
+  Rises-tree None (word bytes from to) low high more others rise follows =
+      follows low (Rise-lower low (from + 1) high more (let above = rise.0 in omega arith) rise.1)
+  Rises-tree None (list parts from to) low high more others rise follows =
+      follows low (Rise-behind (starts (list parts from to)) more low high rise)
+
+  -- the same of a form's parts
+  Rises-trees : (trees : Trees) (at : Standing) (rule : Rule) (all : Trees) (index low high : ℕ)
+      (more : List ℕ) (others : List Part)
+      → Rise low high (all_starts trees ++ more) → Follows high more others
+      → Rises low (parts_in at rule all index trees ++ others)
+  Rises-trees nil at rule all index low high more others rise follows = follows low rise
+  Rises-trees (cons tree trees) at rule all index low high more others rise follows =
+      let here = standing_in at rule all index in
+      let apart = subst (Rise low high) (append_assoc (starts tree) (all_starts trees) more) rise in
+      subst (Rises low) (sym (append_assoc (parts_at here tree) (parts_in at rule all (index + 1) trees) others))
+      (Rises-tree here tree low high (all_starts trees ++ more) (parts_in at rule all (index + 1) trees ++ others) apart
+      (λ next rise_on. Rises-trees trees at rule all (index + 1) next high more others rise_on follows))
+
+-- all parts of a tree that is placed
+Rises-parts : (tree : Tree) (high : ℕ) → IsPlaced high tree → Rises 0 (parts_of tree)
+Rises-parts tree high placed =
+    subst (Rises 0) (append-nil (parts_of tree))
+    (Rises-tree (Some standing_alone) tree 0 high [] [] (subst (Rise 0 high) (sym (append-nil (starts tree))) placed)
+    (λ next rise. tt))
+
+-- THEIR FAULTS
+
+-- the offsets of faults don't fall, and none is below this one
+abbrev Ordered : ℕ → List SheetFault → Type 0
+Ordered low [] = Unit {0}
+Ordered low (fault ∷ faults) = (low ≤ fault.at) × Ordered fault.at faults
+
+-- what isn't below an offset isn't below a lower one
+Ordered-lower : (low from : ℕ) (faults : List SheetFault) → low ≤ from → Ordered from faults → Ordered low faults
+Ordered-lower low from [] below ordered = tt
+Ordered-lower low from (fault ∷ faults) below ordered = (let above = ordered.0 in omega arith, ordered.1)
+
+-- none of these faults is below the offset
+All-ordered : (low : ℕ) (faults : List SheetFault) → Ordered low faults → All (λ fault. low ≤ fault.at) faults
+All-ordered low [] ordered = All-nil (λ fault. low ≤ fault.at)
+All-ordered low (fault ∷ faults) ordered =
+    All-cons (λ fault. low ≤ fault.at) fault faults ordered.0
+    (All-ordered low faults (Ordered-lower low fault.at faults ordered.0 ordered.1))
+
+-- faults that are all here
+abbrev AllAt : ℕ → List SheetFault → Type 0
+AllAt here [] = Unit {0}
+AllAt here (fault ∷ faults) = (fault.at ≡ here) × AllAt here faults
+
+-- and others
+AllAt-append : (here : ℕ) (faults more : List SheetFault) → AllAt here faults → AllAt here more → AllAt here (faults ++ more)
+AllAt-append here [] more first second = second
+AllAt-append here (fault ∷ faults) more first second = (first.0, AllAt-append here faults more first.1 second)
+
+-- the fault by a test
+AllAt-where : (b : Bool) (kind : SheetKind) (part : Part) → AllAt (offset_of part) (fault_where b kind part)
+AllAt-where true kind part = (refl, tt)
+AllAt-where false kind part = tt
+
+-- the faults of a part
+AllAt-part : (all earlier : List Part) (part : Part) → AllAt (offset_of part) (faults_of all earlier part)
+AllAt-part all earlier part =
+    let here = offset_of part in
+    let twice = fault_where (is_twice earlier part) Twice part in
+    let unknown = fault_where (is_unknown all earlier part) Unknown part in
+    let wrong = fault_where (is_wrong_kind earlier part) WrongKind part in
+    let many = fault_where (is_too_many all earlier part) TooMany part in
+    let cards = fault_where (lacks_cards all part) NoCards part in
+    AllAt-append here (twice ++ unknown ++ wrong ++ many) cards
+    (AllAt-append here (twice ++ unknown ++ wrong) many
+    (AllAt-append here (twice ++ unknown) wrong
+    (AllAt-append here twice unknown (AllAt-where (is_twice earlier part) Twice part)
+    (AllAt-where (is_unknown all earlier part) Unknown part))
+    (AllAt-where (is_wrong_kind earlier part) WrongKind part))
+    (AllAt-where (is_too_many all earlier part) TooMany part))
+    (AllAt-where (lacks_cards all part) NoCards part)
+
+-- faults that are all here, and then others
+Ordered-at : (low here : ℕ) (faults others : List SheetFault) → low ≤ here → AllAt here faults → Ordered here others
+    → Ordered low (faults ++ others)
+Ordered-at low here [] others below at ordered = Ordered-lower low here others below ordered
+Ordered-at low here (fault ∷ faults) others below at ordered =
+    let is = at.0 in (omega arith, Ordered-at fault.at here faults others (omega arith) at.1 ordered)
+
+-- the faults of parts that rise
+Ordered-behind : (all earlier parts : List Part) (low : ℕ) → Rises low parts → Ordered low (faults_behind all earlier parts)
+Ordered-behind all earlier [] low rises = tt
+Ordered-behind all earlier (part ∷ parts) low rises =
+    Ordered-at low (offset_of part) (faults_of all earlier part) (faults_behind all (earlier ++ part ∷ []) parts) rises.0
+    (AllAt-part all earlier part) (Ordered-behind all (earlier ++ part ∷ []) parts (offset_of part) rises.1)
+
+-- the first of ordered faults is the least
+least_first : (low : ℕ) (faults : List SheetFault) (fault : SheetFault) → Ordered low faults → first faults ≡ Some fault
+    → All (λ other. fault.at ≤ other.at) faults
+least_first low [] fault ordered is = absurd cc
+least_first low (here ∷ faults) fault ordered is =
+    let same : here ≡ fault = cc in
+    All-ordered fault.at (here ∷ faults) (subst (λ f. Ordered f.at (here ∷ faults)) same (omega arith, ordered.1))
+
+-- the first fault of a form that is placed is at the least offset
+pub first_is_least : (size : ℕ) (tree : Tree) (fault : SheetFault) → IsPlaced size tree → first (second_faults tree) ≡ Some fault
+    → All (λ other. fault.at ≤ other.at) (second_faults tree)
+first_is_least size tree fault placed is =
+    least_first 0 (second_faults tree) fault
+    (Ordered-behind (parts_of tree) [] (parts_of tree) 0 (Rises-parts tree size placed)) is
