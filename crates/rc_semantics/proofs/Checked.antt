@@ -58,7 +58,7 @@ module _ (at : Standing) (rule : Rule) (all : Trees) (index : ℕ) (forms : List
   abbrev later : List Part
   later = parts_in at rule all (index + 1) (packed (trees_of (drop (index + 1) forms)))
 
-  left_at : left ≡ parts_at (standing_in at rule all index) (tree_of part) ++ later
+  pub left_at : left ≡ parts_at (standing_in at rule all index) (tree_of part) ++ later
   left_at =
       at_drop_more (λ parts. parts_in at rule all index (packed (trees_of parts))) forms index part lt
       ∙ ap (λ form. parts_in at rule all index (packed (trees_of (form ∷ drop (index + 1) forms)))) (sym is)
