@@ -41,11 +41,10 @@ face_count-loop-group-preserved t c =
     let left : face_count (packed (trees_of (drop index groups))) ≡ faces_by (tree_of group) * rest =
     at_drop_more (λ forms. face_count (packed (trees_of forms))) groups index group c.loop-group-test.true
     ∙ ap (λ form. face_count (packed (trees_of (form ∷ drop (index + 1) groups)))) (sym c.group-item.is)
-    ∙ faces_more (tree_of group) (packed (trees_of (drop (index + 1) groups))) in
-    (
+    ∙ faces_more (tree_of group) (packed (trees_of (drop (index + 1) groups))) in (
       omega (arith, c.product-count.ensures),
       ap (λ n. min (n * rest) 513) made
-      ∙ one_more c.loop-group.count (faces_by (tree_of group)) rest
-      ∙ ap (λ n. min (c.loop-group.count * n) 513) (sym left)
-      ∙ c.loop-group.invariant.1,
+          ∙ one_more c.loop-group.count (faces_by (tree_of group)) rest
+          ∙ ap (λ n. min (c.loop-group.count * n) 513) (sym left)
+          ∙ c.loop-group.invariant.1,
     )

@@ -26,8 +26,8 @@ list-returns-clause-walked t c = λ to.
     let rule = c.in-Some.rule in
     let whole = c.args.whole.now in
     let inner = subst
-        (λ above. Checks (check_all whole c.form.new.self.seen (parts_in (standing_seen c.args.at.now above) rule all 0 all)) c.parts.result c.parts.new.self.seen)
-        c.in_default-form.ensures.above c.parts.ensures.walked in
+    (λ above. Checks (check_all whole c.form.new.self.seen (parts_in (standing_seen c.args.at.now above) rule all 0 all)) c.parts.result c.parts.new.self.seen)
+    c.in_default-form.ensures.above c.parts.ensures.walked in
     subst
     (λ found. Checks (check_all whole c.args.self.now.seen (with_form at all c.args.from (λ rule. parts_in at rule all 0 all) found)) c.parts.result c.parts.new.self.seen)
     (sym (sym c.rule_of.ensures ∙ c.in-Some.is))
@@ -42,8 +42,7 @@ part-returns-in-List-clause-walked t c =
 pub parts-loop-index-init : goal.parts-loop-index-init
 parts-loop-index-init t c =
     let all = packed (trees_of c.args.parts.now) in
-    let at = standing_seen c.args.at.now c.args.self.now.above in
-    (
+    let at = standing_seen c.args.at.now c.args.self.now.above in (
       c.in_default.ensures.above ∙ ap (λ more. c.args.self.now.above ++ more) (sym (at_start c.args.rule all)),
       ap (λ seen. check_all c.args.whole.now seen (parts_in at c.args.rule all 0 all)) c.enter.ensures.seen,
       λ index. c.in-Ok.ensures.around index,
@@ -61,8 +60,8 @@ parts-returns-in-Err-part_in-clause-walked t c =
     let whole = c.args.whole.now in
     let seen = c.loop-index.self.seen in
     let checks = subst (λ place. Checks (check_all whole seen (parts_at place (tree_of part))) c.part_in.result c.part_in.new.self.seen)
-        (ap (λ above. option_map (λ at. standing_seen at above) c.standing_in-standing.result) c.loop-index.invariant.0 ∙ c.standing_in-standing.ensures at refl refl)
-        c.part_in.ensures.walked in
+    (ap (λ above. option_map (λ at. standing_seen at above) c.standing_in-standing.result) c.loop-index.invariant.0 ∙ c.standing_in-standing.ensures at refl refl)
+    c.part_in.ensures.walked in
     fault_alike _ _ c.in-Err-part_in.fail c.loop-index.invariant.1
     (stop_here at c.args.rule all index c.args.parts.now part c.loop-index-test.true c.index-parts-index.is whole seen c.in-Err-part_in.fail
     (told_fault _ c.part_in.new.self.seen c.part_in.result c.in-Err-part_in.fail c.in-Err-part_in.is checks))
@@ -78,15 +77,14 @@ parts-loop-index-preserved t c =
     let whole = c.args.whole.now in
     let seen = c.loop-index.self.seen in
     let checks = subst (λ place. Checks (check_all whole seen (parts_at place (tree_of part))) c.part_in.result c.part_in.new.self.seen)
-        (ap (λ above. option_map (λ at. standing_seen at above) c.standing_in-standing.result) c.loop-index.invariant.0 ∙ c.standing_in-standing.ensures at refl refl)
-        c.part_in.ensures.walked in
-    (
+    (ap (λ above. option_map (λ at. standing_seen at above) c.standing_in-standing.result) c.loop-index.invariant.0 ∙ c.standing_in-standing.ensures at refl refl)
+    c.part_in.ensures.walked in (
       c.in_default-leave.ensures.above
-      ∙ ap (λ above. above ++ attributes_behind rule (tree_of part)) (c.in_default-part_in.ensures.above ∙ c.loop-index.invariant.0)
-      ∙ above_more c.args.self.now.above rule forms index part c.loop-index-test.true c.index-parts-index.is,
+          ∙ ap (λ above. above ++ attributes_behind rule (tree_of part)) (c.in_default-part_in.ensures.above ∙ c.loop-index.invariant.0)
+          ∙ above_more c.args.self.now.above rule forms index part c.loop-index-test.true c.index-parts-index.is,
       ap (λ known. check_all whole known (parts_in at rule all (index + 1) (packed (trees_of (drop (index + 1) forms))))) c.leave.ensures.seen
-      ∙ step_on at rule all index forms part c.loop-index-test.true c.index-parts-index.is whole seen c.part_in.new.self.seen
-      (told_fine _ c.part_in.new.self.seen c.part_in.result c.in_default-part_in.field-0 c.in_default-part_in.is checks)
-      ∙ c.loop-index.invariant.1,
+          ∙ step_on at rule all index forms part c.loop-index-test.true c.index-parts-index.is whole seen c.part_in.new.self.seen
+          (told_fine _ c.part_in.new.self.seen c.part_in.result c.in_default-part_in.field-0 c.in_default-part_in.is checks)
+          ∙ c.loop-index.invariant.1,
       c.loop-index.invariant.2,
     )

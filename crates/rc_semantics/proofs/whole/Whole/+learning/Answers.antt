@@ -24,14 +24,14 @@ learn_parts-loop-index-preserved t c = λ at role.
     let new = c.match-place_at.self in
     let step = learnt at rule index forms part known new c.loop-index-test.true c.index-parts-index.is in
     elim c.match-place_at.branch [
-      learn_parts-in-Some+in_ok-learn w ↦ step
-      (w.self-is
-      ∙ w.in_ok-learn.ensures.known (standing_at at rule all index w.in-Some.place) refl (ap (λ role. role_in role rule index) role ∙ sym w.role_in.ensures)
-      ∙ ap (λ place. know_all known (parts_at place (tree_of part))) (sym (standing_by at rule forms index c.place_at.result (Some w.in-Some.place) c.place_at.ensures w.in-Some.is)))
-      ∙ c.loop-index.invariant at role
+      | learn_parts-in-Some+in_ok-learn w ↦ step
+          (w.self-is
+          ∙ w.in_ok-learn.ensures.known (standing_at at rule all index w.in-Some.place) refl (ap (λ role. role_in role rule index) role ∙ sym w.role_in.ensures)
+          ∙ ap (λ place. know_all known (parts_at place (tree_of part))) (sym (standing_by at rule forms index c.place_at.result (Some w.in-Some.place) c.place_at.ensures w.in-Some.is)))
+          ∙ c.loop-index.invariant at role
       | learn_parts-in_default w ↦ step
-      (w.self-is
-      ∙ ap (λ parts. know_all known parts)
-      (sym (ap (λ place. parts_at place (tree_of part)) (standing_by at rule forms index c.place_at.result None c.place_at.ensures w.in_default.is) ∙ nowhere (tree_of part))))
-      ∙ c.loop-index.invariant at role
+          (w.self-is
+          ∙ ap (λ parts. know_all known parts)
+          (sym (ap (λ place. parts_at place (tree_of part)) (standing_by at rule forms index c.place_at.result None c.place_at.ensures w.in_default.is) ∙ nowhere (tree_of part))))
+          ∙ c.loop-index.invariant at role
     ]
