@@ -1,9 +1,8 @@
 //! What is wrong with a part, behind what stood before it.
-ghost use Rattle.std.specs.Prelude.{◌≡◌, ◌||◌, ℕ, List};
+ghost use Rattle.std.specs.Prelude.{◌≡◌, ◌||◌, ℕ, List, false, IfNone};
 ghost use Rattle.rc_form.specs.Form.{trees_of, packed};
 ghost use Rattle.rc_semantics.specs.SecondFaults as faults;
 ghost use Rattle.rc_semantics.specs.SecondParts as parts_spec;
-ghost use Rattle.rc_model.specs.Tree.{Trees};
 ghost use Rattle.rc_semantics.specs.Seen.{class_seen, standing_seen};
 ghost use Rattle.rc_semantics.specs.Summary as spec;
 
@@ -82,8 +81,9 @@ pub fn form_kind<'a>(
     rule: Rule,
     parts: &'a [Form],
 ) -> Option<SheetKind>
-    ensures { (from : ℕ) → result
+    ensures kind { (from : ℕ) → result
         ≡ spec.kind_by whole.now seen.now (parts_spec.form (standing_seen at.now above.now) rule (packed (trees_of parts.now)) from) }
+    ensures shallow { IfNone result (faults.is_deep at.now.around.now rule ≡ false) }
 {
     if is_form_again(seen, at, above, rule, parts) {
         return Some(SheetKind::Twice);
@@ -156,8 +156,7 @@ fn is_in_stage(around: &Around<'_>, class: Class) -> bool
 
 /// A repeat inside two others, or a binder that would be the fifth around its body.
 fn is_too_deep(around: &Around<'_>, rule: Rule) -> bool
-    ensures { (at : parts_spec.Standing) (parts : Trees) (from : ℕ) → at.around ≡ around.now
-        → result ≡ faults.is_too_deep (parts_spec.form at rule parts from) }
+    ensures { result ≡ faults.is_deep around.now rule }
 {
     match rule {
         Rule::Repeat => around.repeats() >= MOST_REPEATS,

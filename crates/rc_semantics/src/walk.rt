@@ -1,11 +1,12 @@
 //! The walk over all parts of a form, in the order of the text.
-ghost use Rattle.std.specs.Prelude.{◌≡◌, ℕ, [], ◌∷◌, ◌++◌, Some, option_map, Err, OnOk, OnErr};
+ghost use Rattle.std.specs.Prelude.{◌≡◌, ℕ, false, [], ◌∷◌, ◌++◌, Some, option_map, Err, OnOk, OnErr};
 ghost use Rattle.rc_model.specs.Tree.{list};
 ghost use Rattle.rc_form.specs.Form.{tree_of, trees_of, packed};
 ghost use Rattle.rc_semantics.specs.Checks.{Checks};
 ghost use Rattle.rc_semantics.specs.Entered.{entered};
 ghost use Rattle.rc_semantics.specs.Seen.{standing_seen};
 ghost use Rattle.rc_semantics.specs.Summary as spec;
+ghost use Rattle.rc_semantics.specs.SecondFaults as faults;
 ghost use Rattle.rc_semantics.specs.SecondParts as parts_spec;
 
 use crate::fault::SheetFail;
@@ -109,6 +110,7 @@ impl<'a> Walk<'a> {
     ) -> Result<(), SheetFail>
         ensures walked { Checks (spec.check_all whole.now self.old.seen
             (parts_spec.form (standing_seen at.now self.old.above) rule (packed (trees_of parts.now)) from ∷ [])) result self.new.seen }
+        ensures shallow { OnOk result (faults.is_deep at.now.around.now rule ≡ false) }
         ensures above { OnOk result (self.new.above ≡ self.old.above) }
     {
         if let Some(kind) = form_kind(whole, &self.seen, at, &self.above, rule, parts) {
@@ -117,7 +119,7 @@ impl<'a> Walk<'a> {
         self.seen.see_form(whole, rule, parts)
     }
 
-    /// Looks at the parts of a form.
+    /// Looks at the parts of a form that isn't too deep.
     #[cycle(walking)]
     fn parts(
         &mut self,
@@ -126,6 +128,7 @@ impl<'a> Walk<'a> {
         rule: Rule,
         parts: &'a [Form],
     ) -> Result<(), SheetFail>
+        requires { faults.is_deep at.now.around.now rule ≡ false }
         ensures walked { Checks (spec.check_all whole.now self.old.seen
             (parts_spec.parts_in (standing_seen at.now self.old.above) rule (packed (trees_of parts.now)) 0 (packed (trees_of parts.now)))) result self.new.seen }
         ensures above { OnOk result (self.new.above ≡ self.old.above) }
