@@ -23,9 +23,9 @@ use Rattle.rc_house.specs.declared.command.Command.TheVariants.{Play, Sheet}
 use Rattle.rc_house.specs.declared.status.SourceKind.{SourceKind}
 use Rattle.rc_house.specs.declared.status.SourceKind.TheVariants.{Shape}
 use Rattle.rc_house.specs.Status.{source_kind, sheet_kind}
-use Rattle.rc_house.specs.Command.{wanted, Answer, text, fault, unbuilt, HasAnswer, IsAnswer, HasShapedAnswer, IsShapedAnswer, HasFormFault, HasSheet, HasShapeFault, IsShaped}
-use Rattle.rc_house.specs.Reading.{IsRead, shape_fault_of}
-use Rattle.rc_grammar.specs.Faults.{first_fault}
+use Rattle.rc_house.specs.Command.{wanted, Answer, text, fault, unbuilt, HasAnswer, IsAnswer, HasFaultlessAnswer, IsFaultlessAnswer, HasFormFault, HasSheet, HasFirstFault, IsFaultless}
+use Rattle.rc_house.specs.Reading.{IsRead, sheet_fault_of}
+use Rattle.rc_semantics.specs.SecondFaults.{sheet_fault}
 use Rattle.rc_grammar.specs.declared.fault.SheetFault.{SheetFault}
 use Rattle.rc_form.specs.declared.form.Form.{Form}
 use Rattle.rc_form.specs.Form.{tree_of}
@@ -146,7 +146,7 @@ fault_answered command want source kind at same is none only =
     (subst (λ want. HasOnlyFault source want kind at) same only)
 
 missing_only : (command : Command) (source : List ℕ) (rest : ℕ) → IsRead source (wanted command) [] rest
-    → (other : Answer) → HasShapedAnswer command source other → other ≡ fault Shape rest
+    → (other : Answer) → HasFaultlessAnswer command source other → other ≡ fault Shape rest
 missing_only Play source rest read (text bytes) has = let same = read.only _ _ has.1.forms in absurd (omega (arith, ap length same.0))
 missing_only Play source rest read (fault kind at) (inl has) = absurd (read.no_fault _ _ has.1)
 missing_only Play source rest read (fault kind at) (inr has) = let same = read.only _ _ has.0 in cc
@@ -159,13 +159,13 @@ missing_only Sheet source rest read unbuilt has = absurd has
 
 -- Where no list was read, the sheet is missing, and that is the only answer.
 pub missing_answer : (command : Command) (source : List ℕ) (forms : List Tree) (rest : ℕ) → forms ≡ [] → IsRead source (wanted command) forms rest
-    → IsShapedAnswer command source (fault Shape rest)
+    → IsFaultlessAnswer command source (fault Shape rest)
 missing_answer Play source [] rest none read = record { has = inr (read.spelled, refl); only = missing_only Play source rest read }
 missing_answer Sheet source [] rest none read = record { has = inr (read.spelled, refl); only = missing_only Sheet source rest read }
 missing_answer command source (form ∷ forms) rest none read = absurd (omega (arith, ap length none))
 
 printed_only : (source : List ℕ) (form : Tree) (rest : ℕ) (bytes : List ℕ) → IsRead source 1 (form ∷ []) rest → bytes ≡ line (printed form)
-    → (other : Answer) → HasShapedAnswer Sheet source other → other ≡ text bytes
+    → (other : Answer) → HasFaultlessAnswer Sheet source other → other ≡ text bytes
 printed_only source form rest bytes read is (text other) has =
     let same : has.0 ∷ [] ≡ form ∷ [] = (read.only _ _ has.2).0 in
     let tree : has.0 ≡ form = cc in
@@ -177,14 +177,14 @@ printed_only source form rest bytes read is unbuilt has = absurd has
 
 -- The first form on a line is the only answer of `sheet`.
 pub printed_answer : (source : List ℕ) (form : Tree) (forms : List Tree) (rest : ℕ) (bytes : List ℕ) → forms ≡ form ∷ [] → IsRead source 1 forms rest
-    → bytes ≡ line (printed form) → IsShapedAnswer Sheet source (text bytes)
+    → bytes ≡ line (printed form) → IsFaultlessAnswer Sheet source (text bytes)
 printed_answer source form forms rest bytes one read is =
     let read' = subst (λ forms. IsRead source 1 forms rest) one read in
     record { has = (form, rest, read'.spelled, is); only = printed_only source form rest bytes read' is }
 
 house_only : (source : List ℕ) (forms : List Tree) (rest : ℕ) (game : SmallGame) (bytes : List ℕ) → IsRead source 2 forms rest → IsSmall source game
     → ((other : SmallGame) → IsSmall source other → other ≡ game) → bytes ≡ small_house game
-    → (other : Answer) → HasShapedAnswer Play source other → other ≡ text bytes
+    → (other : Answer) → HasFaultlessAnswer Play source other → other ≡ text bytes
 house_only source forms rest game bytes read small only is (text other) has =
     ap text (has.2 ∙ ap small_house (only has.0 has.1) ∙ sym is)
 house_only source forms rest game bytes read small only is (fault kind at) (inl has) = absurd (read.no_fault _ _ has.1)
@@ -196,12 +196,12 @@ house_only source forms rest game bytes read small only is unbuilt has = absurd 
 
 -- The text of its one game is the only answer of `play` to a source.
 pub house_answer : (source : List ℕ) (forms : List Tree) (rest : ℕ) (game : SmallGame) (bytes : List ℕ) → IsRead source 2 forms rest → IsSmall source game
-    → ((other : SmallGame) → IsSmall source other → other ≡ game) → bytes ≡ small_house game → IsShapedAnswer Play source (text bytes)
+    → ((other : SmallGame) → IsSmall source other → other ≡ game) → bytes ≡ small_house game → IsFaultlessAnswer Play source (text bytes)
 house_answer source forms rest game bytes read small only is =
     record { has = (game, small, is); only = house_only source forms rest game bytes read small only is }
 
 unbuilt_only : (source : List ℕ) (forms : List Tree) (rest : ℕ) → IsRead source 2 forms rest → 0 < length forms
-    → ((game : SmallGame) → IsSmall source game → ⊥) → (other : Answer) → HasShapedAnswer Play source other → other ≡ unbuilt
+    → ((game : SmallGame) → IsSmall source game → ⊥) → (other : Answer) → HasFaultlessAnswer Play source other → other ≡ unbuilt
 unbuilt_only source forms rest read some none (text bytes) has = absurd (none has.0 has.1)
 unbuilt_only source forms rest read some none (fault kind at) (inl has) = absurd (read.no_fault _ _ has.1)
 unbuilt_only source forms rest read some none (fault kind at) (inr has) =
@@ -210,87 +210,87 @@ unbuilt_only source forms rest read some none unbuilt has = refl
 
 -- A source that has a first list and is none of a small game isn't built.
 pub unbuilt_answer : (source : List ℕ) (forms : List Tree) (rest : ℕ) → IsRead source 2 forms rest → 0 < length forms
-    → ((game : SmallGame) → IsSmall source game → ⊥) → IsShapedAnswer Play source unbuilt
+    → ((game : SmallGame) → IsSmall source game → ⊥) → IsFaultlessAnswer Play source unbuilt
 unbuilt_answer source forms rest read some none =
     record {
       has = (forms, rest, read.spelled, some, λ bytes house. none house.0 house.1);
       only = unbuilt_only source forms rest read some none;
     }
 
--- a first list whose shape has no fault
-some_shaped : (source : List ℕ) (want : ℕ) (forms : List Tree) (rest : ℕ) → Spelled source want forms rest → 0 < length forms
-    → shape_fault_of forms ≡ None → HasSheet source want IsShaped
-some_shaped source want [] rest spelled some none = absurd (omega (arith, some))
-some_shaped source want (sheet ∷ others) rest spelled some none =
+-- a first list without a fault
+some_faultless : (source : List ℕ) (want : ℕ) (forms : List Tree) (rest : ℕ) → Spelled source want forms rest → 0 < length forms
+    → sheet_fault_of forms ≡ None → HasSheet source want IsFaultless
+some_faultless source want [] rest spelled some none = absurd (omega (arith, some))
+some_faultless source want (sheet ∷ others) rest spelled some none =
     record { sheet = sheet; others = others; rest = rest; spelled = spelled; holds = none }
 
--- what is answered to forms of which the first has no fault of shape
-shaped_has : (command : Command) (source : List ℕ) (forms : List Tree) (rest : ℕ) (answer : Answer) → IsRead source (wanted command) forms rest
-    → shape_fault_of forms ≡ None → HasShapedAnswer command source answer → HasAnswer command source answer
-shaped_has Play source forms rest (text bytes) read none has =
+-- what is answered to forms of which the first has no fault
+faultless_has : (command : Command) (source : List ℕ) (forms : List Tree) (rest : ℕ) (answer : Answer) → IsRead source (wanted command) forms rest
+    → sheet_fault_of forms ≡ None → HasFaultlessAnswer command source answer → HasAnswer command source answer
+faultless_has Play source forms rest (text bytes) read none has =
     let same = (read.only _ _ has.1.forms).0 in
-    (some_shaped source 2 _ _ has.1.forms (omega arith) (ap shape_fault_of same ∙ none), has)
-shaped_has Play source forms rest (fault kind at) read none has = inl has
-shaped_has Play source forms rest unbuilt read none has =
-    let same = (read.only _ _ has.2).0 in (some_shaped source 2 _ _ has.2 has.3 (ap shape_fault_of same ∙ none), has)
-shaped_has Sheet source forms rest (text bytes) read none has =
-    let same = (read.only _ _ has.2).0 in (some_shaped source 1 _ _ has.2 (omega arith) (ap shape_fault_of same ∙ none), has)
-shaped_has Sheet source forms rest (fault kind at) read none has = inl has
-shaped_has Sheet source forms rest unbuilt read none has = absurd has
+    (some_faultless source 2 _ _ has.1.forms (omega arith) (ap sheet_fault_of same ∙ none), has)
+faultless_has Play source forms rest (fault kind at) read none has = inl has
+faultless_has Play source forms rest unbuilt read none has =
+    let same = (read.only _ _ has.2).0 in (some_faultless source 2 _ _ has.2 has.3 (ap sheet_fault_of same ∙ none), has)
+faultless_has Sheet source forms rest (text bytes) read none has =
+    let same = (read.only _ _ has.2).0 in (some_faultless source 1 _ _ has.2 (omega arith) (ap sheet_fault_of same ∙ none), has)
+faultless_has Sheet source forms rest (fault kind at) read none has = inl has
+faultless_has Sheet source forms rest unbuilt read none has = absurd has
 
 form_fault : (command : Command) (source : List ℕ) (kind : SourceKind) (at : ℕ) → HasFormFault source (wanted command) kind at
-    → HasShapedAnswer command source (fault kind at)
+    → HasFaultlessAnswer command source (fault kind at)
 form_fault Play source kind at has = has
 form_fault Sheet source kind at has = has
 
-shaped_only : (command : Command) (source : List ℕ) (forms : List Tree) (rest : ℕ) (answer : Answer) → IsRead source (wanted command) forms rest
-    → shape_fault_of forms ≡ None → IsShapedAnswer command source answer → (other : Answer) → HasAnswer command source other → other ≡ answer
-shaped_only command source forms rest answer read none is (text bytes) has = is.only (text bytes) has.1
-shaped_only command source forms rest answer read none is (fault kind at) (inl has) =
+faultless_only : (command : Command) (source : List ℕ) (forms : List Tree) (rest : ℕ) (answer : Answer) → IsRead source (wanted command) forms rest
+    → sheet_fault_of forms ≡ None → IsFaultlessAnswer command source answer → (other : Answer) → HasAnswer command source other → other ≡ answer
+faultless_only command source forms rest answer read none is (text bytes) has = is.only (text bytes) has.1
+faultless_only command source forms rest answer read none is (fault kind at) (inl has) =
     is.only (fault kind at) (form_fault command source kind at has)
-shaped_only command source forms rest answer read none is (fault kind at) (inr has) =
-    let same : shape_fault_of (has.sheet ∷ has.others) ≡ None = ap shape_fault_of (read.only _ _ has.spelled).0 ∙ none in
+faultless_only command source forms rest answer read none is (fault kind at) (inr has) =
+    let same : sheet_fault_of (has.sheet ∷ has.others) ≡ None = ap sheet_fault_of (read.only _ _ has.spelled).0 ∙ none in
     let found = has.holds.1 in absurd cc
-shaped_only command source forms rest answer read none is unbuilt has = is.only unbuilt has.1
+faultless_only command source forms rest answer read none is unbuilt has = is.only unbuilt has.1
 
--- The only answer where the shape of the sheet has no fault is the only answer.
-pub shaped_answered : (command : Command) (source : List ℕ) (forms : List Tree) (rest : ℕ) (answer : Answer) → IsRead source (wanted command) forms rest
-    → shape_fault_of forms ≡ None → IsShapedAnswer command source answer → IsAnswer command source answer
-shaped_answered command source forms rest answer read none is =
-    record { has = shaped_has command source forms rest answer read none is.has; only = shaped_only command source forms rest answer read none is }
+-- The only answer where the sheet has no fault is the only answer.
+pub faultless_answered : (command : Command) (source : List ℕ) (forms : List Tree) (rest : ℕ) (answer : Answer) → IsRead source (wanted command) forms rest
+    → sheet_fault_of forms ≡ None → IsFaultlessAnswer command source answer → IsAnswer command source answer
+faultless_answered command source forms rest answer read none is =
+    record { has = faultless_has command source forms rest answer read none is.has; only = faultless_only command source forms rest answer read none is }
 
-shape_has : (command : Command) (source : List ℕ) (forms : List Tree) (rest : ℕ) (found : SheetFault) → IsRead source (wanted command) forms rest
-    → shape_fault_of forms ≡ Some found → HasSheet source (wanted command) (HasShapeFault (sheet_kind found.kind) found.at)
-shape_has command source [] rest found read is = absurd cc
-shape_has command source (sheet ∷ others) rest found read is =
+fault_has : (command : Command) (source : List ℕ) (forms : List Tree) (rest : ℕ) (found : SheetFault) → IsRead source (wanted command) forms rest
+    → sheet_fault_of forms ≡ Some found → HasSheet source (wanted command) (HasFirstFault (sheet_kind found.kind) found.at)
+fault_has command source [] rest found read is = absurd cc
+fault_has command source (sheet ∷ others) rest found read is =
     record { sheet = sheet; others = others; rest = rest; spelled = read.spelled; holds = (found, is, refl, refl) }
 
 -- the first of the lists that are read has one first fault
-one_shape : (source : List ℕ) (want : ℕ) (forms : List Tree) (rest : ℕ) (found : SheetFault) → IsRead source want forms rest
-    → shape_fault_of forms ≡ Some found → {P : Tree → Type 0} (has : HasSheet source want P) → first_fault has.sheet ≡ Some found
-one_shape source want forms rest found read is has = ap shape_fault_of (read.only _ _ has.spelled).0 ∙ is
+one_fault : (source : List ℕ) (want : ℕ) (forms : List Tree) (rest : ℕ) (found : SheetFault) → IsRead source want forms rest
+    → sheet_fault_of forms ≡ Some found → {P : Tree → Type 0} (has : HasSheet source want P) → sheet_fault has.sheet ≡ Some found
+one_fault source want forms rest found read is has = ap sheet_fault_of (read.only _ _ has.spelled).0 ∙ is
 
-shape_only : (command : Command) (source : List ℕ) (forms : List Tree) (rest : ℕ) (found : SheetFault) → IsRead source (wanted command) forms rest
-    → shape_fault_of forms ≡ Some found → (other : Answer) → HasAnswer command source other → other ≡ fault (sheet_kind found.kind) found.at
-shape_only command source forms rest found read is (text bytes) has =
-    let first = one_shape source _ forms rest found read is has.0 in let none = has.0.holds in absurd cc
-shape_only command source forms rest found read is (fault kind at) (inl (inl has)) = absurd (read.no_fault _ _ has.1)
-shape_only command source forms rest found read is (fault kind at) (inl (inr has)) =
-    let none : shape_fault_of [] ≡ Some found = ap shape_fault_of (read.only _ _ has.0).0 ∙ is in absurd cc
-shape_only command source forms rest found read is (fault kind at) (inr has) =
-    let first = one_shape source _ forms rest found read is has in
+fault_only : (command : Command) (source : List ℕ) (forms : List Tree) (rest : ℕ) (found : SheetFault) → IsRead source (wanted command) forms rest
+    → sheet_fault_of forms ≡ Some found → (other : Answer) → HasAnswer command source other → other ≡ fault (sheet_kind found.kind) found.at
+fault_only command source forms rest found read is (text bytes) has =
+    let first = one_fault source _ forms rest found read is has.0 in let none = has.0.holds in absurd cc
+fault_only command source forms rest found read is (fault kind at) (inl (inl has)) = absurd (read.no_fault _ _ has.1)
+fault_only command source forms rest found read is (fault kind at) (inl (inr has)) =
+    let none : sheet_fault_of [] ≡ Some found = ap sheet_fault_of (read.only _ _ has.0).0 ∙ is in absurd cc
+fault_only command source forms rest found read is (fault kind at) (inr has) =
+    let first = one_fault source _ forms rest found read is has in
     let other = has.holds.0 in
-    let its : first_fault has.sheet ≡ Some other = has.holds.1 in
+    let its : sheet_fault has.sheet ≡ Some other = has.holds.1 in
     let same : other ≡ found = cc in
     ap (λ kind. fault kind at) (has.holds.2 ∙ ap (λ fault. sheet_kind fault.kind) same) ∙ ap (fault (sheet_kind found.kind)) (has.holds.3 ∙ ap (λ fault. fault.at) same)
-shape_only command source forms rest found read is unbuilt has =
-    let first = one_shape source _ forms rest found read is has.0 in let none = has.0.holds in absurd cc
+fault_only command source forms rest found read is unbuilt has =
+    let first = one_fault source _ forms rest found read is has.0 in let none = has.0.holds in absurd cc
 
--- The first fault of the shape of the sheet is the only answer.
-pub shape_answer : (command : Command) (source : List ℕ) (forms : List Tree) (rest : ℕ) (found : SheetFault) → IsRead source (wanted command) forms rest
-    → shape_fault_of forms ≡ Some found → IsAnswer command source (fault (sheet_kind found.kind) found.at)
-shape_answer command source forms rest found read is =
-    record { has = inr (shape_has command source forms rest found read is); only = shape_only command source forms rest found read is }
+-- The first fault of the sheet is the only answer.
+pub sheet_fault_answer : (command : Command) (source : List ℕ) (forms : List Tree) (rest : ℕ) (found : SheetFault) → IsRead source (wanted command) forms rest
+    → sheet_fault_of forms ≡ Some found → IsAnswer command source (fault (sheet_kind found.kind) found.at)
+sheet_fault_answer command source forms rest found read is =
+    record { has = inr (fault_has command source forms rest found read is); only = fault_only command source forms rest found read is }
 
 -- one form alone
 pub one_tree : (forms : List Form) (a : Form) → length forms ≡ 1 → a ≡ get_or forms 0 a → map tree_of forms ≡ tree_of a ∷ []
@@ -312,8 +312,8 @@ is_read source want forms rest spelled only no_fault within =
     record { spelled = spelled; only = only; no_fault = no_fault; within = within }
 
 -- the same of what a function returns
-pub if_shaped_answered : {E : Type 0} (command : Command) (source : List ℕ) (forms : List Tree) (rest : ℕ) (r : Result Stored E)
-    → IsRead source (wanted command) forms rest → shape_fault_of forms ≡ None → IfOk r (λ answer. IsShapedAnswer command source (seen answer))
+pub if_faultless_answered : {E : Type 0} (command : Command) (source : List ℕ) (forms : List Tree) (rest : ℕ) (r : Result Stored E)
+    → IsRead source (wanted command) forms rest → sheet_fault_of forms ≡ None → IfOk r (λ answer. IsFaultlessAnswer command source (seen answer))
     → IfOk r (λ answer. IsAnswer command source (seen answer))
-if_shaped_answered command source forms rest (Ok answer) read none is = shaped_answered command source forms rest (seen answer) read none is
-if_shaped_answered command source forms rest (Err error) read none is = tt
+if_faultless_answered command source forms rest (Ok answer) read none is = faultless_answered command source forms rest (seen answer) read none is
+if_faultless_answered command source forms rest (Err error) read none is = tt

@@ -6,7 +6,7 @@ use Rattle.rc_model.specs.Spelled.{Spelled}
 use Rattle.rc_model.specs.SmallText.{HasHouse}
 use Rattle.rc_form.specs.declared.fault.FormKind.{FormKind}
 use Rattle.rc_form.specs.FormFault.{IsFormFault}
-use Rattle.rc_grammar.specs.Faults.{first_fault}
+use Rattle.rc_semantics.specs.SecondFaults.{sheet_fault}
 use Rattle.rc_grammar.specs.declared.fault.SheetFault.{SheetFault}
 use Rattle.rc_house.specs.declared.status.SourceKind.{SourceKind}
 use Rattle.rc_house.specs.declared.status.SourceKind.TheVariants.{Shape}
@@ -49,18 +49,18 @@ pub record HasSheet (source : List ℕ) (want : ℕ) (P : Tree → Type 0) : Typ
   pub spelled : Spelled source want (sheet ∷ others) rest
   pub holds : P sheet
 
--- the first fault of the shape of a form
-abbrev pub HasShapeFault : SourceKind → ℕ → Tree → Type 0
-HasShapeFault kind at sheet =
-    (found : SheetFault) × (first_fault sheet ≡ Some found) × (kind ≡ sheet_kind found.kind) × (at ≡ found.at)
+-- the first fault of a form that is to be a sheet
+abbrev pub HasFirstFault : SourceKind → ℕ → Tree → Type 0
+HasFirstFault kind at sheet =
+    (found : SheetFault) × (sheet_fault sheet ≡ Some found) × (kind ≡ sheet_kind found.kind) × (at ≡ found.at)
 
--- a form whose shape has no fault
-abbrev pub IsShaped : Tree → Type 0
-IsShaped sheet = first_fault sheet ≡ None
+-- a form without a fault
+abbrev pub IsFaultless : Tree → Type 0
+IsFaultless sheet = sheet_fault sheet ≡ None
 
 -- the first fault of the source's forms, or else of its sheet
 abbrev pub HasSheetFault : List ℕ → ℕ → SourceKind → ℕ → Type 0
-HasSheetFault source want kind at = HasFormFault source want kind at ⊎ HasSheet source want (HasShapeFault kind at)
+HasSheetFault source want kind at = HasFormFault source want kind at ⊎ HasSheet source want (HasFirstFault kind at)
 
 -- the first list of the source, printed on a line; what follows it isn't looked at
 abbrev pub HasPrintedForm : List ℕ → List ℕ → Type 0
@@ -73,28 +73,28 @@ HasNoHouse source =
     (forms : List Tree) × (rest : ℕ) × Spelled source 2 forms rest × (0 < length forms)
     × ((bytes : List ℕ) → HasHouse source bytes → ⊥)
 
--- The command has this answer to its source, if the shape of the sheet has no fault.
-abbrev pub HasShapedAnswer : Command → List ℕ → Answer → Type 0
-HasShapedAnswer Play source (text bytes) = HasHouse source bytes
-HasShapedAnswer Play source (fault kind at) = HasFormFault source 2 kind at
-HasShapedAnswer Play source unbuilt = HasNoHouse source
-HasShapedAnswer Sheet source (text bytes) = HasPrintedForm source bytes
-HasShapedAnswer Sheet source (fault kind at) = HasFormFault source 1 kind at
-HasShapedAnswer Sheet source unbuilt = ⊥
+-- The command has this answer to its source, if the sheet has no fault.
+abbrev pub HasFaultlessAnswer : Command → List ℕ → Answer → Type 0
+HasFaultlessAnswer Play source (text bytes) = HasHouse source bytes
+HasFaultlessAnswer Play source (fault kind at) = HasFormFault source 2 kind at
+HasFaultlessAnswer Play source unbuilt = HasNoHouse source
+HasFaultlessAnswer Sheet source (text bytes) = HasPrintedForm source bytes
+HasFaultlessAnswer Sheet source (fault kind at) = HasFormFault source 1 kind at
+HasFaultlessAnswer Sheet source unbuilt = ⊥
 
 -- the command has this answer to its source
 abbrev pub HasAnswer : Command → List ℕ → Answer → Type 0
 HasAnswer command source (text bytes) =
-    HasSheet source (wanted command) IsShaped × HasShapedAnswer command source (text bytes)
+    HasSheet source (wanted command) IsFaultless × HasFaultlessAnswer command source (text bytes)
 HasAnswer command source (fault kind at) = HasSheetFault source (wanted command) kind at
-HasAnswer command source unbuilt = HasSheet source (wanted command) IsShaped × HasShapedAnswer command source unbuilt
+HasAnswer command source unbuilt = HasSheet source (wanted command) IsFaultless × HasFaultlessAnswer command source unbuilt
 
 -- The command has this answer to its source, and no other.
 pub record IsAnswer (command : Command) (source : List ℕ) (answer : Answer) : Type 0 where
   pub has : HasAnswer command source answer
   pub only : (other : Answer) → HasAnswer command source other → other ≡ answer
 
--- the same where the shape of the sheet has no fault
-pub record IsShapedAnswer (command : Command) (source : List ℕ) (answer : Answer) : Type 0 where
-  pub has : HasShapedAnswer command source answer
-  pub only : (other : Answer) → HasShapedAnswer command source other → other ≡ answer
+-- the same where the sheet has no fault
+pub record IsFaultlessAnswer (command : Command) (source : List ℕ) (answer : Answer) : Type 0 where
+  pub has : HasFaultlessAnswer command source answer
+  pub only : (other : Answer) → HasFaultlessAnswer command source other → other ≡ answer

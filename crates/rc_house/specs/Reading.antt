@@ -1,6 +1,6 @@
 -- What reading a source gives.
 use Rattle.std.specs.Prelude.{◌≡◌, ℕ, ◌≤◌, List, [], ◌∷◌, length, Option, None}
-use Rattle.rc_grammar.specs.Faults.{first_fault}
+use Rattle.rc_semantics.specs.SecondFaults.{sheet_fault}
 use Rattle.rc_grammar.specs.declared.fault.SheetFault.{SheetFault}
 use Rattle.rc_model.specs.Tree.{Tree}
 use Rattle.rc_model.specs.Spelled.{Spelled}
@@ -14,7 +14,7 @@ pub record IsRead (source : List ℕ) (want : ℕ) (forms : List Tree) (rest : �
   pub no_fault : (kind : FormKind) (at : ℕ) → IsFormFault source want kind at → ⊥
   pub within : rest ≤ length source
 
--- the first fault of the shape of the first of these forms, where there is one
-abbrev pub shape_fault_of : List Tree → Option SheetFault
-shape_fault_of [] = None
-shape_fault_of (sheet ∷ others) = first_fault sheet
+-- the first fault of the first of these forms, where there is one
+abbrev pub sheet_fault_of : List Tree → Option SheetFault
+sheet_fault_of [] = None
+sheet_fault_of (sheet ∷ others) = sheet_fault sheet

@@ -7,11 +7,11 @@ ghost use Rattle.rc_model.specs.SmallGame as model;
 ghost use Rattle.rc_model.specs.SmallText.{IsSmall};
 ghost use Rattle.rc_form.specs.Form.{tree_of, trees_of, IsPrintable};
 ghost use Rattle.rc_house.specs.Game.{game_of};
-ghost use Rattle.rc_house.specs.Command.{wanted, fault, IsAnswer, IsShapedAnswer};
+ghost use Rattle.rc_house.specs.Command.{wanted, fault, IsAnswer, IsFaultlessAnswer};
 ghost use Rattle.rc_house.specs.declared.status.SourceKind.TheVariants.{Shape};
 ghost use Rattle.rc_house.specs.Status.{source_kind, sheet_kind};
 ghost use Rattle.rc_house.specs.Answer.{seen};
-ghost use Rattle.rc_house.specs.Reading.{IsRead, shape_fault_of};
+ghost use Rattle.rc_house.specs.Reading.{IsRead, sheet_fault_of};
 
 use crate::command::Command;
 use crate::game::SmallGame;
@@ -21,6 +21,7 @@ use crate::small_text::read_game;
 use crate::status::SourceKind;
 use rc_form::{Form, FormFail, FormFault, Forms, read_forms};
 use rc_grammar::{SheetFault, check_shape};
+use rc_semantics::{SheetFail, check_semantics};
 use std::alloc::{AllocError, Global};
 
 /// What a command answers to its source.
@@ -69,18 +70,28 @@ fn answer_of_forms(
     requires placed { All (λ form. IsPlaced (length source.now) (tree_of form)) forms.now.list.items }
     ensures { IfOk result (λ answer. IsAnswer command source.now (seen answer)) }
 {
-    match shape_fault(forms) {
+    match first_fault(alloc, forms)? {
         Some(found) => Ok(sheet_fault(found)),
-        None => shaped_answer(alloc, command, source, forms),
+        None => faultless_answer(alloc, command, source, forms),
     }
 }
 
-/// The first fault of the shape of the first form.
-fn shape_fault(forms: &Forms) -> Option<SheetFault>
+/// The first fault of the first form, as a sheet.
+fn first_fault(alloc: Global, forms: &Forms) -> Result<Option<SheetFault>, AllocError>
     requires { (size : ℕ) × All (λ form. IsPlaced size (tree_of form)) forms.now.list.items }
-    ensures { result ≡ shape_fault_of (trees_of forms.now.list.items) }
+    ensures { IfOk result (λ found. found ≡ sheet_fault_of (trees_of forms.now.list.items)) }
 {
-    check_shape(forms.list.first()?).err()
+    let Some(sheet) = forms.list.first() else {
+        return Ok(None);
+    };
+    if let Err(found) = check_shape(sheet) {
+        return Ok(Some(found));
+    }
+    match check_semantics(alloc, sheet) {
+        Ok(()) => Ok(None),
+        Err(SheetFail::Fault(found)) => Ok(Some(found)),
+        Err(SheetFail::Memory) => Err(AllocError),
+    }
 }
 
 /// The answer to a source whose sheet has this fault.
@@ -93,8 +104,8 @@ fn sheet_fault(found: SheetFault) -> Answer
     }
 }
 
-/// The answer of a command to a source with these forms, where the shape of the sheet has no fault.
-fn shaped_answer(
+/// The answer of a command to a source with these forms, where the sheet has no fault.
+fn faultless_answer(
     alloc: Global,
     command: Command,
     source: &[u8],
@@ -104,7 +115,7 @@ fn shaped_answer(
     requires read { IsRead source.now (wanted command) (trees_of forms.now.list.items) forms.now.rest }
     requires printable { All (λ form. IsPrintable (tree_of form)) forms.now.list.items }
     requires placed { All (λ form. IsPlaced (length source.now) (tree_of form)) forms.now.list.items }
-    ensures { IfOk result (λ answer. IsShapedAnswer command source.now (seen answer)) }
+    ensures { IfOk result (λ answer. IsFaultlessAnswer command source.now (seen answer)) }
 {
     match command {
         Command::Play => play_answer(alloc, source, forms),
@@ -117,7 +128,7 @@ fn sheet_answer(alloc: Global, source: &[u8], forms: &Forms) -> Result<Answer, A
     requires small { length source.now ≤ 1048576 }
     requires read { IsRead source.now 1 (trees_of forms.now.list.items) forms.now.rest }
     requires printable { All (λ form. IsPrintable (tree_of form)) forms.now.list.items }
-    ensures { IfOk result (λ answer. IsShapedAnswer Command.Sheet source.now (seen answer)) }
+    ensures { IfOk result (λ answer. IsFaultlessAnswer Command.Sheet source.now (seen answer)) }
 {
     let [sheet] = forms.list.as_slice() else {
         return Ok(missing(forms));
@@ -142,7 +153,7 @@ fn play_answer(alloc: Global, source: &[u8], forms: &Forms) -> Result<Answer, Al
     requires read { IsRead source.now 2 (trees_of forms.now.list.items) forms.now.rest }
     requires printable { All (λ form. IsPrintable (tree_of form)) forms.now.list.items }
     requires placed { All (λ form. IsPlaced (length source.now) (tree_of form)) forms.now.list.items }
-    ensures { IfOk result (λ answer. IsShapedAnswer Command.Play source.now (seen answer)) }
+    ensures { IfOk result (λ answer. IsFaultlessAnswer Command.Play source.now (seen answer)) }
 {
     if forms.list.is_empty() {
         return Ok(missing(forms));

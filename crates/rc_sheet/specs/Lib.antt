@@ -1,9 +1,7 @@
 pub mod Gives
-pub mod ResolveNames
-pub mod ResolveExpressions
-pub mod Resolver
-pub mod ResolverViews
-pub mod SecondParts
-pub mod SecondNames
-pub mod SecondFaults
-pub mod SecondExamples
+pub mod Reader
+pub mod ReadNames
+pub mod ReadExpressions
+pub mod Sides
+pub mod ReadEffects
+pub mod ReadItems

@@ -1,19 +1,16 @@
-//! What a form whose shape is right says, or the first fault of its second round: what stands twice, is unknown, is of the
-//! wrong kind or is too many. The definition of this round stands whole in `specs/SecondFaults.antt`. Of what a sheet is
-//! made of, owners, locations, stored numbers and the sides of equations are resolved so far.
+//! A sheet's form, read into the tree of the sheet. What each form says is defined in `specs/Read*.antt`.
 #![tactic(auto)]
 
-mod fault;
-mod resolve;
-mod second_examples;
-mod second_limits;
-mod second_part_examples;
+mod expressions;
+mod fail;
+mod laws;
+mod locations;
+mod names;
+mod owners;
+mod reader;
+mod scope;
+mod sides;
 
-pub use fault::SheetFail;
-pub use rc_grammar::{SheetFault, SheetKind};
-pub use second_examples::{attributes_again, decks, lines_again, no_cards, players_in_teams};
-pub use second_limits::{most_cards, most_names, most_owned};
-pub use second_part_examples::{
-    kinds_and_classes, locations_for_cards, nested, pairs, sides_of_other_sorts, stages_around,
-    unbound_variables, unknown_names, variables_again, variables_of_other_sorts,
-};
+pub use fail::ReadFail;
+pub use laws::{body_stands, effects_stand, expressions_stand, names_stand};
+pub use rc_semantics::SheetFail;

@@ -1,17 +1,17 @@
 use Rattle.std.proofs.Common.{length, sym, ◌∙◌}
 use Rattle.rc_form.specs.Form.{trees_of}
-use Rattle.rc_house.proofs.AnswerLaws.{shape_answer, if_shaped_answered}
+use Rattle.rc_house.proofs.AnswerLaws.{sheet_fault_answer, if_faultless_answered}
 use Rattle.rc_house.proofs.answer.answer_of_forms.Goals as goal
 
-pub shape_fault-requires : goal.shape_fault-requires
-shape_fault-requires c = (length c.args.source.now, c.requires.placed)
+pub first_fault-requires : goal.first_fault-requires
+first_fault-requires c = (length c.args.source.now, c.requires.placed)
 
-pub returns-in-Some : goal.returns-in-Some
-returns-in-Some c =
+pub returns-in_ok-first_fault-in-Some : goal.returns-in_ok-first_fault-in-Some
+returns-in_ok-first_fault-in-Some c =
     let forms = c.args.forms.now in
-    rw c.sheet_fault.ensures (shape_answer c.args.command c.args.source.now (trees_of forms.list.items) forms.rest c.in-Some.found c.requires.read (sym c.shape_fault.ensures ∙ c.in-Some.is))
+    rw c.sheet_fault.ensures (sheet_fault_answer c.args.command c.args.source.now (trees_of forms.list.items) forms.rest c.in-Some.found c.requires.read (sym c.in_ok-first_fault.ensures ∙ c.in-Some.is))
 
-pub returns-in-None : goal.returns-in-None
-returns-in-None c =
+pub returns-in_ok-first_fault-in-None : goal.returns-in_ok-first_fault-in-None
+returns-in_ok-first_fault-in-None c =
     let forms = c.args.forms.now in
-    if_shaped_answered c.args.command c.args.source.now (trees_of forms.list.items) forms.rest c.shaped_answer.result c.requires.read (sym c.shape_fault.ensures ∙ c.in-None.is) c.shaped_answer.ensures
+    if_faultless_answered c.args.command c.args.source.now (trees_of forms.list.items) forms.rest c.faultless_answer.result c.requires.read (sym c.in_ok-first_fault.ensures ∙ c.in-None.is) c.faultless_answer.ensures
