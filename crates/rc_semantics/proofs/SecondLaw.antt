@@ -9,7 +9,7 @@ use Rattle.rc_semantics.specs.Summary.{Whole, whole_of, Summary, nothing_seen, s
 use Rattle.rc_semantics.specs.SecondWalk.{check_form, FindsFirst}
 use Rattle.rc_semantics.proofs.Known.{Knows, Knows-whole}
 use Rattle.rc_semantics.proofs.Seen.{Recalls, Recalls-summary}
-use Rattle.rc_semantics.proofs.Tests.{again_is_twice, not_known_is_unknown, wrong_is_wrong_kind, without_deck}
+use Rattle.rc_semantics.proofs.FaultTests.{again_is_twice, not_known_is_unknown, wrong_is_wrong_kind, without_deck}
 use Rattle.rc_semantics.proofs.Limits.{over_is_too_many}
 use Rattle.rc_semantics.proofs.Walks.{see_all-append}
 use Rattle.rc_grammar.specs.declared.fault.SheetKind.{SheetKind}
