@@ -1,10 +1,10 @@
 -- The attributes that may stand before the parts of a form.
-use Rattle.std.proofs.Common.{◌≡◌, ℕ, suc, zero, ◌+◌, ◌<◌, List, [], ◌∷◌, ◌++◌, length, take, get_or, refl, sym, ap, ◌∙◌, arith, append_assoc, append-nil}
+use Rattle.std.proofs.Common.{◌≡◌, ℕ, suc, zero, ◌+◌, ◌<◌, List, [], ◌++◌, length, take, get_or, refl, sym, ap, ◌∙◌, arith, append_assoc, append-nil}
 use Rattle.std.proofs.Math.Seq.{take-append_seam}
-use Rattle.rc_model.specs.Tree.{Tree, Trees, nil, cons}
+use Rattle.rc_model.specs.Tree.{Trees, nil, cons}
 use Rattle.rc_form.specs.Form.{tree_of, trees_of, packed}
 use Rattle.rc_form.specs.declared.form.Form.{Form}
-use Rattle.rc_semantics.specs.SecondParts.{part_at, word_in, front, attributes_of, attributes_among, inner_attributes, above_in, attributes_behind}
+use Rattle.rc_semantics.specs.SecondParts.{part_at, front, attributes_of, attributes_among, inner_attributes, above_in, attributes_behind}
 use Rattle.rc_semantics.specs.Entered.{entered}
 use Rattle.rc_semantics.proofs.Counts.{count_packed}
 use Rattle.rc_semantics.proofs.PartLemmas.{part_there}

@@ -1,5 +1,5 @@
 -- What the walk of a whole form answers.
-use Rattle.std.proofs.Common.{◌≡◌, ℕ, List, [], ◌∷◌, Some, None, Result, Ok, Err, IfOk, IfErr, refl, sym, ap, ◌∙◌}
+use Rattle.std.proofs.Common.{◌≡◌, ℕ, List, [], ◌∷◌, Some, None, Result, Ok, Err, IfOk, IfErr, refl, ap, ◌∙◌}
 use Rattle.rc_model.specs.Tree.{Tree, nil}
 use Rattle.rc_sheet_model.specs.WellFormed.{Around, outside}
 use Rattle.rc_grammar.specs.Faults.{first, fault_of}

@@ -1,7 +1,7 @@
 -- What checking a part gives.
-use Rattle.std.proofs.Common.{◌≡◌, ℕ, ◌+◌, ◌<◌, List, [], ◌∷◌, ◌++◌, length, drop, get_or, Option, Some, None, option_map, Result, Ok, Err, OnOk, OnErr, sym, ap, subst, ◌∙◌}
+use Rattle.std.proofs.Common.{◌≡◌, ℕ, ◌+◌, ◌<◌, List, ◌∷◌, ◌++◌, length, drop, get_or, Some, None, option_map, Result, Ok, Err, OnOk, OnErr, sym, ap, subst, ◌∙◌}
 use Rattle.std.proofs.lemmas.List.{at_drop_more}
-use Rattle.rc_model.specs.Tree.{Tree, Trees}
+use Rattle.rc_model.specs.Tree.{Trees}
 use Rattle.rc_form.specs.Form.{tree_of, trees_of, packed}
 use Rattle.rc_form.specs.declared.form.Form.{Form}
 use Rattle.rc_grammar.specs.declared.grammar.Rule.{Rule}
@@ -12,7 +12,7 @@ use Rattle.rc_semantics.specs.declared.fault.SheetFail.TheVariants as fails
 use Rattle.rc_semantics.proofs.Walks.{check_all-fine, check_all-faulty}
 use Rattle.rc_semantics.specs.Checks.{IfFault, Checks}
 use Rattle.rc_semantics.specs.SecondParts.{Standing, standing_in, Part, offset_of, parts_at, parts_in}
-use Rattle.rc_semantics.specs.Summary.{Whole, Summary, fault_by, kind_by, or_on, see, check_all}
+use Rattle.rc_semantics.specs.Summary.{Whole, Summary, fault_by, kind_by, or_on, check_all}
 
 -- a part that is at fault
 pub faulty : (whole : Whole) (seen : Summary) (part : Part) (kind : SheetKind) (next : Result Summary SheetFault) (fail : SheetFail)

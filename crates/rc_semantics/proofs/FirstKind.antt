@@ -2,7 +2,7 @@
 use Rattle.std.proofs.Common.{◌≡◌, ◌||◌, Bool, true, false, Some, None, refl, sym, ap, ◌∙◌}
 use Rattle.rc_semantics.specs.SecondParts.{Part}
 use Rattle.rc_semantics.specs.Summary.{Whole, Summary, is_again, is_not_known, is_wrong, is_over, is_setup_without_deck, kind_by}
-use Rattle.rc_grammar.specs.declared.fault.SheetKind.TheVariants.{Twice, Unknown, WrongKind, TooMany, NoCards}
+use Rattle.rc_grammar.specs.declared.fault.SheetKind.TheVariants.{Unknown, WrongKind, TooMany}
 
 -- a test that is the first, or the second, of two
 pub or_first : (a b told : Bool) → told ≡ a → told ≡ true → told ≡ (a || b)

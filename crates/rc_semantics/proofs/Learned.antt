@@ -1,12 +1,12 @@
 -- What is known with one part more.
-use Rattle.std.proofs.Common.{◌≡◌, ℕ, ◌+◌, ◌<◌, List, [], ◌∷◌, ◌++◌, length, drop, get_or, Option, Some, None, option_map, refl, sym, ap, ◌∙◌}
+use Rattle.std.proofs.Common.{◌≡◌, ℕ, ◌+◌, ◌<◌, List, [], length, drop, get_or, Option, None, option_map, refl, sym, ap, ◌∙◌}
 use Rattle.rc_model.specs.Tree.{Tree, Trees, word, list}
 use Rattle.rc_form.specs.Form.{tree_of, trees_of, packed}
 use Rattle.rc_form.specs.declared.form.Form.{Form}
-use Rattle.rc_grammar.specs.Faults.{place_at, count}
+use Rattle.rc_grammar.specs.Faults.{place_at}
 use Rattle.rc_grammar.specs.declared.grammar.Place.{Place}
 use Rattle.rc_grammar.specs.declared.grammar.Rule.{Rule}
-use Rattle.rc_semantics.specs.SecondParts.{Standing, standing_in, role_in, around_in, above_in, Part, parts_at, parts_in}
+use Rattle.rc_semantics.specs.SecondParts.{Standing, standing_in, role_in, around_in, above_in, parts_at, parts_in}
 use Rattle.rc_semantics.specs.Summary.{Whole, know_all}
 use Rattle.rc_semantics.proofs.Counts.{count_packed}
 use Rattle.rc_semantics.proofs.Walks.{know_all-append}

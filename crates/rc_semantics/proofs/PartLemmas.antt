@@ -2,7 +2,7 @@
 use Rattle.std.proofs.Common.{◌≡◌, ℕ, suc, zero, ◌+◌, ◌-◌, ◌<◌, ◌≤◌, ◌||◌, ◌&&◌, Bool, nat_eq, List, [], ◌∷◌, ◌++◌, length, get_or, Option, Some, None, refl, sym, ap, ◌∙◌, arith}
 use Rattle.std.specs.Borrow.{Bor}
 use Rattle.std.specs.Option.{IfSome, MatchOption}
-use Rattle.std.specs.List.{list_any, list_all, range_with_len, HoldsAt}
+use Rattle.std.specs.List.{list_all, range_with_len, HoldsAt}
 use Rattle.std.proofs.lemmas.List.Folds.{list_any-append}
 use Rattle.rc_sheet_model.specs.WellFormed.{is_among}
 use Rattle.rc_model.specs.Tree.{list, nil}

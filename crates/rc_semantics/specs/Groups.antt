@@ -1,5 +1,5 @@
 -- The parts of a group, and the faces of one group and of one branch.
-use Rattle.std.specs.Prelude.{ℕ, List, [], ◌∷◌, Option, Some, None}
+use Rattle.std.specs.Prelude.{ℕ, List, [], Option, Some, None}
 use Rattle.rc_model.specs.Tree.{Tree, Trees, word, list, cons, nil}
 use Rattle.rc_semantics.specs.SecondParts.{attributes_among}
 use Rattle.rc_semantics.specs.SecondNames.{face_count, branch_count}

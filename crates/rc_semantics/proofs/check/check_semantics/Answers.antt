@@ -1,4 +1,4 @@
-use Rattle.std.proofs.Common.{sym, ap, subst, ◌∙◌}
+use Rattle.std.proofs.Common.{subst}
 use Rattle.rc_form.specs.Form.{tree_of}
 use Rattle.rc_semantics.specs.Checks.{Checks}
 use Rattle.rc_semantics.proofs.Answered.{from_start, answered_fine, answered_found}

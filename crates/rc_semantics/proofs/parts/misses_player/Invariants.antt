@@ -1,4 +1,4 @@
-use Rattle.std.proofs.Common.{◌≡◌, ◌-◌, drop}
+use Rattle.std.proofs.Common.{◌≡◌, ◌-◌}
 use Rattle.std.specs.List.{list_all, range_with_len}
 use Rattle.rc_sheet_model.specs.WellFormed.{is_among}
 use Rattle.rc_form.specs.Form.{trees_of, packed}

@@ -1,5 +1,4 @@
-use Rattle.std.proofs.Common.{◌≡◌, rules, ◌∙◌, ap, sym, List, ℕ}
-use Rattle.std.specs.Borrow.{Bor}
+use Rattle.std.proofs.Common.{◌∙◌, ap}
 use Rattle.rc_semantics.specs.Seen.{words_seen}
 use Rattle.rc_semantics.specs.Summary.{with_word}
 use Rattle.rc_semantics.proofs.names.DifferentNames.insert.Goals as goal

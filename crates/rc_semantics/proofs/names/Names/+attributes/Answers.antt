@@ -1,6 +1,6 @@
 use Rattle.std.proofs.Common.{◌≡◌, ◌∷◌, ◌++◌, [], List, ℕ, sym, ap, subst, ◌∙◌, append-nil, arith, OnOk}
 use Rattle.rc_model.specs.Tree.{Tree}
-use Rattle.rc_form.specs.Form.{tree_of, trees_of, packed}
+use Rattle.rc_form.specs.Form.{trees_of, packed}
 use Rattle.rc_form.specs.declared.form.Form.{Form}
 use Rattle.rc_semantics.specs.SecondParts.{attributes_of, attributes_below}
 use Rattle.rc_semantics.proofs.Words.{attach}

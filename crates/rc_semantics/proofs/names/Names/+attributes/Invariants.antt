@@ -1,5 +1,5 @@
 use Rattle.std.proofs.Common.{◌≡◌, ◌++◌, drop}
-use Rattle.rc_form.specs.Form.{tree_of, trees_of, packed}
+use Rattle.rc_form.specs.Form.{trees_of, packed}
 use Rattle.rc_semantics.specs.SecondParts.{attributes_below, attributes_among}
 use Rattle.rc_semantics.proofs.names.Names.+attributes.Given as goal
 
