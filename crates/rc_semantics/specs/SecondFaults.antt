@@ -243,10 +243,13 @@ counts_of all (form at rule.Choice parts from) = (most_sites, choice_count) ∷ 
 counts_of all (form at rule parts from) = []
 
 -- a repeat inside two others, or a binder that would be the fifth around its body
+abbrev pub is_deep : Around → Rule → Bool
+is_deep around rule.Repeat = nat_le most_repeats around.repeats
+is_deep around rule = is_binder rule && nat_le most_variables around.binders
+
 abbrev pub is_too_deep : Part → Bool
 is_too_deep (atom at bytes from) = false
-is_too_deep (form at rule.Repeat parts from) = nat_le most_repeats at.around.repeats
-is_too_deep (form at rule parts from) = is_binder rule && nat_le most_variables at.around.binders
+is_too_deep (form at rule parts from) = is_deep at.around rule
 
 abbrev pub is_too_many : List Part → List Part → Part → Bool
 is_too_many all earlier part =

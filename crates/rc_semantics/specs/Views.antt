@@ -1,5 +1,5 @@
 -- The fields of what the walk keeps.
-use Rattle.std.specs.Prelude.{map, option_map, Option}
+use Rattle.std.specs.Prelude.{map}
 use Rattle.rc_sheet_model.specs.WellFormed.{Around as PureAround}
 use Rattle.rc_semantics.specs.Seen.{variable_seen, mention_seen}
 use Rattle.rc_semantics.specs.Summary.{Owned as PureOwned, Whole as PureWhole, Summary as PureSummary}

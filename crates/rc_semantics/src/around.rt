@@ -1,5 +1,5 @@
 //! What is around a place of a form.
-ghost use Rattle.std.specs.Prelude.{◌≡◌, ℕ, Err, OnErr, IfOk, map, option_map, is_some, slice_index_or};
+ghost use Rattle.std.specs.Prelude.{◌≡◌, ◌<◌, ℕ, false, Err, OnErr, IfOk, map, option_map, is_some, slice_index_or};
 ghost use Rattle.rc_form.specs.Form.{tree_of, trees_of, packed};
 ghost use Rattle.rc_semantics.specs.Classes as classes;
 ghost use Rattle.rc_semantics.specs.SecondFaults as faults;
@@ -122,40 +122,37 @@ impl<'a> Around<'a> {
         Ok(around)
     }
 
-    /// What is around the effects of a repeat. More repeats than a number counts are more than memory holds.
+    /// What is around the effects of a repeat.
     fn in_repeat(&self, alloc: Global) -> Result<Around<'a>, SheetFail>
+        requires { self.now.repeats < 2 }
         ensures around { IfOk result (λ around. around ≡ model.in_repeat self.now) }
         ensures memory { OnErr result (result ≡ Err SheetFail.Memory) }
     {
-        let Some(repeats) = self.repeats.checked_add(1) else {
-            return Err(SheetFail::Memory);
-        };
         let mut around = self.copied(alloc)?;
-        around.repeats = repeats;
+        around.repeats += 1;
         Ok(around)
     }
 
-    /// What is around the body of a binder. More binders than a number counts are more than memory holds.
+    /// What is around the body of a binder.
     fn bound_in(&self, alloc: Global, word: &'a [u8], sort: Sort) -> Result<Around<'a>, SheetFail>
+        requires { self.now.binders < 4 }
         ensures around { IfOk result (λ around. around ≡ classes.bound_in self.now word.now (sort_seen sort)) }
         ensures memory { OnErr result (result ≡ Err SheetFail.Memory) }
     {
-        let Some(binders) = self.binders.checked_add(1) else {
-            return Err(SheetFail::Memory);
-        };
         let mut around = self.copied(alloc)?;
         around.scope.push(Variable { word, sort })?;
-        around.binders = binders;
+        around.binders += 1;
         Ok(around)
     }
 
-    /// What is around the parts of a form.
+    /// What is around the parts of a form that isn't too deep.
     pub fn inner(
         &self,
         alloc: Global,
         rule: Rule,
         parts: &'a [Form],
     ) -> Result<Inner<'a>, SheetFail>
+        requires { faults.is_deep self.now rule ≡ false }
         ensures around { (index : ℕ) → IfOk result (λ inner.
             inner_seen self.now inner index ≡ parts_spec.around_in self.now rule (packed (trees_of parts.now)) index) }
         ensures memory { OnErr result (result ≡ Err SheetFail.Memory) }
@@ -167,7 +164,8 @@ impl<'a> Around<'a> {
             Rule::Repeat => Ok(Inner::Behind(1, self.in_repeat(alloc)?)),
             Rule::Filter | Rule::AnyOf | Rule::Each | Rule::ForAll | Rule::ForAny => {
                 let sort = sort_over(part_at(1, parts));
-                Ok(Inner::Behind(2, self.bound_in(alloc, word_in(2, parts), sort)?))
+                let body = self.bound_in(alloc, word_in(2, parts), sort)?;
+                Ok(Inner::Behind(2, body))
             }
             _ => Ok(Inner::Same),
         }

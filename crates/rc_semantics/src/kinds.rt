@@ -1,9 +1,8 @@
 //! What is wrong with a part, behind what stood before it.
-ghost use Rattle.std.specs.Prelude.{◌≡◌, ℕ, List};
+ghost use Rattle.std.specs.Prelude.{◌≡◌, ◌||◌, ℕ, List, false, IfNone};
 ghost use Rattle.rc_form.specs.Form.{trees_of, packed};
 ghost use Rattle.rc_semantics.specs.SecondFaults as faults;
 ghost use Rattle.rc_semantics.specs.SecondParts as parts_spec;
-ghost use Rattle.rc_model.specs.Tree.{Trees};
 ghost use Rattle.rc_semantics.specs.Seen.{class_seen, standing_seen};
 ghost use Rattle.rc_semantics.specs.Summary as spec;
 
@@ -37,19 +36,40 @@ pub fn atom_kind<'a>(
     if seen.is_member_again(at.place, word) {
         return Some(SheetKind::Twice);
     }
-    if is_unbound(at, word)
-        || whole.lacks(at.role, word)
-        || seen.is_stranger(whole, at.place, word)
-    {
+    if is_unknown_atom(whole, seen, at, word) {
         return Some(SheetKind::Unknown);
     }
-    if is_misused(at, word) || is_other_side(at) {
+    if is_wrong_atom(at, word) {
         return Some(SheetKind::WrongKind);
     }
     if seen.is_value_over(at.role, word) {
         return Some(SheetKind::TooMany);
     }
     None
+}
+
+/// A variable that isn't in scope, a name that the setup doesn't give, or a member of a team who is none of the players.
+fn is_unknown_atom<'a>(
+    whole: &Whole<'a>,
+    seen: &Summary<'a>,
+    at: &Standing<'_, 'a>,
+    word: &[u8],
+) -> bool
+    ensures { (above : List (List ℕ)) → result
+        ≡ spec.is_unknown_atom whole.now seen.now (standing_seen at.now above) word.now }
+{
+    if is_unbound(at, word) || whole.lacks(at.role, word) {
+        return true;
+    }
+    seen.is_stranger(whole, at.place, word)
+}
+
+/// A variable of another sort than its place takes, or a second side of another sort than the first.
+fn is_wrong_atom(at: &Standing<'_, '_>, word: &[u8]) -> bool
+    ensures { (above : List (List ℕ)) → result
+        ≡ (faults.is_misused (standing_seen at.now above) word.now || faults.is_other_side (standing_seen at.now above) at.now.role) }
+{
+    is_misused(at, word) || is_other_side(at)
 }
 
 /// What is wrong with a form, but for its parts. These attributes may stand before it in a face.
@@ -61,8 +81,9 @@ pub fn form_kind<'a>(
     rule: Rule,
     parts: &'a [Form],
 ) -> Option<SheetKind>
-    ensures { (from : ℕ) → result
+    ensures kind { (from : ℕ) → result
         ≡ spec.kind_by whole.now seen.now (parts_spec.form (standing_seen at.now above.now) rule (packed (trees_of parts.now)) from) }
+    ensures shallow { IfNone result (faults.is_deep at.now.around.now rule ≡ false) }
 {
     if is_form_again(seen, at, above, rule, parts) {
         return Some(SheetKind::Twice);
@@ -135,8 +156,7 @@ fn is_in_stage(around: &Around<'_>, class: Class) -> bool
 
 /// A repeat inside two others, or a binder that would be the fifth around its body.
 fn is_too_deep(around: &Around<'_>, rule: Rule) -> bool
-    ensures { (at : parts_spec.Standing) (parts : Trees) (from : ℕ) → at.around ≡ around.now
-        → result ≡ faults.is_too_deep (parts_spec.form at rule parts from) }
+    ensures { result ≡ faults.is_deep around.now rule }
 {
     match rule {
         Rule::Repeat => around.repeats() >= MOST_REPEATS,

@@ -557,6 +557,74 @@ fn the_first_fault_of_the_shape_is_noted(rt: HostRuntime) -> Result<(), Fail> {
     expect_fault(&rt, "play", b"(game) )", SourceKind::Stray, "Stray", 7)
 }
 
+/// Changes of `SHEET` that keep its shape, with the fault that each makes.
+const OTHER_MEANINGS: &[(&str, &str, SourceKind, &str, u32)] = &[
+    (
+        "(put points",
+        "(create players 2)\n(put points",
+        SourceKind::Twice,
+        "Twice",
+        88,
+    ),
+    (
+        "using WORTH",
+        "using PRICE",
+        SourceKind::Unknown,
+        "Unknown",
+        454,
+    ),
+    (
+        "(stage player",
+        "(stage team",
+        SourceKind::Unknown,
+        "Unknown",
+        308,
+    ),
+    (
+        "(top ('P iloc HAND))",
+        "(top ('P vloc HAND))",
+        SourceKind::WrongKind,
+        "WrongKind",
+        289,
+    ),
+    (
+        "(repeat 2 (move",
+        "(repeat 2 (repeat 2 (repeat 2 (shuffle (game hloc STOCK)))) (move",
+        SourceKind::TooMany,
+        "TooMany",
+        201,
+    ),
+    (
+        "(create deck (game hloc STOCK) (deck (RANK (1 2 3 4))))\n",
+        "",
+        SourceKind::NoCards,
+        "NoCards",
+        6,
+    ),
+];
+
+#[test]
+fn the_first_fault_of_the_meaning_is_noted(rt: HostRuntime) -> Result<(), Fail> {
+    for word in ["sheet", "play"] {
+        for (old, new, kind, name, at) in OTHER_MEANINGS {
+            let sheet = SHEET.replacen(rt.alloc(), old, new, 1)?;
+            let source = format!(in rt.alloc(); "{sheet}{PLAN}")?;
+            expect_fault(&rt, word, source.as_bytes(), *kind, name, *at)?;
+        }
+    }
+    // A fault of the shape comes first, also where it stands behind one of the meaning.
+    let sheet = SHEET.replacen(rt.alloc(), "HAND", "STOCK", 1)?;
+    let sheet = sheet.replacen(rt.alloc(), "(scoring max", "(scoring best", 1)?;
+    expect_fault(
+        &rt,
+        "sheet",
+        sheet.as_bytes(),
+        SourceKind::Shape,
+        "Shape",
+        420,
+    )
+}
+
 #[test]
 fn hostile_sources_of_the_largest_size_are_refused(rt: HostRuntime) -> Result<(), Fail> {
     let opens = vec![in rt.alloc(); b'('; 1_048_576]?;
@@ -585,8 +653,8 @@ fn sheet_prints_the_first_list_whatever_follows(rt: HostRuntime) -> Result<(), F
         (SHEET, printed),
         (printed, printed),
         (
-            " (game,(setup(create\tplayers 007));c\n(do(cycle reverse))(scoring max -0)) )",
-            "(game (setup (create players 007)) (do (cycle reverse)) (scoring max -0))\n",
+            " (game,(setup(create\tplayers 007)(create deck(game hloc S)(deck(R(A)))));c\n(do(shuffle(game hloc S)))(scoring max -0)) )",
+            "(game (setup (create players 007) (create deck (game hloc S) (deck (R (A))))) (do (shuffle (game hloc S))) (scoring max -0))\n",
         ),
     ] {
         let end = End {

@@ -1,6 +1,7 @@
 //! How a table of fragments is run: each is put into a place of a sheet that has no other fault.
 use crate::{SheetFail, SheetFault, SheetKind, check_semantics};
 use rc_form::read_forms;
+use rc_grammar::check_shape;
 use std::alloc::{AllocError, Global};
 use std::process::Abort;
 use std::test::Fail;
@@ -103,6 +104,9 @@ pub fn check_text(
     assert!(rt; text.len() <= 1_000_000);
     let forms = read_forms(rt.alloc(), text, 1)?;
     let form = forms.list.first().ok_or("each row has a list")?;
+    if check_shape(form).is_err() {
+        return Err("each row has the shape of a sheet")?;
+    }
     let found = match check_semantics(rt.alloc(), form) {
         Ok(()) => None,
         Err(SheetFail::Fault(fault)) => Some(fault),

@@ -6,12 +6,12 @@ use Rattle.rc_house.proofs.answer.answer_of_forms.Goals as goal
 pub first_fault-requires : goal.first_fault-requires
 first_fault-requires c = (length c.args.source.now, c.requires.placed)
 
-pub returns-in_ok-first_fault-in-Some : goal.returns-in_ok-first_fault-in-Some
-returns-in_ok-first_fault-in-Some c =
+pub returns-in-Some : goal.returns-in-Some
+returns-in-Some c =
     let forms = c.args.forms.now in
-    rw c.sheet_fault.ensures (sheet_fault_answer c.args.command c.args.source.now (trees_of forms.list.items) forms.rest c.in-Some.found c.requires.read (sym c.in_ok-first_fault.ensures ∙ c.in-Some.is))
+    rw c.sheet_fault.ensures (sheet_fault_answer c.args.command c.args.source.now (trees_of forms.list.items) forms.rest c.in-Some.found c.requires.read (sym c.in_ok-found.ensures ∙ c.in-Some.is))
 
-pub returns-in_ok-first_fault-in-None : goal.returns-in_ok-first_fault-in-None
-returns-in_ok-first_fault-in-None c =
+pub returns-in-None : goal.returns-in-None
+returns-in-None c =
     let forms = c.args.forms.now in
-    if_faultless_answered c.args.command c.args.source.now (trees_of forms.list.items) forms.rest c.faultless_answer.result c.requires.read (sym c.in_ok-first_fault.ensures ∙ c.in-None.is) c.faultless_answer.ensures
+    if_faultless_answered c.args.command c.args.source.now (trees_of forms.list.items) forms.rest c.faultless_answer.result c.requires.read (sym c.in_ok-found.ensures ∙ c.in-None.is) c.faultless_answer.ensures
