@@ -17,21 +17,6 @@ use rc_form::Form;
 use rc_grammar::{Place, Rule};
 use std::alloc::Global;
 
-/// The form that a list has at a place, which has as many parts.
-pub fn rule_at(place: Place, parts: &[Form]) -> Result<Rule, ReadFail>
-    ensures given { Gives (λ rule. rule) result (names.rule_at place (packed (trees_of parts.now))) }
-    ensures sized { IfOk result (λ rule. IsTrue (fits (length parts.now) rule)) }
-{
-    Err(ReadFail::Memory)
-}
-
-/// An owner.
-pub fn owner_at(scope: &Scope, form: &Form) -> Result<Who, ReadFail>
-    ensures { Gives who_seen result (names.owner_at scope.now (tree_of form.now)) }
-{
-    Err(ReadFail::Memory)
-}
-
 /// What a variable stands for that runs over this domain.
 pub fn sort_of(domain: &Domain) -> Sort
     ensures { sort_seen result ≡ model.sort_of (domain_seen domain.now) }
@@ -44,21 +29,6 @@ pub fn sort_of(domain: &Domain) -> Sort
 }
 
 impl Reader {
-    /// The number of an attribute.
-    pub fn attr(&self, form: &Form) -> Result<u16, ReadFail>
-        ensures { Gives (λ number. number) result (names.name_at self.now.names.attrs (tree_of form.now)) }
-    {
-        Err(ReadFail::Memory)
-    }
-
-    /// The number of a binder's variable, and the scope behind the binder.
-    pub fn bind(&self, alloc: Global, scope: &Scope, form: &Form, sort: Sort) -> Result<(u32, Scope), ReadFail>
-        ensures given { Gives (λ bound. bound.0) result (names.binder_at self.now.names.vars scope.now (tree_of form.now)) }
-        ensures inner { IfOk result (λ bound. bound.1 ≡ model.bind self.now scope.now bound.0 (sort_seen sort)) }
-    {
-        Err(ReadFail::Memory)
-    }
-
     /// A location.
     pub fn location(&self, scope: &Scope, form: &Form) -> Result<Loc, ReadFail>
         ensures { Gives loc_seen result (names.loc_at self.now scope.now (tree_of form.now)) }
@@ -81,7 +51,12 @@ impl Reader {
     }
 
     /// A list of cards.
-    pub fn collection(&self, alloc: Global, scope: &Scope, form: &Form) -> Result<CollExpr, ReadFail>
+    pub fn collection(
+        &self,
+        alloc: Global,
+        scope: &Scope,
+        form: &Form,
+    ) -> Result<CollExpr, ReadFail>
         ensures { Gives coll_seen result (reading.coll_at self.now scope.now (tree_of form.now)) }
     {
         Err(ReadFail::Memory)

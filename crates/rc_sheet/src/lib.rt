@@ -3,6 +3,8 @@
 
 mod expressions;
 mod fail;
+mod names;
+mod owners;
 mod reader;
 mod scope;
 
