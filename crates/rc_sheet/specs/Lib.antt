@@ -4,3 +4,6 @@ pub mod ReadNames
 pub mod ReadExpressions
 pub mod ReadEffects
 pub mod ReadItems
+pub mod ReadSetup
+pub mod SetupViews
+pub mod ReadSheet

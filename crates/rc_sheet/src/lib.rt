@@ -1,12 +1,15 @@
 //! A sheet's form, read into the tree of the sheet. What each form says is defined in `specs/Read*.antt`.
 #![tactic(auto)]
 
+mod decks;
 mod expressions;
 mod fail;
 mod names;
 mod owners;
+mod players;
 mod reader;
 mod scope;
+mod setup;
 
 pub use fail::ReadFail;
 pub use rc_semantics::SheetFail;
