@@ -1,3 +1,5 @@
 pub mod Counts
 pub mod InTurn
 pub mod Places
+pub mod Faces
+pub mod Lines

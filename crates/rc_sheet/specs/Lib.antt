@@ -2,6 +2,7 @@ pub mod Gives
 pub mod Reader
 pub mod ReadNames
 pub mod ReadExpressions
+pub mod Sides
 pub mod ReadEffects
 pub mod ReadItems
 pub mod ReadSetup

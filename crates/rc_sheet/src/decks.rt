@@ -9,7 +9,7 @@ ghost use Rattle.rc_sheet.specs.ReadSetup as reading;
 ghost use Rattle.rc_sheet.specs.Gives.{Gives};
 
 use crate::fail::ReadFail;
-use crate::names::name_at;
+use crate::names::{name_at, number_in};
 use crate::reader::Reader;
 use crate::scope::Scope;
 use rc_ast::{DeckLine, Who};
@@ -18,15 +18,16 @@ use rc_form::Form;
 use rc_setup::{Numbers, read_deck, read_entries};
 use std::alloc::Global;
 
+#[tactic(auto, using(crate::proofs::Faces::number_of_name))]
 impl Numbers for Reader {
     ghost words = { reading.face_words };
 
     fn attr_number(&self, form: &Form) -> Option<u16> {
-        self.attr(form).ok()
+        number_in(&self.names.attrs, form)
     }
 
     fn value_number(&self, form: &Form) -> Option<u16> {
-        self.value(form).ok()
+        number_in(&self.names.values, form)
     }
 }
 
@@ -56,6 +57,8 @@ impl Reader {
     fn deck_tree(&self, alloc: Global, form: &Form) -> Result<DeckTree, ReadFail>
         ensures { Gives groups_of result (faces.read_deck (reading.face_words self.now) (tree_of form.now)) }
     {
+        // the names are few
+        let _names = &self.names;
         match read_deck(alloc, self, form) {
             Ok(Some(tree)) => Ok(tree),
             Ok(None) => Err(ReadFail::Meaningless),

@@ -29,20 +29,6 @@ pub fn sort_of(domain: &Domain) -> Sort
 }
 
 impl Reader {
-    /// A location.
-    pub fn location(&self, scope: &Scope, form: &Form) -> Result<Loc, ReadFail>
-        ensures { Gives loc_seen result (names.loc_at self.now scope.now (tree_of form.now)) }
-    {
-        Err(ReadFail::Memory)
-    }
-
-    /// A stored number.
-    pub fn counter(&self, scope: &Scope, form: &Form) -> Result<Num, ReadFail>
-        ensures { Gives num_seen result (names.num_at self.now scope.now (tree_of form.now)) }
-    {
-        Err(ReadFail::Memory)
-    }
-
     /// A card.
     pub fn card(&self, alloc: Global, scope: &Scope, form: &Form) -> Result<CardExpr, ReadFail>
         ensures { Gives card_seen result (reading.card_at self.now scope.now (tree_of form.now)) }

@@ -4,12 +4,14 @@
 mod decks;
 mod expressions;
 mod fail;
+mod locations;
 mod names;
 mod owners;
 mod players;
 mod reader;
 mod scope;
 mod setup;
+mod sides;
 
 pub use fail::ReadFail;
 pub use rc_semantics::SheetFail;
