@@ -2,4 +2,3 @@ pub mod Counts
 pub mod InTurn
 pub mod Places
 pub mod Faces
-pub mod Lines
