@@ -1,7 +1,7 @@
 -- What a whole form says.
 use Rattle.std.specs.Prelude.{Option, Some, None}
 use Rattle.rc_model.specs.Tree.{Tree, word, list, Trees, nil, cons}
-use Rattle.rc_sheet_model.specs.Sheet.{Sheet}
+use Rattle.rc_sheet_model.specs.Sheet.{SheetItems, Best, IntExpr, Sheet}
 use Rattle.rc_sheet_model.specs.Naming.{Naming}
 use Rattle.rc_sheet.specs.ReadNames.{◌>>=◌, rule_at}
 use Rattle.rc_sheet.specs.ReadSetup.{Setup, setup_at}
@@ -19,25 +19,28 @@ unfoldable pub setup_form_at : Naming → Tree → Option Setup
 setup_form_at naming (word bytes from to) = None
 setup_form_at naming (list parts from to) = rule_at place.Setup parts >>= setup_rule naming parts
 
+-- the sheet of a setup, items and a scoring, with these names
+abbrev pub sheet_of : Naming → Setup → SheetItems × (Best × IntExpr) → Sheet
+sheet_of naming setup body =
+    record {
+      players = setup.players;
+      teams = setup.teams;
+      names = naming.names;
+      decks = setup.decks;
+      points = setup.points;
+      locs = naming.locs;
+      nums = naming.nums;
+      items = body.0;
+      best = body.1.0;
+      score = body.1.1;
+    }
+
 -- `(game SETUP ITEM+ SCORING)`
 abbrev pub game_rule : Naming → Trees → Rule → Option Sheet
-game_rule naming (cons head (cons setup body)) rule.Game = do
+game_rule naming (cons head (cons setup parts)) rule.Game = do
   setup ← setup_form_at naming setup
-  body ← body_at naming body
-  Some (
-      record {
-        players = setup.players;
-        teams = setup.teams;
-        names = naming.names;
-        decks = setup.decks;
-        points = setup.points;
-        locs = naming.locs;
-        nums = naming.nums;
-        items = body.0;
-        best = body.1.0;
-        score = body.1.1;
-      }
-      )
+  body ← body_at naming parts
+  Some (sheet_of naming setup body)
 game_rule naming parts rule = None
 
 unfoldable pub sheet_at : Naming → Tree → Option Sheet

@@ -37,20 +37,14 @@ impl Reader {
     pub fn deck(&self, alloc: Global, loc: &Form, deck: &Form) -> Result<DeckLine, ReadFail>
         ensures { Gives deck_line_seen result (reading.deck_at self.now (tree_of loc.now) (tree_of deck.now)) }
     {
-        let home = match self.location(&Scope::empty(alloc), loc) {
-            Ok(home) => home,
-            Err(fail) => return Err(fail),
-        };
+        let home = self.location(&Scope::empty(alloc), loc)?;
         let Who::Game = home.who else {
             return Err(ReadFail::Meaningless);
         };
-        match self.deck_tree(alloc, deck) {
-            Ok(tree) => Ok(DeckLine {
-                loc: home.name,
-                tree,
-            }),
-            Err(fail) => Err(fail),
-        }
+        Ok(DeckLine {
+            loc: home.name,
+            tree: self.deck_tree(alloc, deck)?,
+        })
     }
 
     /// The groups of a deck.
@@ -77,10 +71,7 @@ impl Reader {
     ) -> Result<PointMap, ReadFail>
         ensures { Gives entries_of result (reading.points_at self.now number (tree_of name.now) (tree_of entries.now)) }
     {
-        let found = match name_at(&self.names.maps, name) {
-            Ok(found) => found,
-            Err(fail) => return Err(fail),
-        };
+        let found = name_at(&self.names.maps, name)?;
         if usize::from(found) != number {
             return Err(ReadFail::Meaningless);
         }

@@ -4,6 +4,7 @@
 mod decks;
 mod expressions;
 mod fail;
+mod items;
 mod locations;
 mod names;
 mod owners;
@@ -11,6 +12,7 @@ mod players;
 mod reader;
 mod scope;
 mod setup;
+mod sheet;
 mod sides;
 
 pub use fail::ReadFail;

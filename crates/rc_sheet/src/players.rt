@@ -39,10 +39,7 @@ pub fn teams_at(alloc: Global, forms: &[Form]) -> Result<Teams, ReadFail>
 {
     let mut list = Vec::new(alloc);
     for form in forms {
-        match team_at(alloc, form) {
-            Ok(team) => list.push(team)?,
-            Err(fail) => return Err(fail),
-        }
+        list.push(team_at(alloc, form)?)?;
     }
     Ok(Teams { list })
 }
@@ -55,10 +52,9 @@ fn team_at(alloc: Global, form: &Form) -> Result<Vec<u8>, ReadFail>
     let Form::List { items, .. } = form else {
         return Err(ReadFail::Meaningless);
     };
-    match rule_at(Place::Team, items) {
-        Ok(Rule::Team) => members_at(alloc, items),
-        Ok(_) => Err(ReadFail::Meaningless),
-        Err(fail) => Err(fail),
+    match rule_at(Place::Team, items)? {
+        Rule::Team => members_at(alloc, items),
+        _ => Err(ReadFail::Meaningless),
     }
 }
 
@@ -67,10 +63,7 @@ fn members_at(alloc: Global, forms: &[Form]) -> Result<Vec<u8>, ReadFail>
 {
     let mut members = Vec::new(alloc);
     for form in forms {
-        match count_at(0, LAST_PLAYER, form) {
-            Ok(member) => members.push(member)?,
-            Err(fail) => return Err(fail),
-        }
+        members.push(count_at(0, LAST_PLAYER, form)?)?;
     }
     Ok(members)
 }

@@ -58,13 +58,8 @@ impl Lines {
         if self.players.is_some() {
             return Err(ReadFail::Meaningless);
         }
-        match count_at(1, MOST_PLAYERS, count) {
-            Ok(count) => {
-                self.players = Some(count);
-                Ok(())
-            }
-            Err(fail) => Err(fail),
-        }
+        self.players = Some(count_at(1, MOST_PLAYERS, count)?);
+        Ok(())
     }
 
     /// `(create teams TEAM+)`, of which there is one at most.
@@ -76,13 +71,8 @@ impl Lines {
         if self.teams.is_some() {
             return Err(ReadFail::Meaningless);
         }
-        match teams_at(alloc, teams) {
-            Ok(teams) => {
-                self.teams = Some(teams);
-                Ok(())
-            }
-            Err(fail) => Err(fail),
-        }
+        self.teams = Some(teams_at(alloc, teams)?);
+        Ok(())
     }
 
     /// What all lines say.
@@ -108,10 +98,7 @@ impl Reader {
     {
         let mut lines = Lines::none(alloc);
         for form in forms {
-            match self.line(alloc, &mut lines, form) {
-                Ok(()) => {}
-                Err(fail) => return Err(fail),
-            }
+            self.line(alloc, &mut lines, form)?;
         }
         lines.finish()
     }
@@ -125,10 +112,7 @@ impl Reader {
         let Form::List { items, .. } = form else {
             return Err(ReadFail::Meaningless);
         };
-        match rule_at(Place::Line, items) {
-            Ok(rule) => self.line_rule(alloc, lines, rule, items),
-            Err(fail) => Err(fail),
-        }
+        self.line_rule(alloc, lines, rule_at(Place::Line, items)?, items)
     }
 
     /// One more line, of this form.
@@ -184,13 +168,8 @@ impl Reader {
         ensures { Gives (λ _. lines_seen lines.new) result
             (reading.deck_line self.now (lines_seen lines.old) (tree_of loc.now) (tree_of deck.now)) }
     {
-        match self.deck(alloc, loc, deck) {
-            Ok(deck) => {
-                lines.decks.push(deck)?;
-                Ok(())
-            }
-            Err(fail) => Err(fail),
-        }
+        lines.decks.push(self.deck(alloc, loc, deck)?)?;
+        Ok(())
     }
 
     /// `(put points MAP ENTRIES)`
@@ -205,12 +184,8 @@ impl Reader {
         ensures { Gives (λ _. lines_seen lines.new) result
             (reading.points_line self.now (lines_seen lines.old) (tree_of map.now) (tree_of entries.now)) }
     {
-        match self.points(alloc, lines.points.len(), map, entries) {
-            Ok(map) => {
-                lines.points.push(map)?;
-                Ok(())
-            }
-            Err(fail) => Err(fail),
-        }
+        let map = self.points(alloc, lines.points.len(), map, entries)?;
+        lines.points.push(map)?;
+        Ok(())
     }
 }

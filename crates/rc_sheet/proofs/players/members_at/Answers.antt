@@ -8,9 +8,9 @@ pub loop-form-preserved : goal.loop-form-preserved
 loop-form-preserved c =
     let forms = c.args.forms.now in
     let i = c.loop-form.form-index in
-    ap (λ front. so_far (λ (n : ℕ). n) ◌∷◌ members_at front forms (i + 1)) c.in_ok-push-in-Ok.ensures.items
+    ap (λ front. so_far (λ (n : ℕ). n) ◌∷◌ members_at front forms (i + 1)) c.in_ok-push.ensures.items
     ∙ goes_on (λ (n : ℕ). n) ◌∷◌ (count_at 0 7) members_at (λ tree trees. refl) c.loop-form.members.items forms i
-    c.form-item.result c.in-Ok.member _ c.loop-form-test.true c.form-item.is c.in-Ok.ensures c.loop-form.invariant
+    c.form-item.result c.in_ok-count_at.field-0 _ c.loop-form-test.true c.form-item.is c.in_ok-count_at.ensures c.loop-form.invariant
 
 pub returns : goal.returns
 returns c =
