@@ -2,3 +2,9 @@ pub mod Counts
 pub mod InTurn
 pub mod Places
 pub mod Faces
+pub mod Sheets
+pub mod Means
+pub mod ReadsNames
+pub mod ReadsExpressions
+pub mod ReadsEffects
+pub mod ReadsItems

@@ -1,10 +1,12 @@
--- What the items and the scoring of a form say. Stages and choices are numbered in the order of the text.
-use Rattle.std.specs.Prelude.{ℕ, ◌+◌, [], if◌then◌else◌, Option, Some, None, option_map}
+-- What the items and the scoring of a form say. Stages and choices are numbered in the order of the text. Where there are
+-- more stages or choices than a sheet may have nothing is read.
+use Rattle.std.specs.Prelude.{ℕ, ◌+◌, nat_lt, nat_le, List, [], if◌then◌else◌, Option, Some, None, option_map}
 use Rattle.rc_model.specs.Tree.{Tree, word, list, Trees, nil, cons}
-use Rattle.rc_sheet_model.specs.Sheet.{Class, player_class, team_class, Test, IntExpr, Best, highest, lowest, SheetItem, do_item, stage, choice, SheetItems, no_item, item}
+use Rattle.rc_sheet_model.specs.Sheet.{Class, player_class, team_class, Test, IntExpr, Best, highest, lowest, Alt, SheetItem, do_item, stage, choice, SheetItems, no_item, item}
+use Rattle.rc_sheet_model.specs.Limits.{most_stages, most_sites}
 use Rattle.rc_sheet_model.specs.Naming.{Naming, self_scope}
-use Rattle.rc_grammar.specs.Faults.{is_form_word}
-use Rattle.rc_sheet.specs.ReadNames.{◌>>=◌, both, rule_at}
+use Rattle.rc_grammar.specs.Faults.{is_form_word, count}
+use Rattle.rc_sheet.specs.ReadNames.{◌>>=◌, ensure, both, rule_at}
 use Rattle.rc_sheet.specs.ReadExpressions.{int_at, test_at}
 use Rattle.rc_sheet.specs.ReadEffects.{effects_at, alts_at}
 use Rattle.rc_grammar.specs.declared.keyword.Keyword.TheVariants as keyword
@@ -19,6 +21,24 @@ pub record Begun : Type 0 where
 
 abbrev pub none_begun : Begun
 none_begun = record { stages = 0; sites = 0 }
+
+-- what has begun behind the head of one more stage, and behind one more choice
+abbrev pub with_stage : Begun → Begun
+with_stage begun = record begun { stages = begun.stages + 1 }
+
+abbrev pub with_site : Begun → Begun
+with_site begun = record begun { sites = begun.sites + 1 }
+
+-- one more stage, with this end, these items and what has begun behind them
+abbrev pub stage_of : Begun → Class → Option Test → Option (SheetItems × Begun) → Option (SheetItem × Begun)
+stage_of begun class end items =
+    ensure (nat_lt begun.stages most_stages) >>= λ room.
+    option_map (λ p. (stage begun.stages class p.0 p.1.0, p.1.1)) (both end items)
+
+-- one more choice
+abbrev pub choice_of : Begun → Option (List Alt) → Option (SheetItem × Begun)
+choice_of begun alts =
+    ensure (nat_lt begun.sites most_sites) >>= λ room. option_map (λ alts. (choice begun.sites alts, with_site begun)) alts
 
 -- `(end BOOL)`
 abbrev pub end_rule : Naming → Rule → Trees → Option Test
@@ -39,15 +59,11 @@ abbrev mutual
   item_rule naming begun rule.Do (cons head effects) =
       option_map (λ effects. (do_item effects, begun)) (effects_at naming [] effects)
   item_rule naming begun rule.PlayerStage (cons head (cons class (cons end items))) =
-      end_at naming end >>= λ t.
-      option_map (λ p. (stage begun.stages player_class t p.0, p.1))
-      (items_at naming (record begun { stages = begun.stages + 1 }) items)
+      stage_of begun player_class (end_at naming end) (items_at naming (with_stage begun) items)
   item_rule naming begun rule.TeamStage (cons head (cons class (cons end items))) =
-      end_at naming end >>= λ t.
-      option_map (λ p. (stage begun.stages team_class t p.0, p.1))
-      (items_at naming (record begun { stages = begun.stages + 1 }) items)
+      stage_of begun team_class (end_at naming end) (items_at naming (with_stage begun) items)
   item_rule naming begun rule.Choice (cons head alts) =
-      option_map (λ alts. (choice begun.sites alts, record begun { sites = begun.sites + 1 })) (alts_at naming alts)
+      choice_of begun (alts_at naming alts)
   item_rule naming begun rule parts = None
 
   pub items_at : Naming → Begun → Trees → Option (SheetItems × Begun)
@@ -82,7 +98,8 @@ last_of nil = None
 last_of (cons tree nil) = Some tree
 last_of (cons tree (cons next trees)) = last_of (cons next trees)
 
--- the items of a sheet, and the scoring, which stands last
+-- the items of a sheet, of which there is one at least, and the scoring, which stands last
 abbrev pub body_at : Naming → Trees → Option (SheetItems × (Best × IntExpr))
 body_at naming trees =
+    ensure (nat_le 2 (count trees)) >>= λ some.
     both (option_map (λ p. p.0) (items_at naming none_begun (but_last trees))) (last_of trees >>= score_at naming)

@@ -35,12 +35,16 @@ sheet_of naming setup body =
       score = body.1.1;
     }
 
--- `(game SETUP ITEM+ SCORING)`
-abbrev pub game_rule : Naming → Trees → Rule → Option Sheet
-game_rule naming (cons head (cons setup parts)) rule.Game = do
+-- SETUP ITEM+ SCORING
+unfoldable pub game_parts : Naming → Tree → Trees → Option Sheet
+game_parts naming setup parts = do
   setup ← setup_form_at naming setup
   body ← body_at naming parts
   Some (sheet_of naming setup body)
+
+-- `(game SETUP ITEM+ SCORING)`
+abbrev pub game_rule : Naming → Trees → Rule → Option Sheet
+game_rule naming (cons head (cons setup parts)) rule.Game = game_parts naming setup parts
 game_rule naming parts rule = None
 
 unfoldable pub sheet_at : Naming → Tree → Option Sheet

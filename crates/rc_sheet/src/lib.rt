@@ -9,6 +9,7 @@ mod locations;
 mod names;
 mod owners;
 mod players;
+mod laws;
 mod reader;
 mod scope;
 mod setup;
@@ -16,4 +17,5 @@ mod sheet;
 mod sides;
 
 pub use fail::ReadFail;
+pub use laws::{body_stands, effects_stand, expressions_stand, names_stand};
 pub use rc_semantics::SheetFail;

@@ -1,7 +1,6 @@
 //! A whole sheet.
 ghost use Rattle.std.specs.Prelude.{◌≡◌};
 ghost use Rattle.rc_form.specs.Form.{tree_of, trees_of, packed};
-ghost use Rattle.rc_grammar.specs.declared.grammar.Rule.TheVariants as rule;
 ghost use Rattle.rc_ast.specs.Expressions.{int_seen};
 ghost use Rattle.rc_ast.specs.Items.{items_seen};
 ghost use Rattle.rc_ast.specs.Sheet.{best_seen, sheet_seen};
@@ -30,19 +29,20 @@ impl Reader {
         let Form::List { items, .. } = form else {
             return Err(ReadFail::Meaningless);
         };
-        match rule_at(Place::Sheet, items)? {
-            Rule::Game => self.game(alloc, items),
-            _ => Err(ReadFail::Meaningless),
-        }
-    }
-
-    /// `(game SETUP ITEM+ SCORING)`
-    fn game(self, alloc: Global, parts: &[Form]) -> Result<Sheet, ReadFail>
-        ensures { Gives sheet_seen result (reading.game_rule self (packed (trees_of parts.now)) rule.Game) }
-    {
-        let [_, setup, body @ ..] = parts else {
+        let Rule::Game = rule_at(Place::Sheet, items)? else {
             return Err(ReadFail::Meaningless);
         };
+        let [_, setup, body @ ..] = items.as_slice() else {
+            return Err(ReadFail::Meaningless);
+        };
+        self.game(alloc, setup, body)
+    }
+
+    /// The sheet of a setup, and of items with the scoring behind them.
+    fn game(self, alloc: Global, setup: &Form, body: &[Form]) -> Result<Sheet, ReadFail>
+        ensures { Gives sheet_seen result
+            (reading.game_parts self (tree_of setup.now) (packed (trees_of body.now))) }
+    {
         let setup = self.setup_form(alloc, setup)?;
         let body = self.body(alloc, body)?;
         Ok(self.into_sheet(setup, body))
