@@ -8,3 +8,6 @@ pub mod ReadsNames
 pub mod ReadsExpressions
 pub mod ReadsEffects
 pub mod ReadsItems
+pub mod ReadsFaces
+pub mod ReadsSetup
+pub mod ReadsSheet

@@ -4,7 +4,7 @@ use Rattle.rc_model.specs.Tree.{Tree, word, list, Trees, nil, cons}
 use Rattle.rc_model.specs.Literal.{integer}
 use Rattle.rc_model.specs.Deck.{Entry}
 use Rattle.rc_model.specs.DeckText.{Names}
-use Rattle.rc_sheet_model.specs.Sheet.{Teams, DeckLine, Who, game, Loc}
+use Rattle.rc_sheet_model.specs.Sheet.{Teams, DeckLine, Sheet, Who, game}
 use Rattle.rc_sheet_model.specs.Limits.{most_players}
 use Rattle.rc_sheet_model.specs.Naming.{Naming}
 use Rattle.rc_setup.specs.Reading.{read_deck, read_entries}
@@ -44,13 +44,13 @@ members_at nil = Some []
 members_at (cons part parts) = option_map (λ p. p.0 ∷ p.1) (both (count_at 0 7 part) (members_at parts))
 
 -- `(p+)`
-abbrev pub team_rule : Trees → Rule → Option (List ℕ)
-team_rule parts rule.Team = members_at parts
-team_rule parts rule = None
+abbrev pub team_rule : Rule → Trees → Option (List ℕ)
+team_rule rule.Team parts = members_at parts
+team_rule rule parts = None
 
 unfoldable pub team_at : Tree → Option (List ℕ)
 team_at (word bytes from to) = None
-team_at (list parts from to) = rule_at place.Team parts >>= team_rule parts
+team_at (list parts from to) = rule_at place.Team parts >>= λ rule. team_rule rule parts
 
 abbrev pub teams_at : Trees → Option Teams
 teams_at nil = Some []
@@ -103,16 +103,16 @@ points_line naming before map tree = do
   entries ← points_at naming (length before.points) map tree
   Some (record before { points = before.points ++ entries ∷ [] })
 
-abbrev pub line_rule : Naming → Lines → Trees → Rule → Option Lines
-line_rule naming before (cons create (cons players (cons count nil))) rule.CreatePlayers = players_line before count
-line_rule naming before (cons create (cons teams parts)) rule.CreateTeams = teams_line before parts
-line_rule naming before (cons create (cons deck (cons loc (cons tree nil)))) rule.CreateDeck = deck_line naming before loc tree
-line_rule naming before (cons put (cons points (cons map (cons tree nil)))) rule.PutPoints = points_line naming before map tree
-line_rule naming before parts rule = None
+abbrev pub line_rule : Naming → Lines → Rule → Trees → Option Lines
+line_rule naming before rule.CreatePlayers (cons create (cons players (cons count nil))) = players_line before count
+line_rule naming before rule.CreateTeams (cons create (cons teams parts)) = teams_line before parts
+line_rule naming before rule.CreateDeck (cons create (cons deck (cons loc (cons tree nil)))) = deck_line naming before loc tree
+line_rule naming before rule.PutPoints (cons put (cons points (cons map (cons tree nil)))) = points_line naming before map tree
+line_rule naming before rule parts = None
 
 unfoldable pub line_at : Naming → Lines → Tree → Option Lines
 line_at naming before (word bytes from to) = None
-line_at naming before (list parts from to) = rule_at place.Line parts >>= line_rule naming before parts
+line_at naming before (list parts from to) = rule_at place.Line parts >>= λ rule. line_rule naming before rule parts
 
 abbrev pub lines_at : Naming → Lines → Trees → Option Lines
 lines_at naming before nil = Some before
@@ -127,3 +127,7 @@ setup_of lines = do
 -- the lines behind the word `setup`
 abbrev pub setup_at : Naming → Trees → Option Setup
 setup_at naming lines = lines_at naming no_line lines >>= setup_of
+
+-- the setup that a sheet has
+abbrev pub setup_in : Sheet → Setup
+setup_in sheet = record { players = sheet.players; teams = sheet.teams; decks = sheet.decks; points = sheet.points }

@@ -11,13 +11,13 @@ use Rattle.rc_grammar.specs.declared.grammar.Rule.{Rule}
 use Rattle.rc_grammar.specs.declared.grammar.Rule.TheVariants as rule
 
 -- `(setup LINE+)`
-abbrev pub setup_rule : Naming → Trees → Rule → Option Setup
-setup_rule naming (cons head lines) rule.Setup = setup_at naming lines
-setup_rule naming parts rule = None
+abbrev pub setup_rule : Naming → Rule → Trees → Option Setup
+setup_rule naming rule.Setup (cons head lines) = setup_at naming lines
+setup_rule naming rule parts = None
 
 unfoldable pub setup_form_at : Naming → Tree → Option Setup
 setup_form_at naming (word bytes from to) = None
-setup_form_at naming (list parts from to) = rule_at place.Setup parts >>= setup_rule naming parts
+setup_form_at naming (list parts from to) = rule_at place.Setup parts >>= λ rule. setup_rule naming rule parts
 
 -- the sheet of a setup, items and a scoring, with these names
 abbrev pub sheet_of : Naming → Setup → SheetItems × (Best × IntExpr) → Sheet
@@ -43,10 +43,10 @@ game_parts naming setup parts = do
   Some (sheet_of naming setup body)
 
 -- `(game SETUP ITEM+ SCORING)`
-abbrev pub game_rule : Naming → Trees → Rule → Option Sheet
-game_rule naming (cons head (cons setup parts)) rule.Game = game_parts naming setup parts
-game_rule naming parts rule = None
+abbrev pub game_rule : Naming → Rule → Trees → Option Sheet
+game_rule naming rule.Game (cons head (cons setup parts)) = game_parts naming setup parts
+game_rule naming rule parts = None
 
 unfoldable pub sheet_at : Naming → Tree → Option Sheet
 sheet_at naming (word bytes from to) = None
-sheet_at naming (list parts from to) = rule_at place.Sheet parts >>= game_rule naming parts
+sheet_at naming (list parts from to) = rule_at place.Sheet parts >>= λ rule. game_rule naming rule parts

@@ -5,11 +5,11 @@ mod decks;
 mod expressions;
 mod fail;
 mod items;
+mod laws;
 mod locations;
 mod names;
 mod owners;
 mod players;
-mod laws;
 mod reader;
 mod scope;
 mod setup;
@@ -17,5 +17,7 @@ mod sheet;
 mod sides;
 
 pub use fail::ReadFail;
-pub use laws::{body_stands, effects_stand, expressions_stand, names_stand};
+pub use laws::{
+    body_stands, effects_stand, expressions_stand, names_stand, setup_stands, sheet_stands,
+};
 pub use rc_semantics::SheetFail;

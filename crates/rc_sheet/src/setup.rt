@@ -125,7 +125,7 @@ impl Reader {
     ) -> Result<(), ReadFail>
         requires { IsTrue (fits (length parts.now) rule) }
         ensures { Gives (λ _. lines_seen lines.new) result
-            (reading.line_rule self.now (lines_seen lines.old) (packed (trees_of parts.now)) rule) }
+            (reading.line_rule self.now (lines_seen lines.old) rule (packed (trees_of parts.now))) }
     {
         match rule {
             Rule::CreatePlayers => {

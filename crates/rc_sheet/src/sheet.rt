@@ -1,9 +1,11 @@
 //! A whole sheet.
-ghost use Rattle.std.specs.Prelude.{◌≡◌};
+ghost use Rattle.std.specs.Prelude.{◌≡◌, IsTrue, length};
 ghost use Rattle.rc_form.specs.Form.{tree_of, trees_of, packed};
 ghost use Rattle.rc_ast.specs.Expressions.{int_seen};
 ghost use Rattle.rc_ast.specs.Items.{items_seen};
 ghost use Rattle.rc_ast.specs.Sheet.{best_seen, sheet_seen};
+ghost use Rattle.rc_grammar.specs.Faults.{fits};
+ghost use Rattle.rc_grammar.specs.declared.grammar.Rule.TheVariants as rule;
 ghost use Rattle.rc_sheet.specs.SetupViews.{setup_seen};
 ghost use Rattle.rc_sheet.specs.ReadSheet as reading;
 ghost use Rattle.rc_sheet.specs.Gives.{Gives};
@@ -29,17 +31,26 @@ impl Reader {
         let Form::List { items, .. } = form else {
             return Err(ReadFail::Meaningless);
         };
-        let Rule::Game = rule_at(Place::Sheet, items)? else {
+        match rule_at(Place::Sheet, items)? {
+            Rule::Game => self.game(alloc, items),
+            _ => Err(ReadFail::Meaningless),
+        }
+    }
+
+    /// `(game SETUP ITEM+ SCORING)`
+    fn game(self, alloc: Global, parts: &[Form]) -> Result<Sheet, ReadFail>
+        requires { IsTrue (fits (length parts.now) rule.Game) }
+        ensures { Gives sheet_seen result (reading.game_rule self rule.Game (packed (trees_of parts.now))) }
+    {
+        let [_, setup, body @ ..] = parts else {
             return Err(ReadFail::Meaningless);
         };
-        let [_, setup, body @ ..] = items.as_slice() else {
-            return Err(ReadFail::Meaningless);
-        };
-        self.game(alloc, setup, body)
+        self.game_parts(alloc, setup, body)
     }
 
     /// The sheet of a setup, and of items with the scoring behind them.
-    fn game(self, alloc: Global, setup: &Form, body: &[Form]) -> Result<Sheet, ReadFail>
+    #[tactic(auto, unfolding(crate::specs::ReadSheet::game_parts))]
+    fn game_parts(self, alloc: Global, setup: &Form, body: &[Form]) -> Result<Sheet, ReadFail>
         ensures { Gives sheet_seen result
             (reading.game_parts self (tree_of setup.now) (packed (trees_of body.now))) }
     {
