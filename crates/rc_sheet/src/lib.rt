@@ -13,6 +13,8 @@ mod players;
 mod reader;
 mod scope;
 mod setup;
+#[cfg(test)]
+mod setup_tests;
 mod sheet;
 mod sides;
 

@@ -61,7 +61,7 @@ impl Reader {
 
     /// `(setup LINE+)`
     #[tactic(auto, unfolding(crate::specs::ReadSheet::setup_form_at))]
-    fn setup_form(&self, alloc: Global, form: &Form) -> Result<Setup, ReadFail>
+    pub(crate) fn setup_form(&self, alloc: Global, form: &Form) -> Result<Setup, ReadFail>
         ensures { Gives setup_seen result (reading.setup_form_at self.now (tree_of form.now)) }
     {
         let Form::List { items, .. } = form else {
