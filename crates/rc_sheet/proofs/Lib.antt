@@ -1,3 +1,5 @@
 pub mod Counts
+pub mod Forms
 pub mod InTurn
+pub mod Lists
 pub mod Places
