@@ -1,5 +1,7 @@
 pub mod Counts
+pub mod Forms
 pub mod InTurn
+pub mod Lists
 pub mod Places
 pub mod Faces
 pub mod Sheets
