@@ -1,2 +1,5 @@
+pub mod EffectLemmas
 pub mod InTurn
+pub mod Parts
 pub mod Places
+pub mod Sizes

@@ -66,6 +66,10 @@ abbrev mutual
   effects_at naming scope (cons part parts) =
       option_map (λ p. effect p.0 p.1) (both (effect_at naming scope part) (effects_at naming scope parts))
 
+-- an effect that is a list of these parts
+abbrev pub effect_list : Naming → Scope → Trees → Option Effect
+effect_list naming scope parts = rule_at place.Effect parts >>= λ rule. effect_rule naming scope rule parts
+
 -- DOMAIN
 abbrev pub domain_rule : Naming → Scope → ℕ → Rule → Trees → Option Domain
 domain_rule naming scope from rule.Partition (cons head (cons cards (cons attr nil))) =
