@@ -14,21 +14,16 @@ use Rattle.rc_sheet.specs.ReadNames.{◌>>=◌, both, rule_at, binder_at}
 use Rattle.rc_sheet.specs.ReadExpressions.{int_at, test_at, range_at}
 use Rattle.rc_sheet.specs.ReadEffects.{effect_rule, effect_list, effects_at}
 use Rattle.rc_sheet.proofs.Parts.{rest, behind_two, behind_three}
-
--- an effect of a known form
-effect_of : (naming : Naming) (scope : Scope) (parts : Trees) (rule known : Rule) → rule_at place.Effect parts ≡ Some rule → rule ≡ known
-    → effect_list naming scope parts ≡ effect_rule naming scope known parts
-effect_of naming scope parts rule known given is =
-    ap (λ found. found >>= λ rule. effect_rule naming scope rule parts) given ∙ ap (λ rule. effect_rule naming scope rule parts) is
+use Rattle.rc_sheet.proofs.Readings.{of_rule, fits_known, behind_both}
 
 pub if_read : (naming : Naming) (scope : Scope) (parts : List Form) (rule : Rule) (t : Form)
     → rule_at place.Effect (packed (trees_of parts)) ≡ Some rule → IsTrue (fits (length parts) rule) → rule ≡ rules.If → t ≡ get_or parts 1 t
     → option_map (λ p. when p.0 p.1) (both (test_at naming scope (tree_of t)) (effects_at naming scope (rest 2 parts)))
     ≡ effect_list naming scope (packed (trees_of parts))
 if_read naming scope parts rule t given sized is at =
-    let fit : IsTrue (fits (length parts) rules.If) = subst (λ rule. IsTrue (fits (length parts) rule)) is sized in
+    let fit = fits_known (length parts) rule rules.If sized is in
     let few : 1 < length parts = grind arith in
-    sym (effect_of naming scope (packed (trees_of parts)) rule rules.If given is
+    sym (of_rule place.Effect (packed (trees_of parts)) (λ rule. effect_rule naming scope rule (packed (trees_of parts))) rule rules.If given is
     ∙ ap (effect_rule naming scope rules.If) (behind_two parts t few at))
 
 pub repeat_read : (naming : Naming) (scope : Scope) (parts : List Form) (rule : Rule) (times : Form)
@@ -37,22 +32,10 @@ pub repeat_read : (naming : Naming) (scope : Scope) (parts : List Form) (rule : 
     → option_map (λ p. repeat p.0 p.1) (both (int_at naming scope (tree_of times)) (effects_at naming scope (rest 2 parts)))
     ≡ effect_list naming scope (packed (trees_of parts))
 repeat_read naming scope parts rule times given sized is at =
-    let fit : IsTrue (fits (length parts) rules.Repeat) = subst (λ rule. IsTrue (fits (length parts) rule)) is sized in
+    let fit = fits_known (length parts) rule rules.Repeat sized is in
     let few : 1 < length parts = grind arith in
-    sym (effect_of naming scope (packed (trees_of parts)) rule rules.Repeat given is
+    sym (of_rule place.Effect (packed (trees_of parts)) (λ rule. effect_rule naming scope rule (packed (trees_of parts))) rule rules.Repeat given is
     ∙ ap (effect_rule naming scope rules.Repeat) (behind_two parts times few at))
-
-abbrev value_or : {A : Type 0} → A → Option A → A
-value_or other (Some x) = x
-value_or other None = other
-
--- what a binder says, where its domain and its variable are read
-bound_some : {A : Type 0} (first : Option Domain) (second : Option ℕ) (f : Domain → ℕ → Option A) (domain : Domain) (bound : ℕ)
-    → both first second ≡ Some (domain, bound) → f domain bound ≡ (first >>= λ domain. second >>= λ bound. f domain bound)
-bound_some (Some domain) (Some bound) f domain' bound' is =
-    ap (λ p. f p.0 p.1) (sym (ap (value_or (domain, bound)) is))
-bound_some (Some domain) None f domain' bound' is = absurd (grind arith)
-bound_some None second f domain' bound' is = absurd (grind arith)
 
 pub each_read : (naming : Naming) (scope inner : Scope) (parts : List Form) (rule : Rule) (range variable : Form) (domain : Domain) (bound : ℕ)
     → rule_at place.Effect (packed (trees_of parts)) ≡ Some rule → IsTrue (fits (length parts) rule) → rule ≡ rules.Each
@@ -62,11 +45,11 @@ pub each_read : (naming : Naming) (scope inner : Scope) (parts : List Form) (rul
     → option_map (λ effects. for_each domain bound effects) (effects_at naming inner (rest 3 parts))
     ≡ effect_list naming scope (packed (trees_of parts))
 each_read naming scope inner parts rule range variable domain bound given sized is at also members inside =
-    let fit : IsTrue (fits (length parts) rules.Each) = subst (λ rule. IsTrue (fits (length parts) rule)) is sized in
+    let fit = fits_known (length parts) rule rules.Each sized is in
     let few : 2 < length parts = grind arith in
     let read = λ (domain : Domain) (bound : ℕ). option_map (λ effects. for_each domain bound effects)
     (effects_at naming (bind naming scope bound (sort_of domain)) (rest 3 parts)) in
     ap (λ inner. option_map (λ effects. for_each domain bound effects) (effects_at naming inner (rest 3 parts))) inside
-    ∙ bound_some (range_at naming scope (tree_of range)) (binder_at naming.names.vars scope (tree_of variable)) read domain bound members
-    ∙ sym (effect_of naming scope (packed (trees_of parts)) rule rules.Each given is
+    ∙ behind_both (range_at naming scope (tree_of range)) (binder_at naming.names.vars scope (tree_of variable)) read domain bound members
+    ∙ sym (of_rule place.Effect (packed (trees_of parts)) (λ rule. effect_rule naming scope rule (packed (trees_of parts))) rule rules.Each given is
     ∙ ap (effect_rule naming scope rules.Each) (behind_three parts range variable few at also))

@@ -1,5 +1,7 @@
+pub mod AlternativeLemmas
 pub mod EffectLemmas
 pub mod InTurn
 pub mod Parts
 pub mod Places
+pub mod Readings
 pub mod Sizes

@@ -36,3 +36,17 @@ behind_three (first ∷ next ∷ last ∷ parts) second third few is also =
     ap (λ form. cons (tree_of first) (cons (tree_of form) (cons (tree_of last) (packed (trees_of parts))))) (sym is)
     ∙ ap (λ form. cons (tree_of first) (cons (tree_of second) (cons (tree_of form) (packed (trees_of parts))))) (sym also)
     ∙ ap (λ left. cons (tree_of first) (cons (tree_of second) (cons (tree_of third) left))) (rest_is 3 (first ∷ next ∷ last ∷ parts))
+
+pub four_parts : (parts : List Form) (second third fourth : Form) → length parts ≡ 4
+    → second ≡ get_or parts 1 second → third ≡ get_or parts 2 third → fourth ≡ get_or parts 3 fourth
+    → packed (trees_of parts)
+    ≡ cons (tree_of (get_or parts 0 second)) (cons (tree_of second) (cons (tree_of third) (cons (tree_of fourth) nil)))
+four_parts [] second third fourth count is also last = absurd (omega arith)
+four_parts (a ∷ []) second third fourth count is also last = absurd (omega arith)
+four_parts (a ∷ b ∷ []) second third fourth count is also last = absurd (omega arith)
+four_parts (a ∷ b ∷ c ∷ []) second third fourth count is also last = absurd (omega arith)
+four_parts (a ∷ b ∷ c ∷ d ∷ []) second third fourth count is also last =
+    ap (λ form. cons (tree_of a) (cons (tree_of form) (cons (tree_of c) (cons (tree_of d) nil)))) (sym is)
+    ∙ ap (λ form. cons (tree_of a) (cons (tree_of second) (cons (tree_of form) (cons (tree_of d) nil)))) (sym also)
+    ∙ ap (λ form. cons (tree_of a) (cons (tree_of second) (cons (tree_of third) (cons (tree_of form) nil)))) (sym last)
+four_parts (a ∷ b ∷ c ∷ d ∷ e ∷ parts) second third fourth count is also last = absurd (omega arith)

@@ -1,6 +1,7 @@
 //! A sheet's form, read into the tree of the sheet. What each form says is defined in `specs/Read*.antt`.
 #![tactic(auto)]
 
+mod alternatives;
 mod effects;
 mod expressions;
 mod fail;
