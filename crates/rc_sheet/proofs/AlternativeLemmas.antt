@@ -10,7 +10,7 @@ use Rattle.rc_grammar.specs.declared.grammar.Place.TheVariants as place
 use Rattle.rc_grammar.specs.declared.grammar.Rule.{Rule}
 use Rattle.rc_grammar.specs.declared.grammar.Rule.TheVariants as rules
 use Rattle.rc_sheet.specs.ReadNames.{both, rule_at, binder_at}
-use Rattle.rc_sheet.specs.ReadEffects.{domain_at, alt_at, alt_rule, alt_list}
+use Rattle.rc_sheet.specs.ReadEffects.{domain_at, alt_at, alt_rule, alt_of_list}
 use Rattle.rc_sheet.proofs.Parts.{four_parts}
 use Rattle.rc_sheet.proofs.Readings.{of_rule, fits_known, behind_both}
 
@@ -19,7 +19,7 @@ pub any_read : (naming : Naming) (scope inner : Scope) (parts : List Form) (rule
     → over ≡ get_or parts 1 over → variable ≡ get_or parts 2 variable → form ≡ get_or parts 3 form
     → both (domain_at naming scope (tree_of over)) (binder_at naming.names.vars scope (tree_of variable)) ≡ Some (domain, bound)
     → inner ≡ bind naming scope bound (sort_of domain)
-    → option_map (λ alt. any_alt domain bound alt) (alt_at naming inner (tree_of form)) ≡ alt_list naming scope (packed (trees_of parts))
+    → option_map (λ alt. any_alt domain bound alt) (alt_at naming inner (tree_of form)) ≡ alt_of_list naming scope (packed (trees_of parts))
 any_read naming scope inner parts rule over variable form domain bound given sized is at also last members inside =
     let fit = fits_known (length parts) rule rules.AnyOf sized is in
     let four : length parts ≡ 4 = grind arith in

@@ -12,14 +12,14 @@ use Rattle.rc_grammar.specs.declared.grammar.Rule.{Rule}
 use Rattle.rc_grammar.specs.declared.grammar.Rule.TheVariants as rules
 use Rattle.rc_sheet.specs.ReadNames.{◌>>=◌, both, rule_at, binder_at}
 use Rattle.rc_sheet.specs.ReadExpressions.{int_at, test_at, range_at}
-use Rattle.rc_sheet.specs.ReadEffects.{effect_rule, effect_list, effects_at}
+use Rattle.rc_sheet.specs.ReadEffects.{effect_rule, effect_of_list, effects_at}
 use Rattle.rc_sheet.proofs.Parts.{rest, behind_two, behind_three}
 use Rattle.rc_sheet.proofs.Readings.{of_rule, fits_known, behind_both}
 
 pub if_read : (naming : Naming) (scope : Scope) (parts : List Form) (rule : Rule) (t : Form)
     → rule_at place.Effect (packed (trees_of parts)) ≡ Some rule → IsTrue (fits (length parts) rule) → rule ≡ rules.If → t ≡ get_or parts 1 t
     → option_map (λ p. when p.0 p.1) (both (test_at naming scope (tree_of t)) (effects_at naming scope (rest 2 parts)))
-    ≡ effect_list naming scope (packed (trees_of parts))
+    ≡ effect_of_list naming scope (packed (trees_of parts))
 if_read naming scope parts rule t given sized is at =
     let fit = fits_known (length parts) rule rules.If sized is in
     let few : 1 < length parts = grind arith in
@@ -30,7 +30,7 @@ pub repeat_read : (naming : Naming) (scope : Scope) (parts : List Form) (rule : 
     → rule_at place.Effect (packed (trees_of parts)) ≡ Some rule → IsTrue (fits (length parts) rule) → rule ≡ rules.Repeat
     → times ≡ get_or parts 1 times
     → option_map (λ p. repeat p.0 p.1) (both (int_at naming scope (tree_of times)) (effects_at naming scope (rest 2 parts)))
-    ≡ effect_list naming scope (packed (trees_of parts))
+    ≡ effect_of_list naming scope (packed (trees_of parts))
 repeat_read naming scope parts rule times given sized is at =
     let fit = fits_known (length parts) rule rules.Repeat sized is in
     let few : 1 < length parts = grind arith in
@@ -43,7 +43,7 @@ pub each_read : (naming : Naming) (scope inner : Scope) (parts : List Form) (rul
     → both (range_at naming scope (tree_of range)) (binder_at naming.names.vars scope (tree_of variable)) ≡ Some (domain, bound)
     → inner ≡ bind naming scope bound (sort_of domain)
     → option_map (λ effects. for_each domain bound effects) (effects_at naming inner (rest 3 parts))
-    ≡ effect_list naming scope (packed (trees_of parts))
+    ≡ effect_of_list naming scope (packed (trees_of parts))
 each_read naming scope inner parts rule range variable domain bound given sized is at also members inside =
     let fit = fits_known (length parts) rule rules.Each sized is in
     let few : 2 < length parts = grind arith in

@@ -50,3 +50,13 @@ four_parts (a ∷ b ∷ c ∷ d ∷ []) second third fourth count is also last =
     ∙ ap (λ form. cons (tree_of a) (cons (tree_of second) (cons (tree_of form) (cons (tree_of d) nil)))) (sym also)
     ∙ ap (λ form. cons (tree_of a) (cons (tree_of second) (cons (tree_of third) (cons (tree_of form) nil)))) (sym last)
 four_parts (a ∷ b ∷ c ∷ d ∷ e ∷ parts) second third fourth count is also last = absurd (omega arith)
+
+pub behind_third : (parts : List Form) (third : Form) → 2 < length parts → third ≡ get_or parts 2 third
+    → packed (trees_of parts)
+    ≡ cons (tree_of (get_or parts 0 third)) (cons (tree_of (get_or parts 1 third)) (cons (tree_of third) (rest 3 parts)))
+behind_third [] third few is = absurd (omega arith)
+behind_third (first ∷ []) third few is = absurd (omega arith)
+behind_third (first ∷ next ∷ []) third few is = absurd (omega arith)
+behind_third (first ∷ next ∷ last ∷ parts) third few is =
+    ap (λ form. cons (tree_of first) (cons (tree_of next) (cons (tree_of form) (packed (trees_of parts))))) (sym is)
+    ∙ ap (λ left. cons (tree_of first) (cons (tree_of next) (cons (tree_of third) left))) (rest_is 3 (first ∷ next ∷ last ∷ parts))

@@ -67,8 +67,8 @@ abbrev mutual
       option_map (λ p. effect p.0 p.1) (both (effect_at naming scope part) (effects_at naming scope parts))
 
 -- an effect that is a list of these parts
-abbrev pub effect_list : Naming → Scope → Trees → Option Effect
-effect_list naming scope parts = rule_at place.Effect parts >>= λ rule. effect_rule naming scope rule parts
+abbrev pub effect_of_list : Naming → Scope → Trees → Option Effect
+effect_of_list naming scope parts = rule_at place.Effect parts >>= λ rule. effect_rule naming scope rule parts
 
 -- DOMAIN
 abbrev pub domain_rule : Naming → Scope → ℕ → Rule → Trees → Option Domain
@@ -102,8 +102,8 @@ abbrev mutual
   alt_rule naming scope rule parts = plain_alt naming scope rule parts
 
 -- an alternative that is a list of these parts
-abbrev pub alt_list : Naming → Scope → Trees → Option Alt
-alt_list naming scope parts = rule_at place.Alternative parts >>= λ rule. alt_rule naming scope rule parts
+abbrev pub alt_of_list : Naming → Scope → Trees → Option Alt
+alt_of_list naming scope parts = rule_at place.Alternative parts >>= λ rule. alt_rule naming scope rule parts
 
 abbrev pub alts_at : Naming → Trees → Option (List Alt)
 alts_at naming nil = Some []

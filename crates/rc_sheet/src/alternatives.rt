@@ -120,7 +120,7 @@ impl Reader {
         scope: &Scope,
         parts: &[Form],
     ) -> Result<Alt, ReadFail>
-        ensures { Gives alt_seen result (reading.alt_list self.now scope.now (packed (trees_of parts.now))) }
+        ensures { Gives alt_seen result (reading.alt_of_list self.now scope.now (packed (trees_of parts.now))) }
     {
         match rule_at(Place::Alternative, parts)? {
             Rule::AnyOf => {

@@ -190,7 +190,7 @@ impl Reader {
     /// The effect that a list of these parts says.
     #[cycle(effects)]
     fn effect_list(&self, alloc: Global, scope: &Scope, parts: &[Form]) -> Result<Effect, ReadFail>
-        ensures { Gives effect_seen result (reading.effect_list self.now scope.now (packed (trees_of parts.now))) }
+        ensures { Gives effect_seen result (reading.effect_of_list self.now scope.now (packed (trees_of parts.now))) }
     {
         match rule_at(Place::Effect, parts)? {
             Rule::If => {

@@ -5,6 +5,7 @@ mod alternatives;
 mod effects;
 mod expressions;
 mod fail;
+mod items;
 mod reader;
 mod scope;
 
