@@ -1,5 +1,5 @@
 -- What an alternative with an alternative in it says, by its parts.
-use Rattle.std.proofs.Common.{◌≡◌, ◌∙◌, ℕ, List, length, get_or, IsTrue, Option, Some, sym, ap, arith}
+use Rattle.std.proofs.Common.{◌≡◌, ◌∙◌, ℕ, List, length, get_or, IsTrue, Some, sym, ap, arith}
 use Rattle.std.specs.Prelude.{option_map}
 use Rattle.rc_form.specs.Form.{tree_of, trees_of, packed}
 use Rattle.rc_form.specs.declared.form.Form.{Form}

@@ -1,16 +1,15 @@
 -- What an effect with effects in it says, by its parts.
-use Rattle.std.proofs.Common.{◌≡◌, ◌∙◌, ℕ, ◌<◌, List, length, get_or, IsTrue, Option, Some, None, refl, sym, ap, subst, arith}
+use Rattle.std.proofs.Common.{◌≡◌, ◌∙◌, ℕ, ◌<◌, List, length, get_or, IsTrue, Some, sym, ap, arith}
 use Rattle.std.specs.Prelude.{option_map}
-use Rattle.rc_model.specs.Tree.{Tree, Trees}
 use Rattle.rc_form.specs.Form.{tree_of, trees_of, packed}
 use Rattle.rc_form.specs.declared.form.Form.{Form}
-use Rattle.rc_sheet_model.specs.Sheet.{Domain, Effects, Effect, when, repeat, for_each}
+use Rattle.rc_sheet_model.specs.Sheet.{Domain, when, repeat, for_each}
 use Rattle.rc_sheet_model.specs.Naming.{Naming, Scope, bind, sort_of}
 use Rattle.rc_grammar.specs.Faults.{fits}
 use Rattle.rc_grammar.specs.declared.grammar.Place.TheVariants as place
 use Rattle.rc_grammar.specs.declared.grammar.Rule.{Rule}
 use Rattle.rc_grammar.specs.declared.grammar.Rule.TheVariants as rules
-use Rattle.rc_sheet.specs.ReadNames.{◌>>=◌, both, rule_at, binder_at}
+use Rattle.rc_sheet.specs.ReadNames.{both, rule_at, binder_at}
 use Rattle.rc_sheet.specs.ReadExpressions.{int_at, test_at, range_at}
 use Rattle.rc_sheet.specs.ReadEffects.{effect_rule, effect_of_list, effects_at}
 use Rattle.rc_sheet.proofs.Parts.{rest, behind_two, behind_three}

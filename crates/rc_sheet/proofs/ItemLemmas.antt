@@ -1,7 +1,7 @@
 -- What an item with items in it says, by its parts, and what the body of a sheet says.
-use Rattle.std.proofs.Common.{◌≡◌, ◌∙◌, ℕ, ◌<◌, List, [], ◌∷◌, ◌++◌, length, get_or, IsTrue, Option, Some, refl, sym, ap, arith}
+use Rattle.std.proofs.Common.{◌≡◌, ◌∙◌, ◌<◌, List, [], ◌∷◌, ◌++◌, length, get_or, IsTrue, Some, refl, sym, ap, arith}
 use Rattle.std.specs.Prelude.{option_map}
-use Rattle.rc_model.specs.Tree.{Tree, Trees, cons}
+use Rattle.rc_model.specs.Tree.{cons}
 use Rattle.rc_form.specs.Form.{tree_of, trees_of, packed}
 use Rattle.rc_form.specs.declared.form.Form.{Form}
 use Rattle.rc_sheet_model.specs.Sheet.{player_class, team_class}

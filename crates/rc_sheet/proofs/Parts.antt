@@ -1,7 +1,7 @@
 -- The parts of a list: those that stand before others, and the others.
 use Rattle.std.proofs.Common.{◌≡◌, ◌∙◌, ℕ, ◌<◌, ◌-◌, List, [], ◌∷◌, length, get_or, take, drop, sym, ap, arith}
 use Rattle.std.proofs.lemmas.List.{take_rest}
-use Rattle.rc_model.specs.Tree.{Tree, Trees, nil, cons}
+use Rattle.rc_model.specs.Tree.{Trees, nil, cons}
 use Rattle.rc_form.specs.Form.{tree_of, trees_of, packed}
 use Rattle.rc_form.specs.declared.form.Form.{Form}
 

@@ -1,5 +1,5 @@
 -- Readings, one behind the other.
-use Rattle.std.proofs.Common.{◌≡◌, ◌∙◌, ℕ, List, length, IsTrue, Option, Some, None, sym, ap, subst, arith}
+use Rattle.std.proofs.Common.{◌≡◌, ◌∙◌, ℕ, IsTrue, Option, Some, None, sym, ap, subst, arith}
 use Rattle.rc_model.specs.Tree.{Trees}
 use Rattle.rc_grammar.specs.Faults.{fits}
 use Rattle.rc_grammar.specs.declared.grammar.Place.{Place}

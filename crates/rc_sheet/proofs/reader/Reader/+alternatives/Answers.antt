@@ -1,4 +1,4 @@
-use Rattle.std.proofs.Common.{◌≡◌, subst}
+use Rattle.std.proofs.Common.{subst}
 use Rattle.rc_ast.specs.Expressions.{domain_seen}
 use Rattle.rc_ast.specs.Items.{alt_seen}
 use Rattle.rc_sheet.specs.Gives.{Gives}

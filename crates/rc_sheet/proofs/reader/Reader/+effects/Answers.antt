@@ -1,4 +1,4 @@
-use Rattle.std.proofs.Common.{◌≡◌, ◌<◌, ◌≤◌, ℕ, ◌+◌, ◌-◌, length, rules, refl, subst, arith}
+use Rattle.std.proofs.Common.{refl, subst, arith}
 use Rattle.rc_sheet_model.specs.Sheet.{effect}
 use Rattle.rc_sheet_model.specs.Lists.{effects_from}
 use Rattle.rc_ast.specs.Effects.{effect_seen}

@@ -1,4 +1,4 @@
-use Rattle.std.proofs.Common.{◌≡◌, refl, subst}
+use Rattle.std.proofs.Common.{refl, subst}
 use Rattle.rc_sheet_model.specs.Sheet.{item}
 use Rattle.rc_sheet_model.specs.Lists.{items_from}
 use Rattle.rc_ast.specs.Items.{item_seen}

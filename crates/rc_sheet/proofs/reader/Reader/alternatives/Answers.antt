@@ -1,7 +1,7 @@
-use Rattle.std.proofs.Common.{◌≡◌, ◌∷◌, [], List, map, Some, refl, subst, ap}
+use Rattle.std.proofs.Common.{◌≡◌, ◌∷◌, [], List, Some, refl, subst}
 use Rattle.rc_form.specs.Form.{tree_of}
 use Rattle.rc_sheet_model.specs.Sheet.{Alt}
-use Rattle.rc_ast.specs.Items.{alt_seen, alts_seen}
+use Rattle.rc_ast.specs.Items.{alt_seen}
 use Rattle.rc_sheet.specs.ReadEffects.{alt_at, alts_at}
 use Rattle.rc_sheet.proofs.InTurn.{goes_on, is_done}
 use Rattle.rc_sheet.proofs.reader.Reader.alternatives.Goals as goal
