@@ -1,7 +1,10 @@
 pub mod AlternativeLemmas
+pub mod Counts
 pub mod EffectLemmas
+pub mod Forms
 pub mod InTurn
 pub mod ItemLemmas
+pub mod Lists
 pub mod Parts
 pub mod Places
 pub mod Readings

@@ -11,8 +11,9 @@ ghost use Rattle.rc_sheet.specs.ReadNames.{both, binder_at};
 ghost use Rattle.rc_sheet.specs.ReadEffects as reading;
 ghost use Rattle.rc_sheet.specs.Gives.{Gives};
 
-use crate::expressions::{rule_at, sort_of};
+use crate::expressions::sort_of;
 use crate::fail::ReadFail;
+use crate::names::rule_at;
 use crate::reader::Reader;
 use crate::scope::Scope;
 use rc_ast::{Alt, Domain};

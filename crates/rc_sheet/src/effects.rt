@@ -12,8 +12,10 @@ ghost use Rattle.rc_sheet.specs.ReadExpressions.{int_at, test_at, range_at};
 ghost use Rattle.rc_sheet.specs.ReadEffects as reading;
 ghost use Rattle.rc_sheet.specs.Gives.{Gives};
 
-use crate::expressions::{owner_at, rule_at, sort_of};
+use crate::expressions::sort_of;
 use crate::fail::ReadFail;
+use crate::names::rule_at;
+use crate::owners::owner_at;
 use crate::reader::Reader;
 use crate::scope::Scope;
 use rc_ast::{Domain, Effect, End, Loc};

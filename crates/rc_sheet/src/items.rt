@@ -13,8 +13,8 @@ ghost use Rattle.rc_sheet.specs.ReadEffects.{alts_at};
 ghost use Rattle.rc_sheet.specs.ReadItems as reading;
 ghost use Rattle.rc_sheet.specs.Gives.{Gives};
 
-use crate::expressions::rule_at;
 use crate::fail::ReadFail;
+use crate::names::rule_at;
 use crate::reader::Reader;
 use crate::scope::Scope;
 use rc_ast::{Best, Class, IntExpr, SheetItem, Test};

@@ -6,8 +6,12 @@ mod effects;
 mod expressions;
 mod fail;
 mod items;
+mod locations;
+mod names;
+mod owners;
 mod reader;
 mod scope;
+mod sides;
 
 pub use fail::ReadFail;
 pub use rc_semantics::SheetFail;
