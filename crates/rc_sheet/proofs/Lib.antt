@@ -1,5 +1,11 @@
+pub mod AlternativeLemmas
 pub mod Counts
+pub mod EffectLemmas
+pub mod Forms
 pub mod InTurn
+pub mod ItemLemmas
+pub mod Lists
+pub mod Parts
 pub mod Places
 pub mod Faces
 pub mod Sheets
@@ -11,3 +17,5 @@ pub mod ReadsItems
 pub mod ReadsFaces
 pub mod ReadsSetup
 pub mod ReadsSheet
+pub mod Readings
+pub mod Sizes

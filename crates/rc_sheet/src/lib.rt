@@ -1,7 +1,9 @@
 //! A sheet's form, read into the tree of the sheet. What each form says is defined in `specs/Read*.antt`.
 #![tactic(auto)]
 
+mod alternatives;
 mod decks;
+mod effects;
 mod expressions;
 mod fail;
 mod items;
@@ -17,6 +19,8 @@ mod setup;
 mod setup_tests;
 mod sheet;
 mod sides;
+#[cfg(test)]
+mod tests;
 
 pub use fail::ReadFail;
 pub use laws::{
