@@ -1,6 +1,14 @@
+pub mod AlternativeLemmas
 pub mod Counts
+pub mod EffectLemmas
+pub mod Forms
 pub mod InTurn
+pub mod ItemLemmas
+pub mod Lists
+pub mod Parts
 pub mod Places
+pub mod Faces
+pub mod Sheets
 pub mod Means
 pub mod Finds
 pub mod GoodParts
@@ -15,3 +23,8 @@ pub mod ReadsNames
 pub mod ReadsExpressions
 pub mod ReadsEffects
 pub mod ReadsItems
+pub mod ReadsFaces
+pub mod ReadsSetup
+pub mod ReadsSheet
+pub mod Readings
+pub mod Sizes
