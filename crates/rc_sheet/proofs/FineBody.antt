@@ -6,7 +6,7 @@ use Rattle.rc_model.specs.Tree.{Tree, word, list, Trees, nil, cons}
 use Rattle.rc_sheet_model.specs.Sheet.{IntExpr, Best, highest, lowest, SheetItems, Sheet}
 use Rattle.rc_sheet_model.specs.Lists.{item_list}
 use Rattle.rc_sheet_model.specs.Limits.{most_stages, most_sites}
-use Rattle.rc_sheet_model.specs.Naming.{naming_of}
+use Rattle.rc_sheet_model.specs.Naming.{Naming, naming_of}
 use Rattle.rc_sheet_model.specs.WellFormed.{outside, scored, IsInt, AreItems}
 use Rattle.rc_semantics.specs.SecondParts.{Standing, standing_in, standing_alone, Part, form, parts_at, parts_in, with_form, parts_of}
 use Rattle.rc_semantics.specs.SecondNames.{stages_in, choices_in}
@@ -20,9 +20,9 @@ use Rattle.rc_sheet.specs.ReadNames.{◌>>=◌, ensure}
 use Rattle.rc_sheet.specs.ReadItems.{none_begun, items_at, best_at, score_rule, score_at, but_last, last_of, body_at}
 use Rattle.rc_sheet.proofs.Fine.{Given, IsFine}
 use Rattle.rc_sheet.proofs.Finds.{Finds, finds, finds_if, implies, makes, follows_this, finds_both, whether, where_true, ensures_so}
-use Rattle.rc_sheet.proofs.GoodParts.{◌▹◌, Each, each_by_parts, three_and_more, GoodAt, AreGood, good_form, rule_among, no_list}
+use Rattle.rc_sheet.proofs.GoodParts.{◌▹◌, Each, each_by_parts, three_and_more, IsGood, IsGoodForm, GoodAt, AreGood, good_form, rule_among, no_list}
 use Rattle.rc_sheet.proofs.GoodForms.{two_behind, plain_part, with_three, list_says}
-use Rattle.rc_sheet.proofs.FineNames.{passes_test, Gives, Good, GoodForm}
+use Rattle.rc_sheet.proofs.FineNames.{passes_test, Gives, Good}
 use Rattle.rc_sheet.proofs.FineExpressions.{reads}
 use Rattle.rc_sheet.proofs.FineItems.{length_of_both, last_of_four, HasRoom, parts_alike, Plays, items_find, plays}
 
@@ -40,6 +40,138 @@ last_part at all = plain_part at place.Scoring all
 
 abbrev pub item_part : Standing → Trees → Standing
 item_part at all = plain_part at place.Item all
+
+-- all trees but the last are one less
+count_but_last : (trees : Trees) → 1 ≤ count trees → count (but_last trees) + 1 ≡ count trees
+count_but_last nil some = absurd (omega (arith, some))
+count_but_last (cons tree nil) some = refl
+count_but_last (cons tree (cons next rest)) some = let less = count_but_last (cons next rest) (omega arith) in omega (arith, less)
+
+module _ (given : Given) (naming : Naming) where
+  -- what stands behind the setup: items, and last the scoring
+  pub record IsBody (at : Standing) (all : Trees) (trees : Trees) (parts : List Part) : Type 0 where
+    pub items : Each (IsGood given naming (item_part at all)) (but_last trees)
+    pub scoring : Tree
+    pub is_last : last_of trees ≡ Some scoring
+    pub scores : IsGood given naming (last_part at all) scoring
+    pub stages : stage_count (parts_alike (item_part at all) (but_last trees)) ≤ stage_count parts
+    pub sites : choice_count (parts_alike (item_part at all) (but_last trees)) ≤ choice_count parts
+
+  -- how the part at an index behind the setup stands
+  stands_behind : (at : Standing) (all : Trees) (last : Bool) (i : ℕ) → 2 ≤ i → (i + 1 == count all) ≡ last
+      → standing_in at rule.Game all i ≡ option_map (λ p. plain_part at p all) (behind_front rule.Game last)
+  stands_behind at all last =
+      two_behind _ (λ j is. ap (λ b. option_map (λ p. plain_part at p all) (behind_front rule.Game b)) is)
+
+  is_body : (at : Standing) (all : Trees) (index : ℕ) (trees : Trees) → 2 ≤ index → index + count trees ≡ count all
+      → 1 ≤ count trees → AreGood given naming at rule.Game all index trees
+      → IsBody at all trees (parts_in at rule.Game all index trees)
+  is_body at all index nil behind whole some good = absurd (omega (arith, some))
+  is_body at all index (cons tree nil) behind whole some good =
+      let ends = stands_behind at all true index behind (eq-eqb (index + 1) (count all) (omega (arith, whole))) in
+      record {
+        items = tt;
+        scoring = tree;
+        is_last = refl;
+        scores = subst (λ o. GoodAt given naming o tree) ends good.0;
+        stages = omega arith;
+        sites = omega arith;
+      }
+  is_body at all index (cons tree (cons next rest)) behind whole some good =
+      let more = ne_eqb (index + 1) (count all) (λ same. omega (arith, whole, same)) in
+      let stands = stands_behind at all false index behind more in
+      let later = is_body at all (index + 1) (cons next rest) (omega (arith, behind)) (omega (arith, whole)) (omega arith) good.1 in
+      let ours = parts_at (Some (item_part at all)) tree in
+      let theirs = parts_alike (item_part at all) (but_last (cons next rest)) in
+      let others = parts_in at rule.Game all (index + 1) (cons next rest) in
+      let stages = length_of_both stages_in ours theirs in
+      let stages' = length_of_both stages_in ours others in
+      let sites = length_of_both choices_in ours theirs in
+      let sites' = length_of_both choices_in ours others in
+      let fewer = later.stages in
+      let fewer' = later.sites in
+      record {
+        items = (subst (λ o. GoodAt given naming o tree) stands good.0, later.items);
+        scoring = later.scoring;
+        is_last = later.is_last;
+        scores = later.scores;
+        stages = subst (λ o. stage_count (ours ++ theirs) ≤ stage_count (parts_at o tree ++ others)) (sym stands)
+            (omega (arith, stages, stages', fewer));
+        sites = subst (λ o. choice_count (ours ++ theirs) ≤ choice_count (parts_at o tree ++ others)) (sym stands)
+            (omega (arith, sites, sites', fewer'));
+      }
+
+  -- THE WHOLE FORM
+
+  -- `(game SETUP ITEM+ SCORING)`, of which the parts stand well, and which has no more stages and choices than a sheet may have
+  pub record IsGame (tree : Tree) : Type 0 where
+    pub head : Tree
+    pub setup : Tree
+    pub rest : Trees
+    pub from : ℕ
+    pub to : ℕ
+    pub is : tree ≡ list (cons head (cons setup rest)) from to
+    pub told : rule_of place.Sheet (cons head (cons setup rest)) ≡ Some rule.Game
+    pub good : IsGoodForm given naming standing_alone rule.Game (cons head (cons setup rest))
+    pub some : 2 ≤ count rest
+    pub parts : List Part
+    pub body : IsBody standing_alone (cons head (cons setup rest)) rest parts
+    pub room : HasRoom none_begun parts
+
+  -- by its parts
+  game_by : (from to : ℕ) (parts : Trees) → IsGoodForm given naming standing_alone rule.Game parts
+      → HasRoom none_begun (form standing_alone rule.Game parts from ∷ parts_in standing_alone rule.Game parts 0 parts)
+      → IsGame (list parts from to)
+  game_by from to parts good room =
+      three_and_more
+      (λ parts. IsGoodForm given naming standing_alone rule.Game parts
+      → HasRoom none_begun (form standing_alone rule.Game parts from ∷ parts_in standing_alone rule.Game parts 0 parts)
+      → IsGame (list parts from to))
+      parts good.fit
+      (λ head setup next rest some good room.
+      let all = cons head (cons setup (cons next rest)) in
+      let inner = parts_in standing_alone rule.Game all 2 (cons next rest) in
+      let first = parts_at (standing_in standing_alone rule.Game all 0) head in
+      let second = parts_at (standing_in standing_alone rule.Game all 1) setup in
+      let stages = last_of_four stages_in [] first second inner in
+      let sites = last_of_four choices_in [] first second inner in
+      let few = room.stages in
+      let few' = room.sites in
+      let body = is_body standing_alone all 2 (cons next rest) (omega arith) (omega arith) (omega arith) good.good.1.1 in
+      record {
+        head = head;
+        setup = setup;
+        rest = cons next rest;
+        from = from;
+        to = to;
+        is = refl;
+        told = good.told;
+        good = good;
+        some = omega (arith, some);
+        parts = inner;
+        body = body;
+        room = record { stages = omega (arith, stages, few); sites = omega (arith, sites, few') };
+      })
+      good room
+
+  -- a form without a fault of shape whose parts are fine
+  pub game_is_fine : (tree : Tree) → faults place.Sheet tree ≡ [] → All (IsFine given naming) (parts_of tree)
+      → stage_count (parts_of tree) ≤ most_stages → choice_count (parts_of tree) ≤ most_sites → IsGame tree
+  game_is_fine (word bytes from to) shaped fine stages sites = absurd (refused shaped)
+    where
+      refused : atom_faults place.Sheet bytes from ≡ [] → ⊥
+      refused is = cc
+  game_is_fine (list parts from to) shaped fine stages sites =
+      let good = good_form given naming standing_alone parts from to
+      (record { shaped = shaped; fine = recursion_from_All (IsFine given naming) _ fine }) in
+      let same = ap (with_form standing_alone parts from (λ found. parts_in standing_alone found parts 0 parts)) good.1.told in
+      let room : HasRoom none_begun (parts_of (list parts from to)) = record { stages = omega (arith, stages); sites = omega (arith, sites) } in
+      rule_among
+      (λ found. IsGoodForm given naming standing_alone found parts
+      → HasRoom none_begun (form standing_alone found parts from ∷ parts_in standing_alone found parts 0 parts)
+      → IsGame (list parts from to))
+      place.Sheet parts good.0 good.1.told ((λ good room. game_by from to parts good room) ▹ tt) good.1
+      (subst (HasRoom none_begun) same room)
 
 module _ (sheet : Sheet) (given : Given) (gives : Gives sheet given) where
   -- `(scoring BEST INT)`
@@ -67,65 +199,6 @@ module _ (sheet : Sheet) (given : Given) (gives : Gives sheet given) where
       best_is_found at (list parts from to) here good =
           absurd (no_list given (naming_of sheet) place.Best at parts from to here good refl)
 
-  -- what stands behind the setup: items, and last the scoring
-  pub record IsBody (at : Standing) (all : Trees) (trees : Trees) (parts : List Part) : Type 0 where
-    pub items : Each (Good sheet given (item_part at all)) (but_last trees)
-    pub scoring : Tree
-    pub is_last : last_of trees ≡ Some scoring
-    pub scores : Good sheet given (last_part at all) scoring
-    pub stages : stage_count (parts_alike (item_part at all) (but_last trees)) ≤ stage_count parts
-    pub sites : choice_count (parts_alike (item_part at all) (but_last trees)) ≤ choice_count parts
-
-  -- how the part at an index behind the setup stands
-  stands_behind : (at : Standing) (all : Trees) (last : Bool) (i : ℕ) → 2 ≤ i → (i + 1 == count all) ≡ last
-      → standing_in at rule.Game all i ≡ option_map (λ p. plain_part at p all) (behind_front rule.Game last)
-  stands_behind at all last =
-      two_behind _ (λ j is. ap (λ b. option_map (λ p. plain_part at p all) (behind_front rule.Game b)) is)
-
-  is_body : (at : Standing) (all : Trees) (index : ℕ) (trees : Trees) → 2 ≤ index → index + count trees ≡ count all
-      → 1 ≤ count trees → AreGood given (naming_of sheet) at rule.Game all index trees
-      → IsBody at all trees (parts_in at rule.Game all index trees)
-  is_body at all index nil behind whole some good = absurd (omega (arith, some))
-  is_body at all index (cons tree nil) behind whole some good =
-      let ends = stands_behind at all true index behind (eq-eqb (index + 1) (count all) (omega (arith, whole))) in
-      record {
-        items = tt;
-        scoring = tree;
-        is_last = refl;
-        scores = subst (λ o. GoodAt given (naming_of sheet) o tree) ends good.0;
-        stages = omega arith;
-        sites = omega arith;
-      }
-  is_body at all index (cons tree (cons next rest)) behind whole some good =
-      let more = ne_eqb (index + 1) (count all) (λ same. omega (arith, whole, same)) in
-      let stands = stands_behind at all false index behind more in
-      let later = is_body at all (index + 1) (cons next rest) (omega (arith, behind)) (omega (arith, whole)) (omega arith) good.1 in
-      let ours = parts_at (Some (item_part at all)) tree in
-      let theirs = parts_alike (item_part at all) (but_last (cons next rest)) in
-      let others = parts_in at rule.Game all (index + 1) (cons next rest) in
-      let stages = length_of_both stages_in ours theirs in
-      let stages' = length_of_both stages_in ours others in
-      let sites = length_of_both choices_in ours theirs in
-      let sites' = length_of_both choices_in ours others in
-      let fewer = later.stages in
-      let fewer' = later.sites in
-      record {
-        items = (subst (λ o. GoodAt given (naming_of sheet) o tree) stands good.0, later.items);
-        scoring = later.scoring;
-        is_last = later.is_last;
-        scores = later.scores;
-        stages = subst (λ o. stage_count (ours ++ theirs) ≤ stage_count (parts_at o tree ++ others)) (sym stands)
-            (omega (arith, stages, stages', fewer));
-        sites = subst (λ o. choice_count (ours ++ theirs) ≤ choice_count (parts_at o tree ++ others)) (sym stands)
-            (omega (arith, sites, sites', fewer'));
-      }
-
-  -- all trees but the last are one less
-  count_but_last : (trees : Trees) → 1 ≤ count trees → count (but_last trees) + 1 ≡ count trees
-  count_but_last nil some = absurd (omega (arith, some))
-  count_but_last (cons tree nil) some = refl
-  count_but_last (cons tree (cons next rest)) some = let less = count_but_last (cons next rest) (omega arith) in omega (arith, less)
-
   -- each of these trees is read at the place of an item
   each_plays : (trees : Trees) → Each (Plays sheet given gives) trees
   each_plays nil = tt
@@ -136,7 +209,7 @@ module _ (sheet : Sheet) (given : Given) (gives : Gives sheet given) where
   BodyAt body =
       AreItems sheet outside body.0 × (1 ≤ length (item_list body.0)) × IsInt sheet scored body.1.1
 
-  items_of_body : (all rest : Trees) (parts : List Part) → IsBody standing_alone all rest parts → HasRoom none_begun parts
+  items_of_body : (all rest : Trees) (parts : List Part) → IsBody given (naming_of sheet) standing_alone all rest parts → HasRoom none_begun parts
       → Finds (option_map (λ p. p.0) (items_at (naming_of sheet) none_begun (but_last rest)))
       (λ items. AreItems sheet outside items × (length (item_list items) ≡ count (but_last rest)))
   items_of_body all rest parts body room =
@@ -149,14 +222,14 @@ module _ (sheet : Sheet) (given : Given) (gives : Gives sheet given) where
       none_begun (record { stages = omega (arith, stages, few); sites = omega (arith, sites, few') }))
       (λ p are. (are.0, are.1))
 
-  score_of_body : (all rest : Trees) (parts : List Part) → IsBody standing_alone all rest parts
+  score_of_body : (all rest : Trees) (parts : List Part) → IsBody given (naming_of sheet) standing_alone all rest parts
       → Finds (last_of rest >>= score_at (naming_of sheet)) (λ p. IsInt sheet scored p.1)
   score_of_body all rest parts body =
       follows_this (last_of rest) body.scoring (score_at (naming_of sheet))
       (finds_if (last_of rest) body.scoring body.is_last refl)
       (score_finds (last_part standing_alone all) body.scoring refl body.scores)
 
-  pub body_finds : (all rest : Trees) (parts : List Part) → 2 ≤ count rest → IsBody standing_alone all rest parts
+  pub body_finds : (all rest : Trees) (parts : List Part) → 2 ≤ count rest → IsBody given (naming_of sheet) standing_alone all rest parts
       → HasRoom none_begun parts → Finds (body_at (naming_of sheet) rest) BodyAt
   body_finds all rest parts some body room =
       let less = count_but_last rest (omega (arith, some)) in
@@ -164,70 +237,8 @@ module _ (sheet : Sheet) (given : Given) (gives : Gives sheet given) where
       (implies _ (finds_both _ _ (items_of_body all rest parts body room) (score_of_body all rest parts body))
       (λ p are. let long = are.0.1 in (are.0.0, omega (arith, some, less, long), are.1)))
 
-  -- THE WHOLE FORM
-
-  -- `(game SETUP ITEM+ SCORING)`, of which the setup stands well
-  pub record IsGame (tree : Tree) : Type 0 where
-    pub head : Tree
-    pub setup : Tree
-    pub rest : Trees
-    pub from : ℕ
-    pub to : ℕ
-    pub is : tree ≡ list (cons head (cons setup rest)) from to
-    pub told : rule_of place.Sheet (cons head (cons setup rest)) ≡ Some rule.Game
-    pub good : GoodForm sheet given standing_alone rule.Game (cons head (cons setup rest))
-    pub body : Finds (body_at (naming_of sheet) rest) BodyAt
-
-  -- by its parts
-  game_by : (from to : ℕ) (parts : Trees) → GoodForm sheet given standing_alone rule.Game parts
-      → HasRoom none_begun (form standing_alone rule.Game parts from ∷ parts_in standing_alone rule.Game parts 0 parts)
-      → IsGame (list parts from to)
-  game_by from to parts good room =
-      three_and_more
-      (λ parts. GoodForm sheet given standing_alone rule.Game parts
-      → HasRoom none_begun (form standing_alone rule.Game parts from ∷ parts_in standing_alone rule.Game parts 0 parts)
-      → IsGame (list parts from to))
-      parts good.fit
-      (λ head setup next rest some good room.
-      let all = cons head (cons setup (cons next rest)) in
-      let inner = parts_in standing_alone rule.Game all 2 (cons next rest) in
-      let first = parts_at (standing_in standing_alone rule.Game all 0) head in
-      let second = parts_at (standing_in standing_alone rule.Game all 1) setup in
-      let stages = last_of_four stages_in [] first second inner in
-      let sites = last_of_four choices_in [] first second inner in
-      let few = room.stages in
-      let few' = room.sites in
-      let body = is_body standing_alone all 2 (cons next rest) (omega arith) (omega arith) (omega arith) good.good.1.1 in
-      record {
-        head = head;
-        setup = setup;
-        rest = cons next rest;
-        from = from;
-        to = to;
-        is = refl;
-        told = good.told;
-        good = good;
-        body = body_finds all (cons next rest) inner (omega (arith, some)) body
-            (record { stages = omega (arith, stages, few); sites = omega (arith, sites, few') });
-      })
-      good room
-
-  -- A form without a fault of shape whose parts are fine, and that has no more stages and choices than a sheet may have, is
-  -- read: its items and its score are well formed.
-  pub game_is_fine : (tree : Tree) → faults place.Sheet tree ≡ [] → All (IsFine given (naming_of sheet)) (parts_of tree)
-      → stage_count (parts_of tree) ≤ most_stages → choice_count (parts_of tree) ≤ most_sites → IsGame tree
-  game_is_fine (word bytes from to) shaped fine stages sites = absurd (refused shaped)
-    where
-      refused : atom_faults place.Sheet bytes from ≡ [] → ⊥
-      refused is = cc
-  game_is_fine (list parts from to) shaped fine stages sites =
-      let good = good_form given (naming_of sheet) standing_alone parts from to
-      (record { shaped = shaped; fine = recursion_from_All (IsFine given (naming_of sheet)) _ fine }) in
-      let same = ap (with_form standing_alone parts from (λ found. parts_in standing_alone found parts 0 parts)) good.1.told in
-      let room : HasRoom none_begun (parts_of (list parts from to)) = record { stages = omega (arith, stages); sites = omega (arith, sites) } in
-      rule_among
-      (λ found. GoodForm sheet given standing_alone found parts
-      → HasRoom none_begun (form standing_alone found parts from ∷ parts_in standing_alone found parts 0 parts)
-      → IsGame (list parts from to))
-      place.Sheet parts good.0 good.1.told ((λ good room. game_by from to parts good room) ▹ tt) good.1
-      (subst (HasRoom none_begun) same room)
+  -- its items and its score are read, and are well formed
+  pub game_body_finds : (tree : Tree) (game : IsGame given (naming_of sheet) tree)
+      → Finds (body_at (naming_of sheet) game.rest) BodyAt
+  game_body_finds tree game =
+      body_finds (cons game.head (cons game.setup game.rest)) game.rest game.parts game.some game.body game.room
