@@ -129,7 +129,7 @@ rule_among P place (cons head parts) x is each =
     (λ a is. found_among P _ (forms_of place) a is each)
 
 -- a form that fits is found
-sized_finds : {A : Type 0} {P : A → Type 0} (n : ℕ) (rule : Rule) (read : Rule → Option A) → fits n rule ≡ true
+pub sized_finds : {A : Type 0} {P : A → Type 0} (n : ℕ) (rule : Rule) (read : Rule → Option A) → fits n rule ≡ true
     → Finds (read rule) P → Finds (sized n (Some rule) >>= read) P
 sized_finds {P = P} n rule read is found = by (fits n rule) is
   where
