@@ -19,6 +19,7 @@ pub mod FineExpressions
 pub mod FineEffects
 pub mod FineItems
 pub mod FineBody
+pub mod FineCounts
 pub mod FineSheet
 pub mod ReadsNames
 pub mod ReadsExpressions
