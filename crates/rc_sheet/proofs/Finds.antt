@@ -1,6 +1,7 @@
 -- What a reading gives, where it gives something.
 use Rattle.std.proofs.Common.{◌≡◌, Bool, true, false, cond, Option, Some, None, option_map, refl, sym, subst}
 use Rattle.rc_sheet.specs.ReadNames.{◌>>=◌, both, ensure}
+use Rattle.rc_sheet.proofs.Means.{Means}
 
 -- something was read, and P holds of it
 abbrev pub Found : {A : Type 0} → Option A → (A → Type 0) → Type 0
@@ -80,3 +81,9 @@ whether false x y first second = second refl
 pub ensures_so : {P : Unit {0} → Type 0} (b : Bool) → b ≡ true → P tt → Finds (ensure b) P
 ensures_so true is p = finds tt p
 ensures_so false is p = absurd cc
+
+-- what is found means what all that is read means
+pub finds_meaning : {A : Type 0} {P Q : A → Type 0} (found : Option A) → Finds found P → Means found Q
+    → Finds found (λ a. P a × Q a)
+finds_meaning None is means = absurd is.holds
+finds_meaning (Some a) is means = finds a (is.holds, means.holds)

@@ -6,6 +6,8 @@ use Rattle.rc_model.specs.Tree.{Tree, word, list, Trees, nil, cons}
 use Rattle.rc_sheet_model.specs.Sheet.{IntExpr, Best, highest, lowest, SheetItems, Sheet}
 use Rattle.rc_sheet_model.specs.Lists.{item_list}
 use Rattle.rc_sheet_model.specs.Limits.{most_stages, most_sites}
+use Rattle.rc_sheet_model.specs.Mentions.{sites_in}
+use Rattle.rc_sheet_model.specs.Mentions.{stages_in as stages_in_tree}
 use Rattle.rc_sheet_model.specs.Naming.{Naming, naming_of}
 use Rattle.rc_sheet_model.specs.WellFormed.{outside, scored, IsInt, AreItems}
 use Rattle.rc_semantics.specs.SecondParts.{Standing, standing_in, standing_alone, Part, form, parts_at, parts_in, with_form, parts_of}
@@ -19,11 +21,12 @@ use Rattle.rc_grammar.specs.declared.fault.SheetKind.TheVariants.{Shape}
 use Rattle.rc_sheet.specs.ReadNames.{◌>>=◌, ensure}
 use Rattle.rc_sheet.specs.ReadItems.{none_begun, items_at, best_at, score_rule, score_at, but_last, last_of, body_at}
 use Rattle.rc_sheet.proofs.Fine.{Given, IsFine}
-use Rattle.rc_sheet.proofs.Finds.{Finds, finds, finds_if, implies, makes, follows_this, finds_both, whether, where_true, ensures_so}
+use Rattle.rc_sheet.proofs.Finds.{Finds, finds, finds_if, implies, makes, follows_this, finds_both, finds_meaning, whether, where_true, ensures_so}
 use Rattle.rc_sheet.proofs.GoodParts.{◌▹◌, Each, each_by_parts, three_and_more, IsGood, IsGoodForm, GoodAt, AreGood, good_form, rule_among, no_list}
 use Rattle.rc_sheet.proofs.GoodForms.{two_behind, plain_part, with_three, list_says}
 use Rattle.rc_sheet.proofs.FineNames.{passes_test, Gives, Good}
 use Rattle.rc_sheet.proofs.FineExpressions.{reads}
+use Rattle.rc_sheet.proofs.CountedItems.{items_count}
 use Rattle.rc_sheet.proofs.FineItems.{length_of_both, last_of_four, HasRoom, parts_alike, Plays, items_find, plays}
 
 -- which scores are best
@@ -204,23 +207,34 @@ module _ (sheet : Sheet) (given : Given) (gives : Gives sheet given) where
   each_plays nil = tt
   each_plays (cons tree trees) = (plays sheet given gives tree, each_plays trees)
 
+  -- items with no more stages and choices than a sheet may have
+  abbrev pub HasFew : SheetItems → Type 0
+  HasFew items = (length (stages_in_tree items) ≤ most_stages) × (length (sites_in items) ≤ most_sites)
+
   -- a sheet's items and its score
   abbrev pub BodyAt : SheetItems × (Best × IntExpr) → Type 0
   BodyAt body =
-      AreItems sheet outside body.0 × (1 ≤ length (item_list body.0)) × IsInt sheet scored body.1.1
+      AreItems sheet outside body.0 × (1 ≤ length (item_list body.0)) × IsInt sheet scored body.1.1 × HasFew body.0
 
   items_of_body : (all rest : Trees) (parts : List Part) → IsBody given (naming_of sheet) standing_alone all rest parts → HasRoom none_begun parts
       → Finds (option_map (λ p. p.0) (items_at (naming_of sheet) none_begun (but_last rest)))
-      (λ items. AreItems sheet outside items × (length (item_list items) ≡ count (but_last rest)))
+      (λ items. AreItems sheet outside items × (length (item_list items) ≡ count (but_last rest)) × HasFew items)
   items_of_body all rest parts body room =
       let stages = body.stages in
       let sites = body.sites in
       let few = room.stages in
       let few' = room.sites in
       makes _ (λ p. p.0)
+      (finds_meaning _
       (items_find sheet given gives (item_part standing_alone all) (but_last rest) refl refl (each_plays (but_last rest)) body.items
       none_begun (record { stages = omega (arith, stages, few); sites = omega (arith, sites, few') }))
-      (λ p are. (are.0, are.1))
+      (items_count (naming_of sheet) none_begun (but_last rest)))
+      (λ p are.
+      let begun = are.0.2.stages in
+      let begun' = are.0.2.sites in
+      let counted = are.1.stages_between in
+      let counted' = are.1.sites_between in
+      (are.0.0, are.0.1, (omega (arith, stages, few, begun, counted), omega (arith, sites, few', begun', counted'))))
 
   score_of_body : (all rest : Trees) (parts : List Part) → IsBody given (naming_of sheet) standing_alone all rest parts
       → Finds (last_of rest >>= score_at (naming_of sheet)) (λ p. IsInt sheet scored p.1)
@@ -235,7 +249,7 @@ module _ (sheet : Sheet) (given : Given) (gives : Gives sheet given) where
       let less = count_but_last rest (omega (arith, some)) in
       follows_this (ensure (nat_le 2 (count rest))) tt _ (ensures_so _ (le-leb 2 (count rest) some) refl)
       (implies _ (finds_both _ _ (items_of_body all rest parts body room) (score_of_body all rest parts body))
-      (λ p are. let long = are.0.1 in (are.0.0, omega (arith, some, less, long), are.1)))
+      (λ p are. let long = are.0.1 in (are.0.0, omega (arith, some, less, long), are.1, are.0.2)))
 
   -- its items and its score are read, and are well formed
   pub game_body_finds : (tree : Tree) (game : IsGame given (naming_of sheet) tree)

@@ -6,6 +6,7 @@ use Rattle.rc_model.specs.Tree.{Tree, list, Trees, nil, cons}
 use Rattle.rc_sheet_model.specs.Sheet.{SheetItems, no_item, Best, highest, IntExpr, literal, Sheet}
 use Rattle.rc_sheet_model.specs.Lists.{item_list}
 use Rattle.rc_sheet_model.specs.Limits.{most_stages, most_sites}
+use Rattle.rc_sheet_model.specs.Mentions.{stages_in, sites_in}
 use Rattle.rc_sheet_model.specs.Naming.{Naming}
 use Rattle.rc_sheet_model.specs.WellFormed.{outside, scored, IsInt, AreItems}
 use Rattle.rc_semantics.specs.SecondParts.{Standing, standing_alone, parts_of}
@@ -43,6 +44,8 @@ module _ (naming : Naming) (given : Given) where
     pub items : AreItems sheet outside sheet.items
     pub some_item : 1 ≤ length (item_list sheet.items)
     pub score : IsInt sheet scored sheet.score
+    pub stages : length (stages_in sheet.items) ≤ most_stages
+    pub sites : length (sites_in sheet.items) ≤ most_sites
 
   -- the setup of a form is read, as one that is Q
   abbrev pub SetupFinds : (Setup → Type 0) → Tree → Type 0
@@ -70,6 +73,8 @@ module _ (naming : Naming) (given : Given) where
         items = is.0;
         some_item = is.1;
         score = is.2;
+        stages = is.3.0;
+        sites = is.3.1;
       })
 
   -- the parts of its form

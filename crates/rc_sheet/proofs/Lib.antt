@@ -18,6 +18,7 @@ pub mod FineNames
 pub mod FineExpressions
 pub mod FineEffects
 pub mod FineItems
+pub mod CountedItems
 pub mod FineBody
 pub mod FineCounts
 pub mod FineSheet
