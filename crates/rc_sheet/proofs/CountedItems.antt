@@ -1,11 +1,11 @@
 -- The items that are read have as many stages and choices as have begun behind them.
-use Rattle.std.proofs.Common.{◌≡◌, ℕ, ◌+◌, nat_lt, List, [], ◌∷◌, ◌++◌, length, length-append, Option, refl, ap, ◌∙◌, arith}
+use Rattle.std.proofs.Common.{◌≡◌, ℕ, ◌+◌, nat_lt, List, [], ◌++◌, length, length-append, Option, refl, arith}
 use Rattle.rc_model.specs.Tree.{Tree, word, list, Trees, nil, cons}
-use Rattle.rc_sheet_model.specs.Sheet.{Class, player_class, team_class, Test, Alt, SheetItem, do_item, stage, choice, SheetItems, no_item, item}
+use Rattle.rc_sheet_model.specs.Sheet.{Class, player_class, team_class, Test, Alt, SheetItem, stage, choice, SheetItems, no_item}
 use Rattle.rc_sheet_model.specs.Mentions.{stages_in_item, stages_in, sites_in_item, sites_in}
 use Rattle.rc_sheet_model.specs.Limits.{most_stages, most_sites}
 use Rattle.rc_sheet_model.specs.Naming.{Naming}
-use Rattle.rc_sheet.specs.ReadNames.{ensure, both, rule_at}
+use Rattle.rc_sheet.specs.ReadNames.{ensure, rule_at}
 use Rattle.rc_sheet.specs.ReadEffects.{effects_at, alts_at}
 use Rattle.rc_sheet.specs.ReadItems.{Begun, with_stage, with_site, stage_of, choice_of, end_at, item_at, item_rule, items_at}
 use Rattle.rc_sheet.proofs.Means.{Means, nothing, something, means_if, mapped, behind, both_mean, ensured}

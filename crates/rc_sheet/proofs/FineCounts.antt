@@ -1,15 +1,14 @@
 -- A form without a fault of the second round has no more stages and choices than a sheet may have.
-use Rattle.std.proofs.Common.{◌≡◌, ℕ, ◌+◌, ◌≤◌, Bool, true, false, ◌||◌, ◌&&◌, cond, nat_le, nat_lt, List, [], ◌∷◌, ◌++◌, length, flat_map, append_assoc, append-nil, refl, sym, subst, ap, ◌∙◌, arith, ltb-false, le-leb}
-use Rattle.std.specs.List.{list_any}
-use Rattle.std.proofs.lemmas.Bool.{or_parts, true≢false}
+use Rattle.std.proofs.Common.{◌≡◌, ℕ, ◌≤◌, Bool, true, false, ◌||◌, ◌&&◌, nat_le, nat_lt, List, [], ◌∷◌, ◌++◌, length, flat_map, append_assoc, append-nil, refl, sym, subst, ap, arith, ltb-false, le-leb}
+use Rattle.std.proofs.lemmas.Bool.{or_parts}
 use Rattle.rc_model.specs.Tree.{Tree}
 use Rattle.rc_sheet_model.specs.Limits.{most_stages, most_sites}
 use Rattle.rc_semantics.specs.SecondParts.{Part, atom, form, parts_of}
 use Rattle.rc_semantics.specs.SecondNames.{stages_in, choices_in}
-use Rattle.rc_semantics.specs.SecondFaults.{is_twice, is_unknown, is_wrong_kind, is_too_many, lacks_cards, passes, stage_count, choice_count, counts_of, is_too_deep, fault_where, faults_of, faults_behind, second_faults}
+use Rattle.rc_semantics.specs.SecondFaults.{is_too_many, lacks_cards, passes, stage_count, choice_count, fault_where, faults_of, faults_behind, second_faults}
 use Rattle.rc_grammar.specs.declared.grammar.Rule.TheVariants as rule
 use Rattle.rc_grammar.specs.declared.fault.SheetKind.{SheetKind}
-use Rattle.rc_grammar.specs.declared.fault.SheetKind.TheVariants.{Twice, Unknown, WrongKind, TooMany, NoCards}
+use Rattle.rc_grammar.specs.declared.fault.SheetKind.TheVariants.{TooMany, NoCards}
 use Rattle.rc_sheet.proofs.GoodParts.{none_of_both}
 use Rattle.rc_sheet.proofs.FineItems.{length_of_both}
 

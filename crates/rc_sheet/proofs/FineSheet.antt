@@ -1,20 +1,20 @@
 -- A form whose parts are fine is read whole where its setup is: the items and the score of the sheet are well formed.
-use Rattle.std.proofs.Common.{◌≡◌, ◌≤◌, ℕ, pos, List, [], length, Option, Some, refl, sym, subst, ap, ◌∙◌}
+use Rattle.std.proofs.Common.{◌≡◌, ◌≤◌, ℕ, pos, [], length, refl, sym, subst, ap}
 use Rattle.std.specs.Prelude.{unwrap_or}
 use Rattle.std.specs.List.{All}
-use Rattle.rc_model.specs.Tree.{Tree, list, Trees, nil, cons}
+use Rattle.rc_model.specs.Tree.{Tree, list, Trees, cons}
 use Rattle.rc_sheet_model.specs.Sheet.{SheetItems, no_item, Best, highest, IntExpr, literal, Sheet}
 use Rattle.rc_sheet_model.specs.Lists.{item_list}
 use Rattle.rc_sheet_model.specs.Limits.{most_stages, most_sites}
 use Rattle.rc_sheet_model.specs.Mentions.{stages_in, sites_in}
 use Rattle.rc_sheet_model.specs.Naming.{Naming}
 use Rattle.rc_sheet_model.specs.WellFormed.{outside, scored, IsInt, AreItems}
-use Rattle.rc_semantics.specs.SecondParts.{Standing, standing_alone, parts_of}
+use Rattle.rc_semantics.specs.SecondParts.{standing_alone, parts_of}
 use Rattle.rc_semantics.specs.SecondFaults.{stage_count, choice_count}
-use Rattle.rc_grammar.specs.Faults.{faults, rule_of, count}
+use Rattle.rc_grammar.specs.Faults.{faults, count}
 use Rattle.rc_grammar.specs.declared.grammar.Place.TheVariants as place
 use Rattle.rc_grammar.specs.declared.grammar.Rule.TheVariants as rule
-use Rattle.rc_sheet.specs.ReadNames.{◌>>=◌, sized, rule_at}
+use Rattle.rc_sheet.specs.ReadNames.{◌>>=◌, sized}
 use Rattle.rc_sheet.specs.ReadItems.{body_at}
 use Rattle.rc_sheet.specs.ReadSetup.{Setup}
 use Rattle.rc_sheet.specs.ReadSheet.{setup_form_at, sheet_of, game_parts, game_rule, sheet_at}
@@ -60,7 +60,7 @@ module _ (naming : Naming) (given : Given) where
   body_of_game Q tree game setup q gives =
       let guess = unwrap_or (body_at naming game.rest) no_body in
       let found = found_as (body_at naming game.rest)
-          (game_body_finds (sheet_of naming setup guess) given (gives guess) tree game) in
+      (game_body_finds (sheet_of naming setup guess) given (gives guess) tree game) in
       let same : guess ≡ found.0 = ap (λ o. unwrap_or o no_body) found.1 in
       let is = subst (λ b. BodyAt (sheet_of naming setup b) given (gives b) found.0) same found.2 in
       finds_if (body_at naming game.rest) found.0 found.1
