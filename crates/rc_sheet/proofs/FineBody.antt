@@ -23,7 +23,7 @@ use Rattle.rc_sheet.specs.ReadItems.{none_begun, items_at, best_at, score_rule, 
 use Rattle.rc_sheet.proofs.Fine.{Given, IsFine}
 use Rattle.rc_sheet.proofs.Finds.{Finds, finds, finds_if, implies, makes, follows_this, finds_both, finds_meaning, whether, where_true, ensures_so}
 use Rattle.rc_sheet.proofs.GoodParts.{◌▹◌, Each, each_by_parts, three_and_more, IsGood, IsGoodForm, GoodAt, AreGood, good_form, rule_among, no_list}
-use Rattle.rc_sheet.proofs.GoodForms.{two_behind, plain_part, with_three, list_says}
+use Rattle.rc_sheet.proofs.GoodForms.{from_two, plain_part, with_three, list_says}
 use Rattle.rc_sheet.proofs.FineNames.{passes_test, Gives, Good}
 use Rattle.rc_sheet.proofs.FineExpressions.{reads}
 use Rattle.rc_sheet.proofs.CountedItems.{items_count}
@@ -64,7 +64,7 @@ module _ (given : Given) (naming : Naming) where
   stands_behind : (at : Standing) (all : Trees) (last : Bool) (i : ℕ) → 2 ≤ i → (i + 1 == count all) ≡ last
       → standing_in at rule.Game all i ≡ option_map (λ p. plain_part at p all) (behind_front rule.Game last)
   stands_behind at all last =
-      two_behind _ (λ j is. ap (λ b. option_map (λ p. plain_part at p all) (behind_front rule.Game b)) is)
+      from_two _ (λ j is. ap (λ b. option_map (λ p. plain_part at p all) (behind_front rule.Game b)) is)
 
   is_body : (at : Standing) (all : Trees) (index : ℕ) (trees : Trees) → 2 ≤ index → index + count trees ≡ count all
       → 1 ≤ count trees → AreGood given naming at rule.Game all index trees
@@ -83,7 +83,8 @@ module _ (given : Given) (naming : Naming) where
   is_body at all index (cons tree (cons next rest)) behind whole some good =
       let more = ne_eqb (index + 1) (count all) (λ same. omega (arith, whole, same)) in
       let stands = stands_behind at all false index behind more in
-      let later = is_body at all (index + 1) (cons next rest) (omega (arith, behind)) (omega (arith, whole)) (omega arith) good.1 in
+      let later = is_body at all (index + 1) (cons next rest) (omega (arith, behind)) (omega (arith, whole))
+      (omega arith) good.1 in
       let ours = parts_at (Some (item_part at all)) tree in
       let theirs = parts_alike (item_part at all) (but_last (cons next rest)) in
       let others = parts_in at rule.Game all (index + 1) (cons next rest) in
@@ -168,7 +169,8 @@ module _ (given : Given) (naming : Naming) where
       let good = good_form given naming standing_alone parts from to
       (record { shaped = shaped; fine = recursion_from_All (IsFine given naming) _ fine }) in
       let same = ap (with_form standing_alone parts from (λ found. parts_in standing_alone found parts 0 parts)) good.1.told in
-      let room : HasRoom none_begun (parts_of (list parts from to)) = record { stages = omega (arith, stages); sites = omega (arith, sites) } in
+      let room : HasRoom none_begun (parts_of (list parts from to))
+      = record { stages = omega (arith, stages); sites = omega (arith, sites) } in
       rule_among
       (λ found. IsGoodForm given naming standing_alone found parts
       → HasRoom none_begun (form standing_alone found parts from ∷ parts_in standing_alone found parts 0 parts)
@@ -216,7 +218,8 @@ module _ (sheet : Sheet) (given : Given) (gives : Gives sheet given) where
   BodyAt body =
       AreItems sheet outside body.0 × (1 ≤ length (item_list body.0)) × IsInt sheet scored body.1.1 × HasFew body.0
 
-  items_of_body : (all rest : Trees) (parts : List Part) → IsBody given (naming_of sheet) standing_alone all rest parts → HasRoom none_begun parts
+  items_of_body : (all rest : Trees) (parts : List Part) → IsBody given (naming_of sheet) standing_alone all rest parts
+      → HasRoom none_begun parts
       → Finds (option_map (λ p. p.0) (items_at (naming_of sheet) none_begun (but_last rest)))
       (λ items. AreItems sheet outside items × (length (item_list items) ≡ count (but_last rest)) × HasFew items)
   items_of_body all rest parts body room =
@@ -226,7 +229,8 @@ module _ (sheet : Sheet) (given : Given) (gives : Gives sheet given) where
       let few' = room.sites in
       makes _ (λ p. p.0)
       (finds_meaning _
-      (items_find sheet given gives (item_part standing_alone all) (but_last rest) refl refl (each_plays (but_last rest)) body.items
+      (items_find sheet given gives (item_part standing_alone all) (but_last rest) refl refl
+      (each_plays (but_last rest)) body.items
       none_begun (record { stages = omega (arith, stages, few); sites = omega (arith, sites, few') }))
       (items_count (naming_of sheet) none_begun (but_last rest)))
       (λ p are.
@@ -243,7 +247,8 @@ module _ (sheet : Sheet) (given : Given) (gives : Gives sheet given) where
       (finds_if (last_of rest) body.scoring body.is_last refl)
       (score_finds (last_part standing_alone all) body.scoring refl body.scores)
 
-  pub body_finds : (all rest : Trees) (parts : List Part) → 2 ≤ count rest → IsBody given (naming_of sheet) standing_alone all rest parts
+  pub body_finds : (all rest : Trees) (parts : List Part) → 2 ≤ count rest
+      → IsBody given (naming_of sheet) standing_alone all rest parts
       → HasRoom none_begun parts → Finds (body_at (naming_of sheet) rest) BodyAt
   body_finds all rest parts some body room =
       let less = count_but_last rest (omega (arith, some)) in

@@ -20,7 +20,7 @@ use Rattle.rc_sheet.specs.ReadEffects.{spot_rule, spot_at, effect_at, effect_rul
 use Rattle.rc_sheet.proofs.Fine.{Given}
 use Rattle.rc_sheet.proofs.Finds.{Finds, finds, implies, makes, follows, finds_both, joins}
 use Rattle.rc_sheet.proofs.GoodParts.{◌▹◌, Each, by_parts, each_by_parts}
-use Rattle.rc_sheet.proofs.GoodForms.{one_behind, two_behind, three_behind, plain_part, Says, with_two, with_three, with_four, behind_one, behind_two, behind_three, list_says, rest_good}
+use Rattle.rc_sheet.proofs.GoodForms.{from_one, from_two, from_three, plain_part, Says, with_two, with_three, with_four, behind_one, behind_two, behind_three, list_says, rest_good}
 use Rattle.rc_sheet.proofs.FineNames.{passes_test, Gives, Good, IsPlaced, loc_finds, num_finds, owner_finds, attr_finds, binder_finds, behind_binder}
 use Rattle.rc_sheet.proofs.FineExpressions.{Reads, reads, words_read, lists_read, range_word_finds, location_says, filter_says, union_says}
 
@@ -40,14 +40,15 @@ range_is_domain sheet around (each_group cards attr) is = absurd is
 in_repeats : (at : Standing) (all : Trees) (i : ℕ) → 2 ≤ i
     → standing_in at rule.Repeat all i ≡ Some (record (plain_part at place.Effect all) { around = in_repeat at.around })
 in_repeats at all =
-    two_behind _ (λ j. ap (λ b. Some (record (plain_part at place.Effect all) { around = cond b (in_repeat at.around) at.around }))
+    from_two _ (λ j. ap (λ b. Some (record (plain_part at place.Effect all)
+    { around = cond b (in_repeat at.around) at.around }))
     (lt-ltb 1 (suc (suc j)) (omega arith)))
 
 in_all : (at : Standing) (all : Trees) (i : ℕ) → 3 ≤ i
     → standing_in at rule.Each all i
     ≡ Some (record (plain_part at place.Effect all) { around = bound_in at.around (word_in 2 all) (sort_over (part_at 1 all)) })
 in_all at all =
-    three_behind _ (λ j. ap (λ b. Some (record (plain_part at place.Effect all) {
+    from_three _ (λ j. ap (λ b. Some (record (plain_part at place.Effect all) {
       around = cond b (bound_in at.around (word_in 2 all) (sort_over (part_at 1 all))) at.around;
     })) (lt-ltb 2 (suc (suc (suc j))) (omega arith)))
 
@@ -64,7 +65,8 @@ module _ (sheet : Sheet) (given : Given) (gives : Gives sheet given) where
       refused : atom_faults place.Spot bytes from ≡ [] → ⊥
       refused is = cc
   spot_finds at (list parts from to) here good =
-      list_says given (naming_of sheet) (λ tree. Unit {0}) (spot_rule (naming_of sheet) at.around.scope) place.Spot at parts from to
+      list_says given (naming_of sheet) (λ tree. Unit {0}) (spot_rule (naming_of sheet) at.around.scope) place.Spot at parts
+      from to
       here (each_by_parts (λ bytes from to. tt) (λ parts from to each. tt) parts) good
       (with_two given (naming_of sheet) (λ tree. Unit {0}) (λ n. refl)
       (λ head loc each form. makes _ (λ loc. (top, loc)) (loc_finds sheet given _ loc refl form.good.1.0) (λ l is. is))
@@ -159,7 +161,7 @@ module _ (sheet : Sheet) (given : Given) (gives : Gives sheet given) where
       behind_two given (naming_of sheet) Acts (λ n. refl)
       (λ head t rest some each form.
       let alike = rest_good given (naming_of sheet) Acts at rule.If (cons head (cons t rest))
-      (plain_part at place.Effect (cons head (cons t rest))) 2 rest (two_behind _ (λ j. refl)) form.good.1.1 in
+      (plain_part at place.Effect (cons head (cons t rest))) 2 rest (from_two _ (λ j. refl)) form.good.1.1 in
       joins _ _ when ((reads sheet given gives t).test _ refl form.good.1.0) (effects_find _ rest refl each.1.1 alike)
       (λ t es is are. let long = are.1 in (is, omega (arith, some, long), are.0)))
 
@@ -290,7 +292,7 @@ module _ (sheet : Sheet) (given : Given) (gives : Gives sheet given) where
       behind_one given (naming_of sheet) Offers (λ n. refl)
       (λ head rest some each form.
       let alike = rest_good given (naming_of sheet) Offers at rule.Do (cons head rest)
-      (plain_part at place.Effect (cons head rest)) 1 rest (one_behind _ (λ j. refl)) form.good.1 in
+      (plain_part at place.Effect (cons head rest)) 1 rest (from_one _ (λ j. refl)) form.good.1 in
       makes _ do_alt (effects_find _ rest refl (each_acts rest) alike)
       (λ es are. let long = are.1 in (omega (arith, some, long), are.0)))
 
@@ -299,7 +301,7 @@ module _ (sheet : Sheet) (given : Given) (gives : Gives sheet given) where
       behind_two given (naming_of sheet) Offers (λ n. refl)
       (λ head t rest some each form.
       let alike = rest_good given (naming_of sheet) Offers at rule.If (cons head (cons t rest))
-      (plain_part at place.Effect (cons head (cons t rest))) 2 rest (two_behind _ (λ j. refl)) form.good.1.1 in
+      (plain_part at place.Effect (cons head (cons t rest))) 2 rest (from_two _ (λ j. refl)) form.good.1.1 in
       joins _ _ if_alt ((reads sheet given gives t).test _ refl form.good.1.0) (effects_find _ rest refl (each_acts rest) alike)
       (λ t es is are. let long = are.1 in (is, omega (arith, some, long), are.0)))
 
@@ -322,7 +324,8 @@ module _ (sheet : Sheet) (given : Given) (gives : Gives sheet given) where
       })
       (λ parts from to each. record {
         alt = λ at here good.
-            list_says given (naming_of sheet) Offers (alt_rule (naming_of sheet) at.around.scope) place.Alternative at parts from to
+            list_says given (naming_of sheet) Offers (alt_rule (naming_of sheet) at.around.scope) place.Alternative at parts
+            from to
             here each good (do_alt_says at parts ▹ if_alt_says at parts ▹ any_alt_says at parts ▹ tt);
       })
     where
@@ -336,5 +339,6 @@ module _ (sheet : Sheet) (given : Given) (gives : Gives sheet given) where
   alts_find at nil here free good = finds [] (tt, refl)
   alts_find at (cons part parts) here free good =
       joins _ _ ◌∷◌
-      (subst (λ scope. Finds (alt_at (naming_of sheet) scope part) (IsAlt sheet at.around)) free ((offers part).alt at here good.0))
+      (subst (λ scope. Finds (alt_at (naming_of sheet) scope part) (IsAlt sheet at.around)) free
+      ((offers part).alt at here good.0))
       (alts_find at parts here free good.1) (λ a later is are. ((is, are.0), ap (λ n. suc n) are.1))

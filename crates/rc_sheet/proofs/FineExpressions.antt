@@ -29,7 +29,7 @@ use Rattle.rc_sheet.specs.ReadExpressions.{Side, number_side, card_side, value_s
 use Rattle.rc_sheet.proofs.Fine.{Given}
 use Rattle.rc_sheet.proofs.Finds.{Finds, finds, finds_if, implies, makes, follows, follows_this, finds_both, joins, where_true, whether}
 use Rattle.rc_sheet.proofs.GoodParts.{◌▹◌, Each, by_parts, good_form}
-use Rattle.rc_sheet.proofs.GoodForms.{one_behind, plain_part, Says, with_two, with_three, with_four, behind_one, behind_two, list_says_by, list_says, rest_good}
+use Rattle.rc_sheet.proofs.GoodForms.{from_one, plain_part, Says, with_two, with_three, with_four, behind_one, behind_two, list_says_by, list_says, rest_good}
 use Rattle.rc_sheet.proofs.FineNames.{passes_test, no_keyword, class_same, Gives, Good, GoodForm, IsBound, bound_variable, has_its_sort, variable_finds, word_is_variable, IsOwnerOf, current_player_finds, current_team_finds, team_of_finds, attr_finds, value_finds, map_finds, binder_finds, behind_binder, loc_parts_finds, num_parts_finds}
 
 -- a number that is written, within its range
@@ -51,7 +51,8 @@ untold false = refl
 
 -- the first of three forms that a head may begin is no fourth
 card_form : (h f u p : Bool) (found : Rule)
-    → cond (h && true) (Some rule.Location) (cond (f && true) (Some rule.Filter) (cond (u && true) (Some rule.Union) None)) ≡ Some found
+    → cond (h && true) (Some rule.Location) (cond (f && true) (Some rule.Filter) (cond (u && true) (Some rule.Union) None))
+    ≡ Some found
     → sort_by_form (cond (h && true) (Some rule.Location) (cond (f && true) (Some rule.Filter)
     (cond (u && true) (Some rule.Union) (cond (p && true) (Some rule.Partition) None)))) ≡ card_sort
 card_form true f u p found is = refl
@@ -238,7 +239,8 @@ module _ (sheet : Sheet) (given : Given) where
       (location_says at from parts ▹ filter_says at from parts ▹ union_says at from parts ▹ tt)
 
   -- what a variable runs over, but in an alternative
-  pub range_word_finds : (at : Standing) (bytes : List ℕ) (from to : ℕ) → (is_word keyword.Player bytes || is_variable bytes) ≡ true
+  pub range_word_finds : (at : Standing) (bytes : List ℕ) (from to : ℕ)
+      → (is_word keyword.Player bytes || is_variable bytes) ≡ true
       → sorts_at at.place ≡ group_sort ∷ [] → Good sheet given at (word bytes from to)
       → Finds (range_at (naming_of sheet) at.around.scope (word bytes from to)) (RangeAt at.around (word bytes from to))
   range_word_finds at bytes from to taken sorts good =
@@ -348,7 +350,8 @@ module _ (sheet : Sheet) (given : Given) where
       → ((value : Option IntExpr) (card : Option CardExpr) (pair : Option (CardExpr × ℕ)) (who : Option Who)
       → side_by found value card pair who ≡ option_map owner_side who)
       → side_of_form (Some found) ≡ Some (side_of_class class)
-      → (GoodForm sheet given at found parts → Finds (owner_rule at.around.scope found parts) (IsOwnerOf sheet given at.around class))
+      → (GoodForm sheet given at found parts → Finds (owner_rule at.around.scope found parts)
+      (IsOwnerOf sheet given at.around class))
       → SaysSide at found parts
   owner_as_side at found parts class here same sort says =
       record {
@@ -360,7 +363,8 @@ module _ (sheet : Sheet) (given : Given) where
 
   -- a card's value
   values_say : Gives sheet given → (at : Standing) (parts : Trees)
-      → Says given (naming_of sheet) Reads at rule.AttributeOf (λ found parts. value_parts (naming_of sheet) at.around.scope parts)
+      → Says given (naming_of sheet) Reads at rule.AttributeOf
+      (λ found parts. value_parts (naming_of sheet) at.around.scope parts)
       (λ p. IsCard sheet at.around p.0 × IsAttr sheet p.1) parts
   values_say gives at parts =
       with_three given (naming_of sheet) Reads (λ n. refl)
@@ -390,7 +394,8 @@ module _ (sheet : Sheet) (given : Given) where
       (SideAt at.around (cond (is_variable bytes) (side_of_variable (variable_found at.around.scope bytes)) (Some sorts.Number)))
   variable_side_finds at bytes is here bound =
       let sort = bound.variable.sort in
-      let told : cond (is_variable bytes) (side_of_variable (variable_found at.around.scope bytes)) (Some sorts.Number) ≡ sort_side sort
+      let told : cond (is_variable bytes) (side_of_variable (variable_found at.around.scope bytes)) (Some sorts.Number)
+      ≡ sort_side sort
       = ap (λ b. cond b (side_of_variable (variable_found at.around.scope bytes)) (Some sorts.Number)) is
       ∙ ap side_of_variable bound.found in
       let fits = subst (λ p. list_any (same_sort sort) (sorts_at p) ≡ true) here bound.fits in
@@ -408,7 +413,8 @@ module _ (sheet : Sheet) (given : Given) where
   side_word_finds at bytes from to here good =
       let taken = passes_test (is_variable bytes || is_number bytes) Number from
       (subst (λ p. atom_faults p bytes from ≡ []) here good.shaped) in
-      whether (is_variable bytes) (place_in at.around.scope bytes >>= (λ place. variable_side place (slice_get at.around.scope place))) _
+      whether (is_variable bytes)
+      (place_in at.around.scope bytes >>= (λ place. variable_side place (slice_get at.around.scope place))) _
       (λ is.
       let bound = bound_variable sheet given at bytes is (ap (λ p. some_of (sorts_at p)) here) good.fine.0 in
       follows_this (place_in at.around.scope bytes) bound.var _ (finds_if _ bound.var bound.placed refl)
@@ -434,7 +440,8 @@ module _ (sheet : Sheet) (given : Given) where
       ▹ card_as_side at rule.BottomCard parts here (λ v c p w. refl) refl (bottom_says at parts)
       ▹ card_as_side at rule.MaxCard parts here (λ v c p w. refl) refl (max_says gives at parts)
       ▹ card_as_side at rule.MinCard parts here (λ v c p w. refl) refl (min_says gives at parts)
-      ▹ owner_as_side at rule.CurrentPlayer parts player_class here (λ v c p w. refl) refl (current_player_finds sheet given at parts)
+      ▹ owner_as_side at rule.CurrentPlayer parts player_class here (λ v c p w. refl) refl
+      (current_player_finds sheet given at parts)
       ▹ owner_as_side at rule.CurrentTeam parts team_class here (λ v c p w. refl) refl (current_team_finds sheet given at parts)
       ▹ owner_as_side at rule.TeamOf parts team_class here (λ v c p w. refl) refl (team_of_finds sheet given at parts)
       ▹ attribute_says gives at parts here
@@ -552,16 +559,18 @@ module _ (sheet : Sheet) (given : Given) where
   and_says at parts =
       behind_one given (naming_of sheet) Reads (λ n. refl)
       (λ head rest some each form.
-      let alike = rest_good given (naming_of sheet) Reads at rule.And (cons head rest) (plain_part at place.Test (cons head rest)) 1 rest
-      (one_behind _ (λ j. refl)) form.good.1 in
+      let alike = rest_good given (naming_of sheet) Reads at rule.And (cons head rest)
+      (plain_part at place.Test (cons head rest)) 1 rest
+      (from_one _ (λ j. refl)) form.good.1 in
       makes _ and_of (tests_find _ rest refl each.1 alike) (λ ts are. let long = are.1 in (omega (arith, some, long), are.0)))
 
   or_says : (at : Standing) (parts : Trees) → SaysTest at rule.Or parts
   or_says at parts =
       behind_one given (naming_of sheet) Reads (λ n. refl)
       (λ head rest some each form.
-      let alike = rest_good given (naming_of sheet) Reads at rule.Or (cons head rest) (plain_part at place.Test (cons head rest)) 1 rest
-      (one_behind _ (λ j. refl)) form.good.1 in
+      let alike = rest_good given (naming_of sheet) Reads at rule.Or (cons head rest)
+      (plain_part at place.Test (cons head rest)) 1 rest
+      (from_one _ (λ j. refl)) form.good.1 in
       makes _ or_of (tests_find _ rest refl each.1 alike) (λ ts are. let long = are.1 in (omega (arith, some, long), are.0)))
 
   not_says : (at : Standing) (parts : Trees) → SaysTest at rule.Not parts
@@ -638,8 +647,8 @@ module _ (sheet : Sheet) (given : Given) where
         coll = λ at here good. coll_list_finds at parts from to (ap (λ p. rule_of p parts) here) each good;
         range = λ at here good. range_list_finds at parts from to here each good;
         int = λ at here good.
-            list_says given (naming_of sheet) Reads (int_rule (naming_of sheet) at.around.scope) place.Integer at parts from to here
-            each good
+            list_says given (naming_of sheet) Reads (int_rule (naming_of sheet) at.around.scope) place.Integer at parts from to
+            here each good
             (counter_says at parts ▹ size_says at parts ▹ sum_says gives at parts ▹ points_says gives at parts
             ▹ plus_says at parts ▹ minus_says at parts ▹ times_says at parts ▹ tt);
         side = λ at here good. side_list_finds gives at parts from to here each good;

@@ -21,7 +21,7 @@ use Rattle.rc_sheet.specs.ReadItems.{Begun, with_stage, with_site, stage_of, end
 use Rattle.rc_sheet.proofs.Fine.{Given}
 use Rattle.rc_sheet.proofs.Finds.{Finds, finds, makes, follows, follows_this, finds_both, ensures_so}
 use Rattle.rc_sheet.proofs.GoodParts.{◌▹◌, Each, by_parts, each_by_parts, one_and_more, three_and_more, list_finds}
-use Rattle.rc_sheet.proofs.GoodForms.{one_behind, three_behind, plain_part, with_two, list_says, rest_good}
+use Rattle.rc_sheet.proofs.GoodForms.{from_one, from_three, plain_part, with_two, list_says, rest_good}
 use Rattle.rc_sheet.proofs.FineNames.{Gives, Good, GoodForm}
 use Rattle.rc_sheet.proofs.FineExpressions.{reads}
 use Rattle.rc_sheet.proofs.FineEffects.{AreEffectsOf, effects_find, each_acts, alts_find}
@@ -174,7 +174,7 @@ module _ (sheet : Sheet) (given : Given) (gives : Gives sheet given) where
       (λ head rest some each good room.
       let all = cons head rest in
       let alike = rest_good given (naming_of sheet) Plays at rule.Do all (plain_part at place.Effect all) 1 rest
-      (one_behind _ (λ j. refl)) good.good.1 in
+      (from_one _ (λ j. refl)) good.good.1 in
       makes _ (λ effects. (do_item effects, begun))
       (subst (λ scope. Finds (effects_at (naming_of sheet) scope rest) (AreEffectsOf sheet given gives rest at.around)) free
       (effects_find sheet given gives _ rest refl (each_acts sheet given gives rest) alike))
@@ -210,7 +210,7 @@ module _ (sheet : Sheet) (given : Given) (gives : Gives sheet given) where
       (λ head class end rest some each good room.
       let all = cons head (cons class (cons end rest)) in
       let alike = record (plain_part at place.Item all) { around = in_stage player_class at.around } in
-      let same : (i : ℕ) → 3 ≤ i → standing_in at rule.PlayerStage all i ≡ Some alike = three_behind _ (λ j. refl) in
+      let same : (i : ℕ) → 3 ≤ i → standing_in at rule.PlayerStage all i ≡ Some alike = from_three _ (λ j. refl) in
       let stands = rest_good given (naming_of sheet) Plays at rule.PlayerStage all alike 3 rest same good.good.1.1.1 in
       let stages = inner_counts stages_in at rule.PlayerStage all head class end rest alike same in
       let sites = inner_counts choices_in at rule.PlayerStage all head class end rest alike same in
@@ -226,7 +226,7 @@ module _ (sheet : Sheet) (given : Given) (gives : Gives sheet given) where
       (λ head class end rest some each good room.
       let all = cons head (cons class (cons end rest)) in
       let alike = record (plain_part at place.Item all) { around = in_stage team_class at.around } in
-      let same : (i : ℕ) → 3 ≤ i → standing_in at rule.TeamStage all i ≡ Some alike = three_behind _ (λ j. refl) in
+      let same : (i : ℕ) → 3 ≤ i → standing_in at rule.TeamStage all i ≡ Some alike = from_three _ (λ j. refl) in
       let stands = rest_good given (naming_of sheet) Plays at rule.TeamStage all alike 3 rest same good.good.1.1.1 in
       let stages = inner_counts stages_in at rule.TeamStage all head class end rest alike same in
       let sites = inner_counts choices_in at rule.TeamStage all head class end rest alike same in
@@ -243,7 +243,7 @@ module _ (sheet : Sheet) (given : Given) (gives : Gives sheet given) where
       (λ head rest some each good room.
       let all = cons head rest in
       let alike = rest_good given (naming_of sheet) Plays at rule.Choice all (plain_part at place.Alternative all) 1 rest
-      (one_behind _ (λ j. refl)) good.good.1 in
+      (from_one _ (λ j. refl)) good.good.1 in
       let most = room.sites in
       follows_this (ensure (nat_lt begun.sites most_sites)) tt _
       (ensures_so _ (lt-ltb begun.sites most_sites (omega (arith, most))) refl)
@@ -273,14 +273,15 @@ module _ (sheet : Sheet) (given : Given) (gives : Gives sheet given) where
       })
       (λ parts from to each. record {
         item = λ at here free good begun room.
-            list_finds given (naming_of sheet) (λ found. item_rule (naming_of sheet) begun found parts) place.Item at parts from to
-            here good
+            list_finds given (naming_of sheet) (λ found. item_rule (naming_of sheet) begun found parts) place.Item at parts from
+            to here good
             ((λ good. item_by at parts from to begun rule.Do good.told each good room (do_finds at from begun parts free))
             ▹ (λ good. item_by at parts from to begun rule.PlayerStage good.told each good room
             (player_stage_finds at from begun parts free))
             ▹ (λ good. item_by at parts from to begun rule.TeamStage good.told each good room
             (team_stage_finds at from begun parts free))
-            ▹ (λ good. item_by at parts from to begun rule.Choice good.told each good room (choice_finds at from begun parts free))
+            ▹ (λ good. item_by at parts from to begun rule.Choice good.told each good room
+            (choice_finds at from begun parts free))
             ▹ tt);
       })
     where

@@ -216,7 +216,8 @@ module _ (sheet : Sheet) (given : Given) where
 
   -- at an atom
   pub word_is_variable : (at : Standing) (place : Place) (bytes : List ℕ) (from to : ℕ) → at.place ≡ place
-      → atom_faults place bytes from ≡ option_to_list {X = SheetFault} (option_map (λ kind. record { kind = kind; at = from }) (unless (is_variable bytes) Shape))
+      → atom_faults place bytes from ≡ option_to_list {X = SheetFault}
+      (option_map (λ kind. record { kind = kind; at = from }) (unless (is_variable bytes) Shape))
       → Good at (word bytes from to) → is_variable bytes ≡ true
   word_is_variable at place bytes from to here same good =
       passes_test (is_variable bytes) Shape from (sym same ∙ subst (λ p. atom_faults p bytes from ≡ []) here good.shaped)
@@ -269,7 +270,8 @@ module _ (sheet : Sheet) (given : Given) where
   -- as a list, also where a holder may stand
   owner_list_finds : (at : Standing) (parts : Trees) (from to : ℕ) → rule_of at.place parts ≡ rule_of place.Owner parts
       → Good at (list parts from to)
-      → Finds (rule_at place.Owner parts >>= λ rule. owner_rule at.around.scope rule parts) (OwnerAt at.around (list parts from to))
+      → Finds (rule_at place.Owner parts >>= λ rule. owner_rule at.around.scope rule parts)
+      (OwnerAt at.around (list parts from to))
   owner_list_finds at parts from to same good =
       finds_by given (naming_of sheet) (λ rule. owner_rule at.around.scope rule parts) place.Owner at parts from to same good
       ((λ form. of_its_class at parts from to rule.CurrentPlayer player_class _ (sym same ∙ form.told) refl
@@ -486,7 +488,8 @@ module _ (sheet : Sheet) (given : Given) where
       follows_this (name_at sheet.names.nums name) m.number _
       (name_finds sheet.names.nums _ name m.number refl form.good.1.1.0 m.numbered refl)
       (follows_this (ensure (is_num_name (class_of who) (slice_get sheet.nums m.number))) tt _
-      (ensures_so _ (ap (is_num_name (class_of who)) m.is ∙ ap (λ c. same_class c (class_of who)) class ∙ class_same (class_of who)) refl)
+      (ensures_so _
+      (ap (is_num_name (class_of who)) m.is ∙ ap (λ c. same_class c (class_of who)) class ∙ class_same (class_of who)) refl)
       (finds _ (holds.0, ap (option_map (λ num. num.class)) m.is ∙ ap Some class)))))) form
 
   pub num_finds : (at : Standing) (tree : Tree) → at.place ≡ place.Counter → Good at tree

@@ -15,20 +15,20 @@ use Rattle.rc_sheet.proofs.Finds.{Finds}
 use Rattle.rc_sheet.proofs.GoodParts.{Each, two_parts, three_parts, four_parts, one_and_more, two_and_more, three_and_more, IsGood, GoodAt, AreGood, IsGoodForm, finds_by}
 
 -- from so many on
-pub one_behind : (P : ℕ → Type 0) → ((j : ℕ) → P (suc j)) → (i : ℕ) → 1 ≤ i → P i
-one_behind P more zero le = absurd (omega (arith, le))
-one_behind P more (suc i) le = more i
+pub from_one : (P : ℕ → Type 0) → ((j : ℕ) → P (suc j)) → (i : ℕ) → 1 ≤ i → P i
+from_one P more zero le = absurd (omega (arith, le))
+from_one P more (suc i) le = more i
 
-pub two_behind : (P : ℕ → Type 0) → ((j : ℕ) → P (suc (suc j))) → (i : ℕ) → 2 ≤ i → P i
-two_behind P more zero le = absurd (omega (arith, le))
-two_behind P more (suc zero) le = absurd (omega (arith, le))
-two_behind P more (suc (suc i)) le = more i
+pub from_two : (P : ℕ → Type 0) → ((j : ℕ) → P (suc (suc j))) → (i : ℕ) → 2 ≤ i → P i
+from_two P more zero le = absurd (omega (arith, le))
+from_two P more (suc zero) le = absurd (omega (arith, le))
+from_two P more (suc (suc i)) le = more i
 
-pub three_behind : (P : ℕ → Type 0) → ((j : ℕ) → P (suc (suc (suc j)))) → (i : ℕ) → 3 ≤ i → P i
-three_behind P more zero le = absurd (omega (arith, le))
-three_behind P more (suc zero) le = absurd (omega (arith, le))
-three_behind P more (suc (suc zero)) le = absurd (omega (arith, le))
-three_behind P more (suc (suc (suc i))) le = more i
+pub from_three : (P : ℕ → Type 0) → ((j : ℕ) → P (suc (suc (suc j)))) → (i : ℕ) → 3 ≤ i → P i
+from_three P more zero le = absurd (omega (arith, le))
+from_three P more (suc zero) le = absurd (omega (arith, le))
+from_three P more (suc (suc zero)) le = absurd (omega (arith, le))
+from_three P more (suc (suc (suc i))) le = more i
 
 -- how a part stands that has no role of its own and nothing more around it
 abbrev pub plain_part : Standing → Place → Trees → Standing
@@ -37,7 +37,8 @@ plain_part at place all =
 
 module _ (given : Given) (naming : Naming) (R : Tree → Type 0) where
   -- a form of this rule says what is P
-  pub record Says {A : Type 0} (at : Standing) (rule : Rule) (read : Rule → Trees → Option A) (P : A → Type 0) (parts : Trees) : Type 0 where
+  pub record Says {A : Type 0} (at : Standing) (rule : Rule) (read : Rule → Trees → Option A) (P : A → Type 0)
+      (parts : Trees) : Type 0 where
     pub says : Each R parts → IsGoodForm given naming at rule parts → Finds (read rule parts) P
 
   -- what is said of a form of these parts
@@ -48,39 +49,52 @@ module _ (given : Given) (naming : Naming) (R : Tree → Type 0) where
       → ((n : ℕ) → fits n rule ≡ (n == 2)) → ((a b : Tree) → SaysOf at rule read P (cons a (cons b nil)))
       → Says at rule read P parts
   with_two {at = at} {rule = rule} {read = read} {P = P} {parts = parts} two then =
-      record { says = λ each form. two_parts (SaysOf at rule read P) parts (sym (two (count parts)) ∙ form.fit) then each form }
+      record {
+        says = λ each form. two_parts (SaysOf at rule read P) parts (sym (two (count parts)) ∙ form.fit) then each form;
+      }
 
   pub with_three : {A : Type 0} {at : Standing} {rule : Rule} {read : Rule → Trees → Option A} {P : A → Type 0} {parts : Trees}
       → ((n : ℕ) → fits n rule ≡ (n == 3)) → ((a b c : Tree) → SaysOf at rule read P (cons a (cons b (cons c nil))))
       → Says at rule read P parts
   with_three {at = at} {rule = rule} {read = read} {P = P} {parts = parts} three then =
-      record { says = λ each form. three_parts (SaysOf at rule read P) parts (sym (three (count parts)) ∙ form.fit) then each form }
+      record {
+        says = λ each form. three_parts (SaysOf at rule read P) parts (sym (three (count parts)) ∙ form.fit) then each form;
+      }
 
   pub with_four : {A : Type 0} {at : Standing} {rule : Rule} {read : Rule → Trees → Option A} {P : A → Type 0} {parts : Trees}
       → ((n : ℕ) → fits n rule ≡ (n == 4))
       → ((a b c d : Tree) → SaysOf at rule read P (cons a (cons b (cons c (cons d nil)))))
       → Says at rule read P parts
   with_four {at = at} {rule = rule} {read = read} {P = P} {parts = parts} four then =
-      record { says = λ each form. four_parts (SaysOf at rule read P) parts (sym (four (count parts)) ∙ form.fit) then each form }
+      record {
+        says = λ each form. four_parts (SaysOf at rule read P) parts (sym (four (count parts)) ∙ form.fit) then each form;
+      }
 
   -- so many parts and one more at least
   pub behind_one : {A : Type 0} {at : Standing} {rule : Rule} {read : Rule → Trees → Option A} {P : A → Type 0} {parts : Trees}
       → ((n : ℕ) → fits n rule ≡ nat_lt 1 n)
       → ((a : Tree) (rest : Trees) → 1 ≤ count rest → SaysOf at rule read P (cons a rest)) → Says at rule read P parts
   behind_one {at = at} {rule = rule} {read = read} {P = P} {parts = parts} more then =
-      record { says = λ each form. one_and_more (SaysOf at rule read P) parts (sym (more (count parts)) ∙ form.fit) then each form }
+      record {
+        says = λ each form. one_and_more (SaysOf at rule read P) parts (sym (more (count parts)) ∙ form.fit) then each form;
+      }
 
   pub behind_two : {A : Type 0} {at : Standing} {rule : Rule} {read : Rule → Trees → Option A} {P : A → Type 0} {parts : Trees}
       → ((n : ℕ) → fits n rule ≡ nat_lt 2 n)
       → ((a b : Tree) (rest : Trees) → 1 ≤ count rest → SaysOf at rule read P (cons a (cons b rest))) → Says at rule read P parts
   behind_two {at = at} {rule = rule} {read = read} {P = P} {parts = parts} more then =
-      record { says = λ each form. two_and_more (SaysOf at rule read P) parts (sym (more (count parts)) ∙ form.fit) then each form }
+      record {
+        says = λ each form. two_and_more (SaysOf at rule read P) parts (sym (more (count parts)) ∙ form.fit) then each form;
+      }
 
   pub behind_three : {A : Type 0} {at : Standing} {rule : Rule} {read : Rule → Trees → Option A} {P : A → Type 0} {parts : Trees}
       → ((n : ℕ) → fits n rule ≡ nat_lt 3 n)
-      → ((a b c : Tree) (rest : Trees) → 1 ≤ count rest → SaysOf at rule read P (cons a (cons b (cons c rest)))) → Says at rule read P parts
+      → ((a b c : Tree) (rest : Trees) → 1 ≤ count rest → SaysOf at rule read P (cons a (cons b (cons c rest))))
+      → Says at rule read P parts
   behind_three {at = at} {rule = rule} {read = read} {P = P} {parts = parts} more then =
-      record { says = λ each form. three_and_more (SaysOf at rule read P) parts (sym (more (count parts)) ∙ form.fit) then each form }
+      record {
+        says = λ each form. three_and_more (SaysOf at rule read P) parts (sym (more (count parts)) ∙ form.fit) then each form;
+      }
 
   -- a list says what each of the forms of its place says, or of another place with the same forms
   pub list_says_by : {A : Type 0} {P : A → Type 0} (read : Rule → Trees → Option A) (place : Place) (at : Standing)
