@@ -18,9 +18,11 @@ pub record Counted (begun : Begun) (stages sites : List ℕ) (after : Begun) : T
   pub stages_between : begun.stages + length stages ≡ after.stages
   pub sites_between : begun.sites + length sites ≡ after.sites
 
+-- those of an item
 abbrev CountedItem : Begun → SheetItem × Begun → Type 0
 CountedItem begun p = Counted begun (stages_in_item p.0) (sites_in_item p.0) p.1
 
+-- and of several
 abbrev pub CountedItems : Begun → SheetItems × Begun → Type 0
 CountedItems begun p = Counted begun (stages_in p.0) (sites_in p.0) p.1
 
@@ -58,6 +60,7 @@ counted_on begun between after stages stages' sites sites' first later =
     record { stages_between = omega (arith, a, b, long); sites_between = omega (arith, c, d, long') }
 
 mutual
+  -- ITEM
   item_counts : (naming : Naming) (begun : Begun) (tree : Tree) → Means (item_at naming begun tree) (CountedItem begun)
   item_counts naming begun (word bytes from to) = nothing
   item_counts naming begun (list parts from to) =

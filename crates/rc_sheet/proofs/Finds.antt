@@ -8,6 +8,7 @@ abbrev pub Found : {A : Type 0} → Option A → (A → Type 0) → Type 0
 Found None P = ⊥
 Found (Some x) P = P x
 
+-- the same, kept apart from the option it is said of
 pub record Finds {A : Type 0} (found : Option A) (P : A → Type 0) : Type 0 where
   pub holds : Found found P
 
@@ -67,6 +68,7 @@ pub where_true : {A : Type 0} {P : A → Type 0} (b : Bool) (x y : Option A) →
 where_true true x y is p = p
 where_true false x y is p = absurd cc
 
+-- the other way
 pub where_false : {A : Type 0} {P : A → Type 0} (b : Bool) (x y : Option A) → b ≡ false → Finds y P → Finds (cond b x y) P
 where_false true x y is p = absurd cc
 where_false false x y is p = p

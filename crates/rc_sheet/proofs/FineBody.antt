@@ -41,6 +41,7 @@ best_finds bytes from to taken =
 abbrev pub last_part : Standing → Trees → Standing
 last_part at all = plain_part at place.Scoring all
 
+-- and how one before it does
 abbrev pub item_part : Standing → Trees → Standing
 item_part at all = plain_part at place.Item all
 
@@ -66,6 +67,7 @@ module _ (given : Given) (naming : Naming) where
   stands_behind at all last =
       from_two _ (λ j is. ap (λ b. option_map (λ p. plain_part at p all) (behind_front rule.Game b)) is)
 
+  -- so they are such
   is_body : (at : Standing) (all : Trees) (index : ℕ) (trees : Trees) → 2 ≤ index → index + count trees ≡ count all
       → 1 ≤ count trees → AreGood given naming at rule.Game all index trees
       → IsBody at all trees (parts_in at rule.Game all index trees)
@@ -218,6 +220,7 @@ module _ (sheet : Sheet) (given : Given) (gives : Gives sheet given) where
   BodyAt body =
       AreItems sheet outside body.0 × (1 ≤ length (item_list body.0)) × IsInt sheet scored body.1.1 × HasFew body.0
 
+  -- the items
   items_of_body : (all rest : Trees) (parts : List Part) → IsBody given (naming_of sheet) standing_alone all rest parts
       → HasRoom none_begun parts
       → Finds (option_map (λ p. p.0) (items_at (naming_of sheet) none_begun (but_last rest)))
@@ -240,6 +243,7 @@ module _ (sheet : Sheet) (given : Given) (gives : Gives sheet given) where
       let counted' = are.1.sites_between in
       (are.0.0, are.0.1, (omega (arith, stages, few, begun, counted), omega (arith, sites, few', begun', counted'))))
 
+  -- the score
   score_of_body : (all rest : Trees) (parts : List Part) → IsBody given (naming_of sheet) standing_alone all rest parts
       → Finds (last_of rest >>= score_at (naming_of sheet)) (λ p. IsInt sheet scored p.1)
   score_of_body all rest parts body =
@@ -247,6 +251,7 @@ module _ (sheet : Sheet) (given : Given) (gives : Gives sheet given) where
       (finds_if (last_of rest) body.scoring body.is_last refl)
       (score_finds (last_part standing_alone all) body.scoring refl body.scores)
 
+  -- both
   pub body_finds : (all rest : Trees) (parts : List Part) → 2 ≤ count rest
       → IsBody given (naming_of sheet) standing_alone all rest parts
       → HasRoom none_begun parts → Finds (body_at (naming_of sheet) rest) BodyAt

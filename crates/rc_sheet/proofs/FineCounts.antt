@@ -87,6 +87,7 @@ pub few_stages : (tree : Tree) → second_faults tree ≡ [] → stage_count (pa
 few_stages tree is =
     stays_within most_stages stage_count (parts_of tree) (stages_watched (parts_of tree)) [] (parts_of tree) is (omega arith)
 
+-- and the choices
 pub few_choices : (tree : Tree) → second_faults tree ≡ [] → choice_count (parts_of tree) ≤ most_sites
 few_choices tree is =
     stays_within most_sites choice_count (parts_of tree) (choices_watched (parts_of tree)) [] (parts_of tree) is (omega arith)

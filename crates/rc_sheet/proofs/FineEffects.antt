@@ -44,6 +44,7 @@ in_repeats at all =
     { around = cond b (in_repeat at.around) at.around }))
     (lt-ltb 1 (suc (suc j)) (omega arith)))
 
+-- and those of `all`
 in_all : (at : Standing) (all : Trees) (i : ℕ) → 3 ≤ i
     → standing_in at rule.Each all i
     ≡ Some (record (plain_part at place.Effect all) { around = bound_in at.around (word_in 2 all) (sort_over (part_at 1 all)) })
@@ -57,6 +58,7 @@ module _ (sheet : Sheet) (given : Given) (gives : Gives sheet given) where
   abbrev pub SpotAt : Standing → End × Loc → Type 0
   SpotAt at spot = IsLoc sheet at.around spot.1 × IsPlaced sheet given at.role spot.1.name
 
+  -- a spot
   pub spot_finds : (at : Standing) (tree : Tree) → at.place ≡ place.Spot → Good sheet given at tree
       → Finds (spot_at (naming_of sheet) at.around.scope tree) (SpotAt at)
   spot_finds at (word bytes from to) here good =
@@ -79,6 +81,7 @@ module _ (sheet : Sheet) (given : Given) (gives : Gives sheet given) where
     pub effect : (at : Standing) → at.place ≡ place.Effect → Good sheet given at tree
         → Finds (effect_at (naming_of sheet) at.around.scope tree) (IsEffect sheet at.around)
 
+  -- a form of this rule says an effect
   abbrev SaysEffect : Standing → Rule → Trees → Type 0
   SaysEffect at rule parts =
       Says given (naming_of sheet) Acts at rule (effect_rule (naming_of sheet) at.around.scope) (IsEffect sheet at.around) parts
@@ -87,9 +90,11 @@ module _ (sheet : Sheet) (given : Given) (gives : Gives sheet given) where
   abbrev pub AreEffectsOf : Trees → Around → Effects → Type 0
   AreEffectsOf parts around es = AreEffects sheet around es × (length (effect_list es) ≡ count parts)
 
+  -- they are read
   abbrev pub EffectsIn : Trees → Around → Type 0
   EffectsIn parts around = Finds (effects_at (naming_of sheet) around.scope parts) (AreEffectsOf parts around)
 
+  -- one after the other
   pub effects_find : (at : Standing) (parts : Trees) → at.place ≡ place.Effect → Each Acts parts
       → Each (Good sheet given at) parts → EffectsIn parts at.around
   effects_find at nil here each good = finds no_effect (tt, refl)
@@ -97,7 +102,7 @@ module _ (sheet : Sheet) (given : Given) (gives : Gives sheet given) where
       joins _ _ effect (each.0.effect at here good.0) (effects_find at parts here each.1 good.1)
       (λ e es is are. ((is, are.0), ap (λ n. suc n) are.1))
 
-  -- by each of its forms
+  -- `(move CARD SPOT)`
   move_says : (at : Standing) (parts : Trees) → SaysEffect at rule.Move parts
   move_says at parts =
       with_three given (naming_of sheet) Acts (λ n. refl)
@@ -105,6 +110,7 @@ module _ (sheet : Sheet) (given : Given) (gives : Gives sheet given) where
       (finds_both _ _ ((reads sheet given gives card).card _ refl form.good.1.0) (spot_finds _ spot refl form.good.1.1.0))
       (λ p is. is))
 
+  -- `(move all COLL SPOT)`
   move_all_says : (at : Standing) (parts : Trees) → SaysEffect at rule.MoveAll parts
   move_all_says at parts =
       with_four given (naming_of sheet) Acts (λ n. refl)
@@ -112,6 +118,7 @@ module _ (sheet : Sheet) (given : Given) (gives : Gives sheet given) where
       (finds_both _ _ ((reads sheet given gives cards).coll _ refl form.good.1.1.0) (spot_finds _ spot refl form.good.1.1.1.0))
       (λ p is. is))
 
+  -- `(remember CARD SPOT)`
   remember_says : (at : Standing) (parts : Trees) → SaysEffect at rule.Remember parts
   remember_says at parts =
       with_three given (naming_of sheet) Acts (λ n. refl)
@@ -119,43 +126,51 @@ module _ (sheet : Sheet) (given : Given) (gives : Gives sheet given) where
       (finds_both _ _ ((reads sheet given gives card).card _ refl form.good.1.0) (spot_finds _ spot refl form.good.1.1.0))
       (λ p is. is))
 
+  -- `(forget CARD)`
   forget_says : (at : Standing) (parts : Trees) → SaysEffect at rule.Forget parts
   forget_says at parts =
       with_two given (naming_of sheet) Acts (λ n. refl)
       (λ head card each form. makes _ forget ((reads sheet given gives card).card _ refl form.good.1.0) (λ c is. is))
 
+  -- `(shuffle LOC)`
   shuffle_says : (at : Standing) (parts : Trees) → SaysEffect at rule.Shuffle parts
   shuffle_says at parts =
       with_two given (naming_of sheet) Acts (λ n. refl)
       (λ head loc each form. makes _ shuffle (loc_finds sheet given _ loc refl form.good.1.0) (λ l is. is))
 
+  -- `(set NUM INT)`
   set_says : (at : Standing) (parts : Trees) → SaysEffect at rule.Set parts
   set_says at parts =
       with_three given (naming_of sheet) Acts (λ n. refl)
       (λ head num value each form. joins _ _ set_to (num_finds sheet given _ num refl form.good.1.0)
       ((reads sheet given gives value).int _ refl form.good.1.1.0) (λ n v is is'. (is, is')))
 
+  -- `(inc NUM INT)`
   increase_says : (at : Standing) (parts : Trees) → SaysEffect at rule.Increase parts
   increase_says at parts =
       with_three given (naming_of sheet) Acts (λ n. refl)
       (λ head num value each form. joins _ _ increase (num_finds sheet given _ num refl form.good.1.0)
       ((reads sheet given gives value).int _ refl form.good.1.1.0) (λ n v is is'. (is, is')))
 
+  -- `(dec NUM INT)`
   decrease_says : (at : Standing) (parts : Trees) → SaysEffect at rule.Decrease parts
   decrease_says at parts =
       with_three given (naming_of sheet) Acts (λ n. refl)
       (λ head num value each form. joins _ _ decrease (num_finds sheet given _ num refl form.good.1.0)
       ((reads sheet given gives value).int _ refl form.good.1.1.0) (λ n v is is'. (is, is')))
 
+  -- `(cycle next OWNER)`
   next_says : (at : Standing) (parts : Trees) → SaysEffect at rule.Next parts
   next_says at parts =
       with_three given (naming_of sheet) Acts (λ n. refl)
       (λ head next owner each form. makes _ next_is (owner_finds sheet given _ owner refl form.good.1.1.0)
       (λ who is. (is.0, subst (IsInStage at.around) (sym is.1) (stage_around at.around _ form.fine.fits))))
 
+  -- `(cycle reverse)`
   reverse_says : (at : Standing) (parts : Trees) → SaysEffect at rule.Reverse parts
   reverse_says at parts = record { says = λ each form. finds turn_round form.fine.fits }
 
+  -- `(if BOOL EFFECT+)`
   if_says : (at : Standing) (parts : Trees) → SaysEffect at rule.If parts
   if_says at parts =
       behind_two given (naming_of sheet) Acts (λ n. refl)
@@ -165,6 +180,7 @@ module _ (sheet : Sheet) (given : Given) (gives : Gives sheet given) where
       joins _ _ when ((reads sheet given gives t).test _ refl form.good.1.0) (effects_find _ rest refl each.1.1 alike)
       (λ t es is are. let long = are.1 in (is, omega (arith, some, long), are.0)))
 
+  -- `(repeat INT EFFECT+)`
   repeat_says : (at : Standing) (parts : Trees) → SaysEffect at rule.Repeat parts
   repeat_says at parts =
       behind_two given (naming_of sheet) Acts (λ n. refl)
@@ -175,6 +191,7 @@ module _ (sheet : Sheet) (given : Given) (gives : Gives sheet given) where
       (λ t es is are.
       let long = are.1 in (is, leb-false most_repeats at.around.repeats form.fine.fits, omega (arith, some, long), are.0)))
 
+  -- `(all RANGE 'V EFFECT+)`
   all_says : (at : Standing) (parts : Trees) → SaysEffect at rule.Each parts
   all_says at parts =
       behind_three given (naming_of sheet) Acts (λ n. refl)
@@ -211,6 +228,7 @@ module _ (sheet : Sheet) (given : Given) (gives : Gives sheet given) where
   abbrev pub DomainAt : Around → Sort → Domain → Type 0
   DomainAt around sort domain = IsDomain sheet around domain × (sort ≡ sort_of domain)
 
+  -- a form of this rule says a domain
   abbrev SaysDomain : Standing → ℕ → Rule → Trees → Type 0
   SaysDomain at from rule parts =
       Says given (naming_of sheet) (Reads sheet given) at rule (domain_rule (naming_of sheet) at.around.scope from)
@@ -245,6 +263,7 @@ module _ (sheet : Sheet) (given : Given) (gives : Gives sheet given) where
       (λ head cards attr each form. joins _ _ each_group (each.1.0.coll _ refl form.good.1.0)
       (attr_finds sheet given gives _ attr refl refl form.good.1.1.0) (λ c n is named. ((is, named), refl)))
 
+  -- `(partition COLL ATTR)`
   partition_says : (at : Standing) (from : ℕ) (parts : Trees) → at.place ≡ place.Domain
       → SaysDomain at from rule.Partition parts
   partition_says at from parts here =
@@ -253,6 +272,7 @@ module _ (sheet : Sheet) (given : Given) (gives : Gives sheet given) where
             (λ domain is. (is.0, sort_told at parts rule.Partition here form.told ∙ sym is.1));
       }
 
+  -- a domain
   pub domain_finds : (at : Standing) (tree : Tree) → at.place ≡ place.Domain → Good sheet given at tree
       → Finds (domain_at (naming_of sheet) at.around.scope tree) (DomainAt at.around (sort_over tree))
   domain_finds at (word bytes from to) here good =
@@ -274,6 +294,7 @@ module _ (sheet : Sheet) (given : Given) (gives : Gives sheet given) where
     pub alt : (at : Standing) → at.place ≡ place.Alternative → Good sheet given at tree
         → Finds (alt_at (naming_of sheet) at.around.scope tree) (IsAlt sheet at.around)
 
+  -- a form of this rule says an alternative
   abbrev SaysAlt : Standing → Rule → Trees → Type 0
   SaysAlt at rule parts =
       Says given (naming_of sheet) Offers at rule (alt_rule (naming_of sheet) at.around.scope) (IsAlt sheet at.around) parts
@@ -287,6 +308,7 @@ module _ (sheet : Sheet) (given : Given) (gives : Gives sheet given) where
   each_acts nil = tt
   each_acts (cons part parts) = (acts part, each_acts parts)
 
+  -- `(do EFFECT+)`
   do_alt_says : (at : Standing) (parts : Trees) → SaysAlt at rule.Do parts
   do_alt_says at parts =
       behind_one given (naming_of sheet) Offers (λ n. refl)
@@ -296,6 +318,7 @@ module _ (sheet : Sheet) (given : Given) (gives : Gives sheet given) where
       makes _ do_alt (effects_find _ rest refl (each_acts rest) alike)
       (λ es are. let long = are.1 in (omega (arith, some, long), are.0)))
 
+  -- `(if BOOL EFFECT+)`
   if_alt_says : (at : Standing) (parts : Trees) → SaysAlt at rule.If parts
   if_alt_says at parts =
       behind_two given (naming_of sheet) Offers (λ n. refl)
@@ -305,6 +328,7 @@ module _ (sheet : Sheet) (given : Given) (gives : Gives sheet given) where
       joins _ _ if_alt ((reads sheet given gives t).test _ refl form.good.1.0) (effects_find _ rest refl (each_acts rest) alike)
       (λ t es is are. let long = are.1 in (is, omega (arith, some, long), are.0)))
 
+  -- `(any DOMAIN 'V ALT)`
   any_alt_says : (at : Standing) (parts : Trees) → SaysAlt at rule.AnyOf parts
   any_alt_says at parts =
       with_four given (naming_of sheet) Offers (λ n. refl)

@@ -78,6 +78,7 @@ side_of_class game_class = sorts.Value
 side_of_class player_class = sorts.Player
 side_of_class team_class = sorts.Team
 
+-- the sort of what is read as a side
 abbrev pub sort_of_side : Side → SideSort
 sort_of_side (number_side value) = sorts.Number
 sort_of_side (card_side card) = sorts.Card
@@ -106,6 +107,7 @@ module _ (sheet : Sheet) (given : Given) where
   IsSide around (value_side card attr) = IsCard sheet around card × IsAttr sheet attr
   IsSide around (owner_side who) = IsOwner around who
 
+  -- where this sort is expected
   abbrev pub SideAt : Around → Option SideSort → Side → Type 0
   SideAt around sort side = IsSide around side × (sort ≡ Some (sort_of_side side))
 
@@ -133,14 +135,17 @@ module _ (sheet : Sheet) (given : Given) where
   SaysCard at rule parts =
       Says given (naming_of sheet) Reads at rule (card_rule (naming_of sheet) at.around.scope) (IsCard sheet at.around) parts
 
+  -- a list of cards
   abbrev SaysColl : Standing → ℕ → Rule → Trees → Type 0
   SaysColl at from rule parts =
       Says given (naming_of sheet) Reads at rule (coll_rule (naming_of sheet) at.around.scope from) (IsColl sheet at.around) parts
 
+  -- a number
   abbrev SaysInt : Standing → Rule → Trees → Type 0
   SaysInt at rule parts =
       Says given (naming_of sheet) Reads at rule (int_rule (naming_of sheet) at.around.scope) (IsInt sheet at.around) parts
 
+  -- a test
   abbrev SaysTest : Standing → Rule → Trees → Type 0
   SaysTest at rule parts =
       Says given (naming_of sheet) Reads at rule (test_rule (naming_of sheet) at.around.scope) (IsTest sheet at.around) parts
@@ -149,23 +154,26 @@ module _ (sheet : Sheet) (given : Given) where
   abbrev TestIn : Tree → Around → Type 0
   TestIn t around = Finds (test_at (naming_of sheet) around.scope t) (IsTest sheet around)
 
-  -- CARD, by each of its forms
+  -- CARD: `(top COLL)`
   top_says : (at : Standing) (parts : Trees) → SaysCard at rule.TopCard parts
   top_says at parts =
       with_two given (naming_of sheet) Reads (λ n. refl)
       (λ head cards each form. makes _ top_card (each.1.0.coll _ refl form.good.1.0) (λ c is. is))
 
+  -- `(bottom COLL)`
   bottom_says : (at : Standing) (parts : Trees) → SaysCard at rule.BottomCard parts
   bottom_says at parts =
       with_two given (naming_of sheet) Reads (λ n. refl)
       (λ head cards each form. makes _ bottom_card (each.1.0.coll _ refl form.good.1.0) (λ c is. is))
 
+  -- `(max COLL using MAP)`
   max_says : Gives sheet given → (at : Standing) (parts : Trees) → SaysCard at rule.MaxCard parts
   max_says gives at parts =
       with_four given (naming_of sheet) Reads (λ n. refl)
       (λ head cards using map each form. joins _ _ max_card (each.1.0.coll _ refl form.good.1.0)
       (map_finds sheet given gives _ _ using map refl form.good.1.1.0 refl refl form.good.1.1.1.0) (λ c n is used. (is, used)))
 
+  -- `(min COLL using MAP)`
   min_says : Gives sheet given → (at : Standing) (parts : Trees) → SaysCard at rule.MinCard parts
   min_says gives at parts =
       with_four given (naming_of sheet) Reads (λ n. refl)
@@ -182,11 +190,12 @@ module _ (sheet : Sheet) (given : Given) where
       let found = good_form given (naming_of sheet) at parts from to good in
       no_groups parts found.0 (ap (λ p. rule_of p parts) (sym here) ∙ found.1.told)
 
-  -- COLL, by each of its forms
+  -- COLL: `(HOLDER KIND NAME)`
   pub location_says : (at : Standing) (from : ℕ) (parts : Trees) → SaysColl at from rule.Location parts
   location_says at from parts =
       record { says = λ each form. makes _ cards_in (loc_parts_finds sheet given at parts from form) (λ loc is. is.0) }
 
+  -- `(filter COLL 'V BOOL)`
   pub filter_says : (at : Standing) (from : ℕ) (parts : Trees) → SaysColl at from rule.Filter parts
   filter_says at from parts =
       with_four given (naming_of sheet) Reads (λ n. refl)
@@ -207,12 +216,14 @@ module _ (sheet : Sheet) (given : Given) where
       joins _ _ coll (each.0.coll at here good.0) (colls_find at parts here each.1 good.1)
       (λ c cs is are. ((is, are.0), ap (λ n. suc n) are.1))
 
+  -- how the lists of cards of a union stand
   union_parts : (at : Standing) (all : Trees) (i : ℕ) → 1 ≤ i
       → standing_in at rule.Union all i ≡ Some (plain_part at place.Collection all)
   union_parts at all zero le = absurd (omega (arith, le))
   union_parts at all (suc zero) le = refl
   union_parts at all (suc (suc i)) le = refl
 
+  -- `(union COLL COLL+)`
   pub union_says : (at : Standing) (from : ℕ) (parts : Trees) → SaysColl at from rule.Union parts
   union_says at from parts =
       behind_two given (naming_of sheet) Reads (λ n. refl)
@@ -230,6 +241,7 @@ module _ (sheet : Sheet) (given : Given) where
       makes (variable_in at.around.scope group_sort bytes) group_var
       (variable_finds sheet given at group_sort bytes is sorts good.fine.0) (λ var has. has)
 
+  -- as a list, also where a range may stand
   coll_list_finds : (at : Standing) (parts : Trees) (from to : ℕ) → rule_of at.place parts ≡ rule_of place.Collection parts
       → Each Reads parts → Good sheet given at (list parts from to)
       → Finds (coll_at (naming_of sheet) at.around.scope (list parts from to)) (IsColl sheet at.around)
@@ -250,10 +262,12 @@ module _ (sheet : Sheet) (given : Given) where
       (coll_word_finds at bytes from to (ap (λ b. b || is_variable bytes) (sym other) ∙ taken) sorts good)
       (λ c is. (is, ap (λ b. cond b player_sort card_sort) other)))
 
+  -- a range that is a list has the forms of a list of cards
   same_ranges : (parts : Trees) → rule_of place.Members parts ≡ rule_of place.Collection parts
   same_ranges nil = refl
   same_ranges (cons head parts) = refl
 
+  -- as a list
   range_list_finds : (at : Standing) (parts : Trees) (from to : ℕ) → at.place ≡ place.Members
       → Each Reads parts → Good sheet given at (list parts from to)
       → Finds (range_at (naming_of sheet) at.around.scope (list parts from to)) (RangeAt at.around (list parts from to))
@@ -263,40 +277,46 @@ module _ (sheet : Sheet) (given : Given) where
       makes _ each_card (coll_list_finds at parts from to same each good)
       (λ c is. (is, no_groups parts found.0 (sym same ∙ found.1.told)))
 
-  -- INT, by each of its forms
+  -- INT: `(HOLDER sto NAME)`
   counter_says : (at : Standing) (parts : Trees) → SaysInt at rule.Counter parts
   counter_says at parts =
       record { says = λ each form. makes _ number (num_parts_finds sheet given at parts form) (λ num is. is) }
 
+  -- `(size COLL)`
   size_says : (at : Standing) (parts : Trees) → SaysInt at rule.Size parts
   size_says at parts =
       with_two given (naming_of sheet) Reads (λ n. refl)
       (λ head cards each form. makes _ size_of (each.1.0.coll _ refl form.good.1.0) (λ c is. is))
 
+  -- `(sum COLL using MAP)`
   sum_says : Gives sheet given → (at : Standing) (parts : Trees) → SaysInt at rule.Sum parts
   sum_says gives at parts =
       with_four given (naming_of sheet) Reads (λ n. refl)
       (λ head cards using map each form. joins _ _ sum_of (each.1.0.coll _ refl form.good.1.0)
       (map_finds sheet given gives _ _ using map refl form.good.1.1.0 refl refl form.good.1.1.1.0) (λ c n is used. (is, used)))
 
+  -- `(points CARD using MAP)`
   points_says : Gives sheet given → (at : Standing) (parts : Trees) → SaysInt at rule.PointsOf parts
   points_says gives at parts =
       with_four given (naming_of sheet) Reads (λ n. refl)
       (λ head card using map each form. joins _ _ worth_of (each.1.0.card _ refl form.good.1.0)
       (map_finds sheet given gives _ _ using map refl form.good.1.1.0 refl refl form.good.1.1.1.0) (λ c n is used. (is, used)))
 
+  -- `(+ INT INT)`
   plus_says : (at : Standing) (parts : Trees) → SaysInt at rule.Plus parts
   plus_says at parts =
       with_three given (naming_of sheet) Reads (λ n. refl)
       (λ head a b each form. joins _ _ add (each.1.0.int _ refl form.good.1.0) (each.1.1.0.int _ refl form.good.1.1.0)
       (λ a b is is'. (is, is')))
 
+  -- `(- INT INT)`
   minus_says : (at : Standing) (parts : Trees) → SaysInt at rule.Minus parts
   minus_says at parts =
       with_three given (naming_of sheet) Reads (λ n. refl)
       (λ head a b each form. joins _ _ subtract (each.1.0.int _ refl form.good.1.0) (each.1.1.0.int _ refl form.good.1.1.0)
       (λ a b is is'. (is, is')))
 
+  -- `(* INT INT)`
   times_says : (at : Standing) (parts : Trees) → SaysInt at rule.Times parts
   times_says at parts =
       with_three given (naming_of sheet) Reads (λ n. refl)
@@ -309,6 +329,7 @@ module _ (sheet : Sheet) (given : Given) where
       side_by rule (int_rule (naming_of sheet) scope rule parts) (card_rule (naming_of sheet) scope rule parts)
       (value_parts (naming_of sheet) scope parts) (owner_rule scope rule parts)
 
+  -- a side of the sort that its form tells
   abbrev SaysSide : Standing → Rule → Trees → Type 0
   SaysSide at rule parts =
       Says given (naming_of sheet) Reads at rule (side_read at.around.scope)
@@ -388,6 +409,7 @@ module _ (sheet : Sheet) (given : Given) where
   sort_finds around var card_sort has fits = finds (card_side (card_var var)) (has, refl)
   sort_finds around var group_sort has fits = absurd cc
 
+  -- a variable in scope as a side
   variable_side_finds : (at : Standing) (bytes : List ℕ) → is_variable bytes ≡ true → at.place ≡ place.Side
       → (bound : IsBound sheet given at bytes)
       → Finds (variable_side bound.var (slice_get at.around.scope bound.var))
@@ -423,6 +445,7 @@ module _ (sheet : Sheet) (given : Given) where
       (integer_finds bytes (ap (λ b. b || is_number bytes) (sym other) ∙ taken))
       (λ v is. (is, ap (λ b. cond b (side_of_variable (variable_found at.around.scope bytes)) (Some sorts.Number)) other)))
 
+  -- a list as a side
   side_list_finds : Gives sheet given → (at : Standing) (parts : Trees) (from to : ℕ) → at.place ≡ place.Side
       → Each Reads parts → Good sheet given at (list parts from to)
       → Finds (side_at (naming_of sheet) at.around.scope (list parts from to))
@@ -456,11 +479,13 @@ module _ (sheet : Sheet) (given : Given) where
   Apart sort who =
       (same_side sort (side_of_class (class_of who)) ≡ false) × (same_side (side_of_class (class_of who)) sort ≡ false)
 
+  -- where it is no game
   owner_differs : (around : Around) (who : Who) → IsOwner around who
       → Apart sorts.Number who × Apart sorts.Card who × Apart sorts.Value who
   owner_differs around game is = absurd is
   owner_differs around who is = ((refl, refl), (refl, refl), (refl, refl))
 
+  -- what two sides of one sort make
   equal_finds : (around : Around) (a b : Side) → IsSide around a → IsSide around b
       → same_side (sort_of_side a) (sort_of_side b) ≡ true → Finds (equal_test a b) (IsEquation around)
   equal_finds around (number_side a) (number_side b) p q is = finds (eq_int a b) (refl, (p, q))
@@ -497,6 +522,7 @@ module _ (sheet : Sheet) (given : Given) where
   sides_fit at (list parts from to) good =
       (good_form given (naming_of sheet) at parts from to good).1.fine.sides_fit
 
+  -- `(= SIDE SIDE)`
   equal_says : (at : Standing) (parts : Trees) → SaysTest at rule.Equal parts
   equal_says at parts =
       with_three given (naming_of sheet) Reads (λ n. refl)
@@ -505,6 +531,7 @@ module _ (sheet : Sheet) (given : Given) where
       (sides_fit _ b form.good.1.1.0))
       (λ t is. is.1))
 
+  -- `(!= SIDE SIDE)`
   unequal_says : (at : Standing) (parts : Trees) → SaysTest at rule.NotEqual parts
   unequal_says at parts =
       with_three given (naming_of sheet) Reads (λ n. refl)
@@ -513,30 +540,35 @@ module _ (sheet : Sheet) (given : Given) where
       (sides_fit _ b form.good.1.1.0))
       (λ t is. is))
 
+  -- `(< INT INT)`
   less_says : (at : Standing) (parts : Trees) → SaysTest at rule.Less parts
   less_says at parts =
       with_three given (naming_of sheet) Reads (λ n. refl)
       (λ head a b each form. joins _ _ less (each.1.0.int _ refl form.good.1.0) (each.1.1.0.int _ refl form.good.1.1.0)
       (λ a b is is'. (is, is')))
 
+  -- `(<= INT INT)`
   less_eq_says : (at : Standing) (parts : Trees) → SaysTest at rule.LessOrEqual parts
   less_eq_says at parts =
       with_three given (naming_of sheet) Reads (λ n. refl)
       (λ head a b each form. joins _ _ less_eq (each.1.0.int _ refl form.good.1.0) (each.1.1.0.int _ refl form.good.1.1.0)
       (λ a b is is'. (is, is')))
 
+  -- `(> INT INT)`
   more_says : (at : Standing) (parts : Trees) → SaysTest at rule.More parts
   more_says at parts =
       with_three given (naming_of sheet) Reads (λ n. refl)
       (λ head a b each form. joins _ _ more (each.1.0.int _ refl form.good.1.0) (each.1.1.0.int _ refl form.good.1.1.0)
       (λ a b is is'. (is, is')))
 
+  -- `(>= INT INT)`
   more_eq_says : (at : Standing) (parts : Trees) → SaysTest at rule.MoreOrEqual parts
   more_eq_says at parts =
       with_three given (naming_of sheet) Reads (λ n. refl)
       (λ head a b each form. joins _ _ more_eq (each.1.0.int _ refl form.good.1.0) (each.1.1.0.int _ refl form.good.1.1.0)
       (λ a b is is'. (is, is')))
 
+  -- `(is CARD ATTR VALUE)`
   is_says : Gives sheet given → (at : Standing) (parts : Trees) → SaysTest at rule.Is parts
   is_says gives at parts =
       with_four given (naming_of sheet) Reads (λ n. refl)
@@ -555,6 +587,7 @@ module _ (sheet : Sheet) (given : Given) where
       joins _ _ test (each.0.test at here good.0) (tests_find at parts here each.1 good.1)
       (λ t ts is are. ((is, are.0), ap (λ n. suc n) are.1))
 
+  -- `(and BOOL+)`
   and_says : (at : Standing) (parts : Trees) → SaysTest at rule.And parts
   and_says at parts =
       behind_one given (naming_of sheet) Reads (λ n. refl)
@@ -564,6 +597,7 @@ module _ (sheet : Sheet) (given : Given) where
       (from_one _ (λ j. refl)) form.good.1 in
       makes _ and_of (tests_find _ rest refl each.1 alike) (λ ts are. let long = are.1 in (omega (arith, some, long), are.0)))
 
+  -- `(or BOOL+)`
   or_says : (at : Standing) (parts : Trees) → SaysTest at rule.Or parts
   or_says at parts =
       behind_one given (naming_of sheet) Reads (λ n. refl)
@@ -573,11 +607,13 @@ module _ (sheet : Sheet) (given : Given) where
       (from_one _ (λ j. refl)) form.good.1 in
       makes _ or_of (tests_find _ rest refl each.1 alike) (λ ts are. let long = are.1 in (omega (arith, some, long), are.0)))
 
+  -- `(not BOOL)`
   not_says : (at : Standing) (parts : Trees) → SaysTest at rule.Not parts
   not_says at parts =
       with_two given (naming_of sheet) Reads (λ n. refl)
       (λ head t each form. makes _ not_of (each.1.0.test _ refl form.good.1.0) (λ t is. is))
 
+  -- `(all RANGE 'V BOOL)`
   all_says : (at : Standing) (parts : Trees) → SaysTest at rule.ForAll parts
   all_says at parts =
       with_four given (naming_of sheet) Reads (λ n. refl)
@@ -588,6 +624,7 @@ module _ (sheet : Sheet) (given : Given) where
       is.1 (each.1.1.1.0.test _ refl form.good.1.1.1.0))
       (λ t' holds. (is.0, binds.0, holds)))))
 
+  -- `(any RANGE 'V BOOL)`
   any_says : (at : Standing) (parts : Trees) → SaysTest at rule.ForAny parts
   any_says at parts =
       with_four given (naming_of sheet) Reads (λ n. refl)
@@ -598,6 +635,7 @@ module _ (sheet : Sheet) (given : Given) where
       is.1 (each.1.1.1.0.test _ refl form.good.1.1.1.0))
       (λ t' holds. (is.0, binds.0, holds)))))
 
+  -- a test, by its forms
   test_list_finds : Gives sheet given → (at : Standing) (parts : Trees) (from to : ℕ) → at.place ≡ place.Test
       → Each Reads parts → Good sheet given at (list parts from to)
       → Finds (test_at (naming_of sheet) at.around.scope (list parts from to)) (IsTest sheet at.around)
@@ -618,6 +656,7 @@ module _ (sheet : Sheet) (given : Given) where
       no_shape : atom_faults place.Test bytes from ≡ [] → ⊥
       no_shape is = cc
 
+  -- an atom at each place
   pub words_read : (bytes : List ℕ) (from to : ℕ) → Reads (word bytes from to)
   words_read bytes from to =
       record {
@@ -637,6 +676,7 @@ module _ (sheet : Sheet) (given : Given) where
         test = λ at here good. absurd (refused at bytes from to here good);
       }
 
+  -- a list at each place, where its parts are read
   pub lists_read : Gives sheet given → (parts : Trees) (from to : ℕ) → Each Reads parts → Reads (list parts from to)
   lists_read gives parts from to each =
       record {

@@ -125,10 +125,12 @@ module _ (sheet : Sheet) (given : Given) (gives : Gives sheet given) where
   abbrev pub ItemAt : Around → Begun → List Part → SheetItem × Begun → Type 0
   ItemAt around begun parts p = IsItem sheet around p.0 × IsWithin begun parts p.1
 
+  -- several items
   abbrev pub ItemsAt : Around → Begun → List Part → ℕ → SheetItems × Begun → Type 0
   ItemsAt around begun parts n p =
       AreItems sheet around p.0 × (length (item_list p.0) ≡ n) × IsWithin begun parts p.1
 
+  -- a tree at the place of an item
   pub record Plays (tree : Tree) : Type 0 where
     pub item : (at : Standing) → at.place ≡ place.Item → at.around.scope ≡ [] → Good sheet given at tree
         → (begun : Begun) → HasRoom begun (parts_at (Some at) tree)
@@ -167,6 +169,7 @@ module _ (sheet : Sheet) (given : Given) (gives : Gives sheet given) where
       → Finds (item_rule (naming_of sheet) begun found parts)
       (ItemAt at.around begun (form at found parts from ∷ parts_in at found parts 0 parts))
 
+  -- `(do EFFECT+)`
   do_finds : (at : Standing) (from : ℕ) (begun : Begun) (parts : Trees) → at.around.scope ≡ []
       → ItemOf at from begun rule.Do parts
   do_finds at from begun parts free each good room =
@@ -203,6 +206,7 @@ module _ (sheet : Sheet) (given : Given) (gives : Gives sheet given) where
         farther begun (with_stage begun) p.1.1 inner parts (omega (arith, stages)) (omega (arith, sites)) are.1.2,
       )))
 
+  -- `(stage player END ITEM+)`
   player_stage_finds : (at : Standing) (from : ℕ) (begun : Begun) (parts : Trees) → at.around.scope ≡ []
       → ItemOf at from begun rule.PlayerStage parts
   player_stage_finds at from begun parts free each good room =
@@ -219,6 +223,7 @@ module _ (sheet : Sheet) (given : Given) (gives : Gives sheet given) where
       (λ room. items_find alike rest refl free each.1.1.1 stands (with_stage begun) room))
       each good room
 
+  -- `(stage team END ITEM+)`
   team_stage_finds : (at : Standing) (from : ℕ) (begun : Begun) (parts : Trees) → at.around.scope ≡ []
       → ItemOf at from begun rule.TeamStage parts
   team_stage_finds at from begun parts free each good room =

@@ -145,9 +145,11 @@ pub record Gives (sheet : Sheet) (given : Given) : Type 0 where
       → position (bytes_eq bytes) sheet.names.maps ≡ Some n → IsMap sheet n
 
 module _ (sheet : Sheet) (given : Given) where
+  -- a tree and a form that stand well, with the names of the sheet
   abbrev pub Good : Standing → Tree → Type 0
   Good = IsGood given (naming_of sheet)
 
+  -- the same of a form
   abbrev pub GoodForm : Standing → Rule → Trees → Type 0
   GoodForm = IsGoodForm given (naming_of sheet)
 
@@ -160,6 +162,7 @@ module _ (sheet : Sheet) (given : Given) where
     pub there : slice_get at.around.scope var ≡ Some variable
     pub fits : list_any (same_sort variable.sort) (sorts_at at.place) ≡ true
 
+  -- where its part is fine
   pub bound_variable : (at : Standing) (bytes : List ℕ) → is_variable bytes ≡ true → some_of (sorts_at at.place) ≡ true
       → IsFineAtom given (naming_of sheet) at bytes → IsBound at bytes
   bound_variable at bytes is some fine =
@@ -197,10 +200,11 @@ module _ (sheet : Sheet) (given : Given) where
       (where_true (has_sort sort (slice_get scope bound.var)) (Some bound.var) None (ap (has_sort sort) bound.there ∙ fits)
       (finds bound.var (has_its_sort at bytes sort bound (sorts_same _ sort fits)))))
 
-  -- a variable that an owner's place takes is a player
+  -- an owner of the class that its form tells
   abbrev pub OwnerAt : Around → Tree → Who → Type 0
   OwnerAt around tree who = IsOwner around who × (class_of who ≡ class_at tree)
 
+  -- a variable that an owner's place takes is a player
   who_finds : (at : Standing) (bytes : List ℕ) (from to : ℕ) → is_variable bytes ≡ true
       → sorts_at at.place ≡ player_sort ∷ [] → IsFineAtom given (naming_of sheet) at bytes
       → Finds (option_map who_var (variable_in at.around.scope player_sort bytes)) (OwnerAt at.around (word bytes from to))
@@ -222,6 +226,7 @@ module _ (sheet : Sheet) (given : Given) where
   word_is_variable at place bytes from to here same good =
       passes_test (is_variable bytes) Shape from (sym same ∙ subst (λ p. atom_faults p bytes from ≡ []) here good.shaped)
 
+  -- as a player
   pub player_finds : (at : Standing) (tree : Tree) → at.place ≡ place.Player → Good at tree
       → Finds (player_at at.around.scope tree) (IsPlayer at.around)
   unfolding player_at
@@ -244,14 +249,17 @@ module _ (sheet : Sheet) (given : Given) where
   abbrev pub IsOwnerOf : Around → Class → Who → Type 0
   IsOwnerOf around class who = IsOwner around who × (class_of who ≡ class)
 
+  -- `(current player)`
   pub current_player_finds : (at : Standing) (parts : Trees) → GoodForm at rule.CurrentPlayer parts
       → Finds (owner_rule at.around.scope rule.CurrentPlayer parts) (IsOwnerOf at.around player_class)
   current_player_finds at parts form = finds current_player (form.fine.fits, refl)
 
+  -- `(current team)`
   pub current_team_finds : (at : Standing) (parts : Trees) → GoodForm at rule.CurrentTeam parts
       → Finds (owner_rule at.around.scope rule.CurrentTeam parts) (IsOwnerOf at.around team_class)
   current_team_finds at parts form = finds current_team (form.fine.fits, refl)
 
+  -- `(team of PLAYER)`
   pub team_of_finds : (at : Standing) (parts : Trees) → GoodForm at rule.TeamOf parts
       → Finds (owner_rule at.around.scope rule.TeamOf parts) (IsOwnerOf at.around team_class)
   team_of_finds at parts form =
@@ -282,6 +290,7 @@ module _ (sheet : Sheet) (given : Given) where
       (team_of_finds at parts form))
       ▹ tt)
 
+  -- an owner
   pub owner_finds : (at : Standing) (tree : Tree) → at.place ≡ place.Owner → Good at tree
       → Finds (owner_at at.around.scope tree) (OwnerAt at.around tree)
   unfolding owner_at
@@ -294,14 +303,17 @@ module _ (sheet : Sheet) (given : Given) where
   abbrev pub HolderAt : Around → Tree → Who → Type 0
   HolderAt around tree who = IsHolder around who × (class_of who ≡ class_at tree)
 
+  -- an owner holds
   owner_holds : (around : Around) (tree : Tree) (who : Who) → OwnerAt around tree who → HolderAt around tree who
   owner_holds around tree game is = absurd is.0
   owner_holds around tree who is = is
 
+  -- a holder that is a list has the forms of an owner
   same_owners : (parts : Trees) → rule_of place.Holder parts ≡ rule_of place.Owner parts
   same_owners nil = refl
   same_owners (cons head parts) = refl
 
+  -- a holder
   pub holder_finds : (at : Standing) (tree : Tree) → at.place ≡ place.Holder → Good at tree
       → Finds (holder_at at.around.scope tree) (HolderAt at.around tree)
   unfolding owner_at
@@ -345,6 +357,7 @@ module _ (sheet : Sheet) (given : Given) where
       let n = named_place (bytes_of tree) sheet.names.attrs named.1 in
       name_finds sheet.names.attrs at tree n.0 here good n.1 (gives.attrs (bytes_of tree) n.0 named.0 n.1)
 
+  -- the name of a value
   pub value_finds : Gives sheet given → (at : Standing) (tree : Tree) → at.place ≡ place.Name → at.role ≡ used_value
       → Good at tree → Finds (name_at sheet.names.values tree) (IsValue sheet)
   value_finds gives at tree here is good =
@@ -377,6 +390,7 @@ module _ (sheet : Sheet) (given : Given) where
   BinderAt around bytes bound =
       IsBinder sheet around bound × ((sort : Sort) → behind sheet around bound sort ≡ bound_in around bytes sort)
 
+  -- where its form is fine
   pub binder_finds : (outer at : Standing) (parts : Trees) (tree : Tree) → IsFineBinder (naming_of sheet) outer parts
       → part_at 2 parts ≡ tree → at.place ≡ place.Variable → Good at tree
       → Finds (binder_at sheet.names.vars outer.around.scope tree) (BinderAt outer.around (bytes_of tree))
@@ -419,6 +433,7 @@ module _ (sheet : Sheet) (given : Given) where
   LocAt around kind loc =
       IsLoc sheet around loc × (holds_references sheet loc.name ≡ Some (is_word keyword.Mem kind))
 
+  -- by its parts
   pub loc_parts_finds : (at : Standing) (parts : Trees) (from : ℕ) → GoodForm at rule.Location parts
       → Finds (loc_parts (naming_of sheet) at.around.scope from parts) (LocAt at.around (word_in 1 parts))
   unfolding loc_parts
@@ -447,6 +462,7 @@ module _ (sheet : Sheet) (given : Given) where
   IsPlaced reference_location name = holds_references sheet name ≡ Some true
   IsPlaced role name = Unit {0}
 
+  -- where it is not misplaced
   is_placed : (role : Role) (mention : Mention) (name : ℕ)
       → holds_references sheet name ≡ Some (is_word keyword.Mem mention.kind) → is_misplaced role mention ≡ false
       → IsPlaced role name
@@ -492,6 +508,7 @@ module _ (sheet : Sheet) (given : Given) where
       (ap (is_num_name (class_of who)) m.is ∙ ap (λ c. same_class c (class_of who)) class ∙ class_same (class_of who)) refl)
       (finds _ (holds.0, ap (option_map (λ num. num.class)) m.is ∙ ap Some class)))))) form
 
+  -- a stored number, at its place
   pub num_finds : (at : Standing) (tree : Tree) → at.place ≡ place.Counter → Good at tree
       → Finds (num_at (naming_of sheet) at.around.scope tree) (IsNum sheet at.around)
   unfolding num_at

@@ -19,11 +19,13 @@ pub from_one : (P : ℕ → Type 0) → ((j : ℕ) → P (suc j)) → (i : ℕ) 
 from_one P more zero le = absurd (omega (arith, le))
 from_one P more (suc i) le = more i
 
+-- from two
 pub from_two : (P : ℕ → Type 0) → ((j : ℕ) → P (suc (suc j))) → (i : ℕ) → 2 ≤ i → P i
 from_two P more zero le = absurd (omega (arith, le))
 from_two P more (suc zero) le = absurd (omega (arith, le))
 from_two P more (suc (suc i)) le = more i
 
+-- from three
 pub from_three : (P : ℕ → Type 0) → ((j : ℕ) → P (suc (suc (suc j)))) → (i : ℕ) → 3 ≤ i → P i
 from_three P more zero le = absurd (omega (arith, le))
 from_three P more (suc zero) le = absurd (omega (arith, le))
@@ -45,6 +47,7 @@ module _ (given : Given) (naming : Naming) (R : Tree → Type 0) where
   abbrev pub SaysOf : {A : Type 0} → Standing → Rule → (Rule → Trees → Option A) → (A → Type 0) → Trees → Type 0
   SaysOf at rule read P parts = Each R parts → IsGoodForm given naming at rule parts → Finds (read rule parts) P
 
+  -- a form of two parts
   pub with_two : {A : Type 0} {at : Standing} {rule : Rule} {read : Rule → Trees → Option A} {P : A → Type 0} {parts : Trees}
       → ((n : ℕ) → fits n rule ≡ (n == 2)) → ((a b : Tree) → SaysOf at rule read P (cons a (cons b nil)))
       → Says at rule read P parts
@@ -53,6 +56,7 @@ module _ (given : Given) (naming : Naming) (R : Tree → Type 0) where
         says = λ each form. two_parts (SaysOf at rule read P) parts (sym (two (count parts)) ∙ form.fit) then each form;
       }
 
+  -- of three
   pub with_three : {A : Type 0} {at : Standing} {rule : Rule} {read : Rule → Trees → Option A} {P : A → Type 0} {parts : Trees}
       → ((n : ℕ) → fits n rule ≡ (n == 3)) → ((a b c : Tree) → SaysOf at rule read P (cons a (cons b (cons c nil))))
       → Says at rule read P parts
@@ -61,6 +65,7 @@ module _ (given : Given) (naming : Naming) (R : Tree → Type 0) where
         says = λ each form. three_parts (SaysOf at rule read P) parts (sym (three (count parts)) ∙ form.fit) then each form;
       }
 
+  -- of four
   pub with_four : {A : Type 0} {at : Standing} {rule : Rule} {read : Rule → Trees → Option A} {P : A → Type 0} {parts : Trees}
       → ((n : ℕ) → fits n rule ≡ (n == 4))
       → ((a b c d : Tree) → SaysOf at rule read P (cons a (cons b (cons c (cons d nil)))))
@@ -79,6 +84,7 @@ module _ (given : Given) (naming : Naming) (R : Tree → Type 0) where
         says = λ each form. one_and_more (SaysOf at rule read P) parts (sym (more (count parts)) ∙ form.fit) then each form;
       }
 
+  -- behind two
   pub behind_two : {A : Type 0} {at : Standing} {rule : Rule} {read : Rule → Trees → Option A} {P : A → Type 0} {parts : Trees}
       → ((n : ℕ) → fits n rule ≡ nat_lt 2 n)
       → ((a b : Tree) (rest : Trees) → 1 ≤ count rest → SaysOf at rule read P (cons a (cons b rest))) → Says at rule read P parts
@@ -87,6 +93,7 @@ module _ (given : Given) (naming : Naming) (R : Tree → Type 0) where
         says = λ each form. two_and_more (SaysOf at rule read P) parts (sym (more (count parts)) ∙ form.fit) then each form;
       }
 
+  -- behind three
   pub behind_three : {A : Type 0} {at : Standing} {rule : Rule} {read : Rule → Trees → Option A} {P : A → Type 0} {parts : Trees}
       → ((n : ℕ) → fits n rule ≡ nat_lt 3 n)
       → ((a b c : Tree) (rest : Trees) → 1 ≤ count rest → SaysOf at rule read P (cons a (cons b (cons c rest))))
@@ -109,6 +116,7 @@ module _ (given : Given) (naming : Naming) (R : Tree → Type 0) where
       told [] all = tt
       told (rule ∷ rules) all = ((λ form. (all.0).says each form), told rules all.1)
 
+  -- by its own place
   pub list_says : {A : Type 0} {P : A → Type 0} (read : Rule → Trees → Option A) (place : Place) (at : Standing)
       (parts : Trees) (from to : ℕ) → at.place ≡ place → Each R parts → IsGood given naming at (list parts from to)
       → AllByRecursion (λ rule. Says at rule read P parts) (forms_of place)

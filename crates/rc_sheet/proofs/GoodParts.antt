@@ -1,5 +1,5 @@
--- Trees that stand well in a form: of their place's shape, with no fine print against their parts. What stands so in a list
--- says so of each of its parts.
+-- Trees that stand well in a form: they are of their place's shape, and all their parts are fine. A list that stands well is
+-- a form each of whose parts does.
 use Rattle.std.proofs.Common.{◌≡◌, ℕ, ◌+◌, ◌≤◌, Bool, true, false, cond, List, [], ◌∷◌, ◌++◌, Option, Some, None, option_map, find, nat_lt, ◌==◌, refl, sym, subst, ap, ◌∙◌, arith, eqb-true, ltb-true}
 use Rattle.std.specs.List.{AllByRecursion}
 use Rattle.std.proofs.lemmas.Option.{same_Some}
@@ -31,6 +31,7 @@ mutual
   by_parts words lists (word bytes from to) = words bytes from to
   by_parts words lists (list parts from to) = lists parts from to (each_by_parts words lists parts)
 
+  -- and of each of several trees
   pub each_by_parts : {P : Tree → Type 0} → ((bytes : List ℕ) (from to : ℕ) → P (word bytes from to))
       → ((parts : Trees) (from to : ℕ) → Each P parts → P (list parts from to)) → (trees : Trees) → Each P trees
   each_by_parts words lists nil = tt
@@ -56,6 +57,7 @@ two_parts P (cons a nil) is then = absurd cc
 two_parts P (cons a (cons b (cons c parts))) is then =
     let two = eqb-true (count (cons a (cons b (cons c parts)))) 2 is in absurd (omega (arith, two))
 
+-- three
 pub three_parts : (P : Trees → Type 0) (parts : Trees) → (count parts == 3) ≡ true
     → ((a b c : Tree) → P (cons a (cons b (cons c nil)))) → P parts
 three_parts P (cons a (cons b (cons c nil))) is then = then a b c
@@ -65,6 +67,7 @@ three_parts P (cons a (cons b nil)) is then = absurd cc
 three_parts P (cons a (cons b (cons c (cons d parts)))) is then =
     let three = eqb-true (count (cons a (cons b (cons c (cons d parts))))) 3 is in absurd (omega (arith, three))
 
+-- four
 pub four_parts : (P : Trees → Type 0) (parts : Trees) → (count parts == 4) ≡ true
     → ((a b c d : Tree) → P (cons a (cons b (cons c (cons d nil))))) → P parts
 four_parts P (cons a (cons b (cons c (cons d nil)))) is then = then a b c d
@@ -81,6 +84,7 @@ pub one_and_more : (P : Trees → Type 0) (parts : Trees) → nat_lt 1 (count pa
 one_and_more P nil is then = absurd cc
 one_and_more P (cons a rest) is then = let more = ltb-true 1 (count (cons a rest)) is in then a rest (omega (arith, more))
 
+-- behind two
 pub two_and_more : (P : Trees → Type 0) (parts : Trees) → nat_lt 2 (count parts) ≡ true
     → ((a b : Tree) (rest : Trees) → 1 ≤ count rest → P (cons a (cons b rest))) → P parts
 two_and_more P nil is then = absurd cc
@@ -88,6 +92,7 @@ two_and_more P (cons a nil) is then = absurd cc
 two_and_more P (cons a (cons b rest)) is then =
     let more = ltb-true 2 (count (cons a (cons b rest))) is in then a b rest (omega (arith, more))
 
+-- behind three
 pub three_and_more : (P : Trees → Type 0) (parts : Trees) → nat_lt 3 (count parts) ≡ true
     → ((a b c : Tree) (rest : Trees) → 1 ≤ count rest → P (cons a (cons b (cons c rest)))) → P parts
 three_and_more P nil is then = absurd cc
