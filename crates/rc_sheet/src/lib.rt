@@ -24,6 +24,7 @@ mod sides;
 mod tests;
 
 pub use fail::ReadFail;
+pub use fine_laws::stages_and_choices_are_few;
 pub use laws::{
     body_stands, effects_stand, expressions_stand, names_stand, setup_stands, sheet_stands,
 };
