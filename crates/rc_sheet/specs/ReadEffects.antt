@@ -66,6 +66,10 @@ abbrev mutual
   effects_at naming scope (cons part parts) =
       option_map (λ p. effect p.0 p.1) (both (effect_at naming scope part) (effects_at naming scope parts))
 
+-- an effect that is a list of these parts
+abbrev pub effect_of_list : Naming → Scope → Trees → Option Effect
+effect_of_list naming scope parts = rule_at place.Effect parts >>= λ rule. effect_rule naming scope rule parts
+
 -- DOMAIN
 abbrev pub domain_rule : Naming → Scope → ℕ → Rule → Trees → Option Domain
 domain_rule naming scope from rule.Partition (cons head (cons cards (cons attr nil))) =
@@ -77,6 +81,13 @@ domain_at naming scope (word bytes from to) = range_at naming scope (word bytes 
 domain_at naming scope (list parts from to) =
     rule_at place.Domain parts >>= λ rule. domain_rule naming scope from rule parts
 
+-- an alternative with no alternative in it
+abbrev pub plain_alt : Naming → Scope → Rule → Trees → Option Alt
+plain_alt naming scope rule.Do (cons head effects) = option_map do_alt (effects_at naming scope effects)
+plain_alt naming scope rule.If (cons head (cons guard effects)) =
+    option_map (λ p. if_alt p.0 p.1) (both (test_at naming scope guard) (effects_at naming scope effects))
+plain_alt naming scope rule parts = None
+
 abbrev mutual
   -- ALT
   pub alt_at : Naming → Scope → Tree → Option Alt
@@ -84,14 +95,15 @@ abbrev mutual
   alt_at naming scope (list parts from to) = rule_at place.Alternative parts >>= λ rule. alt_rule naming scope rule parts
 
   pub alt_rule : Naming → Scope → Rule → Trees → Option Alt
-  alt_rule naming scope rule.Do (cons head effects) = option_map do_alt (effects_at naming scope effects)
-  alt_rule naming scope rule.If (cons head (cons guard effects)) =
-      option_map (λ p. if_alt p.0 p.1) (both (test_at naming scope guard) (effects_at naming scope effects))
   alt_rule naming scope rule.AnyOf (cons head (cons domain (cons variable (cons alt nil)))) =
       domain_at naming scope domain >>= λ domain.
       binder_at naming.names.vars scope variable >>= λ bound.
       option_map (λ alt. any_alt domain bound alt) (alt_at naming (bind naming scope bound (sort_of domain)) alt)
-  alt_rule naming scope rule parts = None
+  alt_rule naming scope rule parts = plain_alt naming scope rule parts
+
+-- an alternative that is a list of these parts
+abbrev pub alt_of_list : Naming → Scope → Trees → Option Alt
+alt_of_list naming scope parts = rule_at place.Alternative parts >>= λ rule. alt_rule naming scope rule parts
 
 abbrev pub alts_at : Naming → Trees → Option (List Alt)
 alts_at naming nil = Some []

@@ -49,6 +49,13 @@ abbrev pub end_at : Naming → Tree → Option Test
 end_at naming (word bytes from to) = None
 end_at naming (list parts from to) = rule_at place.End parts >>= λ rule. end_rule naming rule parts
 
+-- an item with no item in it, and what has begun behind it
+abbrev pub plain_item : Naming → Begun → Rule → Trees → Option (SheetItem × Begun)
+plain_item naming begun rule.Do (cons head effects) =
+    option_map (λ effects. (do_item effects, begun)) (effects_at naming [] effects)
+plain_item naming begun rule.Choice (cons head alts) = choice_of begun (alts_at naming alts)
+plain_item naming begun rule parts = None
+
 abbrev mutual
   -- ITEM, and what has begun behind it
   pub item_at : Naming → Begun → Tree → Option (SheetItem × Begun)
@@ -56,21 +63,21 @@ abbrev mutual
   item_at naming begun (list parts from to) = rule_at place.Item parts >>= λ rule. item_rule naming begun rule parts
 
   pub item_rule : Naming → Begun → Rule → Trees → Option (SheetItem × Begun)
-  item_rule naming begun rule.Do (cons head effects) =
-      option_map (λ effects. (do_item effects, begun)) (effects_at naming [] effects)
   item_rule naming begun rule.PlayerStage (cons head (cons class (cons end items))) =
       stage_of begun player_class (end_at naming end) (items_at naming (with_stage begun) items)
   item_rule naming begun rule.TeamStage (cons head (cons class (cons end items))) =
       stage_of begun team_class (end_at naming end) (items_at naming (with_stage begun) items)
-  item_rule naming begun rule.Choice (cons head alts) =
-      choice_of begun (alts_at naming alts)
-  item_rule naming begun rule parts = None
+  item_rule naming begun rule parts = plain_item naming begun rule parts
 
   pub items_at : Naming → Begun → Trees → Option (SheetItems × Begun)
   items_at naming begun nil = Some (no_item, begun)
   items_at naming begun (cons part parts) =
       item_at naming begun part >>= λ first.
       option_map (λ later. (item first.0 later.0, later.1)) (items_at naming first.1 parts)
+
+-- an item that is a list of these parts
+abbrev pub item_of_list : Naming → Begun → Trees → Option (SheetItem × Begun)
+item_of_list naming begun parts = rule_at place.Item parts >>= λ rule. item_rule naming begun rule parts
 
 -- BEST
 abbrev pub best_at : Tree → Option Best

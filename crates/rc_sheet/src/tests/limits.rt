@@ -1,0 +1,39 @@
+//! How many stages and choices are read.
+use super::table::{Part, read_text};
+use std::process::Abort;
+use std::test::Fail;
+
+/// Whether a body is read that has so many of an item.
+fn is_read(
+    rt: &(impl AllocGlobal + Abort),
+    count: usize,
+    item: &'static str,
+) -> Result<bool, Fail> {
+    let mut text = b"(".to_vec(rt.alloc())?;
+    for _ in 0..count {
+        text.extend_from_slice(item.as_bytes())?;
+    }
+    text.extend_from_slice(b"(scoring max 0))")?;
+    assert!(rt; text.len() <= 100_000);
+    Ok(read_text(rt.alloc(), Part::Body, &text)?.is_some())
+}
+
+#[test]
+fn at_most_256_stages_are_read(rt: HostRuntime) -> Result<(), Fail> {
+    let stage = "(stage player (end (= 0 1)) (do (cycle reverse)))";
+    let most = is_read(&rt, 256, stage)?;
+    let more = is_read(&rt, 257, stage)?;
+    assert!(rt; most);
+    assert!(rt; !more);
+    Ok(())
+}
+
+#[test]
+fn at_most_64_choices_are_read(rt: HostRuntime) -> Result<(), Fail> {
+    let choice = "(choice (do (cycle reverse)))";
+    let most = is_read(&rt, 64, choice)?;
+    let more = is_read(&rt, 65, choice)?;
+    assert!(rt; most);
+    assert!(rt; !more);
+    Ok(())
+}
