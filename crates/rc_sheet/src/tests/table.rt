@@ -115,7 +115,7 @@ pub fn check_refused(
     for text in texts {
         assert!(rt; text.len() <= 100_000);
         let said = read_text(rt.alloc(), part, text.as_bytes())?;
-        assert_eq!(rt; said.as_deref(), None, "{text}");
+        assert!(rt; said.is_none(), "{text}");
     }
     Ok(())
 }
