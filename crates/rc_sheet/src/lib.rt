@@ -9,6 +9,8 @@ mod owners;
 mod reader;
 mod scope;
 mod sides;
+#[cfg(test)]
+mod tests;
 
 pub use fail::ReadFail;
 pub use rc_semantics::SheetFail;

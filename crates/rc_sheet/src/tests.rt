@@ -1,0 +1,3 @@
+//! Forms and what is read off them, found by hand from the rules of each form.
+mod expressions;
+mod table;
