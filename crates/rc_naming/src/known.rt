@@ -1,0 +1,89 @@
+//! The names that are known so far.
+ghost use Rattle.std.specs.Prelude.{◌≡◌, OnOk, option_to_list};
+ghost use Rattle.rc_form.specs.Form.{trees_of, packed};
+ghost use Rattle.rc_naming.specs.Known.{with_firsts, with_words, with_all, own, none};
+
+use crate::uses::{Kind, Located, attr_in, loc_in, map_in, num_in, value_in};
+use indexmap::{IndexMap, IndexSet};
+use rc_ast::Class;
+use rc_form::{Form, Word};
+use std::alloc::{AllocError, Global};
+use std::marker::Model;
+
+/// The different names of each kind that were mentioned so far, in the order of their first mention, and what the first
+/// mention of a location or of a stored number says.
+#[derive(Drop)]
+pub struct Known {
+    pub(crate) attrs: IndexSet<Word>,
+    pub(crate) values: IndexSet<Word>,
+    pub(crate) maps: IndexSet<Word>,
+    pub(crate) locs: IndexMap<Word, Located>,
+    pub(crate) nums: IndexMap<Word, Class>,
+    pub(crate) vars: IndexSet<Word>,
+}
+
+impl Model for Known {
+    ghost use Rattle.rc_naming.specs.Mentions.{Mentions};
+
+    ghost Value = { Mentions };
+
+    ghost use Rattle.rc_naming.specs.Known.{known_seen};
+
+    ghost view = { known_seen };
+}
+
+impl Known {
+    /// No names. It takes no memory.
+    pub fn new(alloc: Global) -> Known
+        ensures { result ≡ none }
+    {
+        Known {
+            attrs: IndexSet::new(alloc),
+            values: IndexSet::new(alloc),
+            maps: IndexSet::new(alloc),
+            locs: IndexMap::new(alloc),
+            nums: IndexMap::new(alloc),
+            vars: IndexSet::new(alloc),
+        }
+    }
+
+    /// Adds the name of this kind that a list of these parts mentions itself.
+    pub fn add_own(&mut self, kind: Kind, parts: &[Form]) -> Result<(), AllocError>
+        ensures { OnOk result (self.new ≡ with_all self.old (own kind (packed (trees_of parts.now)))) }
+    {
+        match kind {
+            Kind::Attr => add_word(&mut self.attrs, attr_in(parts)),
+            Kind::Value => add_word(&mut self.values, value_in(parts)),
+            Kind::Map => add_word(&mut self.maps, map_in(parts)),
+            Kind::Loc => add_entry(&mut self.locs, loc_in(parts)),
+            Kind::Num => add_entry(&mut self.nums, num_in(parts)),
+        }
+    }
+}
+
+/// Adds a word, unless it is known.
+pub fn add_word(words: &mut IndexSet<Word>, word: Option<Word>) -> Result<(), AllocError>
+    ensures { OnOk result (words.new.keys ≡ with_words words.old.keys (option_to_list word)) }
+{
+    if let Some(word) = word {
+        words.insert(word)?;
+    }
+    Ok(())
+}
+
+/// Adds a word with what its mention says, unless the word is known.
+fn add_entry<V: Drop>(
+    entries: &mut IndexMap<Word, V>,
+    entry: Option<(Word, V)>,
+) -> Result<(), AllocError>
+    ensures { OnOk result (entries.new.entries ≡ with_firsts (λ e. e.0) entries.old.entries (option_to_list entry)) }
+{
+    let Some((word, said)) = entry else {
+        return Ok(());
+    };
+    if entries.contains_key(&word) {
+        return Ok(());
+    }
+    entries.insert(word, said)?;
+    Ok(())
+}
