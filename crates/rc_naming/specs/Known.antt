@@ -85,6 +85,10 @@ in_trees Num trees = record none { nums = all_gathered num_mention trees }
 abbrev pub variables : List (List ℕ) → Mentions
 variables words = record none { vars = words }
 
+-- point maps alone
+abbrev pub maps_alone : List (List ℕ) → Mentions
+maps_alone words = record none { maps = words }
+
 -- attributes and values alone
 abbrev pub in_deck_of : List (List ℕ) → List (List ℕ) → Mentions
 in_deck_of attrs values = record none { attrs = attrs; values = values }

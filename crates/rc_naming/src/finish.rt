@@ -56,7 +56,7 @@ fn loc_names(alloc: Global, locs: &IndexMap<Word, Located>) -> Result<Vec<LocNam
     ensures { IfOk result (λ list. map loc_name_seen list.items ≡ loc_names 0 (map loc_seen locs.now.entries)) }
 {
     let mut list = Vec::with_capacity(alloc, locs.len())?;
-    for located in locs.values() {
+    for (_, located) in locs.iter() {
         list.push(LocName {
             name: list.len() as u16,
             kind: located.kind,
@@ -71,7 +71,7 @@ fn num_names(alloc: Global, nums: &IndexMap<Word, Class>) -> Result<Vec<NumName>
     ensures { IfOk result (λ list. map num_name_seen list.items ≡ num_names 0 (map num_seen nums.now.entries)) }
 {
     let mut list = Vec::with_capacity(alloc, nums.len())?;
-    for class in nums.values() {
+    for (_, class) in nums.iter() {
         list.push(NumName {
             name: list.len() as u16,
             class: *class,

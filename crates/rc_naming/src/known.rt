@@ -1,9 +1,10 @@
 //! The names that are known so far.
-ghost use Rattle.std.specs.Prelude.{◌≡◌, OnOk, option_to_list};
-ghost use Rattle.rc_form.specs.Form.{trees_of, packed};
-ghost use Rattle.rc_naming.specs.Known.{with_firsts, with_words, with_all, own, none};
+ghost use Rattle.std.specs.Prelude.{◌≡◌, [], OnOk, option_to_list};
+ghost use Rattle.rc_form.specs.Form.{tree_of, trees_of, packed};
+ghost use Rattle.rc_sheet_model.specs.FormMentions.{word_of};
+ghost use Rattle.rc_naming.specs.Known.{with_firsts, with_words, with_all, own, none, in_deck_of, maps_alone, variables};
 
-use crate::uses::{Kind, Located, attr_in, loc_in, map_in, num_in, value_in};
+use crate::uses::{Kind, Located, attr_in, loc_in, map_in, num_in, value_in, word_of};
 use indexmap::{IndexMap, IndexSet};
 use rc_ast::Class;
 use rc_form::{Form, Word};
@@ -47,6 +48,34 @@ impl Known {
         }
     }
 
+    /// Adds the attribute that the form is, where it is an atom.
+    pub fn add_attr(&mut self, form: &Form) -> Result<(), AllocError>
+        ensures { OnOk result (self.new ≡ with_all self.old (in_deck_of (word_of (tree_of form.now)) [])) }
+    {
+        add_word(&mut self.attrs, word_of(form))
+    }
+
+    /// Adds the value that the form is, where it is an atom.
+    pub fn add_value(&mut self, form: &Form) -> Result<(), AllocError>
+        ensures { OnOk result (self.new ≡ with_all self.old (in_deck_of [] (word_of (tree_of form.now)))) }
+    {
+        add_word(&mut self.values, word_of(form))
+    }
+
+    /// Adds a point map, where there is one.
+    pub fn add_map(&mut self, map: Option<Word>) -> Result<(), AllocError>
+        ensures { OnOk result (self.new ≡ with_all self.old (maps_alone (option_to_list map))) }
+    {
+        add_word(&mut self.maps, map)
+    }
+
+    /// Adds the variable that the form is, where it is an atom.
+    pub fn add_variable(&mut self, form: &Form) -> Result<(), AllocError>
+        ensures { OnOk result (self.new ≡ with_all self.old (variables (word_of (tree_of form.now)))) }
+    {
+        add_word(&mut self.vars, word_of(form))
+    }
+
     /// Adds the name of this kind that a list of these parts mentions itself.
     pub fn add_own(&mut self, kind: Kind, parts: &[Form]) -> Result<(), AllocError>
         ensures { OnOk result (self.new ≡ with_all self.old (own kind (packed (trees_of parts.now)))) }
@@ -62,7 +91,7 @@ impl Known {
 }
 
 /// Adds a word, unless it is known.
-pub fn add_word(words: &mut IndexSet<Word>, word: Option<Word>) -> Result<(), AllocError>
+fn add_word(words: &mut IndexSet<Word>, word: Option<Word>) -> Result<(), AllocError>
     ensures { OnOk result (words.new.keys ≡ with_words words.old.keys (option_to_list word)) }
 {
     if let Some(word) = word {

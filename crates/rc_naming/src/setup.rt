@@ -4,11 +4,11 @@ ghost use Rattle.rc_model.specs.Tree.{nil, cons};
 ghost use Rattle.rc_form.specs.Form.{tree_of, trees_of, packed};
 ghost use Rattle.rc_naming.specs.Known.{with_all, in_groups, in_branches, in_values, in_entries, deck_in, decks_in, points_in, all_points_in};
 
-use crate::known::{Known, add_word};
+use crate::known::Known;
 use crate::sheet_parts::{
     begins_with, deck_groups, deck_location, parts_of, points_entries, points_map,
 };
-use crate::uses::{Kind, word_of};
+use crate::uses::Kind;
 use rc_form::Form;
 use rc_grammar::Keyword;
 use std::alloc::AllocError;
@@ -52,7 +52,7 @@ impl Known {
         if !begins_with(Keyword::Put, Keyword::Points, line) {
             return Ok(());
         }
-        add_word(&mut self.maps, points_map(line))?;
+        self.add_map(points_map(line))?;
         self.add_entries(points_entries(line))
     }
 
@@ -71,11 +71,21 @@ impl Known {
     fn add_group(&mut self, group: &Form) -> Result<(), AllocError>
         ensures { OnOk result (self.new ≡ with_all self.old (in_groups (cons (tree_of group.now) nil))) }
     {
-        let [attr, Form::List { items, .. }] = parts_of(group) else {
+        let Form::List { items, .. } = group else {
             return Ok(());
         };
-        add_word(&mut self.attrs, word_of(attr))?;
-        self.add_branches(items)
+        let [attr, second] = items.as_slice() else {
+            return Ok(());
+        };
+        let Form::List {
+            items: branches,
+            ..
+        } = second
+        else {
+            return Ok(());
+        };
+        self.add_attr(attr)?;
+        self.add_branches(branches)
     }
 
     #[cycle(groups)]
@@ -94,12 +104,12 @@ impl Known {
         ensures { OnOk result (self.new ≡ with_all self.old (in_branches (cons (tree_of branch.now) nil))) }
     {
         let Form::List { items, .. } = branch else {
-            return add_word(&mut self.values, word_of(branch));
+            return self.add_value(branch);
         };
         let Some((value, groups)) = items.split_first() else {
             return Ok(());
         };
-        add_word(&mut self.values, word_of(value))?;
+        self.add_value(value)?;
         self.add_groups(groups)
     }
 
@@ -119,7 +129,7 @@ impl Known {
         let Some((attr, others)) = parts_of(entry).split_first() else {
             return Ok(());
         };
-        add_word(&mut self.attrs, word_of(attr))?;
+        self.add_attr(attr)?;
         match others.first() {
             Some(values) => self.add_values(parts_of(values)),
             None => Ok(()),
@@ -130,7 +140,7 @@ impl Known {
         ensures { OnOk result (self.new ≡ with_all self.old (in_values (packed (trees_of values.now)))) }
     {
         for value in values {
-            add_word(&mut self.values, word_of(value))?;
+            self.add_value(value)?;
         }
         Ok(())
     }

@@ -4,8 +4,8 @@ ghost use Rattle.rc_form.specs.Form.{tree_of, trees_of, packed};
 ghost use Rattle.rc_sheet_model.specs.FormMentions.{var_words, bound_words, all_var_words};
 ghost use Rattle.rc_naming.specs.Known.{with_all, in_tree, in_trees, variables, body_in};
 
-use crate::known::{Known, add_word};
-use crate::uses::{Kind, is_binder, word_of};
+use crate::known::Known;
+use crate::uses::{Kind, is_binder};
 use rc_form::Form;
 use std::alloc::AllocError;
 
@@ -70,7 +70,7 @@ impl Known {
         }
         self.add_variables(head)?;
         self.add_variables(domain)?;
-        add_word(&mut self.vars, word_of(variable))?;
+        self.add_variable(variable)?;
         self.add_all_variables(rest)
     }
 
