@@ -1,11 +1,12 @@
 -- Lists that have fewer parts than a row of the grammar, or more.
-use Rattle.std.proofs.Common.{◌≡◌, ℕ, ◌<◌, ◌≤◌, false, List, [], ◌∷◌, length, None, refl, ap, sym, ◌∙◌, arith}
+use Rattle.std.proofs.Common.{◌≡◌, ℕ, ◌<◌, ◌≤◌, false, List, [], ◌∷◌, ◌++◌, length, None, refl, ap, sym, ◌∙◌, arith}
+use Rattle.std.proofs.lemmas.List.{append-nil}
 use Rattle.rc_model.specs.Tree.{Tree, word, list, Trees, nil, cons}
 use Rattle.rc_form.specs.declared.form.Form.{Form}
-use Rattle.rc_form.specs.Form.{trees_of, packed}
+use Rattle.rc_form.specs.Form.{tree_of, trees_of, packed}
 use Rattle.rc_sheet_model.specs.Rows.{count}
 use Rattle.rc_grammar.specs.declared.keyword.Keyword.{Keyword}
-use Rattle.rc_sheet_model.specs.FormMentions.{attr_word, value_word, map_word, setup_lines, body, deck_groups, points_map, points_entries, bound_words, all_var_words}
+use Rattle.rc_sheet_model.specs.FormMentions.{attr_word, value_word, map_word, setup_lines, body, deck_groups, points_map, points_entries, bound_words, var_words, all_var_words}
 use Rattle.rc_naming.specs.Mentions.{loc_mention, num_mention}
 use Rattle.rc_naming.specs.Known.{parts_in, begins_by, third_part}
 
@@ -116,3 +117,10 @@ num_other (a ∷ []) three = refl
 num_other (a ∷ b ∷ []) three = refl
 num_other (a ∷ b ∷ c ∷ []) three = absurd (three refl)
 num_other (a ∷ b ∷ c ∷ d ∷ ds) three = refl
+
+-- fewer than three parts bind nothing themselves
+pub bound_short : (forms : List Form) → length forms < 3 → all_var_words (packed (trees_of forms)) ≡ bound_words (packed (trees_of forms))
+bound_short [] short = refl
+bound_short (a ∷ []) short = append-nil (var_words (tree_of a))
+bound_short (a ∷ b ∷ []) short = ap (λ words. var_words (tree_of a) ++ words) (append-nil (var_words (tree_of b)))
+bound_short (a ∷ b ∷ c ∷ cs) short = absurd (omega arith)

@@ -1,5 +1,5 @@
 -- What is mentioned in several forms is what is mentioned in each, one behind the other.
-use Rattle.std.proofs.Common.{◌≡◌, ℕ, ◌+◌, ◌<◌, Bool, true, false, List, [], ◌∷◌, ◌++◌, length, get_or, drop, if◌then◌else◌, refl, sym, ap, ◌∙◌, append_assoc}
+use Rattle.std.proofs.Common.{◌≡◌, ℕ, ◌+◌, ◌<◌, Bool, true, false, List, [], ◌∷◌, ◌++◌, length, get_or, drop, if◌then◌else◌, refl, sym, ap, ◌∙◌}
 use Rattle.std.proofs.lemmas.List.{append-nil, at_drop_more}
 use Rattle.std.proofs.lemmas.List.Sums.{fold-append}
 use Rattle.rc_model.specs.Tree.{Tree, word, list, Trees, nil, cons}
@@ -43,9 +43,6 @@ pub values-split : Splits in_values (λ tree. in_deck_of [] (word_of tree))
 values-split tree trees = refl
 
 -- attributes and values of several parts
-three-append : {A : Type 0} (a b c : List A) → a ++ b ++ c ≡ (a ++ b ++ []) ++ c
-three-append a b c = ap (λ xs. a ++ (xs ++ c)) (sym (append-nil b)) ∙ sym (append_assoc a (b ++ []) c)
-
 two-append : {A : Type 0} (a b : List A) → a ++ b ≡ (a ++ []) ++ b
 two-append a b = ap (λ xs. xs ++ b) (sym (append-nil a))
 
@@ -58,7 +55,7 @@ groups-split (list nil from to) trees = refl
 groups-split (list (cons attr nil) from to) trees = refl
 groups-split (list (cons attr (cons (word bytes x y) rest)) from to) trees = refl
 groups-split (list (cons attr (cons (list branches x y) nil)) from to) trees =
-    both _ _ _ _ (three-append (word_of attr) (branch_attr_words branches) (group_attr_words trees))
+    both _ _ _ _ (two-append (word_of attr ++ branch_attr_words branches) (group_attr_words trees))
     (two-append (branch_value_words branches) (group_value_words trees))
 groups-split (list (cons attr (cons (list branches x y) (cons other rest))) from to) trees = refl
 
@@ -67,7 +64,7 @@ branches-split (word bytes from to) trees = refl
 branches-split (list nil from to) trees = refl
 branches-split (list (cons value groups) from to) trees =
     both _ _ _ _ (two-append (group_attr_words groups) (branch_attr_words trees))
-    (three-append (word_of value) (group_value_words groups) (branch_value_words trees))
+    (two-append (word_of value ++ group_value_words groups) (branch_value_words trees))
 
 pub entries-split : Splits in_entries (λ tree. in_entries (cons tree nil))
 entries-split (word bytes from to) trees = refl

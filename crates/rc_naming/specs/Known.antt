@@ -89,6 +89,13 @@ variables words = record none { vars = words }
 abbrev pub maps_alone : List (List ℕ) → Mentions
 maps_alone words = record none { maps = words }
 
+-- locations alone, and stored numbers alone
+abbrev pub locs_alone : List Mention → Mentions
+locs_alone mentions = record none { locs = mentions }
+
+abbrev pub nums_alone : List Mention → Mentions
+nums_alone mentions = record none { nums = mentions }
+
 -- attributes and values alone
 abbrev pub in_deck_of : List (List ℕ) → List (List ℕ) → Mentions
 in_deck_of attrs values = record none { attrs = attrs; values = values }

@@ -1,8 +1,8 @@
 //! The names that are known so far.
-ghost use Rattle.std.specs.Prelude.{◌≡◌, [], OnOk, option_to_list};
+ghost use Rattle.std.specs.Prelude.{◌≡◌, [], OnOk, option_map, option_to_list};
 ghost use Rattle.rc_form.specs.Form.{tree_of, trees_of, packed};
 ghost use Rattle.rc_sheet_model.specs.FormMentions.{word_of};
-ghost use Rattle.rc_naming.specs.Known.{with_firsts, with_words, with_all, own, none, in_deck_of, maps_alone, variables};
+ghost use Rattle.rc_naming.specs.Known.{with_first, with_words, with_all, own, none, in_deck_of, maps_alone, locs_alone, nums_alone, variables, loc_seen, num_seen};
 
 use crate::uses::{Kind, Located, attr_in, loc_in, map_in, num_in, value_in, word_of};
 use indexmap::{IndexMap, IndexSet};
@@ -84,8 +84,28 @@ impl Known {
             Kind::Attr => add_word(&mut self.attrs, attr_in(parts)),
             Kind::Value => add_word(&mut self.values, value_in(parts)),
             Kind::Map => add_word(&mut self.maps, map_in(parts)),
-            Kind::Loc => add_entry(&mut self.locs, loc_in(parts)),
-            Kind::Num => add_entry(&mut self.nums, num_in(parts)),
+            Kind::Loc => self.add_location(loc_in(parts)),
+            Kind::Num => self.add_number(num_in(parts)),
+        }
+    }
+
+    /// Adds a mention of a location, where there is one.
+    fn add_location(&mut self, found: Option<(Word, Located)>) -> Result<(), AllocError>
+        ensures { OnOk result (self.new ≡ with_all self.old (locs_alone (option_to_list (option_map loc_seen found)))) }
+    {
+        match found {
+            Some(entry) => add_entry(&mut self.locs, entry.0, entry.1),
+            None => Ok(()),
+        }
+    }
+
+    /// Adds a mention of a stored number, where there is one.
+    fn add_number(&mut self, found: Option<(Word, Class)>) -> Result<(), AllocError>
+        ensures { OnOk result (self.new ≡ with_all self.old (nums_alone (option_to_list (option_map num_seen found)))) }
+    {
+        match found {
+            Some(entry) => add_entry(&mut self.nums, entry.0, entry.1),
+            None => Ok(()),
         }
     }
 }
@@ -103,13 +123,11 @@ fn add_word(words: &mut IndexSet<Word>, word: Option<Word>) -> Result<(), AllocE
 /// Adds a word with what its mention says, unless the word is known.
 fn add_entry<V: Drop>(
     entries: &mut IndexMap<Word, V>,
-    entry: Option<(Word, V)>,
+    word: Word,
+    said: V,
 ) -> Result<(), AllocError>
-    ensures { OnOk result (entries.new.entries ≡ with_firsts (λ e. e.0) entries.old.entries (option_to_list entry)) }
+    ensures { OnOk result (entries.new.entries ≡ with_first (λ e. e.0) entries.old.entries (word, said)) }
 {
-    let Some((word, said)) = entry else {
-        return Ok(());
-    };
     if entries.contains_key(&word) {
         return Ok(());
     }

@@ -2,7 +2,8 @@
 ghost use Rattle.std.specs.Prelude.{◌≡◌, OnOk};
 ghost use Rattle.rc_model.specs.Tree.{nil, cons};
 ghost use Rattle.rc_form.specs.Form.{tree_of, trees_of, packed};
-ghost use Rattle.rc_naming.specs.Known.{with_all, in_groups, in_branches, in_values, in_entries, deck_in, decks_in, points_in, all_points_in};
+ghost use Rattle.rc_naming.specs.Mentions as mentions;
+ghost use Rattle.rc_naming.specs.Known.{with_all, in_groups, in_branches, in_values, in_entries, locs_alone, deck_in, decks_in, points_in, all_points_in};
 
 use crate::known::Known;
 use crate::sheet_parts::{
@@ -30,10 +31,17 @@ impl Known {
         if !begins_with(Keyword::Create, Keyword::Deck, line) {
             return Ok(());
         }
-        if let Some(location) = deck_location(line) {
-            self.add_tree(Kind::Loc, location)?;
-        }
+        self.add_deck_location(line)?;
         self.add_groups(deck_groups(line))
+    }
+
+    fn add_deck_location(&mut self, line: &Form) -> Result<(), AllocError>
+        ensures { OnOk result (self.new ≡ with_all self.old (locs_alone (mentions.deck_location (tree_of line.now)))) }
+    {
+        match deck_location(line) {
+            Some(location) => self.add_tree(Kind::Loc, location),
+            None => Ok(()),
+        }
     }
 
     /// Adds the names that the point maps among these lines mention.
