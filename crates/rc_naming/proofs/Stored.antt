@@ -1,5 +1,5 @@
 -- What is stored, and what is seen of it.
-use Rattle.std.proofs.Common.{◌≡◌, ℕ, Bool, false, List, [], ◌∷◌, ◌++◌, map, bytes_eq, Option, Some, None, is_some, Result, Ok, Err, OnOk, refl, sym, ap, ◌∙◌}
+use Rattle.std.proofs.Common.{◌≡◌, ℕ, Bool, false, List, [], ◌∷◌, ◌++◌, map, bytes_eq, Option, Some, None, is_some, Result, Ok, Err, OnOk, IfOk, refl, sym, ap, ◌∙◌}
 use Rattle.std.specs.List.{list_any}
 use Rattle.std.specs.Map.{keys_of}
 use Rattle.std.specs.HashMap.{HashMap, get_by}
@@ -11,6 +11,10 @@ use Rattle.rc_naming.proofs.Firsts.{list_any-map}
 pub on_ok : {T E P Q : Type 0} (result : Result T E) → OnOk result P → (P → Q) → OnOk result Q
 on_ok (Ok value) holds follows = follows holds
 on_ok (Err error) holds follows = tt
+
+pub if_ok : {T E : Type 0} {P Q : T → Type 0} (result : Result T E) → IfOk result P → ((value : T) → P value → Q value) → IfOk result Q
+if_ok (Ok value) holds follows = follows value holds
+if_ok (Err error) holds follows = tt
 
 pub none_from : {T : Type 0} (found : Option T) → is_some found ≡ false → found ≡ None
 none_from None is = refl

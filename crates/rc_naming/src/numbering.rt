@@ -2,6 +2,8 @@
 ghost use Rattle.std.specs.Prelude.{◌≡◌, ◌≤◌, length, IfOk};
 ghost use Rattle.rc_form.specs.Form.{tree_of};
 ghost use Rattle.rc_sheet_model.specs.FormMentions.{names_of};
+ghost use Rattle.rc_naming.specs.Mentions.{mentions_of};
+ghost use Rattle.rc_naming.specs.Known.{with_all, none};
 ghost use Rattle.rc_naming.specs.Naming as spec;
 
 use crate::known::Known;
@@ -28,10 +30,18 @@ pub fn naming_of(alloc: Global, form: &Form) -> Result<Naming, AllocError>
     requires nums { length (names_of (tree_of form.now)).nums ≤ 65536 }
     ensures names { IfOk result (λ naming. spec.naming_seen naming ≡ spec.naming_of (tree_of form.now)) }
 {
+    let known = known_of(alloc, form)?;
+    known.naming(alloc)
+}
+
+/// All names that a form mentions.
+fn known_of(alloc: Global, form: &Form) -> Result<Known, AllocError>
+    ensures { IfOk result (λ known. known ≡ with_all none (mentions_of (tree_of form.now))) }
+{
     let lines = setup_lines(form);
     let mut known = Known::new(alloc);
     known.add_decks(lines)?;
     known.add_all_points(lines)?;
     known.add_body(body(form))?;
-    known.naming(alloc)
+    Ok(known)
 }
