@@ -1,9 +1,10 @@
 -- The names that are known at the end are the names of the form.
-use Rattle.std.proofs.Common.{◌≡◌, ℕ, ◌≤◌, List, [], ◌++◌, length, map, flat_map, refl, sym, ap, ◌∙◌, subst}
+use Rattle.std.proofs.Common.{◌≡◌, ℕ, ◌+◌, ◌≤◌, List, [], ◌∷◌, ◌++◌, length, map, flat_map, refl, sym, ap, ◌∙◌, subst}
+use Rattle.std.specs.List.{range_with_len}
 use Rattle.std.proofs.lemmas.List.{append-nil, length-map}
 use Rattle.rc_model.specs.Tree.{Tree, Trees}
 use Rattle.rc_sheet_model.specs.Sheet.{Names, LocName, NumName}
-use Rattle.rc_sheet_model.specs.Numbering.{different}
+use Rattle.rc_sheet_model.specs.Numbering.{different, below}
 use Rattle.rc_sheet_model.specs.Naming.{Naming}
 use Rattle.rc_sheet_model.specs.FormMentions.{setup_lines, body, deck_lines, points_lines, all_gathered, names_of, attr_mentions, value_mentions, map_mentions, loc_mentions, num_mentions, var_mentions, all_var_words}
 use Rattle.rc_semantics.specs.SecondNames.{Mention}
@@ -81,3 +82,35 @@ nums_fit form most fits =
     subst (λ n. n ≤ most)
     (sym (ap (λ words. length words) (nums_known form)) ∙ length-map (with_mentions [] (all_numbers form)) (λ mention. mention.name))
     fits
+
+-- the first mentions are those of the names
+pub locs_in_order : (form : Tree) → map (λ mention. mention.name) (firsts (all_locations form)) ≡ (names_of form).locs
+locs_in_order form = ap (map (λ mention. mention.name)) (sym (mentions_added (all_locations form))) ∙ locs_known form
+
+pub nums_in_order : (form : Tree) → map (λ mention. mention.name) (firsts (all_numbers form)) ≡ (names_of form).nums
+nums_in_order form = ap (map (λ mention. mention.name)) (sym (mentions_added (all_numbers form))) ∙ nums_known form
+
+-- they are numbered one by one
+loc_numbers_from : (number : ℕ) (mentions : List Mention) →
+    map (λ loc. loc.name) (loc_names number mentions) ≡ range_with_len number (length mentions)
+loc_numbers_from number [] = refl
+loc_numbers_from number (mention ∷ mentions) = ap (λ rest. number ∷ rest) (loc_numbers_from (number + 1) mentions)
+
+num_numbers_from : (number : ℕ) (mentions : List Mention) →
+    map (λ num. num.name) (num_names number mentions) ≡ range_with_len number (length mentions)
+num_numbers_from number [] = refl
+num_numbers_from number (mention ∷ mentions) = ap (λ rest. number ∷ rest) (num_numbers_from (number + 1) mentions)
+
+-- as many as mentions
+as_many : (mentions : List Mention) (words : List (List ℕ)) → map (λ mention. mention.name) mentions ≡ words → length mentions ≡ length words
+as_many mentions words are = sym (length-map mentions (λ mention. mention.name)) ∙ ap (λ all. length all) are
+
+pub loc_numbers : (form : Tree) → map (λ loc. loc.name) (naming_of form).locs ≡ below (length (names_of form).locs)
+loc_numbers form =
+    loc_numbers_from 0 (firsts (all_locations form))
+    ∙ ap below (as_many (firsts (all_locations form)) (names_of form).locs (locs_in_order form))
+
+pub num_numbers : (form : Tree) → map (λ num. num.name) (naming_of form).nums ≡ below (length (names_of form).nums)
+num_numbers form =
+    num_numbers_from 0 (firsts (all_numbers form))
+    ∙ ap below (as_many (firsts (all_numbers form)) (names_of form).nums (nums_in_order form))

@@ -6,10 +6,14 @@
 
 mod finish;
 mod known;
+mod laws;
 mod numbering;
 mod setup;
 mod sheet_parts;
+#[cfg(test)]
+mod tests;
 mod uses;
 mod walk;
 
+pub use laws::names_are_in_order;
 pub use numbering::{Naming, naming_of};

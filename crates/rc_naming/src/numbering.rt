@@ -35,7 +35,7 @@ pub fn naming_of(alloc: Global, form: &Form) -> Result<Naming, AllocError>
 }
 
 /// All names that a form mentions.
-fn known_of(alloc: Global, form: &Form) -> Result<Known, AllocError>
+pub fn known_of(alloc: Global, form: &Form) -> Result<Known, AllocError>
     ensures { IfOk result (λ known. known ≡ with_all none (mentions_of (tree_of form.now))) }
 {
     let lines = setup_lines(form);
