@@ -1,4 +1,4 @@
--- The tree of a form.
+-- The tree of an atom, and of a list.
 use Rattle.std.proofs.Common.{◌≡◌, ℕ, List, Vec, sym, ap, ◌∙◌}
 use Rattle.std.specs.Global.{Global}
 use Rattle.rc_model.specs.Tree.{Tree}

@@ -24,12 +24,14 @@ push_attributes-returns-in_default-as_slice-2-clause-after t c =
 
 pub push_attributes-returns-in_default-attribute-clause-after : goal.push_attributes-returns-in_default-attribute-clause-after
 push_attributes-returns-in_default-attribute-clause-after t c =
-    nothing_more _ _ _ (pair_seen _ _ _ _ _ _ c.in-List.is c.as_slice.ensures.value c.in-len2.len_at_least c.in-len2.len_below c.attribute-item.is c.branches-item.is)
+    nothing_more _ _ _ (pair_seen _ _ _ _ _ _ c.in-List.is c.as_slice.ensures.value c.in-len2.len_at_least c.in-len2.len_below
+    c.attribute-item.is c.branches-item.is)
     (none_of_lists _ _ _ _ _ _ c.in_default-attribute.is)
 
 pub push_attributes-returns-in_default-branches-clause-after : goal.push_attributes-returns-in_default-branches-clause-after
 push_attributes-returns-in_default-branches-clause-after t c =
-    nothing_more _ _ _ (pair_seen _ _ _ _ _ _ c.in-List.is c.as_slice.ensures.value c.in-len2.len_at_least c.in-len2.len_below c.attribute-item.is c.branches-item.is)
+    nothing_more _ _ _ (pair_seen _ _ _ _ _ _ c.in-List.is c.as_slice.ensures.value c.in-len2.len_at_least c.in-len2.len_below
+    c.attribute-item.is c.branches-item.is)
     (none_of_words _ _ _ _ _ _ c.in_default-branches.is)
 
 -- an attribute and those in its branches, behind these words
@@ -46,8 +48,10 @@ grown before pushed bytes attr tree seen these branches is same is_seen group al
 
 pub push_attributes-returns-clause-after : goal.push_attributes-returns-clause-after
 push_attributes-returns-clause-after t c =
-    let seen = pair_seen _ _ _ _ _ _ c.in-List.is c.as_slice.ensures.value c.in-len2.len_at_least c.in-len2.len_below c.attribute-item.is c.branches-item.is in
-    let same = grown _ _ _ _ _ _ _ _ c.in_ok-push.ensures.after c.bytes.ensures.bytes seen
+    let seen = pair_seen _ _ _ _ _ _ c.in-List.is c.as_slice.ensures.value c.in-len2.len_at_least c.in-len2.len_below
+    c.attribute-item.is c.branches-item.is in
+    let same = grown _ _ _ _ _ _ _ _ c.in_ok-push.ensures.after
+    c.bytes.ensures.bytes seen
     (some_attributes _ _ _ _ _ _ _ _ c.in-Atom.is c.in-List-branches.is) c.deref.ensures.value in
     subst (λ names. OnOk c.push_inner_attributes.result
     (c.push_inner_attributes.new.self ≡ names)) same c.push_inner_attributes.ensures.after
