@@ -119,7 +119,11 @@ fn read_as(alloc: Global, kind: Kind, form: &Form) -> Result<Option<String>, Fai
 }
 
 /// The text of what a form says, which stands in a list so that an atom may be one. Its first byte has the offset 3.
-fn said(rt: &(impl AllocGlobal + Abort), kind: Kind, text: &str) -> Result<Option<String>, Fail> {
+fn what_is_said(
+    rt: &(impl AllocGlobal + Abort),
+    kind: Kind,
+    text: &str,
+) -> Result<Option<String>, Fail> {
     let whole = format!(in rt.alloc(); "(x {text})")?;
     assert!(rt; whole.len() <= 100_000);
     let forms = read_forms(rt.alloc(), whole.as_bytes(), 1)?;
@@ -133,7 +137,7 @@ fn said(rt: &(impl AllocGlobal + Abort), kind: Kind, text: &str) -> Result<Optio
 pub fn check_said(rt: &(impl AllocGlobal + Abort), tables: &[Said]) -> Result<(), Fail> {
     for table in tables {
         for (text, expected) in table.rows {
-            let found = said(rt, table.kind, text)?;
+            let found = what_is_said(rt, table.kind, text)?;
             assert_eq!(rt; found.as_deref(), Some(*expected), "{text}");
         }
     }
@@ -144,7 +148,7 @@ pub fn check_said(rt: &(impl AllocGlobal + Abort), tables: &[Said]) -> Result<()
 pub fn check_refused(rt: &(impl AllocGlobal + Abort), tables: &[Refused]) -> Result<(), Fail> {
     for table in tables {
         for text in table.texts {
-            let found = said(rt, table.kind, text)?;
+            let found = what_is_said(rt, table.kind, text)?;
             assert!(rt; found.is_none(), "{text}");
         }
     }
