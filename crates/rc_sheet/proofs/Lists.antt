@@ -68,8 +68,8 @@ four_parts (a ∷ b' ∷ c' ∷ d' ∷ []) b c d most least b_is c_is d_is = cc
 four_parts (a ∷ b' ∷ c' ∷ d' ∷ e ∷ forms) b c d most least b_is c_is d_is = absurd (omega arith)
 
 -- the cards that pass a test
-pub filter_said : (naming : Naming) (scope inner : Scope) (forms : List Form) (cards variable t : Form) (found : CollExpr) (bound : ℕ)
-    (passes : Test) → 4 ≤ length forms → length forms < 5
+pub filter_said : (naming : Naming) (scope inner : Scope) (forms : List Form) (cards variable t : Form) (found : CollExpr)
+    (bound : ℕ) (passes : Test) → 4 ≤ length forms → length forms < 5
     → cards ≡ get_or forms 1 cards → variable ≡ get_or forms 2 variable → t ≡ get_or forms 3 t
     → coll_at naming scope (tree_of cards) ≡ Some found → binder_at naming.names.vars scope (tree_of variable) ≡ Some bound
     → inner ≡ bind naming scope bound card_sort → test_at naming inner (tree_of t) ≡ Some passes
@@ -89,13 +89,14 @@ pub quantified_said : (naming : Naming) (scope inner : Scope) (forms : List Form
     → range_at naming scope (tree_of range) ≡ Some domain → binder_at naming.names.vars scope (tree_of variable) ≡ Some bound
     → inner ≡ bind naming scope bound (sort_of domain) → test_at naming inner (tree_of t) ≡ Some holds
     → quantified naming scope (packed (trees_of forms)) ≡ Some (domain, bound, holds)
-quantified_said naming scope inner forms range variable t domain bound holds most least range_is variable_is t_is has binds is says =
+quantified_said naming scope inner forms range v t domain bound holds most least range_is v_is t_is has binds is says =
+    let said = test_at naming in
     let last : Domain → ℕ → Option (Domain × ℕ × Test) =
-    λ domain bound. option_map (λ t. (domain, bound, t)) (test_at naming (bind naming scope bound (sort_of domain)) (tree_of t)) in
-    ap (quantified naming scope) (four_parts forms range variable t most least range_is variable_is t_is)
-    ∙ ap (λ domain. domain >>= λ domain. binder_at naming.names.vars scope (tree_of variable) >>= last domain) has
+    λ domain bound. option_map (λ t. (domain, bound, t)) (said (bind naming scope bound (sort_of domain)) (tree_of t)) in
+    ap (quantified naming scope) (four_parts forms range v t most least range_is v_is t_is)
+    ∙ ap (λ domain. domain >>= λ domain. binder_at naming.names.vars scope (tree_of v) >>= last domain) has
     ∙ ap (λ bound. bound >>= last domain) binds
-    ∙ ap (option_map (λ t. (domain, bound, t))) (ap (λ scope. test_at naming scope (tree_of t)) (sym is) ∙ says)
+    ∙ ap (option_map (λ t. (domain, bound, t))) (ap (λ scope. said scope (tree_of t)) (sym is) ∙ says)
 
 -- what is read off the parts behind a head
 pub behind_head : {Y : Type 0} (reading all : Trees → Option Y)

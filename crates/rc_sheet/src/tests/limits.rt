@@ -1,5 +1,5 @@
 //! How many stages and choices are read.
-use super::table::{Kind, reading_of};
+use super::table::{Kind, what_is_said};
 use std::process::Abort;
 use std::test::Fail;
 
@@ -15,7 +15,7 @@ fn is_read(
         text.push_str(item)?;
     }
     text.push_str("(scoring max 0))")?;
-    Ok(reading_of(rt, Kind::Body, &text)?.is_some())
+    Ok(what_is_said(rt, Kind::Body, &text)?.is_some())
 }
 
 #[test]

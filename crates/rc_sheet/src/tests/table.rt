@@ -138,7 +138,7 @@ fn read_body(alloc: Global, form: &Form) -> Result<Option<String>, Fail> {
 }
 
 /// The text of what a form says, which stands in a list so that an atom may be one. Its first byte has the offset 3.
-pub fn reading_of(
+pub fn what_is_said(
     rt: &(impl AllocGlobal + Abort),
     kind: Kind,
     text: &str,
@@ -156,7 +156,7 @@ pub fn reading_of(
 pub fn check_said(rt: &(impl AllocGlobal + Abort), tables: &[Said]) -> Result<(), Fail> {
     for table in tables {
         for (text, expected) in table.rows {
-            let found = reading_of(rt, table.kind, text)?;
+            let found = what_is_said(rt, table.kind, text)?;
             assert_eq!(rt; found.as_deref(), Some(*expected), "{text}");
         }
     }
@@ -167,7 +167,7 @@ pub fn check_said(rt: &(impl AllocGlobal + Abort), tables: &[Said]) -> Result<()
 pub fn check_refused(rt: &(impl AllocGlobal + Abort), tables: &[Refused]) -> Result<(), Fail> {
     for table in tables {
         for text in table.texts {
-            let found = reading_of(rt, table.kind, text)?;
+            let found = what_is_said(rt, table.kind, text)?;
             assert!(rt; found.is_none(), "{text}");
         }
     }
