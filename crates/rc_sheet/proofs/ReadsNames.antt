@@ -25,7 +25,7 @@ use Rattle.rc_grammar.specs.declared.grammar.Rule.{Rule}
 use Rattle.rc_grammar.specs.declared.grammar.Rule.TheVariants as rule
 
 -- equal bytes
-same_bytes : (xs ys : List ℕ) → bytes_eq xs ys ≡ true → xs ≡ ys
+pub same_bytes : (xs ys : List ℕ) → bytes_eq xs ys ≡ true → xs ≡ ys
 same_bytes xs ys is = (bytes_eq-Decides xs ys).0 is
 
 -- a word that is a keyword has its bytes
@@ -166,7 +166,7 @@ binder_means naming scope (word bytes from to) =
 binder_means naming scope (list parts from to) = nothing
 
 -- sorts and classes that are the same
-sorts_same : (sort sort' : Sort) → same_sort sort sort' ≡ true → sort ≡ sort'
+pub sorts_same : (sort sort' : Sort) → same_sort sort sort' ≡ true → sort ≡ sort'
 sorts_same player_sort player_sort is = refl
 sorts_same card_sort card_sort is = refl
 sorts_same group_sort group_sort is = refl
@@ -277,7 +277,7 @@ holder_means scope tree =
     (λ is. weaker (owner_at scope tree) (owner_means scope tree) (λ who stands. owner_holds scope who tree stands))
 
 -- the word of a kind
-kind_is : (kind : LocKind) → text_of (kind_word kind) ≡ kind_bytes kind
+pub kind_is : (kind : LocKind) → text_of (kind_word kind) ≡ kind_bytes kind
 kind_is vloc = refl
 kind_is iloc = refl
 kind_is hloc = refl

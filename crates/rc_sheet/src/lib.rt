@@ -6,6 +6,7 @@ mod decks;
 mod effects;
 mod expressions;
 mod fail;
+mod fine_laws;
 mod items;
 mod laws;
 mod locations;

@@ -1,0 +1,230 @@
+-- Trees that stand well in a form: they are of their place's shape, and all their parts are fine. A list that stands well is
+-- a form each of whose parts does.
+use Rattle.std.proofs.Common.{◌≡◌, ℕ, ◌+◌, ◌≤◌, Bool, true, false, cond, List, [], ◌∷◌, ◌++◌, Option, Some, None, option_map, find, nat_lt, ◌==◌, refl, sym, subst, ap, ◌∙◌, arith, eqb-true, ltb-true}
+use Rattle.std.specs.List.{AllByRecursion}
+use Rattle.std.proofs.lemmas.Option.{same_Some}
+use Rattle.rc_model.specs.Tree.{Tree, word, list, Trees, nil, cons}
+use Rattle.rc_sheet_model.specs.Naming.{Naming}
+use Rattle.rc_semantics.specs.SecondParts.{Standing, parts_at, parts_in, standing_in, with_form}
+use Rattle.rc_grammar.specs.Grammar.{forms_of}
+use Rattle.rc_grammar.specs.Faults.{faults_at, faults_in, told_faults, lacks_players, told_rule, plain_rule, or_else, rule_of, place_at, count, fits}
+use Rattle.rc_grammar.specs.declared.grammar.Place.{Place}
+use Rattle.rc_grammar.specs.declared.grammar.Rule.{Rule}
+use Rattle.rc_sheet.specs.ReadNames.{◌>>=◌, sized, rule_at}
+use Rattle.rc_sheet.proofs.Fine.{Given, IsFine, IsFineForm}
+use Rattle.rc_sheet.proofs.Finds.{Finds}
+
+infixr 5 ◌▹◌
+-- the proof for the first form of a place, and those for the others
+abbrev pub ◌▹◌ : {A B : Type 0} → A → B → A × B
+first ▹ others = (first, others)
+
+-- P holds of each of the trees
+abbrev pub Each : (Tree → Type 0) → Trees → Type 0
+Each P nil = Unit {0}
+Each P (cons tree trees) = P tree × Each P trees
+
+-- what holds of a list where it holds of each of its parts holds of every tree
+mutual
+  pub by_parts : {P : Tree → Type 0} → ((bytes : List ℕ) (from to : ℕ) → P (word bytes from to))
+      → ((parts : Trees) (from to : ℕ) → Each P parts → P (list parts from to)) → (tree : Tree) → P tree
+  by_parts words lists (word bytes from to) = words bytes from to
+  by_parts words lists (list parts from to) = lists parts from to (each_by_parts words lists parts)
+
+  -- and of each of several trees
+  pub each_by_parts : {P : Tree → Type 0} → ((bytes : List ℕ) (from to : ℕ) → P (word bytes from to))
+      → ((parts : Trees) (from to : ℕ) → Each P parts → P (list parts from to)) → (trees : Trees) → Each P trees
+  each_by_parts words lists nil = tt
+  each_by_parts words lists (cons tree trees) = (by_parts words lists tree, each_by_parts words lists trees)
+
+-- neither of two lists has anything
+pub none_of_both : {A : Type 0} (xs ys : List A) → xs ++ ys ≡ [] → (xs ≡ []) × (ys ≡ [])
+none_of_both [] ys is = (refl, is)
+none_of_both (x ∷ xs) ys is = absurd cc
+
+-- of both
+pub all_of_both : {A : Type 0} (P : A → Type 0) (xs ys : List A) → AllByRecursion P (xs ++ ys)
+    → AllByRecursion P xs × AllByRecursion P ys
+all_of_both P [] ys all = (tt, all)
+all_of_both P (x ∷ xs) ys all = let rest = all_of_both P xs ys all.1 in ((all.0, rest.0), rest.1)
+
+-- so many parts
+pub two_parts : (P : Trees → Type 0) (parts : Trees) → (count parts == 2) ≡ true
+    → ((a b : Tree) → P (cons a (cons b nil))) → P parts
+two_parts P (cons a (cons b nil)) is then = then a b
+two_parts P nil is then = absurd cc
+two_parts P (cons a nil) is then = absurd cc
+two_parts P (cons a (cons b (cons c parts))) is then =
+    let two = eqb-true (count (cons a (cons b (cons c parts)))) 2 is in absurd (omega (arith, two))
+
+-- three
+pub three_parts : (P : Trees → Type 0) (parts : Trees) → (count parts == 3) ≡ true
+    → ((a b c : Tree) → P (cons a (cons b (cons c nil)))) → P parts
+three_parts P (cons a (cons b (cons c nil))) is then = then a b c
+three_parts P nil is then = absurd cc
+three_parts P (cons a nil) is then = absurd cc
+three_parts P (cons a (cons b nil)) is then = absurd cc
+three_parts P (cons a (cons b (cons c (cons d parts)))) is then =
+    let three = eqb-true (count (cons a (cons b (cons c (cons d parts))))) 3 is in absurd (omega (arith, three))
+
+-- four
+pub four_parts : (P : Trees → Type 0) (parts : Trees) → (count parts == 4) ≡ true
+    → ((a b c d : Tree) → P (cons a (cons b (cons c (cons d nil))))) → P parts
+four_parts P (cons a (cons b (cons c (cons d nil)))) is then = then a b c d
+four_parts P nil is then = absurd cc
+four_parts P (cons a nil) is then = absurd cc
+four_parts P (cons a (cons b nil)) is then = absurd cc
+four_parts P (cons a (cons b (cons c nil))) is then = absurd cc
+four_parts P (cons a (cons b (cons c (cons d (cons e parts))))) is then =
+    let four = eqb-true (count (cons a (cons b (cons c (cons d (cons e parts)))))) 4 is in absurd (omega (arith, four))
+
+-- so many parts, and one more at least
+pub one_and_more : (P : Trees → Type 0) (parts : Trees) → nat_lt 1 (count parts) ≡ true
+    → ((a : Tree) (rest : Trees) → 1 ≤ count rest → P (cons a rest)) → P parts
+one_and_more P nil is then = absurd cc
+one_and_more P (cons a rest) is then = let more = ltb-true 1 (count (cons a rest)) is in then a rest (omega (arith, more))
+
+-- behind two
+pub two_and_more : (P : Trees → Type 0) (parts : Trees) → nat_lt 2 (count parts) ≡ true
+    → ((a b : Tree) (rest : Trees) → 1 ≤ count rest → P (cons a (cons b rest))) → P parts
+two_and_more P nil is then = absurd cc
+two_and_more P (cons a nil) is then = absurd cc
+two_and_more P (cons a (cons b rest)) is then =
+    let more = ltb-true 2 (count (cons a (cons b rest))) is in then a b rest (omega (arith, more))
+
+-- behind three
+pub three_and_more : (P : Trees → Type 0) (parts : Trees) → nat_lt 3 (count parts) ≡ true
+    → ((a b c : Tree) (rest : Trees) → 1 ≤ count rest → P (cons a (cons b (cons c rest)))) → P parts
+three_and_more P nil is then = absurd cc
+three_and_more P (cons a nil) is then = absurd cc
+three_and_more P (cons a (cons b nil)) is then = absurd cc
+three_and_more P (cons a (cons b (cons c rest))) is then =
+    let more = ltb-true 3 (count (cons a (cons b (cons c rest)))) is in then a b c rest (omega (arith, more))
+
+-- a form that fits has no fault but those of its parts
+no_fault : {A : Type 0} (b c : Bool) (x y : A) (inner : List A) → cond b (cond c (x ∷ inner) inner) (y ∷ []) ≡ []
+    → (b ≡ true) × (inner ≡ [])
+no_fault true true x y inner is = absurd cc
+no_fault true false x y inner is = (refl, is)
+no_fault false c x y inner is = absurd cc
+
+-- what holds of each holds of what is found among them
+found_among : {A : Type 0} (P : A → Type 0) (test : A → Bool) (all : List A) (x : A) → find test all ≡ Some x
+    → AllByRecursion P all → P x
+found_among P test [] x is each = absurd cc
+found_among P test (a ∷ all) x is each = by (test a) is (λ is. found_among P test all x is each.1)
+  where
+    by : (b : Bool) → cond b (Some a) (find test all) ≡ Some x → (find test all ≡ Some x → P x) → P x
+    by true is later = subst P (same_Some a x is) each.0
+    by false is later = later is
+
+-- or else among these
+among_both : (P : Rule → Type 0) (first second : Option Rule) (x : Rule) → or_else first second ≡ Some x
+    → ((a : Rule) → first ≡ Some a → P a) → ((a : Rule) → second ≡ Some a → P a) → P x
+among_both P None second x is p q = q x is
+among_both P (Some a) second x is p q = p x is
+
+-- what holds of each form of a place holds of the one that a list has there
+pub rule_among : (P : Rule → Type 0) (place : Place) (parts : Trees) (x : Rule) → rule_of place parts ≡ Some x
+    → AllByRecursion P (forms_of place) → P x
+rule_among P place nil x is each = absurd cc
+rule_among P place (cons head parts) x is each =
+    among_both P (told_rule place head parts) (plain_rule place head) x is
+    (λ a is. found_among P _ (forms_of place) a is each)
+    (λ a is. found_among P _ (forms_of place) a is each)
+
+-- a form that fits is found
+pub sized_finds : {A : Type 0} {P : A → Type 0} (n : ℕ) (rule : Rule) (read : Rule → Option A) → fits n rule ≡ true
+    → Finds (read rule) P → Finds (sized n (Some rule) >>= read) P
+sized_finds {P = P} n rule read is found = by (fits n rule) is
+  where
+    by : (b : Bool) → b ≡ true → Finds (cond b (Some rule) None >>= read) P
+    by true is = found
+    by false is = absurd cc
+
+module _ (given : Given) (naming : Naming) where
+  -- a tree is of the shape that its place wants, and all its parts are fine
+  pub record IsGood (at : Standing) (tree : Tree) : Type 0 where
+    pub shaped : faults_at (Some at.place) tree ≡ []
+    pub fine : AllByRecursion (IsFine given naming) (parts_at (Some at) tree)
+
+  -- where it has a place
+  abbrev pub GoodAt : Option Standing → Tree → Type 0
+  GoodAt None tree = Unit {0}
+  GoodAt (Some at) tree = IsGood at tree
+
+  -- the parts of a form do so, from the one at this index on
+  abbrev pub AreGood : Standing → Rule → Trees → ℕ → Trees → Type 0
+  AreGood at rule all index nil = Unit {0}
+  AreGood at rule all index (cons tree trees) =
+      GoodAt (standing_in at rule all index) tree × AreGood at rule all (index + 1) trees
+
+  -- a list is a form whose parts do so
+  pub record IsGoodForm (at : Standing) (rule : Rule) (parts : Trees) : Type 0 where
+    pub told : rule_of at.place parts ≡ Some rule
+    pub fit : fits (count parts) rule ≡ true
+    pub fine : IsFineForm naming at rule parts
+    pub good : AreGood at rule parts 0 parts
+
+  -- where a place is known, a tree stands in it as its shape and its parts say
+  good_at : (found : Option Place) (stand : Place → Standing) (tree : Tree) → ((place : Place) → (stand place).place ≡ place)
+      → faults_at found tree ≡ [] → AllByRecursion (IsFine given naming) (parts_at (option_map stand found) tree)
+      → GoodAt (option_map stand found) tree
+  good_at None stand tree same shaped fine = tt
+  good_at (Some place) stand tree same shaped fine =
+      record { shaped = subst (λ p. faults_at (Some p) tree ≡ []) (sym (same place)) shaped; fine = fine }
+
+  -- the parts of a form stand well
+  are_good : (at : Standing) (rule : Rule) (all : Trees) (index : ℕ) (trees : Trees) → faults_in rule (count all) index trees ≡ []
+      → AllByRecursion (IsFine given naming) (parts_in at rule all index trees) → AreGood at rule all index trees
+  are_good at rule all index nil shaped fine = tt
+  are_good at rule all index (cons tree trees) shaped fine =
+      let none = none_of_both (faults_at (place_at rule (count all) index) tree) _ shaped in
+      let both = all_of_both (IsFine given naming) (parts_at (standing_in at rule all index) tree) _ fine in (
+        good_at (place_at rule (count all) index) _ tree (λ place. refl) none.0 both.0,
+        are_good at rule all (index + 1) trees none.1 both.1,
+      )
+
+  -- a list with its rule found
+  form_at : (at : Standing) (parts : Trees) (from : ℕ) (found : Option Rule) → rule_of at.place parts ≡ found
+      → told_faults at.place from parts (λ rule. faults_in rule (count parts) 0 parts) found ≡ []
+      → AllByRecursion (IsFine given naming) (with_form at parts from (λ rule. parts_in at rule parts 0 parts) found)
+      → (rule : Rule) × IsGoodForm at rule parts
+  form_at at parts from None is shaped fine = absurd cc
+  form_at at parts from (Some rule) is shaped fine =
+      let none = no_fault (fits (count parts) rule) (lacks_players rule parts) _ _ _ shaped in
+      (rule, record { told = is; fit = none.0; fine = fine.0; good = are_good at rule parts 0 parts none.1 fine.1 })
+
+  -- a list that stands well is a form
+  pub good_form : (at : Standing) (parts : Trees) (from to : ℕ) → IsGood at (list parts from to)
+      → (rule : Rule) × IsGoodForm at rule parts
+  good_form at parts from to good = form_at at parts from (rule_of at.place parts) refl good.shaped good.fine
+
+  -- What a list says is found where it is found by each of the forms that it may have. The forms may be told of another place
+  -- that has the same.
+  pub finds_by : {A : Type 0} {P : A → Type 0} (read : Rule → Option A) (place : Place) (at : Standing) (parts : Trees)
+      (from to : ℕ) → rule_of at.place parts ≡ rule_of place parts → IsGood at (list parts from to)
+      → AllByRecursion (λ rule. IsGoodForm at rule parts → Finds (read rule) P) (forms_of place)
+      → Finds (rule_at place parts >>= read) P
+  finds_by {P = P} read place at parts from to same good each =
+      let found = good_form at parts from to good in
+      let is = sym same ∙ found.1.told in
+      let found_form = rule_among (λ rule. IsGoodForm at rule parts → Finds (read rule) P) place parts found.0 is each in
+      subst (λ o. Finds (sized (count parts) o >>= read) P) (sym is)
+      (sized_finds (count parts) found.0 read found.1.fit (found_form found.1))
+
+  -- the same by its own place
+  pub list_finds : {A : Type 0} {P : A → Type 0} (read : Rule → Option A) (place : Place) (at : Standing) (parts : Trees)
+      (from to : ℕ) → at.place ≡ place → IsGood at (list parts from to)
+      → AllByRecursion (λ rule. IsGoodForm at rule parts → Finds (read rule) P) (forms_of place)
+      → Finds (rule_at place parts >>= read) P
+  list_finds read place at parts from to here good each =
+      finds_by read place at parts from to (ap (λ p. rule_of p parts) here) good each
+
+  -- no list stands where there are no forms
+  pub no_list : (place : Place) (at : Standing) (parts : Trees) (from to : ℕ) → at.place ≡ place → IsGood at (list parts from to)
+      → forms_of place ≡ [] → ⊥
+  no_list place at parts from to here good none =
+      let found = good_form at parts from to good in
+      rule_among (λ rule. ⊥) place parts found.0 (sym (ap (λ p. rule_of p parts) here) ∙ found.1.told)
+      (subst (AllByRecursion (λ rule. ⊥)) (sym none) tt)
