@@ -1,1 +1,4 @@
 pub mod NumberingLemmas
+pub mod Mentioned
+pub mod MentionedRows
+pub mod MentionedForms

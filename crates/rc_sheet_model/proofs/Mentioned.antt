@@ -1,0 +1,309 @@
+-- What a part of a sheet mentions are the words that its form mentions, in order: of one kind of names, whichever it is.
+use Prim.Native.String.{String}
+use Rattle.std.proofs.Common.{◌≡◌, ℕ, Bool, true, false, if◌then◌else◌, not, ◌&&◌, ◌||◌, cond, List, [], ◌∷◌, ◌++◌, map, flat_map, codes, bytes_eq, slice_get, slice_index_or, Option, Some, None, option_map, refl, sym, subst, ap, ap₂, ◌∙◌, append_assoc, arith}
+use Rattle.std.proofs.lemmas.Bool.{cond-true, cond-false, and_parts}
+use Rattle.std.proofs.lemmas.List.{map-append}
+use Rattle.std.proofs.lemmas.Grind.{flat_map-append}
+use Rattle.std.proofs.lemmas.Slice.Eq.{bytes_eq-Decides}
+use Rattle.rc_model.specs.Tree.{Tree, word, list, Trees, nil, cons}
+use Rattle.rc_sheet_model.specs.Sheet.{Names}
+use Rattle.rc_sheet_model.specs.Mentions.{Mention, attr_name, value_name, map_name, loc_name, num_name, var_name, attr_of, value_of, map_of, loc_of, num_of, var_of}
+use Rattle.rc_sheet_model.specs.FormMentions.{is_atom, is_kind, word_of, gathered, all_gathered, loc_word, num_word, is_measure, map_word, attr_word, value_word, is_binder, var_words, bound_words, all_var_words}
+use Rattle.rc_sheet_model.specs.Rows.{◌▸◌, End, AtLeast, Row, Word, Atom}
+use Rattle.rc_sheet_model.specs.Naming.{is_variable, Named}
+
+-- the six kinds of names
+pub data Kind : Type 0 where
+  attrs : Kind
+  values : Kind
+  maps : Kind
+  locs : Kind
+  nums : Kind
+  vars : Kind
+
+-- the numbers that a mention says of a kind, and the words of that kind
+abbrev pub of_kind : Kind → Mention → List ℕ
+of_kind attrs = attr_of
+of_kind values = value_of
+of_kind maps = map_of
+of_kind locs = loc_of
+of_kind nums = num_of
+of_kind vars = var_of
+
+abbrev pub names_in : Kind → Names → List (List ℕ)
+names_in attrs names = names.attrs
+names_in values names = names.values
+names_in maps names = names.maps
+names_in locs names = names.locs
+names_in nums names = names.nums
+names_in vars names = names.vars
+
+-- the words that mentions say
+abbrev pub said : Kind → Names → List Mention → List (List ℕ)
+said kind names mentions = map (λ n. slice_index_or (names_in kind names) n []) (flat_map (of_kind kind) mentions)
+
+-- the words that a form mentions, and that parts do
+abbrev pub words_in : Kind → Tree → List (List ℕ)
+words_in attrs tree = gathered attr_word tree
+words_in values tree = gathered value_word tree
+words_in maps tree = gathered map_word tree
+words_in locs tree = gathered loc_word tree
+words_in nums tree = gathered num_word tree
+words_in vars tree = var_words tree
+
+abbrev pub all_words_in : Kind → Trees → List (List ℕ)
+all_words_in attrs trees = all_gathered attr_word trees
+all_words_in values trees = all_gathered value_word trees
+all_words_in maps trees = all_gathered map_word trees
+all_words_in locs trees = all_gathered loc_word trees
+all_words_in nums trees = all_gathered num_word trees
+all_words_in vars trees = all_var_words trees
+
+-- what a list of these parts mentions itself, behind its parts; a variable is mentioned where it stands
+abbrev pub own : Kind → Trees → List (List ℕ)
+own attrs parts = attr_word parts
+own values parts = value_word parts
+own maps parts = map_word parts
+own locs parts = loc_word parts
+own nums parts = num_word parts
+own vars parts = []
+
+-- one behind the other
+pub said-append : (kind : Kind) (names : Names) (xs ys : List Mention)
+    → said kind names (xs ++ ys) ≡ said kind names xs ++ said kind names ys
+said-append kind names xs ys =
+    ap (map (λ n. slice_index_or (names_in kind names) n [])) (flat_map-append (of_kind kind) xs ys)
+    ∙ map-append (λ n. slice_index_or (names_in kind names) n []) (flat_map (of_kind kind) xs) (flat_map (of_kind kind) ys)
+
+pub append_nothing : {A : Type 0} (xs : List A) → xs ++ [] ≡ xs
+append_nothing [] = refl
+append_nothing (x ∷ xs) = ap (λ rest. x ∷ rest) (append_nothing xs)
+
+-- an atom mentions nothing itself
+pub words_in-word : (kind : Kind) (bytes : List ℕ) (from to : ℕ) → words_in kind (word bytes from to) ≡ []
+words_in-word attrs bytes from to = refl
+words_in-word values bytes from to = refl
+words_in-word maps bytes from to = refl
+words_in-word locs bytes from to = refl
+words_in-word nums bytes from to = refl
+words_in-word vars bytes from to = refl
+
+pub all_words_in-nil : (kind : Kind) → all_words_in kind nil ≡ []
+all_words_in-nil attrs = refl
+all_words_in-nil values = refl
+all_words_in-nil maps = refl
+all_words_in-nil locs = refl
+all_words_in-nil nums = refl
+all_words_in-nil vars = refl
+
+pub all_words_in-cons : (kind : Kind) (tree : Tree) (trees : Trees)
+    → all_words_in kind (cons tree trees) ≡ words_in kind tree ++ all_words_in kind trees
+all_words_in-cons attrs tree trees = refl
+all_words_in-cons values tree trees = refl
+all_words_in-cons maps tree trees = refl
+all_words_in-cons locs tree trees = refl
+all_words_in-cons nums tree trees = refl
+all_words_in-cons vars tree trees = refl
+
+-- where no variable is bound, variables stand in the parts
+bound_words-plain : (head : Tree) (rest : Trees) → is_binder head ≡ false
+    → bound_words (cons head rest) ≡ all_var_words (cons head rest)
+bound_words-plain head nil no_binder = sym (append_nothing (var_words head))
+bound_words-plain head (cons tree nil) no_binder = ap (λ words. var_words head ++ words) (sym (append_nothing (var_words tree)))
+bound_words-plain head (cons domain (cons var rest)) no_binder =
+    let stands : List (List ℕ) = if is_binder head then word_of var else var_words var in
+    let unbound : stands ≡ var_words var = cond-false _ _ _ no_binder in
+    append_assoc (var_words head ++ var_words domain) stands (all_var_words rest)
+    ∙ ap (λ words. var_words head ++ var_words domain ++ (words ++ all_var_words rest)) unbound
+    ∙ append_assoc (var_words head) (var_words domain) (var_words var ++ all_var_words rest)
+
+-- what a list mentions
+pub words_in-list : (kind : Kind) (head : Tree) (rest : Trees) (from to : ℕ) → is_binder head ≡ false
+    → words_in kind (list (cons head rest) from to) ≡ all_words_in kind (cons head rest) ++ own kind (cons head rest)
+words_in-list attrs head rest from to no_binder = refl
+words_in-list values head rest from to no_binder = refl
+words_in-list maps head rest from to no_binder = refl
+words_in-list locs head rest from to no_binder = refl
+words_in-list nums head rest from to no_binder = refl
+words_in-list vars head rest from to no_binder =
+    bound_words-plain head rest no_binder ∙ sym (append_nothing (all_var_words (cons head rest)))
+
+-- what is said of a part are its words
+pub record Says (kind : Kind) (names : Names) (mentions : List Mention) (tree : Tree) : Type 0 where
+  pub same : said kind names mentions ≡ words_in kind tree
+
+pub record SayAll (kind : Kind) (names : Names) (mentions : List Mention) (trees : Trees) : Type 0 where
+  pub same : said kind names mentions ≡ all_words_in kind trees
+
+-- the part is the word of a kind of locations, or that of stored numbers
+abbrev pub is_sort_word : Tree → Bool
+is_sort_word tree = is_kind tree || is_atom "sto" tree
+
+-- A form of this description says what is mentioned, and is no such word.
+pub record Speaks (kind : Kind) (names : Names) (P : Tree → Type 0) (mentions : List Mention) : Type 0 where
+  pub says : (tree : Tree) → P tree → Says kind names mentions tree
+  pub other : (tree : Tree) → P tree → is_sort_word tree ≡ false
+
+-- parts of this description say what is mentioned
+pub record Speak (kind : Kind) (names : Names) (P : Trees → Type 0) (mentions : List Mention) : Type 0 where
+  pub says : (trees : Trees) → P trees → SayAll kind names mentions trees
+
+-- no part says nothing
+pub end_speaks : {kind : Kind} {names : Names} → Speak kind names End []
+end_speaks {kind} {names} = record { says = end_says }
+  where
+    end_says : (trees : Trees) → End trees → SayAll kind names [] trees
+    end_says nil at_end = record { same = sym (all_words_in-nil kind) }
+    end_says (cons tree trees) at_end = absurd at_end
+
+-- a part, and parts behind it
+pub then_speak : {kind : Kind} {names : Names} {P : Tree → Type 0} {Q : Trees → Type 0} {ms ns : List Mention}
+    → Speaks kind names P ms → Speak kind names Q ns → Speak kind names (P ▸ Q) (ms ++ ns)
+then_speak {kind} {names} {P} {Q} {ms} {ns} first later = record { says = both_say }
+  where
+    both_say : (trees : Trees) → (P ▸ Q) trees → SayAll kind names (ms ++ ns) trees
+    both_say nil stand = absurd stand
+    both_say (cons tree trees) stand =
+        record {
+          same =
+            said-append kind names ms ns
+            ∙ ap₂ ◌++◌ ((first.says tree stand.0).same) ((later.says trees stand.1).same)
+            ∙ sym (all_words_in-cons kind tree trees);
+        }
+
+-- the last part
+pub last_speaks : {kind : Kind} {names : Names} {P : Tree → Type 0} {ms : List Mention}
+    → Speaks kind names P ms → Speak kind names (P ▸ End) ms
+last_speaks {kind} {names} {P} {ms} last = record { says = last_says }
+  where
+    last_says : (trees : Trees) → (P ▸ End) trees → SayAll kind names ms trees
+    last_says trees stand =
+        record {
+          same =
+            ap (said kind names) (sym (append_nothing ms)) ∙ ((then_speak last end_speaks).says trees stand).same;
+        }
+
+-- an atom, whatever it is, and parts behind it
+pub atom_then : {kind : Kind} {names : Names} {W : List ℕ → Type 0} {Q : Trees → Type 0} {ns : List Mention}
+    → Speak kind names Q ns → Speak kind names (Word W ▸ Q) ns
+atom_then {kind} {names} {W} {Q} {ns} later = record { says = both_say }
+  where
+    both_say : (trees : Trees) → (Word W ▸ Q) trees → SayAll kind names ns trees
+    both_say nil stand = absurd stand
+    both_say (cons (word bytes from to) trees) stand =
+        record {
+          same =
+            (later.says trees stand.1).same
+            ∙ ap (λ words. words ++ all_words_in kind trees) (sym (words_in-word kind bytes from to))
+            ∙ sym (all_words_in-cons kind (word bytes from to) trees);
+        }
+    both_say (cons (list parts from to) trees) stand = absurd stand.0
+
+-- so many parts at least
+pub at_least_speak : {kind : Kind} {names : Names} {P : Trees → Type 0} {ms : List Mention}
+    (least : ℕ) → Speak kind names P ms → Speak kind names (AtLeast least P) ms
+at_least_speak {kind} {names} {P} {ms} least all = record { says = λ trees stand. all.says trees stand.1 }
+
+-- What a head tells of its list: whether a point map, an attribute, an attribute and a value, or a variable are mentioned.
+pub record IsHead (measure attr is binder : Bool) (head : Tree) : Type 0 where
+  pub of_map : is_measure head ≡ measure
+  pub of_attr : (is_atom "attr" head || is_atom "partition" head) ≡ attr
+  pub of_value : is_atom "is" head ≡ is
+  pub of_var : is_binder head ≡ binder
+
+-- that an atom with this text tells so, as a test
+abbrev pub same : Bool → Bool → Bool
+same true b = b
+same false b = not b
+
+abbrev pub tells : Bool → Bool → Bool → Bool → String → Bool
+tells measure attr is binder text =
+    same measure (is_measure (word (codes text) 0 0))
+    && (same attr (is_atom "attr" (word (codes text) 0 0) || is_atom "partition" (word (codes text) 0 0))
+    && (same is (is_atom "is" (word (codes text) 0 0)) && same binder (is_binder (word (codes text) 0 0))))
+
+same_is : (a b : Bool) → same a b ≡ true → b ≡ a
+same_is true b is = is
+same_is false true is = absurd cc
+same_is false false is = refl
+
+-- the atom with this text
+pub head_at : {measure attr is binder : Bool} (text : String) (head : Tree) → Atom text head
+    → tells measure attr is binder text ≡ true → IsHead measure attr is binder head
+head_at {measure} {attr} {is} {binder} text (word bytes from to) stands told =
+    let first = and_parts _ _ told in
+    let second = and_parts _ _ first.1 in
+    let third = and_parts _ _ second.1 in
+    subst (λ b. IsHead measure attr is binder (word b from to)) (sym stands)
+    (record {
+      of_map = same_is measure _ first.0;
+      of_attr = same_is attr _ second.0;
+      of_value = same_is is _ third.0;
+      of_var = same_is binder _ third.1;
+    })
+head_at text (list parts from to) stands told = absurd stands
+
+abbrev pub IsPlain : Tree → Type 0
+IsPlain head = IsHead false false false false head
+
+-- neither of two
+pub neither : (a b : Bool) → (a || b) ≡ false → (a ≡ false) × (b ≡ false)
+neither true b is = absurd cc
+neither false b is = (refl, is)
+
+pub no_kind : (tree : Tree) → is_sort_word tree ≡ false → is_kind tree ≡ false
+no_kind tree other = (neither (is_kind tree) (is_atom "sto" tree) other).0
+
+pub no_number : (tree : Tree) → is_sort_word tree ≡ false → is_atom "sto" tree ≡ false
+no_number tree other = (neither (is_kind tree) (is_atom "sto" tree) other).1
+
+-- what a list mentions itself whose head tells nothing, and whose second part is no word of a kind
+pub own-plain : (kind : Kind) (binder : Bool) (head second : Tree) (rest : Trees) → IsHead false false false binder head
+    → is_sort_word second ≡ false → own kind (cons head (cons second rest)) ≡ []
+own-plain attrs binder head second nil told other = refl
+own-plain attrs binder head second (cons third nil) told other = cond-false _ _ _ told.of_attr
+own-plain attrs binder head second (cons third (cons fourth nil)) told other = cond-false _ _ _ told.of_value
+own-plain attrs binder head second (cons third (cons fourth (cons fifth rest))) told other = refl
+own-plain values binder head second nil told other = refl
+own-plain values binder head second (cons third nil) told other = refl
+own-plain values binder head second (cons third (cons fourth nil)) told other = cond-false _ _ _ told.of_value
+own-plain values binder head second (cons third (cons fourth (cons fifth rest))) told other = refl
+own-plain maps binder head second nil told other = refl
+own-plain maps binder head second (cons third nil) told other = refl
+own-plain maps binder head second (cons third (cons fourth nil)) told other = cond-false _ _ _ told.of_map
+own-plain maps binder head second (cons third (cons fourth (cons fifth rest))) told other = refl
+own-plain locs binder head second nil told other = refl
+own-plain locs binder head second (cons third nil) told other = cond-false _ _ _ (no_kind second other)
+own-plain locs binder head second (cons third (cons fourth rest)) told other = refl
+own-plain nums binder head second nil told other = refl
+own-plain nums binder head second (cons third nil) told other = cond-false _ _ _ (no_number second other)
+own-plain nums binder head second (cons third (cons fourth rest)) told other = refl
+own-plain vars binder head second rest told other = refl
+
+-- the form is a list, and so no word
+pub row_other : (P : Trees → Type 0) (tree : Tree) → Row P tree → is_sort_word tree ≡ false
+row_other P (word bytes from to) stands = absurd stands
+row_other P (list parts from to) stands = refl
+
+-- a form whose head tells nothing says what its parts say
+pub plain_speaks : {kind : Kind} {names : Names} {First : Tree → Type 0} {Rest : Trees → Type 0} {ms : List Mention}
+    (text : String) → tells false false false false text ≡ true → ((tree : Tree) → First tree → is_sort_word tree ≡ false)
+    → Speak kind names (First ▸ Rest) ms → Speaks kind names (Row (Atom text ▸ First ▸ Rest)) ms
+plain_speaks {kind} {names} {First} {Rest} {ms} text nothing other parts =
+    record { says = list_says; other = row_other (Atom text ▸ First ▸ Rest) }
+  where
+    list_says : (tree : Tree) → Row (Atom text ▸ First ▸ Rest) tree → Says kind names ms tree
+    list_says (word bytes from to) stands = absurd stands
+    list_says (list nil from to) stands = absurd stands
+    list_says (list (cons head nil) from to) stands = absurd stands.1
+    list_says (list (cons head (cons second rest)) from to) stands =
+        let told : IsPlain head = head_at text head stands.0 nothing in
+        let inside = ((atom_then parts).says (cons head (cons second rest)) stands).same in
+        let itself = own-plain kind false head second rest told (other second stands.1.0) in
+        record {
+          same =
+            inside
+            ∙ sym (append_nothing (all_words_in kind (cons head (cons second rest))))
+            ∙ ap (λ words. all_words_in kind (cons head (cons second rest)) ++ words) (sym itself)
+            ∙ sym (words_in-list kind head (cons second rest) from to told.of_var);
+        }
