@@ -1,6 +1,6 @@
 -- Which words the forms mention that name something, and owners, which mention nothing.
 use Prim.Native.String.{String}
-use Rattle.std.proofs.Common.{◌≡◌, ℕ, Bool, true, false, ◌||◌, ◌==◌, cond, List, [], ◌∷◌, ◌++◌, get_or, codes, bytes_eq, slice_get, ℤ, Option, Some, None, option_map, refl, sym, subst, ap, ap₂, ◌∙◌, append_assoc, arith, eqb-true}
+use Rattle.std.proofs.Common.{◌≡◌, ℕ, Bool, true, false, if◌then◌else◌, ◌||◌, ◌==◌, cond, List, [], ◌∷◌, ◌++◌, get_or, codes, bytes_eq, slice_get, ℤ, Option, Some, None, option_map, refl, sym, subst, ap, ap₂, ◌∙◌, append_assoc, arith, eqb-true}
 use Rattle.std.proofs.lemmas.Bool.{cond-true, cond-false, or_from, false_from_ne_true}
 use Rattle.std.proofs.lemmas.Option.{get_or_from_slice_get, none-some, same_Some}
 use Rattle.std.proofs.lemmas.Slice.Eq.{bytes_eq-Decides}
@@ -12,7 +12,7 @@ use Rattle.rc_sheet_model.specs.FormMentions.{is_atom, is_kind, is_measure, is_b
 use Rattle.rc_sheet_model.specs.Rows.{◌▸◌, End, Row, Word, Atom}
 use Rattle.rc_sheet_model.specs.Naming.{Naming, Scope, is_variable, kind_word, Named, Binder, InScope, Literal, KindOf}
 use Rattle.rc_sheet_model.specs.StandsExpressions.{StandsOwner, StandsHolder, StandsLoc, StandsNum}
-use Rattle.rc_sheet_model.proofs.Mentioned.{Kind, attrs, values, maps, locs, nums, vars, said, words_in, all_words_in, own, said-append, append_nothing, words_in-word, words_in-list, Says, SayAll, is_sort_word, Speaks, Speak, end_speaks, then_speak, last_speaks, atom_then, tells, IsHead, head_at, IsPlain, own-plain, neither, no_kind, no_number, row_other, plain_speaks}
+use Rattle.rc_sheet_model.proofs.Mentioned.{Kind, attrs, values, maps, locs, nums, vars, said, words_in, all_words_in, all_words_in-nil, all_words_in-cons, own, said-append, append_nothing, words_in-word, words_in-list, Says, SayAll, is_sort_word, Speaks, Speak, end_speaks, then_speak, last_speaks, atom_then, tells, IsHead, head_at, IsPlain, own-plain, neither, no_kind, no_number, row_other, plain_speaks}
 
 -- what depends on the first byte of a variable
 at_variable : (test : List ℕ → Bool) → ((bytes : List ℕ) → test (39 ∷ bytes) ≡ false) → (bytes : List ℕ)
@@ -204,3 +204,291 @@ own-num locs names number head second bytes from to told no_kind' yes_sto is = s
 own-num nums names number head second bytes from to told no_kind' yes_sto is =
     named_word names.nums number bytes is ∙ sym (cond-true _ _ _ yes_sto)
 own-num vars names number head second bytes from to told no_kind' yes_sto is = refl
+
+-- parts behind one that says nothing, behind an atom, and behind one that says something
+behind_silent : (kind : Kind) (names : Names) (ns : List Mention) (tree : Tree) (trees : Trees) → words_in kind tree ≡ []
+    → SayAll kind names ns trees → SayAll kind names ns (cons tree trees)
+behind_silent kind names ns tree trees silent later =
+    record {
+      same =
+        later.same
+        ∙ ap (λ words. words ++ all_words_in kind trees) (sym silent)
+        ∙ sym (all_words_in-cons kind tree trees);
+    }
+
+behind_word : (kind : Kind) (names : Names) (ns : List Mention) (bytes : List ℕ) (from to : ℕ) (trees : Trees)
+    → SayAll kind names ns trees → SayAll kind names ns (cons (word bytes from to) trees)
+behind_word kind names ns bytes from to trees =
+    behind_silent kind names ns (word bytes from to) trees (words_in-word kind bytes from to)
+
+behind_part : (kind : Kind) (names : Names) (ms ns : List Mention) (tree : Tree) (trees : Trees) → Says kind names ms tree
+    → SayAll kind names ns trees → SayAll kind names (ms ++ ns) (cons tree trees)
+behind_part kind names ms ns tree trees first later =
+    record {
+      same = said-append kind names ms ns ∙ ap₂ ◌++◌ (first.same) (later.same) ∙ sym (all_words_in-cons kind tree trees);
+    }
+
+-- no part
+no_part : (kind : Kind) (names : Names) → SayAll kind names [] nil
+no_part kind names = record { same = sym (all_words_in-nil kind) }
+
+-- an atom says nothing
+text_silent : (kind : Kind) (W : List ℕ → Type 0) (tree : Tree) → Word W tree → words_in kind tree ≡ []
+text_silent kind W (word bytes from to) is = words_in-word kind bytes from to
+text_silent kind W (list parts from to) is = absurd is
+
+-- a part says what it says, with nothing behind it
+alone : (kind : Kind) (names : Names) (ms : List Mention) (trees : Trees) → SayAll kind names (ms ++ []) trees
+    → SayAll kind names ms trees
+alone kind names ms trees all = record { same = ap (said kind names) (sym (append_nothing ms)) ∙ all.same }
+
+-- `(attr CARD ATTR)` and the like
+pub attr_speaks : {kind : Kind} {P : Tree → Type 0} {ms : List Mention} (names : Names) (number : ℕ) (text : String)
+    → tells false true false false text ≡ true → Speaks kind names P ms
+    → Speaks kind names (Row (Atom text ▸ P ▸ Named names.attrs number ▸ End)) (ms ++ attr_name number ∷ [])
+attr_speaks {kind} {P} {ms} names number text told card = record { says = list_says; other = row_other _ }
+  where
+    list_says : (tree : Tree) → Row (Atom text ▸ P ▸ Named names.attrs number ▸ End) tree
+        → Says kind names (ms ++ attr_name number ∷ []) tree
+    list_says (word bytes from to) stands = absurd stands
+    list_says (list nil from to) stands = absurd stands
+    list_says (list (cons head nil) from to) stands = absurd stands.1
+    list_says (list (cons head (cons second nil)) from to) stands = absurd stands.1.1
+    list_says (list (cons head (cons second (cons (list parts from' to') rest))) from to) stands = absurd stands.1.1.0
+    list_says (list (cons head (cons second (cons (word bytes from' to') (cons next rest)))) from to) stands = absurd stands.1.1.1
+    list_says (list (cons head (cons second (cons (word bytes from' to') nil))) from to) stands =
+        let rest : Trees = cons second (cons (word bytes from' to') nil) in
+        let head' : IsHead false true false false head = head_at text head stands.0 told in
+        row_says kind names head rest from to ms (attr_name number ∷ []) head'.of_var
+        (behind_silent kind names ms head rest (text_silent kind _ head stands.0)
+        (alone kind names ms rest
+        (behind_part kind names ms [] second _ (card.says second stands.1.0)
+        (behind_word kind names [] bytes from' to' nil (no_part kind names)))))
+        (own-attr kind names number head second bytes from' to' head' (card.other second stands.1.0) stands.1.1.0.0)
+
+-- `(max COLL using MAP)` and the like
+pub map_speaks : {kind : Kind} {P : Tree → Type 0} {ms : List Mention} (names : Names) (number : ℕ) (text : String)
+    → tells true false false false text ≡ true → Speaks kind names P ms
+    → Speaks kind names (Row (Atom text ▸ P ▸ Atom "using" ▸ Named names.maps number ▸ End)) (ms ++ map_name number ∷ [])
+map_speaks {kind} {P} {ms} names number text told cards = record { says = list_says; other = row_other _ }
+  where
+    list_says : (tree : Tree) → Row (Atom text ▸ P ▸ Atom "using" ▸ Named names.maps number ▸ End) tree
+        → Says kind names (ms ++ map_name number ∷ []) tree
+    list_says (word bytes from to) stands = absurd stands
+    list_says (list nil from to) stands = absurd stands
+    list_says (list (cons head nil) from to) stands = absurd stands.1
+    list_says (list (cons head (cons second nil)) from to) stands = absurd stands.1.1
+    list_says (list (cons head (cons second (cons using nil))) from to) stands = absurd stands.1.1.1
+    list_says (list (cons head (cons second (cons using (cons (list parts from' to') rest)))) from to) stands =
+        absurd stands.1.1.1.0
+    list_says (list (cons head (cons second (cons using (cons (word bytes from' to') (cons next rest))))) from to) stands =
+        absurd stands.1.1.1.1
+    list_says (list (cons head (cons second (cons using (cons (word bytes from' to') nil)))) from to) stands =
+        let named : Trees = cons (word bytes from' to') nil in
+        let rest : Trees = cons second (cons using named) in
+        let head' : IsHead true false false false head = head_at text head stands.0 told in
+        row_says kind names head rest from to ms (map_name number ∷ []) head'.of_var
+        (behind_silent kind names ms head rest (text_silent kind _ head stands.0)
+        (alone kind names ms rest
+        (behind_part kind names ms [] second _ (cards.says second stands.1.0)
+        (behind_silent kind names [] using named (text_silent kind _ using stands.1.1.0)
+        (behind_word kind names [] bytes from' to' nil (no_part kind names))))))
+        (own-map kind names number head second using bytes from' to' head' stands.1.1.1.0.0)
+
+-- `(is CARD ATTR VALUE)`
+pub value_speaks : {kind : Kind} {P : Tree → Type 0} {ms : List Mention} (names : Names) (attr value : ℕ) (text : String)
+    → tells false false true false text ≡ true → Speaks kind names P ms
+    → Speaks kind names (Row (Atom text ▸ P ▸ Named names.attrs attr ▸ Named names.values value ▸ End))
+    (ms ++ attr_name attr ∷ value_name value ∷ [])
+value_speaks {kind} {P} {ms} names attr value text told card = record { says = list_says; other = row_other _ }
+  where
+    list_says : (tree : Tree) → Row (Atom text ▸ P ▸ Named names.attrs attr ▸ Named names.values value ▸ End) tree
+        → Says kind names (ms ++ attr_name attr ∷ value_name value ∷ []) tree
+    list_says (word bytes from to) stands = absurd stands
+    list_says (list nil from to) stands = absurd stands
+    list_says (list (cons head nil) from to) stands = absurd stands.1
+    list_says (list (cons head (cons second nil)) from to) stands = absurd stands.1.1
+    list_says (list (cons head (cons second (cons (list parts from' to') rest))) from to) stands = absurd stands.1.1.0
+    list_says (list (cons head (cons second (cons (word a from' to') nil))) from to) stands = absurd stands.1.1.1
+    list_says (list (cons head (cons second (cons (word a from' to') (cons (list parts from'' to'') rest)))) from to) stands =
+        absurd stands.1.1.1.0
+    list_says (list (cons head (cons second (cons (word a from' to') (cons (word v from'' to'') (cons next rest))))) from to) stands =
+        absurd stands.1.1.1.1
+    list_says (list (cons head (cons second (cons (word a from' to') (cons (word v from'' to'') nil)))) from to) stands =
+        let last : Trees = cons (word v from'' to'') nil in
+        let rest : Trees = cons second (cons (word a from' to') last) in
+        let head' : IsHead false false true false head = head_at text head stands.0 told in
+        row_says kind names head rest from to ms (attr_name attr ∷ value_name value ∷ []) head'.of_var
+        (behind_silent kind names ms head rest (text_silent kind _ head stands.0)
+        (alone kind names ms rest
+        (behind_part kind names ms [] second _ (card.says second stands.1.0)
+        (behind_word kind names [] a from' to' last
+        (behind_word kind names [] v from'' to'' nil (no_part kind names))))))
+        (own-value kind names attr value head second a v from' to' from'' to'' head' stands.1.1.0.0 stands.1.1.1.0.0)
+
+-- what the word of a kind tells, and the word of the kind that a name's locations have
+kind_tells : (kind : LocKind) (from to : ℕ)
+    → (is_kind (word (kind_word kind) from to) ≡ true) × (is_atom "sto" (word (kind_word kind) from to) ≡ false)
+kind_tells vloc from to = (refl, refl)
+kind_tells iloc from to = (refl, refl)
+kind_tells hloc from to = (refl, refl)
+kind_tells mem from to = (refl, refl)
+
+kind_told : (found : Option LocName) (bytes : List ℕ) (from to : ℕ) → option_map (λ loc. kind_word loc.kind) found ≡ Some bytes
+    → (is_kind (word bytes from to) ≡ true) × (is_atom "sto" (word bytes from to) ≡ false)
+kind_told None bytes from to is = absurd (none-some bytes is)
+kind_told (Some loc) bytes from to is =
+    subst (λ b. (is_kind (word b from to) ≡ true) × (is_atom "sto" (word b from to) ≡ false))
+    (same_Some (kind_word loc.kind) bytes is) (kind_tells loc.kind from to)
+
+-- `(HOLDER KIND NAME)`
+loc_list_says : (kind : Kind) (naming : Naming) (scope : Scope) (loc : Loc) (tree : Tree)
+    → Row (StandsHolder scope loc.who ▸ KindOf naming loc.name ▸ Named naming.names.locs loc.name ▸ End) tree
+    → Says kind naming.names (in_loc loc) tree
+loc_list_says kind naming scope loc (word bytes from to) stands = absurd stands
+loc_list_says kind naming scope loc (list nil from to) stands = absurd stands
+loc_list_says kind naming scope loc (list (cons head nil) from to) stands = absurd stands.1
+loc_list_says kind naming scope loc (list (cons head (cons (list parts from' to') rest)) from to) stands = absurd stands.1.0
+loc_list_says kind naming scope loc (list (cons head (cons (word k from' to') nil)) from to) stands = absurd stands.1.1
+loc_list_says kind naming scope loc (list (cons head (cons (word k from' to') (cons (list parts from'' to'') rest))) from to) stands =
+    absurd stands.1.1.0
+loc_list_says kind naming scope loc (list (cons head (cons (word k from' to') (cons (word n from'' to'') (cons next rest)))) from to) stands =
+    absurd stands.1.1.1
+loc_list_says kind naming scope loc (list (cons head (cons (word k from' to') (cons (word n from'' to'') nil))) from to) stands =
+    let last : Trees = cons (word n from'' to'') nil in
+    let head' : IsPlain head = holder_plain scope loc.who head stands.0 in
+    let told = kind_told (slice_get naming.locs loc.name) k from' to' stands.1.0 in
+    let holder : Says kind naming.names [] head = (holder_speaks scope loc.who).says head stands.0 in
+    row_says kind naming.names head (cons (word k from' to') last) from to [] (loc_name loc.name ∷ []) head'.of_var
+    (behind_part kind naming.names [] [] head _ holder
+    (behind_word kind naming.names [] k from' to' last
+    (behind_word kind naming.names [] n from'' to'' nil (no_part kind naming.names))))
+    (own-loc kind naming.names loc.name head (word k from' to') n from'' to'' head' told.0 told.1 stands.1.1.0.0)
+
+-- a location
+pub loc_speaks : {kind : Kind} (naming : Naming) (scope : Scope) (loc : Loc)
+    → Speaks kind naming.names (StandsLoc naming scope loc) (in_loc loc)
+loc_speaks {kind} naming scope loc =
+    record {
+      says = λ tree stands. loc_list_says kind naming scope loc tree stands.0;
+      other = λ tree stands. row_other _ tree stands.0;
+    }
+
+-- `(HOLDER sto NAME)`
+num_list_says : (kind : Kind) (naming : Naming) (scope : Scope) (num : Num) (tree : Tree)
+    → Row (StandsHolder scope num.who ▸ Atom "sto" ▸ Named naming.names.nums num.name ▸ End) tree
+    → Says kind naming.names (in_num num) tree
+num_list_says kind naming scope num (word bytes from to) stands = absurd stands
+num_list_says kind naming scope num (list nil from to) stands = absurd stands
+num_list_says kind naming scope num (list (cons head nil) from to) stands = absurd stands.1
+num_list_says kind naming scope num (list (cons head (cons (list parts from' to') rest)) from to) stands = absurd stands.1.0
+num_list_says kind naming scope num (list (cons head (cons (word k from' to') nil)) from to) stands = absurd stands.1.1
+num_list_says kind naming scope num (list (cons head (cons (word k from' to') (cons (list parts from'' to'') rest))) from to) stands =
+    absurd stands.1.1.0
+num_list_says kind naming scope num (list (cons head (cons (word k from' to') (cons (word n from'' to'') (cons next rest)))) from to) stands =
+    absurd stands.1.1.1
+num_list_says kind naming scope num (list (cons head (cons (word k from' to') (cons (word n from'' to'') nil))) from to) stands =
+    let last : Trees = cons (word n from'' to'') nil in
+    let head' : IsPlain head = holder_plain scope num.who head stands.0 in
+    let holder : Says kind naming.names [] head = (holder_speaks scope num.who).says head stands.0 in
+    row_says kind naming.names head (cons (word k from' to') last) from to [] (num_name num.name ∷ []) head'.of_var
+    (behind_part kind naming.names [] [] head _ holder
+    (behind_word kind naming.names [] k from' to' last
+    (behind_word kind naming.names [] n from'' to'' nil (no_part kind naming.names))))
+    (own-num kind naming.names num.name head (word k from' to') n from'' to'' head'
+    (subst (λ b. is_kind (word b from' to') ≡ false) (sym stands.1.0) refl)
+    (subst (λ b. is_atom "sto" (word b from' to') ≡ true) (sym stands.1.0) refl)
+    stands.1.1.0.0)
+
+-- a stored number
+pub num_speaks : {kind : Kind} (naming : Naming) (scope : Scope) (num : Num)
+    → Speaks kind naming.names (StandsNum naming scope num) (in_num num)
+num_speaks {kind} naming scope num =
+    record {
+      says = λ tree stands. num_list_says kind naming scope num tree stands.0;
+      other = λ tree stands. row_other _ tree stands.0;
+    }
+
+-- what a binder says but of variables: what its domain says, and what stands behind it
+unbound_says : (kind : Kind) (naming : Naming) (bound : ℕ) (ds rs : List Mention) (head domain : Tree) (bytes : List ℕ)
+    (from' to' : ℕ) (rest : Trees) (from to : ℕ) → IsHead false false false true head → is_sort_word domain ≡ false
+    → words_in kind head ≡ [] → Says kind naming.names ds domain → SayAll kind naming.names rs rest
+    → said kind naming.names (var_name bound ∷ rs) ≡ said kind naming.names rs
+    → words_in kind (list (cons head (cons domain (cons (word bytes from' to') rest))) from to)
+    ≡ all_words_in kind (cons head (cons domain (cons (word bytes from' to') rest)))
+    ++ own kind (cons head (cons domain (cons (word bytes from' to') rest)))
+    → Says kind naming.names (ds ++ var_name bound ∷ rs) (list (cons head (cons domain (cons (word bytes from' to') rest))) from to)
+unbound_says kind naming bound ds rs head domain bytes from' to' rest from to told other silent first later passed opened =
+    let names = naming.names in
+    let behind : Trees = cons (word bytes from' to') rest in
+    let parts : SayAll kind names (ds ++ rs) (cons head (cons domain behind)) =
+    behind_silent kind names (ds ++ rs) head (cons domain behind) silent
+    (behind_part kind names ds rs domain behind first (behind_word kind names rs bytes from' to' rest later)) in
+    let whole = all_words_in kind (cons head (cons domain behind)) in
+    record {
+      same =
+        said-append kind names ds (var_name bound ∷ rs)
+        ∙ ap (λ words. said kind names ds ++ words) passed
+        ∙ sym (said-append kind names ds rs)
+        ∙ parts.same
+        ∙ sym (append_nothing whole)
+        ∙ ap (λ words. whole ++ words) (sym (own-plain kind true head domain behind told other))
+        ∙ sym opened;
+    }
+
+-- and of variables
+bound_says : (naming : Naming) (bound : ℕ) (ds rs : List Mention) (head domain : Tree) (bytes : List ℕ)
+    (from' to' : ℕ) (rest : Trees) (from to : ℕ) → is_binder head ≡ true → words_in vars head ≡ []
+    → Says vars naming.names ds domain → SayAll vars naming.names rs rest → slice_get naming.names.vars bound ≡ Some bytes
+    → Says vars naming.names (ds ++ var_name bound ∷ rs) (list (cons head (cons domain (cons (word bytes from' to') rest))) from to)
+bound_says naming bound ds rs head domain bytes from' to' rest from to told silent first later is =
+    let names = naming.names in
+    let var : Tree = word bytes from' to' in
+    let standing : List (List ℕ) = if is_binder head then word_of var else var_words var in
+    let stands : standing ≡ bytes ∷ [] = cond-true _ _ _ told in
+    record {
+      same =
+        said-append vars names ds (var_name bound ∷ rs)
+        ∙ ap₂ ◌++◌ (first.same) (ap₂ ◌++◌ (named_word names.vars bound bytes is) (later.same))
+        ∙ sym (append_assoc (var_words domain) (bytes ∷ []) (all_var_words rest))
+        ∙ ap (λ words. words ++ var_words domain ++ (bytes ∷ []) ++ all_var_words rest) (sym silent)
+        ∙ ap (λ words. var_words head ++ var_words domain ++ words ++ all_var_words rest) (sym stands);
+    }
+
+-- by the kind
+binding_says : (kind : Kind) (naming : Naming) (bound : ℕ) (ds rs : List Mention) (head domain : Tree) (bytes : List ℕ)
+    (from' to' : ℕ) (rest : Trees) (from to : ℕ) → IsHead false false false true head → is_sort_word domain ≡ false
+    → words_in kind head ≡ [] → Says kind naming.names ds domain → SayAll kind naming.names rs rest
+    → slice_get naming.names.vars bound ≡ Some bytes
+    → Says kind naming.names (ds ++ var_name bound ∷ rs) (list (cons head (cons domain (cons (word bytes from' to') rest))) from to)
+binding_says attrs naming bound ds rs head domain bytes from' to' rest from to told other silent first later is =
+    unbound_says attrs naming bound ds rs head domain bytes from' to' rest from to told other silent first later refl refl
+binding_says values naming bound ds rs head domain bytes from' to' rest from to told other silent first later is =
+    unbound_says values naming bound ds rs head domain bytes from' to' rest from to told other silent first later refl refl
+binding_says maps naming bound ds rs head domain bytes from' to' rest from to told other silent first later is =
+    unbound_says maps naming bound ds rs head domain bytes from' to' rest from to told other silent first later refl refl
+binding_says locs naming bound ds rs head domain bytes from' to' rest from to told other silent first later is =
+    unbound_says locs naming bound ds rs head domain bytes from' to' rest from to told other silent first later refl refl
+binding_says nums naming bound ds rs head domain bytes from' to' rest from to told other silent first later is =
+    unbound_says nums naming bound ds rs head domain bytes from' to' rest from to told other silent first later refl refl
+binding_says vars naming bound ds rs head domain bytes from' to' rest from to told other silent first later is =
+    bound_says naming bound ds rs head domain bytes from' to' rest from to told.of_var silent first later is
+
+-- `(filter COLL 'V ..)` and the like
+pub binder_speaks : {kind : Kind} {D : Tree → Type 0} {R : Trees → Type 0} {ds rs : List Mention} (naming : Naming) (bound : ℕ)
+    (text : String) → tells false false false true text ≡ true → Speaks kind naming.names D ds
+    → Speak kind naming.names R rs
+    → Speaks kind naming.names (Row (Atom text ▸ D ▸ Binder naming bound ▸ R)) (ds ++ var_name bound ∷ rs)
+binder_speaks {kind} {D} {R} {ds} {rs} naming bound text told domain behind = record { says = list_says; other = row_other _ }
+  where
+    list_says : (tree : Tree) → Row (Atom text ▸ D ▸ Binder naming bound ▸ R) tree
+        → Says kind naming.names (ds ++ var_name bound ∷ rs) tree
+    list_says (word bytes from to) stands = absurd stands
+    list_says (list nil from to) stands = absurd stands
+    list_says (list (cons head nil) from to) stands = absurd stands.1
+    list_says (list (cons head (cons second nil)) from to) stands = absurd stands.1.1
+    list_says (list (cons head (cons second (cons (list parts from' to') rest))) from to) stands = absurd stands.1.1.0
+    list_says (list (cons head (cons second (cons (word bytes from' to') rest))) from to) stands =
+        binding_says kind naming bound ds rs head second bytes from' to' rest from to (head_at text head stands.0 told)
+        (domain.other second stands.1.0) (text_silent kind _ head stands.0) (domain.says second stands.1.0)
+        (behind.says rest stands.1.1.1) stands.1.1.0.0
