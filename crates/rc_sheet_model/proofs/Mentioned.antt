@@ -1,7 +1,7 @@
 -- What a part of a sheet mentions are the words that its form mentions, in order: of one kind of names, whichever it is.
 use Prim.Native.String.{String}
-use Rattle.std.proofs.Common.{◌≡◌, ℕ, Bool, true, false, if◌then◌else◌, not, ◌&&◌, ◌||◌, cond, List, [], ◌∷◌, ◌++◌, map, flat_map, codes, bytes_eq, slice_get, slice_index_or, Option, Some, None, option_map, refl, sym, subst, ap, ap₂, ◌∙◌, append_assoc, arith}
-use Rattle.std.proofs.lemmas.Bool.{cond-true, cond-false, and_parts}
+use Rattle.std.proofs.Common.{◌≡◌, ℕ, nat_le, Bool, true, false, if◌then◌else◌, not, ◌&&◌, ◌||◌, cond, List, [], ◌∷◌, ◌++◌, map, flat_map, codes, bytes_eq, slice_get, slice_index_or, Option, Some, None, option_map, refl, sym, subst, ap, ap₂, ◌∙◌, append_assoc, arith}
+use Rattle.std.proofs.lemmas.Bool.{cond-true, cond-false, and_parts, false≢true}
 use Rattle.std.proofs.lemmas.List.{map-append}
 use Rattle.std.proofs.lemmas.Grind.{flat_map-append}
 use Rattle.std.proofs.lemmas.Slice.Eq.{bytes_eq-Decides}
@@ -135,6 +135,43 @@ pub record Says (kind : Kind) (names : Names) (mentions : List Mention) (tree : 
 pub record SayAll (kind : Kind) (names : Names) (mentions : List Mention) (trees : Trees) : Type 0 where
   pub same : said kind names mentions ≡ all_words_in kind trees
 
+-- parts behind one that says nothing, behind an atom, and behind one that says something
+pub behind_silent : (kind : Kind) (names : Names) (ns : List Mention) (tree : Tree) (trees : Trees) → words_in kind tree ≡ []
+    → SayAll kind names ns trees → SayAll kind names ns (cons tree trees)
+behind_silent kind names ns tree trees silent later =
+    record {
+      same =
+        later.same
+        ∙ ap (λ words. words ++ all_words_in kind trees) (sym silent)
+        ∙ sym (all_words_in-cons kind tree trees);
+    }
+
+pub behind_word : (kind : Kind) (names : Names) (ns : List Mention) (bytes : List ℕ) (from to : ℕ) (trees : Trees)
+    → SayAll kind names ns trees → SayAll kind names ns (cons (word bytes from to) trees)
+behind_word kind names ns bytes from to trees =
+    behind_silent kind names ns (word bytes from to) trees (words_in-word kind bytes from to)
+
+pub behind_part : (kind : Kind) (names : Names) (ms ns : List Mention) (tree : Tree) (trees : Trees) → Says kind names ms tree
+    → SayAll kind names ns trees → SayAll kind names (ms ++ ns) (cons tree trees)
+behind_part kind names ms ns tree trees first later =
+    record {
+      same = said-append kind names ms ns ∙ ap₂ ◌++◌ (first.same) (later.same) ∙ sym (all_words_in-cons kind tree trees);
+    }
+
+-- no part
+pub no_part : (kind : Kind) (names : Names) → SayAll kind names [] nil
+no_part kind names = record { same = sym (all_words_in-nil kind) }
+
+-- an atom says nothing
+pub text_silent : (kind : Kind) (W : List ℕ → Type 0) (tree : Tree) → Word W tree → words_in kind tree ≡ []
+text_silent kind W (word bytes from to) is = words_in-word kind bytes from to
+text_silent kind W (list parts from to) is = absurd is
+
+-- a part says what it says, with nothing behind it
+pub alone : (kind : Kind) (names : Names) (ms : List Mention) (trees : Trees) → SayAll kind names (ms ++ []) trees
+    → SayAll kind names ms trees
+alone kind names ms trees all = record { same = ap (said kind names) (sym (append_nothing ms)) ∙ all.same }
+
 -- the part is the word of a kind of locations, or that of stored numbers
 abbrev pub is_sort_word : Tree → Bool
 is_sort_word tree = is_kind tree || is_atom "sto" tree
@@ -153,7 +190,7 @@ pub end_speaks : {kind : Kind} {names : Names} → Speak kind names End []
 end_speaks {kind} {names} = record { says = end_says }
   where
     end_says : (trees : Trees) → End trees → SayAll kind names [] trees
-    end_says nil at_end = record { same = sym (all_words_in-nil kind) }
+    end_says nil at_end = no_part kind names
     end_says (cons tree trees) at_end = absurd at_end
 
 -- a part, and parts behind it
@@ -164,24 +201,13 @@ then_speak {kind} {names} {P} {Q} {ms} {ns} first later = record { says = both_s
     both_say : (trees : Trees) → (P ▸ Q) trees → SayAll kind names (ms ++ ns) trees
     both_say nil stand = absurd stand
     both_say (cons tree trees) stand =
-        record {
-          same =
-            said-append kind names ms ns
-            ∙ ap₂ ◌++◌ ((first.says tree stand.0).same) ((later.says trees stand.1).same)
-            ∙ sym (all_words_in-cons kind tree trees);
-        }
+        behind_part kind names ms ns tree trees (first.says tree stand.0) (later.says trees stand.1)
 
 -- the last part
 pub last_speaks : {kind : Kind} {names : Names} {P : Tree → Type 0} {ms : List Mention}
     → Speaks kind names P ms → Speak kind names (P ▸ End) ms
-last_speaks {kind} {names} {P} {ms} last = record { says = last_says }
-  where
-    last_says : (trees : Trees) → (P ▸ End) trees → SayAll kind names ms trees
-    last_says trees stand =
-        record {
-          same =
-            ap (said kind names) (sym (append_nothing ms)) ∙ ((then_speak last end_speaks).says trees stand).same;
-        }
+last_speaks {kind} {names} {P} {ms} last =
+    record { says = λ trees stand. alone kind names ms trees ((then_speak last end_speaks).says trees stand) }
 
 -- an atom, whatever it is, and parts behind it
 pub atom_then : {kind : Kind} {names : Names} {W : List ℕ → Type 0} {Q : Trees → Type 0} {ns : List Mention}
@@ -190,14 +216,8 @@ atom_then {kind} {names} {W} {Q} {ns} later = record { says = both_say }
   where
     both_say : (trees : Trees) → (Word W ▸ Q) trees → SayAll kind names ns trees
     both_say nil stand = absurd stand
-    both_say (cons (word bytes from to) trees) stand =
-        record {
-          same =
-            (later.says trees stand.1).same
-            ∙ ap (λ words. words ++ all_words_in kind trees) (sym (words_in-word kind bytes from to))
-            ∙ sym (all_words_in-cons kind (word bytes from to) trees);
-        }
-    both_say (cons (list parts from to) trees) stand = absurd stand.0
+    both_say (cons tree trees) stand =
+        behind_silent kind names ns tree trees (text_silent kind W tree stand.0) (later.says trees stand.1)
 
 -- so many parts at least
 pub at_least_speak : {kind : Kind} {names : Names} {P : Trees → Type 0} {ms : List Mention}
@@ -285,25 +305,60 @@ pub row_other : (P : Trees → Type 0) (tree : Tree) → Row P tree → is_sort_
 row_other P (word bytes from to) stands = absurd stands
 row_other P (list parts from to) stands = refl
 
--- a form whose head tells nothing says what its parts say
+-- a list whose head tells nothing says what its parts say
+plain_says : {kind : Kind} {names : Names} {ms : List Mention} (head second : Tree) (rest : Trees) (from to : ℕ) (text : String)
+    → tells false false false false text ≡ true → Atom text head → is_sort_word second ≡ false
+    → SayAll kind names ms (cons second rest) → Says kind names ms (list (cons head (cons second rest)) from to)
+plain_says {kind} {names} {ms} head second rest from to text nothing is other parts =
+    let told : IsPlain head = head_at text head is nothing in
+    let silent : words_in kind head ≡ [] = text_silent kind _ head is in
+    let behind = behind_silent kind names ms head (cons second rest) silent parts in
+    let itself = own-plain kind false head second rest told other in
+    record {
+      same =
+        behind.same
+        ∙ sym (append_nothing (all_words_in kind (cons head (cons second rest))))
+        ∙ ap (λ words. all_words_in kind (cons head (cons second rest)) ++ words) (sym itself)
+        ∙ sym (words_in-list kind head (cons second rest) from to told.of_var);
+    }
+
+-- by its description
 pub plain_speaks : {kind : Kind} {names : Names} {First : Tree → Type 0} {Rest : Trees → Type 0} {ms : List Mention}
     (text : String) → tells false false false false text ≡ true → ((tree : Tree) → First tree → is_sort_word tree ≡ false)
     → Speak kind names (First ▸ Rest) ms → Speaks kind names (Row (Atom text ▸ First ▸ Rest)) ms
-plain_speaks {kind} {names} {First} {Rest} {ms} text nothing other parts =
-    record { says = list_says; other = row_other (Atom text ▸ First ▸ Rest) }
+plain_speaks {kind} {names} {First} {Rest} {ms} text nothing other parts = record { says = list_says; other = row_other _ }
   where
     list_says : (tree : Tree) → Row (Atom text ▸ First ▸ Rest) tree → Says kind names ms tree
     list_says (word bytes from to) stands = absurd stands
     list_says (list nil from to) stands = absurd stands
     list_says (list (cons head nil) from to) stands = absurd stands.1
     list_says (list (cons head (cons second rest)) from to) stands =
-        let told : IsPlain head = head_at text head stands.0 nothing in
-        let inside = ((atom_then parts).says (cons head (cons second rest)) stands).same in
-        let itself = own-plain kind false head second rest told (other second stands.1.0) in
-        record {
-          same =
-            inside
-            ∙ sym (append_nothing (all_words_in kind (cons head (cons second rest))))
-            ∙ ap (λ words. all_words_in kind (cons head (cons second rest)) ++ words) (sym itself)
-            ∙ sym (words_in-list kind head (cons second rest) from to told.of_var);
-        }
+        plain_says head second rest from to text nothing stands.0 (other second stands.1.0)
+        (parts.says (cons second rest) stands.1)
+
+-- Parts of this description say what is mentioned, and the first of them is no word of a kind.
+pub record SpeakFirst (kind : Kind) (names : Names) (P : Trees → Type 0) (mentions : List Mention) : Type 0 where
+  pub all : Speak kind names P mentions
+  pub other : (tree : Tree) (trees : Trees) → P (cons tree trees) → is_sort_word tree ≡ false
+
+pub none_speak : {kind : Kind} {names : Names} → SpeakFirst kind names End []
+none_speak = record { all = end_speaks; other = λ tree trees stand. absurd stand }
+
+pub more_speak : {kind : Kind} {names : Names} {P : Tree → Type 0} {Q : Trees → Type 0} {ms ns : List Mention}
+    → Speaks kind names P ms → SpeakFirst kind names Q ns → SpeakFirst kind names (P ▸ Q) (ms ++ ns)
+more_speak first later =
+    record { all = then_speak first later.all; other = λ tree trees stand. first.other tree stand.0 }
+
+-- a form whose head tells nothing, and that has so many parts behind it
+pub parts_speak : {kind : Kind} {names : Names} {P : Trees → Type 0} {ms : List Mention} (text : String) (least : ℕ)
+    → tells false false false false text ≡ true → nat_le least 0 ≡ false → SpeakFirst kind names P ms
+    → Speaks kind names (Row (Atom text ▸ AtLeast least P)) ms
+parts_speak {kind} {names} {P} {ms} text least nothing some parts = record { says = list_says; other = row_other _ }
+  where
+    list_says : (tree : Tree) → Row (Atom text ▸ AtLeast least P) tree → Says kind names ms tree
+    list_says (word bytes from to) stands = absurd stands
+    list_says (list nil from to) stands = absurd stands
+    list_says (list (cons head nil) from to) stands = absurd (false≢true (sym some ∙ stands.1.0))
+    list_says (list (cons head (cons second rest)) from to) stands =
+        plain_says head second rest from to text nothing stands.0 (parts.other second rest stands.1.1)
+        (parts.all.says (cons second rest) stands.1.1)

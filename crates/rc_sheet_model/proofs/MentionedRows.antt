@@ -12,7 +12,7 @@ use Rattle.rc_sheet_model.specs.FormMentions.{is_atom, is_kind, is_measure, is_b
 use Rattle.rc_sheet_model.specs.Rows.{◌▸◌, End, Row, Word, Atom}
 use Rattle.rc_sheet_model.specs.Naming.{Naming, Scope, is_variable, kind_word, Named, Binder, InScope, Literal, KindOf}
 use Rattle.rc_sheet_model.specs.StandsExpressions.{StandsOwner, StandsHolder, StandsLoc, StandsNum}
-use Rattle.rc_sheet_model.proofs.Mentioned.{Kind, attrs, values, maps, locs, nums, vars, said, words_in, all_words_in, all_words_in-nil, all_words_in-cons, own, said-append, append_nothing, words_in-word, words_in-list, Says, SayAll, is_sort_word, Speaks, Speak, end_speaks, then_speak, last_speaks, atom_then, tells, IsHead, head_at, IsPlain, own-plain, neither, no_kind, no_number, row_other, plain_speaks}
+use Rattle.rc_sheet_model.proofs.Mentioned.{Kind, attrs, values, maps, locs, nums, vars, said, words_in, all_words_in, own, said-append, append_nothing, words_in-word, words_in-list, Says, SayAll, behind_silent, behind_word, behind_part, no_part, text_silent, alone, is_sort_word, Speaks, Speak, end_speaks, then_speak, last_speaks, atom_then, tells, IsHead, head_at, IsPlain, own-plain, neither, no_kind, no_number, row_other, plain_speaks}
 
 -- what depends on the first byte of a variable
 at_variable : (test : List ℕ → Bool) → ((bytes : List ℕ) → test (39 ∷ bytes) ≡ false) → (bytes : List ℕ)
@@ -204,43 +204,6 @@ own-num locs names number head second bytes from to told no_kind' yes_sto is = s
 own-num nums names number head second bytes from to told no_kind' yes_sto is =
     named_word names.nums number bytes is ∙ sym (cond-true _ _ _ yes_sto)
 own-num vars names number head second bytes from to told no_kind' yes_sto is = refl
-
--- parts behind one that says nothing, behind an atom, and behind one that says something
-behind_silent : (kind : Kind) (names : Names) (ns : List Mention) (tree : Tree) (trees : Trees) → words_in kind tree ≡ []
-    → SayAll kind names ns trees → SayAll kind names ns (cons tree trees)
-behind_silent kind names ns tree trees silent later =
-    record {
-      same =
-        later.same
-        ∙ ap (λ words. words ++ all_words_in kind trees) (sym silent)
-        ∙ sym (all_words_in-cons kind tree trees);
-    }
-
-behind_word : (kind : Kind) (names : Names) (ns : List Mention) (bytes : List ℕ) (from to : ℕ) (trees : Trees)
-    → SayAll kind names ns trees → SayAll kind names ns (cons (word bytes from to) trees)
-behind_word kind names ns bytes from to trees =
-    behind_silent kind names ns (word bytes from to) trees (words_in-word kind bytes from to)
-
-behind_part : (kind : Kind) (names : Names) (ms ns : List Mention) (tree : Tree) (trees : Trees) → Says kind names ms tree
-    → SayAll kind names ns trees → SayAll kind names (ms ++ ns) (cons tree trees)
-behind_part kind names ms ns tree trees first later =
-    record {
-      same = said-append kind names ms ns ∙ ap₂ ◌++◌ (first.same) (later.same) ∙ sym (all_words_in-cons kind tree trees);
-    }
-
--- no part
-no_part : (kind : Kind) (names : Names) → SayAll kind names [] nil
-no_part kind names = record { same = sym (all_words_in-nil kind) }
-
--- an atom says nothing
-text_silent : (kind : Kind) (W : List ℕ → Type 0) (tree : Tree) → Word W tree → words_in kind tree ≡ []
-text_silent kind W (word bytes from to) is = words_in-word kind bytes from to
-text_silent kind W (list parts from to) is = absurd is
-
--- a part says what it says, with nothing behind it
-alone : (kind : Kind) (names : Names) (ms : List Mention) (trees : Trees) → SayAll kind names (ms ++ []) trees
-    → SayAll kind names ms trees
-alone kind names ms trees all = record { same = ap (said kind names) (sym (append_nothing ms)) ∙ all.same }
 
 -- `(attr CARD ATTR)` and the like
 pub attr_speaks : {kind : Kind} {P : Tree → Type 0} {ms : List Mention} (names : Names) (number : ℕ) (text : String)
