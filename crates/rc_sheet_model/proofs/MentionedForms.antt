@@ -237,6 +237,3 @@ items_then naming no_item rest = rest
 items_then {kind} {Rest} {rs} naming (item i items) rest =
     subst (Speak kind naming.names (StandItems naming (item i items) Rest)) (sym (append_assoc (in_item i) (in_items items) rs))
     (then_speak (item_speaks naming i) (items_then naming items rest))
-
-pub try : (bytes : List ℕ) → is_variable bytes ≡ true → is_variable bytes ≡ true
-try bytes is = is

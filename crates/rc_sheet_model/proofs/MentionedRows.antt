@@ -139,7 +139,7 @@ row_says kind names head rest from to ms new unbound parts itself =
     }
 
 -- the word with a number
-named_word : (words : List (List ℕ)) (number : ℕ) (bytes : List ℕ) → slice_get words number ≡ Some bytes
+pub named_word : (words : List (List ℕ)) (number : ℕ) (bytes : List ℕ) → slice_get words number ≡ Some bytes
     → get_or words number [] ∷ [] ≡ bytes ∷ []
 named_word words number bytes is = ap (λ word. word ∷ []) (get_or_from_slice_get words number bytes [] is)
 
@@ -305,7 +305,7 @@ kind_told (Some loc) bytes from to is =
     (same_Some (kind_word loc.kind) bytes is) (kind_tells loc.kind from to)
 
 -- `(HOLDER KIND NAME)`
-loc_list_says : (kind : Kind) (naming : Naming) (scope : Scope) (loc : Loc) (tree : Tree)
+pub loc_list_says : (kind : Kind) (naming : Naming) (scope : Scope) (loc : Loc) (tree : Tree)
     → Row (StandsHolder scope loc.who ▸ KindOf naming loc.name ▸ Named naming.names.locs loc.name ▸ End) tree
     → Says kind naming.names (in_loc loc) tree
 loc_list_says kind naming scope loc (word bytes from to) stands = absurd stands

@@ -1,4 +1,4 @@
-use Rattle.rc_sheet_model.proofs.MentionedForms.{try}
+use Rattle.rc_sheet_model.proofs.MentionedSheet.{try}
 use Rattle.rc_sheet_model.proofs.form_laws.names_of_a_form.Goals as goal
 
 pub returns : goal.returns
