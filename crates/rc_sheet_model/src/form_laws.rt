@@ -1,8 +1,16 @@
-//! Laws of the names of a form.
-ghost use Rattle.std.specs.Prelude.{◌≡◌, ℕ, List, true};
-ghost use Rattle.rc_sheet_model.specs.Naming.{is_variable};
+//! Laws of the names of a form. No function here does anything.
+ghost use Rattle.std.specs.Prelude.{◌≡◌};
+ghost use Rattle.rc_model.specs.Tree.{Tree};
+ghost use Rattle.rc_sheet_model.specs.Sheet.{Sheet};
+ghost use Rattle.rc_sheet_model.specs.Mentions.{attr_of, value_of, map_of, loc_of, num_of, var_of};
+ghost use Rattle.rc_sheet_model.specs.FormMentions as form;
+ghost use Rattle.rc_sheet_model.specs.Numbering.{different, mentioned};
+ghost use Rattle.rc_sheet_model.specs.Stands.{Stands};
 
-/// try
+/// A sheet that stands for a form and has its names has each kind of names numbered by their first mention.
 pub fn names_of_a_form()
-    ensures { (bytes : List ℕ) → is_variable bytes ≡ true → is_variable bytes ≡ true }
+    ensures attrs { (sheet : Sheet) (tree : Tree) → Stands sheet tree → form.AreNames sheet tree
+        → sheet.names.attrs ≡ different (mentioned sheet attr_of sheet.names.attrs) }
+    ensures vars { (sheet : Sheet) (tree : Tree) → Stands sheet tree → form.AreNames sheet tree
+        → sheet.names.vars ≡ different (mentioned sheet var_of sheet.names.vars) }
 {}

@@ -1,5 +1,9 @@
-use Rattle.rc_sheet_model.proofs.MentionedSheet.{try}
+use Rattle.rc_sheet_model.proofs.Mentioned.{attrs, vars}
+use Rattle.rc_sheet_model.proofs.MentionedSheet.{names_numbered}
 use Rattle.rc_sheet_model.proofs.form_laws.names_of_a_form.Goals as goal
 
-pub returns : goal.returns
-returns c bytes is = try bytes is
+pub returns-clause-attrs : goal.returns-clause-attrs
+returns-clause-attrs c sheet tree stands names = names_numbered attrs sheet tree stands names
+
+pub returns-clause-vars : goal.returns-clause-vars
+returns-clause-vars c sheet tree stands names = names_numbered vars sheet tree stands names
