@@ -44,7 +44,7 @@ first_of_five part false false false false true = refl
 first_of_five part false false false false false = refl
 
 -- the first fault of a part, by what earlier parts left behind
-fault_law : (all : List Part) (whole : Whole) (earlier : List Part) (seen : Summary) → Knows all whole
+pub fault_law : (all : List Part) (whole : Whole) (earlier : List Part) (seen : Summary) → Knows all whole
     → Recalls whole earlier seen
     → (part : Part) → first (faults_of all earlier part) ≡ fault_by whole seen part
 fault_law all whole earlier seen knows recalls part =
@@ -76,7 +76,7 @@ or_next None next = refl
 or_next (Some fault) next = refl
 
 -- the first fault of the parts behind the earlier ones
-behind_law : (all earlier parts : List Part)
+pub behind_law : (all earlier parts : List Part)
     → first (faults_behind all earlier parts) ≡ fault_of (check_all (whole_of all) (summary_of (whole_of all) earlier) parts)
 behind_law all earlier [] = refl
 behind_law all earlier (part ∷ parts) =
