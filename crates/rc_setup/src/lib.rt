@@ -13,7 +13,7 @@ mod tree_reading;
 mod worth;
 
 pub use mentions::names_of;
-pub use naming::Names;
-pub use points_reading::entries_of;
-pub use tree_reading::deck_of;
+pub use naming::{Names, Numbers};
+pub use points_reading::{entries_of, read_entries};
+pub use tree_reading::{deck_of, read_deck};
 pub use worth::worths_of;

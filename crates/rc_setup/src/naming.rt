@@ -9,6 +9,24 @@ use rc_form::{Form, Word};
 use std::alloc::Global;
 use std::marker::Model;
 
+/// What gives numbers to the attributes and the values that forms name.
+pub trait Numbers {
+    ghost use Rattle.rc_model.specs.DeckText.{Names as Words};
+    ghost use Rattle.rc_setup.specs.Naming.{AreFew};
+
+    ghost words: { Self → Words };
+
+    /// The number of the attribute that a form is.
+    fn attr_number(&self, form: &Form) -> Option<u16>
+        requires { AreFew (words self.now) }
+        ensures { result ≡ number_of (words self.now).attrs (tree_of form.now) };
+
+    /// The number of the value that a form is.
+    fn value_number(&self, form: &Form) -> Option<u16>
+        requires { AreFew (words self.now) }
+        ensures { result ≡ number_of (words self.now).values (tree_of form.now) };
+}
+
 /// The names of the attributes and those of the values, each at the place that is its number.
 #[derive(Drop)]
 pub struct Names {
@@ -64,20 +82,16 @@ impl Names {
     {
         self.values.len()
     }
+}
 
-    /// The number of the attribute that a form is.
-    pub(crate) fn attr(&self, form: &Form) -> Option<u16>
-        requires { length self.now.attrs ≤ 65536 }
-        ensures { result ≡ number_of self.now.attrs (tree_of form.now) }
-    {
+impl Numbers for Names {
+    ghost words = { λ names. names };
+
+    fn attr_number(&self, form: &Form) -> Option<u16> {
         number_in(&self.attrs, form)
     }
 
-    /// The number of the value that a form is.
-    pub(crate) fn value(&self, form: &Form) -> Option<u16>
-        requires { length self.now.values ≤ 65536 }
-        ensures { result ≡ number_of self.now.values (tree_of form.now) }
-    {
+    fn value_number(&self, form: &Form) -> Option<u16> {
         number_in(&self.values, form)
     }
 }

@@ -7,7 +7,7 @@ ghost use Rattle.rc_deck.specs.Points.{entry_of, entries_of as entries_seen};
 ghost use Rattle.rc_setup.specs.Naming.{AreFew};
 ghost use Rattle.rc_setup.specs.Reading as reading;
 
-use crate::Names;
+use crate::{Names, Numbers};
 use rc_deck::{Memory, PointEntry, PointMap};
 use rc_form::{Form, integer};
 use std::alloc::Global;
@@ -25,9 +25,14 @@ pub fn entries_of(alloc: Global, names: &Names, entries: &Form) -> Result<Option
     read_entries(alloc, names, entries)
 }
 
-fn read_entries(alloc: Global, names: &Names, entries: &Form) -> Result<Option<PointMap>, Memory>
-    requires few { AreFew names.now }
-    ensures { IfOk result (λ found. option_map entries_seen found ≡ reading.read_entries names.now (tree_of entries.now)) }
+/// The point map that a form `(ENTRY ..)` stands for, by any numbers of its names. `None` where it stands for none.
+pub fn read_entries<N: Numbers>(
+    alloc: Global,
+    names: &N,
+    entries: &Form,
+) -> Result<Option<PointMap>, Memory>
+    requires few { AreFew (N.words names.now) }
+    ensures { IfOk result (λ found. option_map entries_seen found ≡ reading.read_entries (N.words names.now) (tree_of entries.now)) }
 {
     let Form::List { items, .. } = entries else {
         return Ok(None);
@@ -45,9 +50,13 @@ fn read_entries(alloc: Global, names: &Names, entries: &Form) -> Result<Option<P
     Ok(Some(PointMap { entries }))
 }
 
-fn read_entry(alloc: Global, names: &Names, form: &Form) -> Result<Option<PointEntry>, Memory>
-    requires few { AreFew names.now }
-    ensures { IfOk result (λ found. option_map entry_of found ≡ reading.read_entry names.now (tree_of form.now)) }
+fn read_entry<N: Numbers>(
+    alloc: Global,
+    names: &N,
+    form: &Form,
+) -> Result<Option<PointEntry>, Memory>
+    requires few { AreFew (N.words names.now) }
+    ensures { IfOk result (λ found. option_map entry_of found ≡ reading.read_entry (N.words names.now) (tree_of form.now)) }
 {
     let Form::List { items, .. } = form else {
         return Ok(None);
@@ -55,7 +64,7 @@ fn read_entry(alloc: Global, names: &Names, form: &Form) -> Result<Option<PointE
     if items.len() != 3 {
         return Ok(None);
     }
-    let Some(attr) = names.attr(&items[0]) else {
+    let Some(attr) = names.attr_number(&items[0]) else {
         return Ok(None);
     };
     let Some(points) = read_points(&items[2]) else {
@@ -77,9 +86,13 @@ fn entry_with(attr: u16, values: Vec<u16>, points: i64) -> PointEntry
     }
 }
 
-fn read_value_list(alloc: Global, names: &Names, form: &Form) -> Result<Option<Vec<u16>>, Memory>
-    requires few { AreFew names.now }
-    ensures { IfOk result (λ found. option_map (λ values. values.items) found ≡ reading.read_value_list names.now (tree_of form.now)) }
+fn read_value_list<N: Numbers>(
+    alloc: Global,
+    names: &N,
+    form: &Form,
+) -> Result<Option<Vec<u16>>, Memory>
+    requires few { AreFew (N.words names.now) }
+    ensures { IfOk result (λ found. option_map (λ values. values.items) found ≡ reading.read_value_list (N.words names.now) (tree_of form.now)) }
 {
     let Form::List { items, .. } = form else {
         return Ok(None);
@@ -89,7 +102,7 @@ fn read_value_list(alloc: Global, names: &Names, form: &Form) -> Result<Option<V
     }
     let mut values = Vec::new(alloc);
     for item in items {
-        match names.value(item) {
+        match names.value_number(item) {
             Some(value) => values.push(value)?,
             None => return Ok(None),
         }

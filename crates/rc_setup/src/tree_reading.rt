@@ -7,7 +7,7 @@ ghost use Rattle.rc_deck.specs.Tree.{groups_of, groups_in, branches_in, attr_of,
 ghost use Rattle.rc_setup.specs.Naming.{AreFew, number_of};
 ghost use Rattle.rc_setup.specs.Reading as reading;
 
-use crate::Names;
+use crate::{Names, Numbers};
 use rc_deck::{Branch, DeckTree, Group, Memory};
 use rc_form::Form;
 use std::alloc::Global;
@@ -25,9 +25,14 @@ pub fn deck_of(alloc: Global, names: &Names, deck: &Form) -> Result<Option<DeckT
     read_deck(alloc, names, deck)
 }
 
-fn read_deck(alloc: Global, names: &Names, deck: &Form) -> Result<Option<DeckTree>, Memory>
-    requires few { AreFew names.now }
-    ensures { IfOk result (λ found. option_map groups_of found ≡ reading.read_deck names.now (tree_of deck.now)) }
+/// The deck tree that a form `(deck GROUP ..)` stands for, by any numbers of its names. `None` where it stands for none.
+pub fn read_deck<N: Numbers>(
+    alloc: Global,
+    names: &N,
+    deck: &Form,
+) -> Result<Option<DeckTree>, Memory>
+    requires few { AreFew (N.words names.now) }
+    ensures { IfOk result (λ found. option_map groups_of found ≡ reading.read_deck (N.words names.now) (tree_of deck.now)) }
 {
     let Form::List { items, .. } = deck else {
         return Ok(None);
@@ -54,10 +59,14 @@ fn is_word(bytes: &[u8], form: &Form) -> bool
 }
 
 #[cycle(reading)]
-fn read_groups(alloc: Global, names: &Names, forms: &[Form]) -> Result<Option<Vec<Group>>, Memory>
-    requires few { AreFew names.now }
+fn read_groups<N: Numbers>(
+    alloc: Global,
+    names: &N,
+    forms: &[Form],
+) -> Result<Option<Vec<Group>>, Memory>
+    requires few { AreFew (N.words names.now) }
     ensures { IfOk result (λ found. option_map (λ groups. groups_in groups.items) found
-        ≡ reading.read_groups names.now (packed (trees_of forms.now))) }
+        ≡ reading.read_groups (N.words names.now) (packed (trees_of forms.now))) }
 {
     let mut groups = Vec::new(alloc);
     for form in forms {
@@ -70,10 +79,10 @@ fn read_groups(alloc: Global, names: &Names, forms: &[Form]) -> Result<Option<Ve
 }
 
 #[cycle(reading)]
-fn read_group(alloc: Global, names: &Names, form: &Form) -> Result<Option<Group>, Memory>
-    requires few { AreFew names.now }
+fn read_group<N: Numbers>(alloc: Global, names: &N, form: &Form) -> Result<Option<Group>, Memory>
+    requires few { AreFew (N.words names.now) }
     ensures { IfOk result (λ found. option_map (λ group. (attr_of group, branches_of group)) found
-        ≡ reading.read_group names.now (tree_of form.now)) }
+        ≡ reading.read_group (N.words names.now) (tree_of form.now)) }
 {
     let Form::List { items, .. } = form else {
         return Ok(None);
@@ -81,7 +90,7 @@ fn read_group(alloc: Global, names: &Names, form: &Form) -> Result<Option<Group>
     if items.len() != 2 {
         return Ok(None);
     }
-    let Some(attr) = names.attr(&items[0]) else {
+    let Some(attr) = names.attr_number(&items[0]) else {
         return Ok(None);
     };
     match read_branch_list(alloc, names, &items[1])? {
@@ -91,14 +100,14 @@ fn read_group(alloc: Global, names: &Names, form: &Form) -> Result<Option<Group>
 }
 
 #[cycle(reading)]
-fn read_branch_list(
+fn read_branch_list<N: Numbers>(
     alloc: Global,
-    names: &Names,
+    names: &N,
     form: &Form,
 ) -> Result<Option<Vec<Branch>>, Memory>
-    requires few { AreFew names.now }
+    requires few { AreFew (N.words names.now) }
     ensures { IfOk result (λ found. option_map (λ branches. branches_in branches.items) found
-        ≡ reading.read_branch_list names.now (tree_of form.now)) }
+        ≡ reading.read_branch_list (N.words names.now) (tree_of form.now)) }
 {
     match form {
         Form::Atom { .. } => Ok(None),
@@ -112,14 +121,14 @@ fn read_branch_list(
 }
 
 #[cycle(reading)]
-fn read_branches(
+fn read_branches<N: Numbers>(
     alloc: Global,
-    names: &Names,
+    names: &N,
     forms: &[Form],
 ) -> Result<Option<Vec<Branch>>, Memory>
-    requires few { AreFew names.now }
+    requires few { AreFew (N.words names.now) }
     ensures { IfOk result (λ found. option_map (λ branches. branches_in branches.items) found
-        ≡ reading.read_branches names.now (packed (trees_of forms.now))) }
+        ≡ reading.read_branches (N.words names.now) (packed (trees_of forms.now))) }
 {
     let mut branches = Vec::new(alloc);
     for form in forms {
@@ -132,10 +141,10 @@ fn read_branches(
 }
 
 #[cycle(reading)]
-fn read_branch(alloc: Global, names: &Names, form: &Form) -> Result<Option<Branch>, Memory>
-    requires few { AreFew names.now }
+fn read_branch<N: Numbers>(alloc: Global, names: &N, form: &Form) -> Result<Option<Branch>, Memory>
+    requires few { AreFew (N.words names.now) }
     ensures { IfOk result (λ found. option_map (λ branch. (value_of branch, inner_of branch)) found
-        ≡ reading.read_branch names.now (tree_of form.now)) }
+        ≡ reading.read_branch (N.words names.now) (tree_of form.now)) }
 {
     let Form::List { items, .. } = form else {
         return Ok(plain_branch(alloc, names, form));
@@ -146,7 +155,7 @@ fn read_branch(alloc: Global, names: &Names, form: &Form) -> Result<Option<Branc
     if below.is_empty() {
         return Ok(None);
     }
-    let Some(value) = names.value(head) else {
+    let Some(value) = names.value_number(head) else {
         return Ok(None);
     };
     match read_groups(alloc, names, below)? {
@@ -156,12 +165,12 @@ fn read_branch(alloc: Global, names: &Names, form: &Form) -> Result<Option<Branc
 }
 
 // A value without groups.
-fn plain_branch(alloc: Global, names: &Names, form: &Form) -> Option<Branch>
-    requires few { AreFew names.now }
+fn plain_branch<N: Numbers>(alloc: Global, names: &N, form: &Form) -> Option<Branch>
+    requires few { AreFew (N.words names.now) }
     ensures { option_map (λ branch. (value_of branch, inner_of branch)) result
-        ≡ option_map reading.plain (number_of names.now.values (tree_of form.now)) }
+        ≡ option_map reading.plain (number_of (N.words names.now).values (tree_of form.now)) }
 {
-    match names.value(form) {
+    match names.value_number(form) {
         Some(value) => Some(Branch::new(value, Vec::new(alloc))),
         None => None,
     }

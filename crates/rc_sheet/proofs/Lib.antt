@@ -1,8 +1,13 @@
 pub mod Counts
 pub mod InTurn
 pub mod Places
+pub mod Faces
+pub mod Sheets
 pub mod Means
 pub mod ReadsNames
 pub mod ReadsExpressions
 pub mod ReadsEffects
 pub mod ReadsItems
+pub mod ReadsFaces
+pub mod ReadsSetup
+pub mod ReadsSheet

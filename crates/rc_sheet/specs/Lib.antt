@@ -5,3 +5,6 @@ pub mod ReadExpressions
 pub mod Sides
 pub mod ReadEffects
 pub mod ReadItems
+pub mod ReadSetup
+pub mod SetupViews
+pub mod ReadSheet

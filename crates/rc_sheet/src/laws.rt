@@ -7,7 +7,11 @@ ghost use Rattle.rc_sheet_model.specs.Naming.{Naming, Scope, Named, Binder, InSc
 ghost use Rattle.rc_sheet_model.specs.StandsExpressions as expressions;
 ghost use Rattle.rc_sheet_model.specs.StandsEffects as effects;
 ghost use Rattle.rc_sheet_model.specs.StandsItems as items;
-ghost use Rattle.rc_sheet_model.specs.Stands.{StandsBest};
+ghost use Rattle.rc_sheet_model.specs.Stands.{Stands, StandsBest};
+ghost use Rattle.rc_sheet_model.specs.Rows.{Some as Full};
+ghost use Rattle.rc_sheet_model.specs.StandsSetup.{StandsSetup};
+ghost use Rattle.rc_sheet.specs.ReadSetup as setup_reading;
+ghost use Rattle.rc_sheet.specs.ReadSheet as sheet_reading;
 ghost use Rattle.rc_sheet.specs.ReadNames as names;
 ghost use Rattle.rc_sheet.specs.ReadExpressions as reading;
 ghost use Rattle.rc_sheet.specs.ReadEffects as effect_reading;
@@ -80,4 +84,17 @@ pub fn body_stands()
         → item_reading.body_at naming trees ≡ Some (all, (best, score))
         → AtLeast 2 (items.StandItems naming all
         (Row (Atom "scoring" ▸ StandsBest best ▸ expressions.StandsInt naming self_scope score ▸ End) ▸ End)) trees }
+{}
+
+/// The setup of a sheet that is read stands for its lines.
+pub fn setup_stands()
+    ensures { (naming : Naming) (lines : Trees) (sheet : sheet.Sheet)
+        → setup_reading.setup_at naming lines ≡ Some (setup_reading.setup_in sheet)
+        → Full (StandsSetup naming sheet) lines }
+{}
+
+/// A whole sheet that is read stands for its form.
+pub fn sheet_stands()
+    ensures { (naming : Naming) (tree : Tree) (sheet : sheet.Sheet)
+        → sheet_reading.sheet_at naming tree ≡ Some sheet → Stands sheet tree }
 {}

@@ -1,16 +1,25 @@
 //! A sheet's form, read into the tree of the sheet. What each form says is defined in `specs/Read*.antt`.
 #![tactic(auto)]
 
+mod decks;
 mod expressions;
 mod fail;
+mod items;
 mod laws;
 mod locations;
 mod names;
 mod owners;
+mod players;
 mod reader;
 mod scope;
+mod setup;
+#[cfg(test)]
+mod setup_tests;
+mod sheet;
 mod sides;
 
 pub use fail::ReadFail;
-pub use laws::{body_stands, effects_stand, expressions_stand, names_stand};
+pub use laws::{
+    body_stands, effects_stand, expressions_stand, names_stand, setup_stands, sheet_stands,
+};
 pub use rc_semantics::SheetFail;

@@ -38,22 +38,31 @@ fn place_of(words: &[Word], word: &[u8]) -> Option<usize>
     words.iter().position(|other| word == other.bytes())
 }
 
-/// The number of a plain word among these.
+/// The number of a plain word among these, where it is one.
 #[tactic(auto, unfolding(crate::specs::ReadNames::name_at))]
+pub fn number_in(words: &[Word], form: &Form) -> Option<u16>
+    requires few { length words.now ≤ 256 }
+    ensures { result ≡ reading.name_at words.now (tree_of form.now) }
+{
+    let Form::Atom { word, .. } = form else {
+        return None;
+    };
+    if is_variable(word.bytes()) {
+        return None;
+    }
+    let place = place_of(words, word.bytes())?;
+    Some(place as u16)
+}
+
+/// The number of a plain word among these.
 pub fn name_at(words: &[Word], form: &Form) -> Result<u16, ReadFail>
     requires few { length words.now ≤ 256 }
     ensures { Gives (λ number. number) result (reading.name_at words.now (tree_of form.now)) }
 {
-    let Form::Atom { word, .. } = form else {
-        return Err(ReadFail::Meaningless);
-    };
-    if is_variable(word.bytes()) {
-        return Err(ReadFail::Meaningless);
+    match number_in(words, form) {
+        Some(number) => Ok(number),
+        None => Err(ReadFail::Meaningless),
     }
-    let Some(place) = place_of(words, word.bytes()) else {
-        return Err(ReadFail::Meaningless);
-    };
-    Ok(place as u16)
 }
 
 impl Reader {

@@ -5,6 +5,6 @@ use Rattle.rc_setup.proofs.BuildLemmas.{onto_entries}
 use Rattle.rc_setup.proofs.points_reading.read_entries.Given as goal
 
 abbrev pub invariant-loop-form : goal.invariant-loop-form
-invariant-loop-form l =
-    option_map (onto_entries l.entries.items) (read_all_entries l.names (packed (trees_of (drop l.form-index l.form-items))))
-    ≡ read_all_entries l.names (packed (trees_of l.form-items))
+invariant-loop-form g l =
+    option_map (onto_entries l.entries.items) (read_all_entries (g.N.Numbers.words l.names) (packed (trees_of (drop l.form-index l.form-items))))
+    ≡ read_all_entries (g.N.Numbers.words l.names) (packed (trees_of l.form-items))

@@ -12,25 +12,25 @@ use Rattle.rc_setup.proofs.GroupLemmas.{get_or-any, read_entry_of}
 use Rattle.rc_setup.proofs.points_reading.read_entry.Goals as goal
 
 pub returns-then-len-ne3 : goal.returns-then-len-ne3
-returns-then-len-ne3 c =
-    let names = c.args.names.now in
+returns-then-len-ne3 g c =
+    let names = g.N.Numbers.words c.args.names.now in
     sym (ap (read_entry names) (tree_of_list _ c.in-List.items c.in-List.span c.in-List.is) ∙ read_entry_other names c.in-List.items.items (λ long. omega arith))
 
-pub returns-in_default-attr : goal.returns-in_default-attr
-returns-in_default-attr c =
-    let names = c.args.names.now in
+pub returns-in_default-attr_number : goal.returns-in_default-attr_number
+returns-in_default-attr_number g c =
+    let names = g.N.Numbers.words c.args.names.now in
     let items = c.in-List.items.items in
     let head = c.index.result.now in
     let second = get_or items 1 head in
     let third = get_or items 2 head in
     let e = read_entry_of names c.args.form.now c.in-List.items c.in-List.span head second third c.in-List.is (omega arith) c.index.ensures
     (get_or-any items 1 head second (omega arith)) (get_or-any items 2 head third (omega arith)) in
-    ap (λ o. both entry_with o (both (λ values points. (values, points)) (read_value_list names (tree_of second)) (read_points (tree_of third)))) c.in_default-attr.ensures
+    ap (λ o. both entry_with o (both (λ values points. (values, points)) (read_value_list names (tree_of second)) (read_points (tree_of third)))) c.in_default-attr_number.ensures
     ∙ sym e
 
 pub returns-in_default-read_points : goal.returns-in_default-read_points
-returns-in_default-read_points c =
-    let names = c.args.names.now in
+returns-in_default-read_points g c =
+    let names = g.N.Numbers.words c.args.names.now in
     let items = c.in-List.items.items in
     let head = c.index.result.now in
     let second = get_or items 1 head in
@@ -44,8 +44,8 @@ returns-in_default-read_points c =
     ∙ sym e
 
 pub returns-in-Some-2 : goal.returns-in-Some-2
-returns-in-Some-2 c =
-    let names = c.args.names.now in
+returns-in-Some-2 g c =
+    let names = g.N.Numbers.words c.args.names.now in
     let second = c.index-3.result.now in
     let third = c.index-2.result.now in
     let attr = c.in-Some.attr in
@@ -63,8 +63,8 @@ returns-in-Some-2 c =
     ∙ sym e
 
 pub returns-in-None : goal.returns-in-None
-returns-in-None c =
-    let names = c.args.names.now in
+returns-in-None g c =
+    let names = g.N.Numbers.words c.args.names.now in
     let second = c.index-3.result.now in
     let third = c.index-2.result.now in
     let attr = c.in-Some.attr in

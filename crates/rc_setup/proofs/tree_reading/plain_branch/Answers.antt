@@ -6,6 +6,6 @@ use Rattle.rc_setup.proofs.BuildLemmas.{branch_is}
 use Rattle.rc_setup.proofs.tree_reading.plain_branch.Goals as goal
 
 pub returns-in-Some : goal.returns-in-Some
-returns-in-Some c =
+returns-in-Some g c =
     let none = c.new-in-Some.ensures.inner ∙ ap groups_in c.new.ensures.items in
     ap (λ b. Some b) (branch_is c.new-in-Some.result c.in-Some.value no_group c.new-in-Some.ensures.value none) ∙ ap (option_map plain) c.in-Some.ensures

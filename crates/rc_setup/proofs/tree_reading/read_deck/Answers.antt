@@ -8,8 +8,8 @@ use Rattle.rc_setup.proofs.GroupLemmas.{read_deck_of}
 use Rattle.rc_setup.proofs.tree_reading.read_deck.Goals as goal
 
 pub returns-in-Some-2 : goal.returns-in-Some-2
-returns-in-Some-2 c =
-    let names = c.args.names.now in
+returns-in-Some-2 g c =
+    let names = g.N.Numbers.words c.args.names.now in
     let word : is_word (codes "deck") (tree_of c.in-Some.head.now) ≡ true = sym c.if-not-is_word.ensures in
     let e = read_deck_of names c.args.deck.now c.in-List.items c.in-List.span c.deref.result.now c.in-Some.head.now c.in-Some.parts.now
     c.in-List.is c.deref.ensures.value c.in-Some.ensures.cases.0 word
