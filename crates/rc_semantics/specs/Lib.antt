@@ -3,9 +3,10 @@ pub mod SecondParts
 pub mod SecondNames
 pub mod SecondFaults
 pub mod Summary
+pub mod Groups
 pub mod SecondWalk
-pub mod Faces
 pub mod Seen
 pub mod Views
 pub mod Checks
+pub mod Entered
 pub mod SecondExamples

@@ -3,7 +3,7 @@ ghost use Rattle.std.specs.Prelude.{◌≡◌, ◌≤◌, ◌+◌, ◌*◌, min}
 ghost use Rattle.rc_form.specs.Form.{tree_of, trees_of, packed};
 ghost use Rattle.rc_semantics.specs.SecondNames as names;
 ghost use Rattle.rc_semantics.specs.Seen.{part_seen};
-ghost use Rattle.rc_semantics.specs.Faces.{faces_by, branch_by};
+ghost use Rattle.rc_semantics.specs.Groups.{faces_by, branch_by};
 
 use rc_form::Form;
 
@@ -16,7 +16,8 @@ pub fn faces_of(deck: Option<&Form>) -> u32
 {
     match deck {
         Some(Form::List { items, .. }) => face_count(items),
-        _ => 0,
+        Some(Form::Atom { .. }) => 0,
+        None => face_count(&[]),
     }
 }
 
@@ -40,9 +41,12 @@ fn group_faces(group: &Form) -> u32
     let Form::List { items, .. } = group else {
         return 1;
     };
-    match items.as_slice() {
-        [_, Form::List { items, .. }] => branch_count(items),
-        _ => 1,
+    let [_, branches] = items.as_slice() else {
+        return 1;
+    };
+    match branches {
+        Form::List { items, .. } => branch_count(items),
+        Form::Atom { .. } => 1,
     }
 }
 

@@ -1,5 +1,5 @@
 //! What is wrong with a part, behind what stood before it.
-ghost use Rattle.std.specs.Prelude.{◌≡◌, ℕ, List};
+ghost use Rattle.std.specs.Prelude.{◌≡◌, ◌||◌, ℕ, List};
 ghost use Rattle.rc_form.specs.Form.{trees_of, packed};
 ghost use Rattle.rc_semantics.specs.SecondFaults as faults;
 ghost use Rattle.rc_semantics.specs.SecondParts as parts_spec;
@@ -37,19 +37,40 @@ pub fn atom_kind<'a>(
     if seen.is_member_again(at.place, word) {
         return Some(SheetKind::Twice);
     }
-    if is_unbound(at, word)
-        || whole.lacks(at.role, word)
-        || seen.is_stranger(whole, at.place, word)
-    {
+    if is_unknown_atom(whole, seen, at, word) {
         return Some(SheetKind::Unknown);
     }
-    if is_misused(at, word) || is_other_side(at) {
+    if is_wrong_atom(at, word) {
         return Some(SheetKind::WrongKind);
     }
     if seen.is_value_over(at.role, word) {
         return Some(SheetKind::TooMany);
     }
     None
+}
+
+/// A variable that isn't in scope, a name that the setup doesn't give, or a member of a team who is none of the players.
+fn is_unknown_atom<'a>(
+    whole: &Whole<'a>,
+    seen: &Summary<'a>,
+    at: &Standing<'_, 'a>,
+    word: &[u8],
+) -> bool
+    ensures { (above : List (List ℕ)) → result
+        ≡ spec.is_unknown_atom whole.now seen.now (standing_seen at.now above) word.now }
+{
+    if is_unbound(at, word) || whole.lacks(at.role, word) {
+        return true;
+    }
+    seen.is_stranger(whole, at.place, word)
+}
+
+/// A variable of another sort than its place takes, or a second side of another sort than the first.
+fn is_wrong_atom(at: &Standing<'_, '_>, word: &[u8]) -> bool
+    ensures { (above : List (List ℕ)) → result
+        ≡ (faults.is_misused (standing_seen at.now above) word.now || faults.is_other_side (standing_seen at.now above) at.now.role) }
+{
+    is_misused(at, word) || is_other_side(at)
 }
 
 /// What is wrong with a form, but for its parts. These attributes may stand before it in a face.

@@ -2,7 +2,8 @@
 ghost use Rattle.std.specs.Prelude.{◌≡◌, ◌∷◌, ◌++◌, [], OnOk, OnErr, Err, length, take};
 ghost use Rattle.rc_form.specs.Form.{tree_of, trees_of, packed};
 ghost use Rattle.rc_semantics.specs.SecondNames.{is_named};
-ghost use Rattle.rc_semantics.specs.SecondParts.{attributes_of, attributes_among};
+ghost use Rattle.rc_semantics.specs.SecondParts.{attributes_of, attributes_below, attributes_among};
+ghost use Rattle.rc_semantics.specs.Groups.{attributes_in};
 ghost use Rattle.rc_semantics.specs.Summary.{with_word};
 ghost use Rattle.rc_semantics.specs.Seen.{words_seen};
 
@@ -63,6 +64,7 @@ impl<'a> Names<'a> {
 
     /// Takes the attribute of a group, and those of the groups in its branches.
     #[cycle(attributes)]
+    #[tactic(auto, using(crate::proofs::Words::attach))]
     pub fn push_attributes(&mut self, group: &'a Form) -> Result<(), SheetFail>
         ensures after { OnOk result (self.new ≡ self.old ++ attributes_of (tree_of group.now)) }
         ensures memory { OnErr result (result ≡ Err SheetFail.Memory) }
@@ -70,16 +72,42 @@ impl<'a> Names<'a> {
         let Form::List { items, .. } = group else {
             return Ok(());
         };
-        let [Form::Atom { word, .. }, Form::List { items, .. }] = items.as_slice() else {
+        let [attribute, branches] = items.as_slice() else {
+            return Ok(());
+        };
+        let Form::Atom { word, .. } = attribute else {
+            return Ok(());
+        };
+        let Form::List { items, .. } = branches else {
             return Ok(());
         };
         self.push(word.bytes())?;
-        for branch in items {
-            if let Form::List { items, .. } = branch {
-                self.push_all_attributes(items)?;
-            }
+        self.push_inner_attributes(items)
+    }
+
+    /// Takes the attributes of the groups in these branches.
+    #[cycle(attributes)]
+    #[tactic(auto, using(crate::proofs::Words::attach, crate::proofs::GroupLemmas::below_more))]
+    fn push_inner_attributes(&mut self, branches: &'a [Form]) -> Result<(), SheetFail>
+        ensures after { OnOk result (self.new ≡ self.old ++ attributes_below (packed (trees_of branches.now))) }
+        ensures memory { OnErr result (result ≡ Err SheetFail.Memory) }
+    {
+        for branch in branches {
+            self.push_branch_attributes(branch)?;
         }
         Ok(())
+    }
+
+    /// Takes the attributes of the groups in this branch.
+    #[cycle(attributes)]
+    fn push_branch_attributes(&mut self, branch: &'a Form) -> Result<(), SheetFail>
+        ensures after { OnOk result (self.new ≡ self.old ++ attributes_in (tree_of branch.now)) }
+        ensures memory { OnErr result (result ≡ Err SheetFail.Memory) }
+    {
+        match branch {
+            Form::Atom { .. } => Ok(()),
+            Form::List { items, .. } => self.push_all_attributes(items),
+        }
     }
 
     /// Takes the attributes of the groups among these.
@@ -95,6 +123,7 @@ impl<'a> Names<'a> {
     }
 
     /// Keeps so many of the first.
+    #[tactic(auto, using(crate::proofs::Words::take_words))]
     pub fn truncate(&mut self, count: usize)
         ensures { self.new ≡ take count self.old }
     {

@@ -58,6 +58,7 @@ pub fn number_at(part: Option<&Form>) -> u64
 }
 
 /// Whether some of so many players stands in none of the teams of a line.
+#[tactic(auto, using(crate::proofs::PartLemmas::all_from, crate::proofs::PartLemmas::all_past))]
 pub fn misses_player(players: u64, line: &[Form]) -> bool
     ensures { result ≡ misses_player players (packed (trees_of line.now)) }
 {
@@ -70,6 +71,7 @@ pub fn misses_player(players: u64, line: &[Form]) -> bool
 }
 
 /// Whether a player stands in a team of a line.
+#[tactic(auto, using(crate::proofs::PartLemmas::among_both))]
 fn is_in_line(player: u64, line: &[Form]) -> bool
     ensures { result ≡ is_among player (names.team_players (packed (trees_of line.now))) }
 {

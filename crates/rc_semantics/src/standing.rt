@@ -1,8 +1,10 @@
 //! Where the parts of a form stand.
-ghost use Rattle.std.specs.Prelude.{◌≡◌};
+ghost use Rattle.std.specs.Prelude.{◌≡◌, ◌<◌, length, option_map};
+ghost use Rattle.rc_form.specs.Form.{trees_of, packed};
+ghost use Rattle.rc_semantics.specs.Seen.{inner_seen, standing_seen};
 ghost use Rattle.rc_semantics.specs.SecondParts as spec;
 
-use crate::around::Around;
+use crate::around::{Around, Inner};
 use crate::role::Role;
 use rc_form::Form;
 use rc_grammar::{Place, Rule};
@@ -14,6 +16,31 @@ pub struct Standing<'s, 'a> {
     pub role: Role,
     pub beside: &'a [Form],
     pub around: &'s Around<'a>,
+}
+
+/// Where the part of a form at this index stands, if anywhere. The form has this role, this around it and that around its parts.
+#[tactic(auto, using(crate::proofs::Counts::count_packed))]
+pub fn standing_in<'s, 'a>(
+    role: Role,
+    around: &'s Around<'a>,
+    inner: &'s Inner<'a>,
+    rule: Rule,
+    parts: &'a [Form],
+    index: usize,
+) -> Option<Standing<'s, 'a>>
+    requires inside { index < length parts.now }
+    requires inner { inner_seen around.now inner.now index ≡ spec.around_in around.now rule (packed (trees_of parts.now)) index }
+    ensures { (outer : spec.Standing) → outer.role ≡ role → outer.around ≡ around.now
+        → option_map (λ at. standing_seen at (spec.above_in outer.above rule (packed (trees_of parts.now)) index)) result
+        ≡ spec.standing_in outer rule (packed (trees_of parts.now)) index }
+{
+    let place = rule.place_at(parts.len(), index)?;
+    Some(Standing {
+        place,
+        role: role_in(role, rule, index),
+        beside: parts,
+        around: inner.at(around, index),
+    })
 }
 
 /// The role of the part of a form at this index. The location of a spot takes what the spot takes.

@@ -1,18 +1,18 @@
 //! The walk over all parts of a form, in the order of the text.
-ghost use Rattle.std.specs.Prelude.{◌≡◌, ◌<◌, ℕ, List, [], ◌∷◌, ◌++◌, length, Some, Err, OnOk, OnErr};
+ghost use Rattle.std.specs.Prelude.{◌≡◌, ℕ, [], ◌∷◌, ◌++◌, Some, option_map, Err, OnOk, OnErr};
 ghost use Rattle.rc_model.specs.Tree.{list};
 ghost use Rattle.rc_form.specs.Form.{tree_of, trees_of, packed};
 ghost use Rattle.rc_semantics.specs.Checks.{Checks};
-ghost use Rattle.rc_semantics.specs.Seen.{standing_seen, inner_seen};
+ghost use Rattle.rc_semantics.specs.Entered.{entered};
+ghost use Rattle.rc_semantics.specs.Seen.{standing_seen};
 ghost use Rattle.rc_semantics.specs.Summary as spec;
 ghost use Rattle.rc_semantics.specs.SecondParts as parts_spec;
 
-use crate::around::Inner;
 use crate::fault::SheetFail;
 use crate::kinds::{atom_kind, form_kind};
 use crate::names::Names;
 use crate::parts::word_in;
-use crate::standing::{Standing, role_in};
+use crate::standing::{Standing, standing_in};
 use crate::summary::Summary;
 use crate::whole::Whole;
 use rc_form::{Form, Word};
@@ -66,8 +66,8 @@ impl<'a> Walk<'a> {
         word: &'a Word,
         from: u32,
     ) -> Result<(), SheetFail>
-        ensures walked { (above : List (List ℕ)) → Checks (spec.check_all whole.now self.old.seen
-            (parts_spec.atom (standing_seen at.now above) word.now from ∷ [])) result self.new.seen }
+        ensures walked { Checks (spec.check_all whole.now self.old.seen
+            (parts_spec.atom (standing_seen at.now self.old.above) word.now from ∷ [])) result self.new.seen }
         ensures above { OnOk result (self.new.above ≡ self.old.above) }
     {
         if let Some(kind) = atom_kind(whole, &self.seen, at, word.bytes()) {
@@ -92,7 +92,9 @@ impl<'a> Walk<'a> {
         let Some(rule) = rule_of(at.place, parts) else {
             return Ok(());
         };
-        self.form(whole, at, rule, parts, from)?;
+        if let Err(fail) = self.form(whole, at, rule, parts, from) {
+            return Err(fail);
+        }
         self.parts(whole, at, rule, parts)
     }
 
@@ -128,51 +130,49 @@ impl<'a> Walk<'a> {
             (parts_spec.parts_in (standing_seen at.now self.old.above) rule (packed (trees_of parts.now)) 0 (packed (trees_of parts.now)))) result self.new.seen }
         ensures above { OnOk result (self.new.above ≡ self.old.above) }
     {
-        let inner = at.around.inner(self.alloc, rule, parts)?;
+        let inner = match at.around.inner(self.alloc, rule, parts) {
+            Ok(inner) => inner,
+            Err(fail) => return Err(fail),
+        };
         let outer_count = self.above.len();
-        self.enter(rule, parts)?;
+        if let Err(fail) = self.enter(rule, parts) {
+            return Err(fail);
+        }
         for (index, part) in parts.iter().enumerate() {
-            self.part_in(whole, at, &inner, rule, parts, index, part)?;
-            self.leave(rule, part)?;
+            let standing = standing_in(at.role, &*at.around, &inner, rule, parts, index);
+            if let Err(fail) = self.part_in(whole, standing, part) {
+                return Err(fail);
+            }
+            if let Err(fail) = self.leave(rule, part) {
+                return Err(fail);
+            }
         }
         self.above.truncate(outer_count);
         Ok(())
     }
 
-    /// Looks at the part of a form at this index, where there is a place for it.
+    /// Looks at a part and at those in it, where it stands somewhere.
     #[cycle(walking)]
     fn part_in(
         &mut self,
         whole: &Whole<'a>,
-        at: &Standing<'_, 'a>,
-        inner: &Inner<'a>,
-        rule: Rule,
-        parts: &'a [Form],
-        index: usize,
+        standing: Option<Standing<'_, 'a>>,
         part: &'a Form,
     ) -> Result<(), SheetFail>
-        requires inside { index < length parts.now }
-        requires inner { inner_seen at.now.around.now inner.now index ≡ parts_spec.around_in at.now.around.now rule (packed (trees_of parts.now)) index }
-        ensures walked { (above : List (List ℕ)) → self.old.above ≡ parts_spec.above_in above rule (packed (trees_of parts.now)) index
-            → Checks (spec.check_all whole.now self.old.seen
-            (parts_spec.parts_at (parts_spec.standing_in (standing_seen at.now above) rule (packed (trees_of parts.now)) index) (tree_of part.now))) result self.new.seen }
+        ensures walked { Checks (spec.check_all whole.now self.old.seen
+            (parts_spec.parts_at (option_map (λ at. standing_seen at self.old.above) standing.entry) (tree_of part.now))) result self.new.seen }
         ensures above { OnOk result (self.new.above ≡ self.old.above) }
     {
-        let Some(place) = rule.place_at(parts.len(), index) else {
-            return Ok(());
-        };
-        let standing = Standing {
-            place,
-            role: role_in(at.role, rule, index),
-            beside: parts,
-            around: (&*inner).at(&*at.around, index),
-        };
-        self.part(whole, &standing, part)
+        match standing {
+            Some(at) => self.part(whole, &at, part),
+            None => Ok(()),
+        }
     }
 
     /// The attribute of a group may stand before its branches.
+    #[tactic(auto, using(crate::proofs::Above::at_start))]
     fn enter(&mut self, rule: Rule, parts: &'a [Form]) -> Result<(), SheetFail>
-        ensures above { OnOk result (self.new.above ≡ parts_spec.above_in self.old.above rule (packed (trees_of parts.now)) 0) }
+        ensures above { OnOk result (self.new.above ≡ self.old.above ++ entered rule (packed (trees_of parts.now))) }
         ensures seen { self.new.seen ≡ self.old.seen }
         ensures memory { OnErr result (result ≡ Err SheetFail.Memory) }
     {

@@ -1,0 +1,40 @@
+-- What the walk of a whole form answers.
+use Rattle.std.proofs.Common.{◌≡◌, ℕ, List, [], ◌∷◌, Some, None, Result, Ok, Err, IfOk, IfErr, refl, sym, ap, ◌∙◌}
+use Rattle.rc_model.specs.Tree.{Tree, nil}
+use Rattle.rc_sheet_model.specs.WellFormed.{Around, outside}
+use Rattle.rc_grammar.specs.Faults.{first, fault_of}
+use Rattle.rc_grammar.specs.declared.fault.SheetFault.{SheetFault}
+use Rattle.rc_grammar.specs.declared.grammar.Place.TheVariants as place
+use Rattle.rc_semantics.specs.declared.fault.SheetFail.{SheetFail}
+use Rattle.rc_semantics.specs.declared.fault.SheetFail.TheVariants as fails
+use Rattle.rc_semantics.specs.SecondParts.{no_role, parts_at, parts_of}
+use Rattle.rc_semantics.specs.SecondFaults.{second_faults}
+use Rattle.rc_semantics.specs.Summary.{Whole, whole_of, Summary, nothing_seen, check_all}
+use Rattle.rc_semantics.specs.SecondWalk.{check_form}
+use Rattle.rc_semantics.specs.Checks.{IfFault, Checks}
+use Rattle.rc_semantics.proofs.SecondLaw.{finds_first}
+
+-- the walk from the start is that of the form
+pub from_start : (tree : Tree) (whole : Whole) (seen : Summary) (around : Around) (above : List (List ℕ)) → whole ≡ whole_of (parts_of tree)
+    → seen ≡ nothing_seen → around ≡ outside → above ≡ []
+    → check_all whole seen (parts_at (Some (record { place = place.Sheet; role = no_role; beside = nil; around = around; above = above })) tree)
+    ≡ check_form tree
+from_start tree whole seen around above known none out no_above = rw (known, none, out, no_above) refl
+
+-- faults without a first one
+no_first : (faults : List SheetFault) → first faults ≡ None → faults ≡ []
+no_first [] none = refl
+no_first (fault ∷ faults) none = absurd cc
+
+-- a walk without a fault
+pub answered_fine : (tree : Tree) (new : Summary) (result : Result (Unit {0}) SheetFail) → Checks (check_form tree) result new
+    → IfOk result (λ u. second_faults tree ≡ [])
+answered_fine tree new (Ok u) checks = no_first (second_faults tree) (finds_first tree ∙ ap fault_of checks)
+answered_fine tree new (Err fail) checks = tt
+
+-- and one with a fault
+pub answered_found : (tree : Tree) (new : Summary) (result : Result (Unit {0}) SheetFail) → Checks (check_form tree) result new
+    → IfErr result (λ fail. IfFault fail (λ fault. first (second_faults tree) ≡ Some fault))
+answered_found tree new (Ok u) checks = tt
+answered_found tree new (Err fails.Memory) checks = tt
+answered_found tree new (Err (fails.Fault fault)) checks = finds_first tree ∙ ap fault_of checks
