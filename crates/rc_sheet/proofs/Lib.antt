@@ -11,3 +11,10 @@ pub mod ReadsItems
 pub mod ReadsFaces
 pub mod ReadsSetup
 pub mod ReadsSheet
+pub mod Mentioned
+pub mod MentionedRows
+pub mod MentionedForms
+pub mod MentionedSetup
+pub mod MentionedSheet
+pub mod MentionedStages
+pub mod MentionedNumbers

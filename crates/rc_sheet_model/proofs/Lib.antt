@@ -1,6 +1,1 @@
 pub mod NumberingLemmas
-pub mod Mentioned
-pub mod MentionedRows
-pub mod MentionedForms
-pub mod MentionedSetup
-pub mod MentionedSheet

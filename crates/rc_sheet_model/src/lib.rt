@@ -3,7 +3,6 @@
 #![tactic(auto)]
 
 mod examples;
-mod form_laws;
 mod laws;
 mod part_examples;
 mod printing_examples;
@@ -12,7 +11,6 @@ mod sight_examples;
 pub use examples::{
     four_cards_form, four_cards_numbered, four_cards_stands, four_cards_well_formed,
 };
-pub use form_laws::names_of_a_form;
 pub use laws::names_numbered_one_by_one;
 pub use part_examples::{
     binders, cycles, decks, effects, faces, limits, lines_in_any_order, mentions, no_owners,

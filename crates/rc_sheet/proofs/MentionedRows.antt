@@ -12,7 +12,7 @@ use Rattle.rc_sheet_model.specs.FormMentions.{is_atom, is_kind, is_measure, is_b
 use Rattle.rc_sheet_model.specs.Rows.{◌▸◌, End, Row, Word, Atom}
 use Rattle.rc_sheet_model.specs.Naming.{Naming, Scope, is_variable, kind_word, Named, Binder, InScope, Literal, KindOf}
 use Rattle.rc_sheet_model.specs.StandsExpressions.{StandsOwner, StandsHolder, StandsLoc, StandsNum}
-use Rattle.rc_sheet_model.proofs.Mentioned.{Kind, attrs, values, maps, locs, nums, vars, said, words_in, all_words_in, own, said-append, append_nothing, words_in-word, words_in-list, Says, SayAll, behind_silent, behind_word, behind_part, no_part, text_silent, alone, is_sort_word, Speaks, Speak, end_speaks, then_speak, last_speaks, atom_then, tells, IsHead, head_at, IsPlain, own-plain, neither, no_kind, no_number, row_other, plain_speaks}
+use Rattle.rc_sheet.proofs.Mentioned.{Kind, attrs, values, maps, locs, nums, vars, said, words_in, all_words_in, own, said-append, append_nothing, words_in-word, words_in-list, Says, SayAll, behind_silent, behind_word, behind_part, no_part, text_silent, alone, is_sort_word, Speaks, Speak, end_speaks, then_speak, last_speaks, atom_then, tells, IsHead, head_at, IsPlain, own-plain, neither, no_kind, no_number, row_other, plain_speaks}
 
 -- what depends on the first byte of a variable
 at_variable : (test : List ℕ → Bool) → ((bytes : List ℕ) → test (39 ∷ bytes) ≡ false) → (bytes : List ℕ)

@@ -10,8 +10,8 @@ use Rattle.rc_sheet_model.specs.Naming.{Naming, Scope, is_variable, bind, sort_o
 use Rattle.rc_sheet_model.specs.StandsExpressions.{StandsOwner, Two, TwoOwners, StandsCard, StandsColl, StandColls, StandsInt, StandsTest, StandTests, StandsRange, StandsDomain}
 use Rattle.rc_sheet_model.specs.StandsEffects.{StandsSpot, StandsEffect, StandEffects}
 use Rattle.rc_sheet_model.specs.StandsItems.{StandsAlt, StandAlts, StandsClass, StandsItem, StandItems}
-use Rattle.rc_sheet_model.proofs.Mentioned.{Kind, is_sort_word, tells, Speaks, Speak, end_speaks, then_speak, last_speaks, atom_then, at_least_speak, plain_speaks, SpeakFirst, none_speak, more_speak, parts_speak}
-use Rattle.rc_sheet_model.proofs.MentionedRows.{nothing_speaks, text_speaks, variable_speaks, literal_speaks, owner_speaks, loc_speaks, num_speaks, attr_speaks, map_speaks, value_speaks, binder_speaks}
+use Rattle.rc_sheet.proofs.Mentioned.{Kind, is_sort_word, tells, Speaks, Speak, end_speaks, then_speak, last_speaks, atom_then, at_least_speak, plain_speaks, SpeakFirst, none_speak, more_speak, parts_speak}
+use Rattle.rc_sheet.proofs.MentionedRows.{nothing_speaks, text_speaks, variable_speaks, literal_speaks, owner_speaks, loc_speaks, num_speaks, attr_speaks, map_speaks, value_speaks, binder_speaks}
 
 -- a form with one part behind its head, or with several
 one_speaks : {kind : Kind} {names : Names} {P : Tree → Type 0} {ms : List Mention} (text : String)

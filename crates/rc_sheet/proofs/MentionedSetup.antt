@@ -9,8 +9,8 @@ use Rattle.rc_sheet_model.specs.Mentions.{Mention, in_loc, attr_name, value_name
 use Rattle.rc_sheet_model.specs.FormMentions.{words_of, group_attr_words, branch_attr_words, group_value_words, branch_value_words, deck_loc, deck_groups, points_map, points_entries, entry_attr_words, entry_value_words}
 use Rattle.rc_sheet_model.specs.Naming.{Naming}
 use Rattle.rc_sheet_model.specs.StandsSetup.{StandsGroups, StandsBranches, StandsDeck, StandValues, StandEntries, StandsMap}
-use Rattle.rc_sheet_model.proofs.Mentioned.{Kind, attrs, values, maps, locs, nums, vars, said, said-append, append_nothing, Says}
-use Rattle.rc_sheet_model.proofs.MentionedRows.{named_word, loc_list_says}
+use Rattle.rc_sheet.proofs.Mentioned.{Kind, attrs, values, maps, locs, nums, vars, said, said-append, append_nothing, Says}
+use Rattle.rc_sheet.proofs.MentionedRows.{named_word, loc_list_says}
 
 -- the word of an attribute, of a value, and of a point map, for each kind
 abbrev attr_words : Kind → List ℕ → List (List ℕ)

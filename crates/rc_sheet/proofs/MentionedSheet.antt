@@ -12,10 +12,10 @@ use Rattle.rc_sheet_model.specs.StandsSetup.{StandsSetup, StandsDeck, StandsMap,
 use Rattle.rc_sheet_model.specs.StandsExpressions.{StandsInt}
 use Rattle.rc_sheet_model.specs.StandsItems.{StandItems}
 use Rattle.rc_sheet_model.specs.Stands.{StandsBest, StandsScoring, Stands}
-use Rattle.rc_sheet_model.proofs.Mentioned.{Kind, attrs, values, maps, locs, nums, vars, of_kind, names_in, said, all_words_in, said-append, append_nothing, SayAll, Speaks, Speak, end_speaks, then_speak, last_speaks, plain_speaks}
-use Rattle.rc_sheet_model.proofs.MentionedRows.{text_speaks}
-use Rattle.rc_sheet_model.proofs.MentionedForms.{int_speaks, items_then}
-use Rattle.rc_sheet_model.proofs.MentionedSetup.{deck_words, points_words, decks_said, maps_said}
+use Rattle.rc_sheet.proofs.Mentioned.{Kind, attrs, values, maps, locs, nums, vars, of_kind, names_in, said, all_words_in, said-append, append_nothing, SayAll, Speaks, Speak, end_speaks, then_speak, last_speaks, plain_speaks}
+use Rattle.rc_sheet.proofs.MentionedRows.{text_speaks}
+use Rattle.rc_sheet.proofs.MentionedForms.{int_speaks, items_then}
+use Rattle.rc_sheet.proofs.MentionedSetup.{deck_words, points_words, decks_said, maps_said}
 
 -- the scoring
 best_speaks : {kind : Kind} {names : Names} (best : Best) → Speaks kind names (StandsBest best) []
