@@ -58,7 +58,7 @@ counted_append before between after stages sites stages' sites' first later =
     }
 
 -- whatever is read
-anything : {A : Type 0} (found : Option A) → Means found (λ a. Unit {0})
+pub anything : {A : Type 0} (found : Option A) → Means found (λ a. Unit {0})
 anything found = means_if found (λ a is. tt)
 
 -- a stage counts itself before the items in it
