@@ -6,6 +6,8 @@ use Rattle.rc_sheet_model.specs.FormMentions.{names_of, AreNames}
 use Rattle.rc_sheet_model.specs.Numbering.{below, IsNumbered}
 use Rattle.rc_sheet_model.specs.Naming.{Naming, naming_of}
 use Rattle.rc_sheet_model.specs.Stands.{Stands}
+use Rattle.rc_naming.specs.Naming.{naming_of as naming_of_form}
+use Rattle.rc_naming.proofs.Whole.{loc_numbers, num_numbers}
 use Rattle.rc_sheet.specs.ReadNames.{rule_at}
 use Rattle.rc_sheet.specs.ReadItems.{body_at}
 use Rattle.rc_sheet.specs.ReadSheet.{setup_form_at, sheet_of, game_parts, game_rule, sheet_at}
@@ -70,3 +72,8 @@ read_is_numbered naming tree sheet is names counted =
       stages = reads.in_order.stages;
       sites = reads.in_order.sites;
     }
+
+-- where the naming is that of the form
+pub read_with_names_of : (tree : Tree) (sheet : Sheet) → sheet_at (naming_of_form tree) tree ≡ Some sheet → IsNumbered sheet
+read_with_names_of tree sheet is =
+    read_is_numbered (naming_of_form tree) tree sheet is refl (record { locs = loc_numbers tree; nums = num_numbers tree })

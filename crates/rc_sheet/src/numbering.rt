@@ -1,13 +1,13 @@
 //! Laws of mentions: a sheet mentions what its form mentions, in the same order, so that its names are numbered by their
 //! first mention. No function here does anything.
-ghost use Rattle.std.specs.Prelude.{◌≡◌, length, map, Some};
+ghost use Rattle.std.specs.Prelude.{◌≡◌, Some};
 ghost use Rattle.rc_model.specs.Tree.{Tree};
 ghost use Rattle.rc_sheet_model.specs.Sheet.{Sheet};
 ghost use Rattle.rc_sheet_model.specs.Mentions.{attr_of, value_of, map_of, loc_of, num_of, var_of};
 ghost use Rattle.rc_sheet_model.specs.FormMentions as form;
-ghost use Rattle.rc_sheet_model.specs.Naming.{Naming};
-ghost use Rattle.rc_sheet_model.specs.Numbering.{below, mentioned, IsNumbered};
+ghost use Rattle.rc_sheet_model.specs.Numbering.{mentioned, IsNumbered};
 ghost use Rattle.rc_sheet_model.specs.Stands.{Stands};
+ghost use Rattle.rc_naming.specs.Naming.{naming_of};
 ghost use Rattle.rc_sheet.specs.ReadSheet as reading;
 
 /// A sheet that stands for a form mentions the words of each kind that the form mentions, in order.
@@ -26,11 +26,7 @@ pub fn mentions_stand()
         → mentioned sheet var_of sheet.names.vars ≡ form.var_mentions tree }
 {}
 
-/// A sheet that is read with the names of its form, whose locations and stored numbers are numbered as their names are, has
-/// its names, stages and choices numbered by their first mention.
+/// A sheet that is read with the naming of its form has its names, stages and choices numbered by their first mention.
 pub fn what_is_read_is_numbered()
-    ensures { (naming : Naming) (tree : Tree) (sheet : Sheet) → reading.sheet_at naming tree ≡ Some sheet
-        → naming.names ≡ form.names_of tree
-        → map (λ loc. loc.name) naming.locs ≡ below (length naming.names.locs)
-        → map (λ num. num.name) naming.nums ≡ below (length naming.names.nums) → IsNumbered sheet }
+    ensures { (tree : Tree) (sheet : Sheet) → reading.sheet_at (naming_of tree) tree ≡ Some sheet → IsNumbered sheet }
 {}
