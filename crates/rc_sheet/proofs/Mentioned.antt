@@ -1,16 +1,14 @@
 -- What a part of a sheet mentions are the words that its form mentions, in order: of one kind of names, whichever it is.
 use Prim.Native.String.{String}
-use Rattle.std.proofs.Common.{◌≡◌, ℕ, nat_le, Bool, true, false, if◌then◌else◌, not, ◌&&◌, ◌||◌, cond, List, [], ◌∷◌, ◌++◌, map, flat_map, codes, bytes_eq, slice_get, slice_index_or, Option, Some, None, option_map, refl, sym, subst, ap, ap₂, ◌∙◌, append_assoc, arith}
-use Rattle.std.proofs.lemmas.Bool.{cond-true, cond-false, and_parts, false≢true}
+use Rattle.std.proofs.Common.{◌≡◌, ℕ, nat_le, Bool, true, false, if◌then◌else◌, not, ◌&&◌, ◌||◌, List, [], ◌∷◌, ◌++◌, map, flat_map, codes, slice_index_or, refl, sym, subst, ap, ap₂, ◌∙◌, append_assoc}
+use Rattle.std.proofs.lemmas.Bool.{cond-false, and_parts, false≢true}
 use Rattle.std.proofs.lemmas.List.{map-append}
 use Rattle.std.proofs.lemmas.Grind.{flat_map-append}
-use Rattle.std.proofs.lemmas.Slice.Eq.{bytes_eq-Decides}
 use Rattle.rc_model.specs.Tree.{Tree, word, list, Trees, nil, cons}
 use Rattle.rc_sheet_model.specs.Sheet.{Names}
-use Rattle.rc_sheet_model.specs.Mentions.{Mention, attr_name, value_name, map_name, loc_name, num_name, var_name, attr_of, value_of, map_of, loc_of, num_of, var_of}
+use Rattle.rc_sheet_model.specs.Mentions.{Mention, attr_of, value_of, map_of, loc_of, num_of, var_of}
 use Rattle.rc_sheet_model.specs.FormMentions.{is_atom, is_kind, word_of, gathered, all_gathered, loc_word, num_word, is_measure, map_word, attr_word, value_word, is_binder, var_words, bound_words, all_var_words}
 use Rattle.rc_sheet_model.specs.Rows.{◌▸◌, End, AtLeast, Row, Word, Atom}
-use Rattle.rc_sheet_model.specs.Naming.{is_variable, Named}
 
 -- the six kinds of names
 pub data Kind : Type 0 where
@@ -141,9 +139,9 @@ pub behind_silent : (kind : Kind) (names : Names) (ns : List Mention) (tree : Tr
 behind_silent kind names ns tree trees silent later =
     record {
       same =
-        later.same
-        ∙ ap (λ words. words ++ all_words_in kind trees) (sym silent)
-        ∙ sym (all_words_in-cons kind tree trees);
+          later.same
+          ∙ ap (λ words. words ++ all_words_in kind trees) (sym silent)
+          ∙ sym (all_words_in-cons kind tree trees);
     }
 
 pub behind_word : (kind : Kind) (names : Names) (ns : List Mention) (bytes : List ℕ) (from to : ℕ) (trees : Trees)
@@ -316,10 +314,10 @@ plain_says {kind} {names} {ms} head second rest from to text nothing is other pa
     let itself = own-plain kind false head second rest told other in
     record {
       same =
-        behind.same
-        ∙ sym (append_nothing (all_words_in kind (cons head (cons second rest))))
-        ∙ ap (λ words. all_words_in kind (cons head (cons second rest)) ++ words) (sym itself)
-        ∙ sym (words_in-list kind head (cons second rest) from to told.of_var);
+          behind.same
+          ∙ sym (append_nothing (all_words_in kind (cons head (cons second rest))))
+          ∙ ap (λ words. all_words_in kind (cons head (cons second rest)) ++ words) (sym itself)
+          ∙ sym (words_in-list kind head (cons second rest) from to told.of_var);
     }
 
 -- by its description

@@ -2,11 +2,11 @@
 use Prim.Native.String.{String}
 use Rattle.std.proofs.Common.{◌≡◌, ℕ, false, true, List, [], ◌∷◌, ◌++◌, codes, flat_map, refl, sym, subst, ◌∙◌, append_assoc}
 use Rattle.rc_model.specs.Tree.{Tree, word, Trees}
-use Rattle.rc_sheet_model.specs.Sheet.{Names, player_sort, card_sort, group_sort, Class, game_class, player_class, team_class, Who, top, bottom, Loc, CardExpr, card_var, top_card, bottom_card, max_card, min_card, CollExpr, group_var, cards_in, filtered, union_of, CollExprs, no_coll, coll, IntExpr, literal, number, size_of, sum_of, worth_of, add, subtract, multiply, Test, eq_int, eq_card, eq_attr, eq_who, ne, less, less_eq, more, more_eq, has_value, and_of, or_of, not_of, all_of, any_of, Tests, no_test, test, Domain, each_player, each_card, each_group, Effect, move, move_all, remember, forget, shuffle, set_to, increase, decrease, when, repeat, for_each, next_is, turn_round, Effects, no_effect, effect, Alt, do_alt, if_alt, any_alt, SheetItem, do_item, stage, choice, SheetItems, no_item, item}
+use Rattle.rc_sheet_model.specs.Sheet.{Names, card_sort, group_sort, Class, game_class, player_class, team_class, Who, top, bottom, Loc, CardExpr, card_var, top_card, bottom_card, max_card, min_card, CollExpr, group_var, cards_in, filtered, union_of, CollExprs, no_coll, coll, IntExpr, literal, number, size_of, sum_of, worth_of, add, subtract, multiply, Test, eq_int, eq_card, eq_attr, eq_who, ne, less, less_eq, more, more_eq, has_value, and_of, or_of, not_of, all_of, any_of, Tests, no_test, test, Domain, each_player, each_card, each_group, Effect, move, move_all, remember, forget, shuffle, set_to, increase, decrease, when, repeat, for_each, next_is, turn_round, Effects, no_effect, effect, Alt, do_alt, if_alt, any_alt, SheetItem, do_item, stage, choice, SheetItems, no_item, item}
 use Rattle.rc_sheet_model.specs.Sheet.{End as Spot}
 use Rattle.rc_sheet_model.specs.Mentions.{Mention, attr_name, in_loc, in_card, in_coll, in_colls, in_int, in_test, in_tests, in_domain, in_effect, in_effects, in_alt, in_item, in_items}
 use Rattle.rc_sheet_model.specs.Rows.{◌▸◌, End, AtLeast, Row, Atom}
-use Rattle.rc_sheet_model.specs.Naming.{Naming, Scope, is_variable, bind, sort_of, Named}
+use Rattle.rc_sheet_model.specs.Naming.{Naming, Scope, bind, sort_of, Named}
 use Rattle.rc_sheet_model.specs.StandsExpressions.{StandsOwner, Two, TwoOwners, StandsCard, StandsColl, StandColls, StandsInt, StandsTest, StandTests, StandsRange, StandsDomain}
 use Rattle.rc_sheet_model.specs.StandsEffects.{StandsSpot, StandsEffect, StandEffects}
 use Rattle.rc_sheet_model.specs.StandsItems.{StandsAlt, StandAlts, StandsClass, StandsItem, StandItems}

@@ -1,6 +1,6 @@
 -- A sheet that is read with the names of its form has its names, stages and choices numbered by their first mention.
 use Rattle.std.proofs.Common.{◌≡◌, length, map, Some, refl, sym, subst, ap, ◌∙◌}
-use Rattle.rc_model.specs.Tree.{Tree, word, list, Trees, nil, cons}
+use Rattle.rc_model.specs.Tree.{Tree, word, list, Trees, cons}
 use Rattle.rc_sheet_model.specs.Sheet.{Sheet}
 use Rattle.rc_sheet_model.specs.FormMentions.{names_of, AreNames}
 use Rattle.rc_sheet_model.specs.Numbering.{below, IsNumbered}

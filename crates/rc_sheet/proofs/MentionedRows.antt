@@ -1,6 +1,6 @@
 -- Which words the forms mention that name something, and owners, which mention nothing.
 use Prim.Native.String.{String}
-use Rattle.std.proofs.Common.{◌≡◌, ℕ, Bool, true, false, if◌then◌else◌, ◌||◌, ◌==◌, cond, List, [], ◌∷◌, ◌++◌, get_or, codes, bytes_eq, slice_get, ℤ, Option, Some, None, option_map, refl, sym, subst, ap, ap₂, ◌∙◌, append_assoc, arith, eqb-true}
+use Rattle.std.proofs.Common.{◌≡◌, ℕ, Bool, true, false, if◌then◌else◌, ◌||◌, List, [], ◌∷◌, ◌++◌, get_or, codes, bytes_eq, slice_get, ℤ, Option, Some, None, option_map, refl, sym, subst, ap, ap₂, ◌∙◌, append_assoc, eqb-true}
 use Rattle.std.proofs.lemmas.Bool.{cond-true, cond-false, or_from, false_from_ne_true}
 use Rattle.std.proofs.lemmas.Option.{get_or_from_slice_get, none-some, same_Some}
 use Rattle.std.proofs.lemmas.Slice.Eq.{bytes_eq-Decides}
@@ -12,7 +12,7 @@ use Rattle.rc_sheet_model.specs.FormMentions.{is_atom, is_kind, is_measure, is_b
 use Rattle.rc_sheet_model.specs.Rows.{◌▸◌, End, Row, Word, Atom}
 use Rattle.rc_sheet_model.specs.Naming.{Naming, Scope, is_variable, kind_word, Named, Binder, InScope, Literal, KindOf}
 use Rattle.rc_sheet_model.specs.StandsExpressions.{StandsOwner, StandsHolder, StandsLoc, StandsNum}
-use Rattle.rc_sheet.proofs.Mentioned.{Kind, attrs, values, maps, locs, nums, vars, said, words_in, all_words_in, own, said-append, append_nothing, words_in-word, words_in-list, Says, SayAll, behind_silent, behind_word, behind_part, no_part, text_silent, alone, is_sort_word, Speaks, Speak, end_speaks, then_speak, last_speaks, atom_then, tells, IsHead, head_at, IsPlain, own-plain, neither, no_kind, no_number, row_other, plain_speaks}
+use Rattle.rc_sheet.proofs.Mentioned.{Kind, attrs, values, maps, locs, nums, vars, said, words_in, all_words_in, own, said-append, append_nothing, words_in-word, words_in-list, Says, SayAll, behind_silent, behind_word, behind_part, no_part, text_silent, alone, is_sort_word, Speaks, Speak, end_speaks, last_speaks, atom_then, tells, IsHead, head_at, IsPlain, own-plain, no_kind, no_number, row_other, plain_speaks}
 
 -- what depends on the first byte of a variable
 at_variable : (test : List ℕ → Bool) → ((bytes : List ℕ) → test (39 ∷ bytes) ≡ false) → (bytes : List ℕ)
@@ -43,6 +43,7 @@ word_speaks {kind} {names} {W} other = record { says = word_says; other = word_o
     word_says : (tree : Tree) → Word W tree → Says kind names [] tree
     word_says (word bytes from to) is = record { same = sym (words_in-word kind bytes from to) }
     word_says (list parts from to) is = absurd is
+
     word_other : (tree : Tree) → Word W tree → is_sort_word tree ≡ false
     word_other (word bytes from to) is = other bytes from to is
     word_other (list parts from to) is = absurd is
@@ -133,9 +134,9 @@ pub row_says : (kind : Kind) (names : Names) (head : Tree) (rest : Trees) (from 
 row_says kind names head rest from to ms new unbound parts itself =
     record {
       same =
-        said-append kind names ms new
-        ∙ ap₂ ◌++◌ (parts.same) itself
-        ∙ sym (words_in-list kind head rest from to unbound);
+          said-append kind names ms new
+          ∙ ap₂ ◌++◌ (parts.same) itself
+          ∙ sym (words_in-list kind head rest from to unbound);
     }
 
 -- the word with a number
@@ -390,13 +391,13 @@ unbound_says kind naming bound ds rs head domain bytes from' to' rest from to to
     let whole = all_words_in kind (cons head (cons domain behind)) in
     record {
       same =
-        said-append kind names ds (var_name bound ∷ rs)
-        ∙ ap (λ words. said kind names ds ++ words) passed
-        ∙ sym (said-append kind names ds rs)
-        ∙ parts.same
-        ∙ sym (append_nothing whole)
-        ∙ ap (λ words. whole ++ words) (sym (own-plain kind true head domain behind told other))
-        ∙ sym opened;
+          said-append kind names ds (var_name bound ∷ rs)
+          ∙ ap (λ words. said kind names ds ++ words) passed
+          ∙ sym (said-append kind names ds rs)
+          ∙ parts.same
+          ∙ sym (append_nothing whole)
+          ∙ ap (λ words. whole ++ words) (sym (own-plain kind true head domain behind told other))
+          ∙ sym opened;
     }
 
 -- and of variables
@@ -411,11 +412,11 @@ bound_says naming bound ds rs head domain bytes from' to' rest from to told sile
     let stands : standing ≡ bytes ∷ [] = cond-true _ _ _ told in
     record {
       same =
-        said-append vars names ds (var_name bound ∷ rs)
-        ∙ ap₂ ◌++◌ (first.same) (ap₂ ◌++◌ (named_word names.vars bound bytes is) (later.same))
-        ∙ sym (append_assoc (var_words domain) (bytes ∷ []) (all_var_words rest))
-        ∙ ap (λ words. words ++ var_words domain ++ (bytes ∷ []) ++ all_var_words rest) (sym silent)
-        ∙ ap (λ words. var_words head ++ var_words domain ++ words ++ all_var_words rest) (sym stands);
+          said-append vars names ds (var_name bound ∷ rs)
+          ∙ ap₂ ◌++◌ (first.same) (ap₂ ◌++◌ (named_word names.vars bound bytes is) (later.same))
+          ∙ sym (append_assoc (var_words domain) (bytes ∷ []) (all_var_words rest))
+          ∙ ap (λ words. words ++ var_words domain ++ (bytes ∷ []) ++ all_var_words rest) (sym silent)
+          ∙ ap (λ words. var_words head ++ var_words domain ++ words ++ all_var_words rest) (sym stands);
     }
 
 -- by the kind

@@ -1,11 +1,10 @@
 -- What the setup of a sheet mentions are the words that its lines mention, in the printed order.
-use Rattle.std.proofs.Common.{◌≡◌, ℕ, List, [], ◌∷◌, ◌++◌, map, flat_map, get_or, slice_get, Some, refl, sym, ap, ap₂, ◌∙◌}
-use Rattle.std.proofs.lemmas.Option.{get_or_from_slice_get}
+use Rattle.std.proofs.Common.{◌≡◌, ℕ, List, [], ◌∷◌, ◌++◌, map, flat_map, slice_get, Some, refl, sym, ap, ap₂, ◌∙◌}
 use Rattle.std.specs.List.{AllZip}
 use Rattle.rc_model.specs.Tree.{Tree, word, list, Trees, nil, cons}
 use Rattle.rc_model.specs.Deck.{Groups, no_group, group, Branches, no_branch, branch, Entry}
 use Rattle.rc_sheet_model.specs.Sheet.{Names, game, Loc, DeckLine}
-use Rattle.rc_sheet_model.specs.Mentions.{Mention, in_loc, attr_name, value_name, map_name, loc_name, in_groups, in_branches, in_deck, in_entry, in_map}
+use Rattle.rc_sheet_model.specs.Mentions.{Mention, in_loc, attr_name, value_name, loc_name, in_groups, in_branches, in_deck, in_entry, in_map}
 use Rattle.rc_sheet_model.specs.FormMentions.{words_of, group_attr_words, branch_attr_words, group_value_words, branch_value_words, deck_loc, deck_groups, points_map, points_entries, entry_attr_words, entry_value_words}
 use Rattle.rc_sheet_model.specs.Naming.{Naming}
 use Rattle.rc_sheet_model.specs.StandsSetup.{StandsGroups, StandsBranches, StandsDeck, StandValues, StandEntries, StandsMap}

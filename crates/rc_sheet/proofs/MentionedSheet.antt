@@ -1,18 +1,17 @@
 -- A sheet that stands for a form and has the names of the form mentions the words that the form mentions, and its names are
 -- numbered by their first mention.
-use Rattle.std.proofs.Common.{◌≡◌, ℕ, List, [], ◌∷◌, ◌++◌, map, flat_map, slice_index_or, refl, sym, ap, ap₂, ◌∙◌, append_assoc}
+use Rattle.std.proofs.Common.{◌≡◌, ℕ, List, [], ◌∷◌, ◌++◌, flat_map, refl, sym, ap, ap₂, ◌∙◌, append_assoc}
 use Rattle.rc_model.specs.Tree.{Tree, word, list, Trees, nil, cons}
 use Rattle.rc_sheet_model.specs.Sheet.{Names, Best, highest, lowest, Sheet}
-use Rattle.rc_sheet_model.specs.Mentions.{Mention, in_deck, in_map, in_setup, in_items, in_int, mentions}
-use Rattle.rc_sheet_model.specs.FormMentions.{setup_lines, body, deck_lines, points_lines, points_map, deck_loc, attr_mentions, value_mentions, map_mentions, loc_mentions, num_mentions, var_mentions, AreNames, gathered, all_gathered, map_word, loc_word, num_word, all_var_words}
+use Rattle.rc_sheet_model.specs.Mentions.{in_deck, in_map, in_items, in_int, mentions}
+use Rattle.rc_sheet_model.specs.FormMentions.{body, deck_lines, points_lines, points_map, deck_loc, attr_mentions, value_mentions, map_mentions, loc_mentions, num_mentions, var_mentions, AreNames, all_gathered, map_word, loc_word, num_word, all_var_words}
 use Rattle.rc_sheet_model.specs.Numbering.{different, mentioned}
-use Rattle.rc_sheet_model.specs.Rows.{◌▸◌, End, AtLeast, Row, Atom}
-use Rattle.rc_sheet_model.specs.Naming.{Naming, naming_of, self_scope}
-use Rattle.rc_sheet_model.specs.StandsSetup.{StandsSetup, StandsDeck, StandsMap, numbered, lines_with}
-use Rattle.rc_sheet_model.specs.StandsExpressions.{StandsInt}
+use Rattle.rc_sheet_model.specs.Rows.{◌▸◌, End}
+use Rattle.rc_sheet_model.specs.Naming.{naming_of, self_scope}
+use Rattle.rc_sheet_model.specs.StandsSetup.{StandsSetup, numbered, lines_with}
 use Rattle.rc_sheet_model.specs.StandsItems.{StandItems}
 use Rattle.rc_sheet_model.specs.Stands.{StandsBest, StandsScoring, Stands}
-use Rattle.rc_sheet.proofs.Mentioned.{Kind, attrs, values, maps, locs, nums, vars, of_kind, names_in, said, all_words_in, said-append, append_nothing, SayAll, Speaks, Speak, end_speaks, then_speak, last_speaks, plain_speaks}
+use Rattle.rc_sheet.proofs.Mentioned.{Kind, attrs, values, maps, locs, nums, vars, of_kind, names_in, said, all_words_in, said-append, append_nothing, SayAll, Speaks, then_speak, last_speaks, plain_speaks}
 use Rattle.rc_sheet.proofs.MentionedRows.{text_speaks}
 use Rattle.rc_sheet.proofs.MentionedForms.{int_speaks, items_then}
 use Rattle.rc_sheet.proofs.MentionedSetup.{deck_words, points_words, decks_said, maps_said}

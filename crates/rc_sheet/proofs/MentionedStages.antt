@@ -2,7 +2,7 @@
 use Rattle.std.proofs.Common.{◌≡◌, ℕ, ◌+◌, nat_lt, nat_le, List, [], ◌∷◌, ◌++◌, length, Option, refl, sym, subst, ap₂}
 use Rattle.std.specs.List.{range_with_len}
 use Rattle.rc_model.specs.Tree.{Tree, word, list, Trees, nil, cons}
-use Rattle.rc_sheet_model.specs.Sheet.{Class, player_class, team_class, Test, Alt, SheetItem, do_item, stage, choice, SheetItems, no_item, item}
+use Rattle.rc_sheet_model.specs.Sheet.{Class, player_class, team_class, Test, Alt, SheetItem, stage, choice, SheetItems, no_item}
 use Rattle.rc_sheet_model.specs.Limits.{most_stages, most_sites}
 use Rattle.rc_sheet_model.specs.Mentions.{stages_in_item, stages_in, sites_in_item, sites_in}
 use Rattle.rc_sheet_model.specs.Numbering.{below}
@@ -53,7 +53,7 @@ counted_append : (before between after : Begun) (stages sites stages' sites' : L
 counted_append before between after stages sites stages' sites' first later =
     record {
       in_stages =
-        run_append before.stages between.stages after.stages stages stages' first.in_stages later.in_stages;
+          run_append before.stages between.stages after.stages stages stages' first.in_stages later.in_stages;
       in_sites = run_append before.sites between.sites after.sites sites sites' first.in_sites later.in_sites;
     }
 
