@@ -2,7 +2,7 @@
 use Prim.Native.String.{String}
 use Rattle.std.proofs.Common.{◌≡◌, ℕ, nat_le, Bool, true, false, if◌then◌else◌, not, ◌&&◌, ◌||◌, List, [], ◌∷◌, ◌++◌, map, flat_map, codes, slice_index_or, refl, sym, subst, ap, ap₂, ◌∙◌, append_assoc}
 use Rattle.std.proofs.lemmas.Bool.{cond-false, and_parts, false≢true}
-use Rattle.std.proofs.lemmas.List.{map-append}
+use Rattle.std.proofs.lemmas.List.{append-nil, map-append}
 use Rattle.std.proofs.lemmas.Grind.{flat_map-append}
 use Rattle.rc_model.specs.Tree.{Tree, word, list, Trees, nil, cons}
 use Rattle.rc_sheet_model.specs.Sheet.{Names}
@@ -73,10 +73,6 @@ said-append kind names xs ys =
     ap (map (λ n. slice_index_or (names_in kind names) n [])) (flat_map-append (of_kind kind) xs ys)
     ∙ map-append (λ n. slice_index_or (names_in kind names) n []) (flat_map (of_kind kind) xs) (flat_map (of_kind kind) ys)
 
-pub append_nothing : {A : Type 0} (xs : List A) → xs ++ [] ≡ xs
-append_nothing [] = refl
-append_nothing (x ∷ xs) = ap (λ rest. x ∷ rest) (append_nothing xs)
-
 -- an atom mentions nothing itself
 pub words_in-word : (kind : Kind) (bytes : List ℕ) (from to : ℕ) → words_in kind (word bytes from to) ≡ []
 words_in-word attrs bytes from to = refl
@@ -86,6 +82,7 @@ words_in-word locs bytes from to = refl
 words_in-word nums bytes from to = refl
 words_in-word vars bytes from to = refl
 
+-- no part mentions nothing
 pub all_words_in-nil : (kind : Kind) → all_words_in kind nil ≡ []
 all_words_in-nil attrs = refl
 all_words_in-nil values = refl
@@ -94,6 +91,7 @@ all_words_in-nil locs = refl
 all_words_in-nil nums = refl
 all_words_in-nil vars = refl
 
+-- the first part, and the others
 pub all_words_in-cons : (kind : Kind) (tree : Tree) (trees : Trees)
     → all_words_in kind (cons tree trees) ≡ words_in kind tree ++ all_words_in kind trees
 all_words_in-cons attrs tree trees = refl
@@ -106,8 +104,8 @@ all_words_in-cons vars tree trees = refl
 -- where no variable is bound, variables stand in the parts
 bound_words-plain : (head : Tree) (rest : Trees) → is_binder head ≡ false
     → bound_words (cons head rest) ≡ all_var_words (cons head rest)
-bound_words-plain head nil no_binder = sym (append_nothing (var_words head))
-bound_words-plain head (cons tree nil) no_binder = ap (λ words. var_words head ++ words) (sym (append_nothing (var_words tree)))
+bound_words-plain head nil no_binder = sym (append-nil (var_words head))
+bound_words-plain head (cons tree nil) no_binder = ap (λ words. var_words head ++ words) (sym (append-nil (var_words tree)))
 bound_words-plain head (cons domain (cons var rest)) no_binder =
     let stands : List (List ℕ) = if is_binder head then word_of var else var_words var in
     let unbound : stands ≡ var_words var = cond-false _ _ _ no_binder in
@@ -124,7 +122,7 @@ words_in-list maps head rest from to no_binder = refl
 words_in-list locs head rest from to no_binder = refl
 words_in-list nums head rest from to no_binder = refl
 words_in-list vars head rest from to no_binder =
-    bound_words-plain head rest no_binder ∙ sym (append_nothing (all_var_words (cons head rest)))
+    bound_words-plain head rest no_binder ∙ sym (append-nil (all_var_words (cons head rest)))
 
 -- what is said of a part are its words
 pub record Says (kind : Kind) (names : Names) (mentions : List Mention) (tree : Tree) : Type 0 where
@@ -168,7 +166,7 @@ text_silent kind W (list parts from to) is = absurd is
 -- a part says what it says, with nothing behind it
 pub alone : (kind : Kind) (names : Names) (ms : List Mention) (trees : Trees) → SayAll kind names (ms ++ []) trees
     → SayAll kind names ms trees
-alone kind names ms trees all = record { same = ap (said kind names) (sym (append_nothing ms)) ∙ all.same }
+alone kind names ms trees all = record { same = ap (said kind names) (sym (append-nil ms)) ∙ all.same }
 
 -- the part is the word of a kind of locations, or that of stored numbers
 abbrev pub is_sort_word : Tree → Bool
@@ -240,6 +238,7 @@ tells measure attr is binder text =
     && (same attr (is_atom "attr" (word (codes text) 0 0) || is_atom "partition" (word (codes text) 0 0))
     && (same is (is_atom "is" (word (codes text) 0 0)) && same binder (is_binder (word (codes text) 0 0))))
 
+-- it is so where the test says so
 same_is : (a b : Bool) → same a b ≡ true → b ≡ a
 same_is true b is = is
 same_is false true is = absurd cc
@@ -265,10 +264,11 @@ abbrev pub IsPlain : Tree → Type 0
 IsPlain head = IsHead false false false false head
 
 -- neither of two
-pub neither : (a b : Bool) → (a || b) ≡ false → (a ≡ false) × (b ≡ false)
+neither : (a b : Bool) → (a || b) ≡ false → (a ≡ false) × (b ≡ false)
 neither true b is = absurd cc
 neither false b is = (refl, is)
 
+-- no word of a kind of locations, and not that of stored numbers
 pub no_kind : (tree : Tree) → is_sort_word tree ≡ false → is_kind tree ≡ false
 no_kind tree other = (neither (is_kind tree) (is_atom "sto" tree) other).0
 
@@ -315,7 +315,7 @@ plain_says {kind} {names} {ms} head second rest from to text nothing is other pa
     record {
       same =
           behind.same
-          ∙ sym (append_nothing (all_words_in kind (cons head (cons second rest))))
+          ∙ sym (append-nil (all_words_in kind (cons head (cons second rest))))
           ∙ ap (λ words. all_words_in kind (cons head (cons second rest)) ++ words) (sym itself)
           ∙ sym (words_in-list kind head (cons second rest) from to told.of_var);
     }
@@ -339,6 +339,7 @@ pub record SpeakFirst (kind : Kind) (names : Names) (P : Trees → Type 0) (ment
   pub all : Speak kind names P mentions
   pub other : (tree : Tree) (trees : Trees) → P (cons tree trees) → is_sort_word tree ≡ false
 
+-- no part, and one part before others
 pub none_speak : {kind : Kind} {names : Names} → SpeakFirst kind names End []
 none_speak = record { all = end_speaks; other = λ tree trees stand. absurd stand }
 

@@ -2,6 +2,7 @@
 use Prim.Native.String.{String}
 use Rattle.std.proofs.Common.{◌≡◌, ℕ, Bool, true, false, if◌then◌else◌, ◌||◌, List, [], ◌∷◌, ◌++◌, get_or, codes, bytes_eq, slice_get, ℤ, Option, Some, None, option_map, refl, sym, subst, ap, ap₂, ◌∙◌, append_assoc, eqb-true}
 use Rattle.std.proofs.lemmas.Bool.{cond-true, cond-false, or_from, false_from_ne_true}
+use Rattle.std.proofs.lemmas.List.{append-nil}
 use Rattle.std.proofs.lemmas.Option.{get_or_from_slice_get, none-some, same_Some}
 use Rattle.std.proofs.lemmas.Slice.Eq.{bytes_eq-Decides}
 use Rattle.rc_model.specs.Literal.{integer}
@@ -12,7 +13,7 @@ use Rattle.rc_sheet_model.specs.FormMentions.{is_atom, is_kind, is_measure, is_b
 use Rattle.rc_sheet_model.specs.Rows.{◌▸◌, End, Row, Word, Atom}
 use Rattle.rc_sheet_model.specs.Naming.{Naming, Scope, is_variable, kind_word, Named, Binder, InScope, Literal, KindOf}
 use Rattle.rc_sheet_model.specs.StandsExpressions.{StandsOwner, StandsHolder, StandsLoc, StandsNum}
-use Rattle.rc_sheet.proofs.Mentioned.{Kind, attrs, values, maps, locs, nums, vars, said, words_in, all_words_in, own, said-append, append_nothing, words_in-word, words_in-list, Says, SayAll, behind_silent, behind_word, behind_part, no_part, text_silent, alone, is_sort_word, Speaks, Speak, end_speaks, last_speaks, atom_then, tells, IsHead, head_at, IsPlain, own-plain, no_kind, no_number, row_other, plain_speaks}
+use Rattle.rc_sheet.proofs.Mentioned.{Kind, attrs, values, maps, locs, nums, vars, said, words_in, all_words_in, own, said-append, words_in-word, words_in-list, Says, SayAll, behind_silent, behind_word, behind_part, no_part, text_silent, alone, is_sort_word, Speaks, Speak, end_speaks, last_speaks, atom_then, tells, IsHead, head_at, IsPlain, own-plain, no_kind, no_number, row_other, plain_speaks}
 
 -- what depends on the first byte of a variable
 at_variable : (test : List ℕ → Bool) → ((bytes : List ℕ) → test (39 ∷ bytes) ≡ false) → (bytes : List ℕ)
@@ -276,7 +277,8 @@ value_speaks {kind} {P} {ms} names attr value text told card = record { says = l
     list_says (list (cons head (cons second (cons (word a from' to') nil))) from to) stands = absurd stands.1.1.1
     list_says (list (cons head (cons second (cons (word a from' to') (cons (list parts from'' to'') rest)))) from to) stands =
         absurd stands.1.1.1.0
-    list_says (list (cons head (cons second (cons (word a from' to') (cons (word v from'' to'') (cons next rest))))) from to) stands =
+    list_says (list (cons head (cons second (cons (word a from' to') (cons (word v from'' to'') (cons next rest))))) from to)
+        stands =
         absurd stands.1.1.1.1
     list_says (list (cons head (cons second (cons (word a from' to') (cons (word v from'' to'') nil)))) from to) stands =
         let last : Trees = cons (word v from'' to'') nil in
@@ -314,9 +316,11 @@ loc_list_says kind naming scope loc (list nil from to) stands = absurd stands
 loc_list_says kind naming scope loc (list (cons head nil) from to) stands = absurd stands.1
 loc_list_says kind naming scope loc (list (cons head (cons (list parts from' to') rest)) from to) stands = absurd stands.1.0
 loc_list_says kind naming scope loc (list (cons head (cons (word k from' to') nil)) from to) stands = absurd stands.1.1
-loc_list_says kind naming scope loc (list (cons head (cons (word k from' to') (cons (list parts from'' to'') rest))) from to) stands =
+loc_list_says kind naming scope loc (list (cons head (cons (word k from' to') (cons (list parts from'' to'') rest))) from to)
+    stands =
     absurd stands.1.1.0
-loc_list_says kind naming scope loc (list (cons head (cons (word k from' to') (cons (word n from'' to'') (cons next rest)))) from to) stands =
+loc_list_says kind naming scope loc
+    (list (cons head (cons (word k from' to') (cons (word n from'' to'') (cons next rest)))) from to) stands =
     absurd stands.1.1.1
 loc_list_says kind naming scope loc (list (cons head (cons (word k from' to') (cons (word n from'' to'') nil))) from to) stands =
     let last : Trees = cons (word n from'' to'') nil in
@@ -347,9 +351,11 @@ num_list_says kind naming scope num (list nil from to) stands = absurd stands
 num_list_says kind naming scope num (list (cons head nil) from to) stands = absurd stands.1
 num_list_says kind naming scope num (list (cons head (cons (list parts from' to') rest)) from to) stands = absurd stands.1.0
 num_list_says kind naming scope num (list (cons head (cons (word k from' to') nil)) from to) stands = absurd stands.1.1
-num_list_says kind naming scope num (list (cons head (cons (word k from' to') (cons (list parts from'' to'') rest))) from to) stands =
+num_list_says kind naming scope num (list (cons head (cons (word k from' to') (cons (list parts from'' to'') rest))) from to)
+    stands =
     absurd stands.1.1.0
-num_list_says kind naming scope num (list (cons head (cons (word k from' to') (cons (word n from'' to'') (cons next rest)))) from to) stands =
+num_list_says kind naming scope num
+    (list (cons head (cons (word k from' to') (cons (word n from'' to'') (cons next rest)))) from to) stands =
     absurd stands.1.1.1
 num_list_says kind naming scope num (list (cons head (cons (word k from' to') (cons (word n from'' to'') nil))) from to) stands =
     let last : Trees = cons (word n from'' to'') nil in
@@ -381,7 +387,8 @@ unbound_says : (kind : Kind) (naming : Naming) (bound : ℕ) (ds rs : List Menti
     → words_in kind (list (cons head (cons domain (cons (word bytes from' to') rest))) from to)
     ≡ all_words_in kind (cons head (cons domain (cons (word bytes from' to') rest)))
     ++ own kind (cons head (cons domain (cons (word bytes from' to') rest)))
-    → Says kind naming.names (ds ++ var_name bound ∷ rs) (list (cons head (cons domain (cons (word bytes from' to') rest))) from to)
+    → Says kind naming.names (ds ++ var_name bound ∷ rs)
+    (list (cons head (cons domain (cons (word bytes from' to') rest))) from to)
 unbound_says kind naming bound ds rs head domain bytes from' to' rest from to told other silent first later passed opened =
     let names = naming.names in
     let behind : Trees = cons (word bytes from' to') rest in
@@ -395,7 +402,7 @@ unbound_says kind naming bound ds rs head domain bytes from' to' rest from to to
           ∙ ap (λ words. said kind names ds ++ words) passed
           ∙ sym (said-append kind names ds rs)
           ∙ parts.same
-          ∙ sym (append_nothing whole)
+          ∙ sym (append-nil whole)
           ∙ ap (λ words. whole ++ words) (sym (own-plain kind true head domain behind told other))
           ∙ sym opened;
     }
@@ -404,7 +411,8 @@ unbound_says kind naming bound ds rs head domain bytes from' to' rest from to to
 bound_says : (naming : Naming) (bound : ℕ) (ds rs : List Mention) (head domain : Tree) (bytes : List ℕ)
     (from' to' : ℕ) (rest : Trees) (from to : ℕ) → is_binder head ≡ true → words_in vars head ≡ []
     → Says vars naming.names ds domain → SayAll vars naming.names rs rest → slice_get naming.names.vars bound ≡ Some bytes
-    → Says vars naming.names (ds ++ var_name bound ∷ rs) (list (cons head (cons domain (cons (word bytes from' to') rest))) from to)
+    → Says vars naming.names (ds ++ var_name bound ∷ rs)
+    (list (cons head (cons domain (cons (word bytes from' to') rest))) from to)
 bound_says naming bound ds rs head domain bytes from' to' rest from to told silent first later is =
     let names = naming.names in
     let var : Tree = word bytes from' to' in
@@ -424,7 +432,8 @@ binding_says : (kind : Kind) (naming : Naming) (bound : ℕ) (ds rs : List Menti
     (from' to' : ℕ) (rest : Trees) (from to : ℕ) → IsHead false false false true head → is_sort_word domain ≡ false
     → words_in kind head ≡ [] → Says kind naming.names ds domain → SayAll kind naming.names rs rest
     → slice_get naming.names.vars bound ≡ Some bytes
-    → Says kind naming.names (ds ++ var_name bound ∷ rs) (list (cons head (cons domain (cons (word bytes from' to') rest))) from to)
+    → Says kind naming.names (ds ++ var_name bound ∷ rs)
+    (list (cons head (cons domain (cons (word bytes from' to') rest))) from to)
 binding_says attrs naming bound ds rs head domain bytes from' to' rest from to told other silent first later is =
     unbound_says attrs naming bound ds rs head domain bytes from' to' rest from to told other silent first later refl refl
 binding_says values naming bound ds rs head domain bytes from' to' rest from to told other silent first later is =

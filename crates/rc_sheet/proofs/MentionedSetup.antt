@@ -1,6 +1,7 @@
 -- What the setup of a sheet mentions are the words that its lines mention, in the printed order.
 use Rattle.std.proofs.Common.{◌≡◌, ℕ, List, [], ◌∷◌, ◌++◌, map, flat_map, slice_get, Some, refl, sym, ap, ap₂, ◌∙◌}
 use Rattle.std.specs.List.{AllZip}
+use Rattle.std.proofs.lemmas.List.{append-nil}
 use Rattle.rc_model.specs.Tree.{Tree, word, list, Trees, nil, cons}
 use Rattle.rc_model.specs.Deck.{Groups, no_group, group, Branches, no_branch, branch, Entry}
 use Rattle.rc_sheet_model.specs.Sheet.{Names, game, Loc, DeckLine}
@@ -8,7 +9,7 @@ use Rattle.rc_sheet_model.specs.Mentions.{Mention, in_loc, attr_name, value_name
 use Rattle.rc_sheet_model.specs.FormMentions.{words_of, group_attr_words, branch_attr_words, group_value_words, branch_value_words, deck_loc, deck_groups, points_map, points_entries, entry_attr_words, entry_value_words}
 use Rattle.rc_sheet_model.specs.Naming.{Naming}
 use Rattle.rc_sheet_model.specs.StandsSetup.{StandsGroups, StandsBranches, StandsDeck, StandValues, StandEntries, StandsMap}
-use Rattle.rc_sheet.proofs.Mentioned.{Kind, attrs, values, maps, locs, nums, vars, said, said-append, append_nothing, Says}
+use Rattle.rc_sheet.proofs.Mentioned.{Kind, attrs, values, maps, locs, nums, vars, said, said-append, Says}
 use Rattle.rc_sheet.proofs.MentionedRows.{named_word, loc_list_says}
 
 -- the word of an attribute, of a value, and of a point map, for each kind
@@ -20,6 +21,7 @@ abbrev value_words : Kind → List ℕ → List (List ℕ)
 value_words values bytes = bytes ∷ []
 value_words kind bytes = []
 
+-- an attribute and a value say their words
 attr_said : (kind : Kind) (names : Names) (number : ℕ) (bytes : List ℕ) → slice_get names.attrs number ≡ Some bytes
     → said kind names (attr_name number ∷ []) ≡ attr_words kind bytes
 attr_said attrs names number bytes is = named_word names.attrs number bytes is
@@ -49,6 +51,7 @@ branch_words attrs trees = branch_attr_words trees
 branch_words values trees = branch_value_words trees
 branch_words kind trees = []
 
+-- no group, or branch, has none
 group_words-nil : (kind : Kind) → group_words kind nil ≡ []
 group_words-nil attrs = refl
 group_words-nil values = refl
@@ -135,7 +138,7 @@ mutual
   branches_said kind naming (branch value no_group rest) (cons (word bytes a b) trees) stand =
       three_said kind naming.names (value_name value) [] (in_branches rest) _ _ _
       (value_said kind naming.names value bytes stand.0.0) refl (branches_said kind naming rest trees stand.1)
-      ∙ ap (λ words. words ++ branch_words kind trees) (append_nothing (value_words kind bytes))
+      ∙ ap (λ words. words ++ branch_words kind trees) (append-nil (value_words kind bytes))
       ∙ sym (branch_words-word kind bytes trees a b)
   branches_said kind naming (branch value (group attr branches inner) rest) nil stand = absurd stand
   branches_said kind naming (branch value (group attr branches inner) rest) (cons (word bytes a b) trees) stand = absurd stand.0
@@ -156,6 +159,7 @@ entry_words attrs trees = entry_attr_words trees
 entry_words values trees = entry_value_words trees
 entry_words kind trees = []
 
+-- no entry has none
 entry_words-nil : (kind : Kind) → entry_words kind nil ≡ []
 entry_words-nil attrs = refl
 entry_words-nil values = refl
@@ -169,6 +173,7 @@ abbrev listed_words : Kind → Trees → List (List ℕ)
 listed_words values trees = words_of trees
 listed_words kind trees = []
 
+-- of none there are none
 listed_words-nil : (kind : Kind) → listed_words kind nil ≡ []
 listed_words-nil attrs = refl
 listed_words-nil values = refl
@@ -177,6 +182,7 @@ listed_words-nil locs = refl
 listed_words-nil nums = refl
 listed_words-nil vars = refl
 
+-- the first value, and the others
 listed_words-cons : (kind : Kind) (bytes : List ℕ) (a b : ℕ) (trees : Trees)
     → listed_words kind (cons (word bytes a b) trees) ≡ value_words kind bytes ++ listed_words kind trees
 listed_words-cons attrs bytes a b trees = refl
@@ -186,6 +192,7 @@ listed_words-cons locs bytes a b trees = refl
 listed_words-cons nums bytes a b trees = refl
 listed_words-cons vars bytes a b trees = refl
 
+-- the first entry, and the others
 entry_words-cons : (kind : Kind) (bytes : List ℕ) (listed more rest : Trees) (a b c d e f : ℕ)
     → entry_words kind (cons (list (cons (word bytes a b) (cons (list listed c d) more)) e f) rest)
     ≡ attr_words kind bytes ++ listed_words kind listed ++ entry_words kind rest
@@ -240,7 +247,7 @@ deck_words values line = group_value_words (deck_groups line)
 deck_words locs line = deck_loc line
 deck_words kind line = []
 
--- by the kind
+-- what a line that puts points says, by the kind
 points_said : (kind : Kind) (names : Names) (number : ℕ) (entries : List Entry) (put points : Tree) (bytes : List ℕ)
     (parts : Trees) (a b c d from to : ℕ) → slice_get names.maps number ≡ Some bytes
     → said kind names (flat_map in_entry entries) ≡ entry_words kind parts
@@ -254,6 +261,7 @@ points_said locs names number entries put points bytes parts a b c d from to is 
 points_said nums names number entries put points bytes parts a b c d from to is all = all
 points_said vars names number entries put points bytes parts a b c d from to is all = all
 
+-- and a line that makes a deck
 deck_said : (kind : Kind) (names : Names) (loc : Loc) (groups : Groups) (create deck head place : Tree)
     (parts : Trees) (a b from to : ℕ) → Says kind names (in_loc loc) place
     → said kind names (in_groups groups) ≡ group_words kind parts
@@ -263,7 +271,7 @@ deck_said attrs names loc groups create deck head place parts a b from to first 
 deck_said values names loc groups create deck head place parts a b from to first all = all
 deck_said maps names loc groups create deck head place parts a b from to first all = all
 deck_said locs names loc groups create deck head place parts a b from to first all =
-    ap₂ ◌++◌ (first.same) all ∙ append_nothing _
+    ap₂ ◌++◌ (first.same) all ∙ append-nil _
 deck_said nums names loc groups create deck head place parts a b from to first all = all
 deck_said vars names loc groups create deck head place parts a b from to first all = all
 
@@ -276,11 +284,14 @@ map_line_said kind naming line (list (cons put nil) from to) stands = absurd sta
 map_line_said kind naming line (list (cons put (cons points nil)) from to) stands = absurd stands.1.1
 map_line_said kind naming line (list (cons put (cons points (cons (list parts a b) more))) from to) stands = absurd stands.1.1.0
 map_line_said kind naming line (list (cons put (cons points (cons (word bytes a b) nil))) from to) stands = absurd stands.1.1.1
-map_line_said kind naming line (list (cons put (cons points (cons (word bytes a b) (cons (word bytes' c d) more)))) from to) stands =
+map_line_said kind naming line (list (cons put (cons points (cons (word bytes a b) (cons (word bytes' c d) more)))) from to)
+    stands =
     absurd stands.1.1.1.0
-map_line_said kind naming line (list (cons put (cons points (cons (word bytes a b) (cons (list parts c d) (cons next more))))) from to)
-    stands = absurd stands.1.1.1.1
-map_line_said kind naming line (list (cons put (cons points (cons (word bytes a b) (cons (list parts c d) nil)))) from to) stands =
+map_line_said kind naming line
+    (list (cons put (cons points (cons (word bytes a b) (cons (list parts c d) (cons next more))))) from to) stands =
+    absurd stands.1.1.1.1
+map_line_said kind naming line (list (cons put (cons points (cons (word bytes a b) (cons (list parts c d) nil)))) from to)
+    stands =
     points_said kind naming.names line.0 line.1 put points bytes parts a b c d from to stands.1.1.0.0
     (entries_said kind naming line.1 parts stands.1.1.1.0.1)
 
@@ -299,7 +310,8 @@ deck_line_said kind naming line (list (cons create (cons deck (cons place (cons 
 deck_line_said kind naming line
     (list (cons create (cons deck (cons place (cons (list (cons head parts) a b) (cons next more))))) from to) stands =
     absurd stands.0.1.1.1.1
-deck_line_said kind naming line (list (cons create (cons deck (cons place (cons (list (cons head parts) a b) nil)))) from to) stands =
+deck_line_said kind naming line (list (cons create (cons deck (cons place (cons (list (cons head parts) a b) nil)))) from to)
+    stands =
     let loc : Loc = record { who = game; name = line.loc; at = 0 } in
     deck_said kind naming.names loc line.groups create deck head place parts a b from to
     (loc_list_says kind naming [] loc place stands.0.1.1.0)
@@ -318,7 +330,8 @@ module _ {A : Type 0} (kind : Kind) (names : Names) (mentions : A → List Menti
       ∙ ap₂ ◌++◌ (one a tree stand.0) (lines_said all trees stand.1)
 
 -- decks, and point maps
-pub decks_said : (kind : Kind) (naming : Naming) (decks : List DeckLine) (lines : List Tree) → AllZip (StandsDeck naming) decks lines
+pub decks_said : (kind : Kind) (naming : Naming) (decks : List DeckLine) (lines : List Tree)
+    → AllZip (StandsDeck naming) decks lines
     → said kind naming.names (flat_map in_deck decks) ≡ flat_map (deck_words kind) lines
 decks_said kind naming =
     lines_said kind naming.names in_deck (deck_words kind) (StandsDeck naming) (deck_line_said kind naming)

@@ -1,6 +1,7 @@
 -- A sheet that stands for a form and has the names of the form mentions the words that the form mentions, and its names are
 -- numbered by their first mention.
 use Rattle.std.proofs.Common.{◌≡◌, ℕ, List, [], ◌∷◌, ◌++◌, flat_map, refl, sym, ap, ap₂, ◌∙◌, append_assoc}
+use Rattle.std.proofs.lemmas.List.{append-nil}
 use Rattle.rc_model.specs.Tree.{Tree, word, list, Trees, nil, cons}
 use Rattle.rc_sheet_model.specs.Sheet.{Names, Best, highest, lowest, Sheet}
 use Rattle.rc_sheet_model.specs.Mentions.{in_deck, in_map, in_items, in_int, mentions}
@@ -11,7 +12,7 @@ use Rattle.rc_sheet_model.specs.Naming.{naming_of, self_scope}
 use Rattle.rc_sheet_model.specs.StandsSetup.{StandsSetup, numbered, lines_with}
 use Rattle.rc_sheet_model.specs.StandsItems.{StandItems}
 use Rattle.rc_sheet_model.specs.Stands.{StandsBest, StandsScoring, Stands}
-use Rattle.rc_sheet.proofs.Mentioned.{Kind, attrs, values, maps, locs, nums, vars, of_kind, names_in, said, all_words_in, said-append, append_nothing, SayAll, Speaks, then_speak, last_speaks, plain_speaks}
+use Rattle.rc_sheet.proofs.Mentioned.{Kind, attrs, values, maps, locs, nums, vars, of_kind, names_in, said, all_words_in, said-append, SayAll, Speaks, then_speak, last_speaks, plain_speaks}
 use Rattle.rc_sheet.proofs.MentionedRows.{text_speaks}
 use Rattle.rc_sheet.proofs.MentionedForms.{int_speaks, items_then}
 use Rattle.rc_sheet.proofs.MentionedSetup.{deck_words, points_words, decks_said, maps_said}
@@ -44,7 +45,9 @@ none_said (line ∷ lines) = none_said lines
 -- they stand in decks, in point maps, and behind the setup
 form_words-parts : (kind : Kind) (form : Tree)
     → form_words kind form
-    ≡ flat_map (deck_words kind) (deck_lines form) ++ flat_map (points_words kind) (points_lines form) ++ all_words_in kind (body form)
+    ≡ flat_map (deck_words kind) (deck_lines form)
+    ++ flat_map (points_words kind) (points_lines form)
+    ++ all_words_in kind (body form)
 form_words-parts attrs form = refl
 form_words-parts values form = refl
 form_words-parts maps form =
@@ -52,11 +55,14 @@ form_words-parts maps form =
     (sym (none_said (deck_lines form)))
 form_words-parts locs form =
     ap (λ words. words ++ all_gathered loc_word (body form))
-    (sym (append_nothing (flat_map deck_loc (deck_lines form))) ∙ ap (λ words. flat_map deck_loc (deck_lines form) ++ words) (sym (none_said (points_lines form))))
+    (sym (append-nil (flat_map deck_loc (deck_lines form)))
+    ∙ ap (λ words. flat_map deck_loc (deck_lines form) ++ words) (sym (none_said (points_lines form))))
 form_words-parts nums form =
-    ap₂ (λ xs ys. xs ++ ys ++ all_gathered num_word (body form)) (sym (none_said (deck_lines form))) (sym (none_said (points_lines form)))
+    ap₂ (λ xs ys. xs ++ ys ++ all_gathered num_word (body form)) (sym (none_said (deck_lines form)))
+    (sym (none_said (points_lines form)))
 form_words-parts vars form =
-    ap₂ (λ xs ys. xs ++ ys ++ all_var_words (body form)) (sym (none_said (deck_lines form))) (sym (none_said (points_lines form)))
+    ap₂ (λ xs ys. xs ++ ys ++ all_var_words (body form)) (sym (none_said (deck_lines form)))
+    (sym (none_said (points_lines form)))
 
 -- the setup, and what stands behind it
 parts_said : (kind : Kind) (sheet : Sheet) (lines rest : Trees) → StandsSetup (naming_of sheet) sheet lines

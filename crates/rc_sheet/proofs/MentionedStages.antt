@@ -124,7 +124,8 @@ body_in_order naming trees =
     (anything (last_of trees >>= score_at naming)))
     (λ p both. both.0))
   where
-    in_order : (items : SheetItems) (after : Begun) → Counts none_begun (stages_in items) (sites_in items) after → AreInOrder items
+    in_order : (items : SheetItems) (after : Begun) → Counts none_begun (stages_in items) (sites_in items) after
+        → AreInOrder items
     in_order items after counts =
         record {
           stages = run_counts 0 after.stages (stages_in items) counts.in_stages;
