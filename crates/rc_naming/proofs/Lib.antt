@@ -5,4 +5,4 @@ mod Lengths
 mod Mentioned
 mod Steps
 mod Stored
-mod Whole
+pub mod Whole
