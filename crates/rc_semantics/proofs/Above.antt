@@ -27,7 +27,8 @@ at_start rule parts = refl
 among_more : (parts : Trees) (index : ℕ) → index < count parts
     → attributes_among (front (suc index) parts) ≡ attributes_among (front index parts) ++ attributes_of (part_at index parts)
 among_more nil index lt = absurd (omega (arith, lt))
-among_more (cons tree trees) zero lt = ap (λ more. attributes_of tree ++ more) (none_before trees) ∙ append-nil (attributes_of tree)
+among_more (cons tree trees) zero lt = ap (λ more. attributes_of tree ++ more) (none_before trees)
+    ∙ append-nil (attributes_of tree)
 among_more (cons tree trees) (suc index) lt =
     ap (λ more. attributes_of tree ++ more) (among_more trees index (omega (arith, lt)))
     ∙ sym (append_assoc (attributes_of tree) (attributes_among (front index trees)) (attributes_of (part_at index trees)))
@@ -50,7 +51,8 @@ above_more above rule forms index part lt is =
     let next : suc index ≡ index + 1 = omega arith in
     append_assoc above (inner_attributes rule parts index) (attributes_behind rule (tree_of part))
     ∙ ap (λ tree. above ++ (inner_attributes rule parts index ++ attributes_behind rule tree)) (sym same)
-    ∙ ap (λ more. above ++ more) (sym (inner_more rule parts index (omega (arith, lt, count_packed forms))) ∙ ap (inner_attributes rule parts) next)
+    ∙ ap (λ more. above ++ more)
+    (sym (inner_more rule parts index (omega (arith, lt, count_packed forms))) ∙ ap (inner_attributes rule parts) next)
 
 -- those above a form alone
 pub above_alone : (above inner : List (List ℕ)) → take (length above) (above ++ inner) ≡ above

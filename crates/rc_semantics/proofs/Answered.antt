@@ -15,9 +15,11 @@ use Rattle.rc_semantics.specs.Checks.{IfFault, Checks}
 use Rattle.rc_semantics.proofs.SecondLaw.{finds_first}
 
 -- the walk from the start is that of the form
-pub from_start : (tree : Tree) (whole : Whole) (seen : Summary) (around : Around) (above : List (List ℕ)) → whole ≡ whole_of (parts_of tree)
+pub from_start : (tree : Tree) (whole : Whole) (seen : Summary) (around : Around) (above : List (List ℕ)) → whole
+    ≡ whole_of (parts_of tree)
     → seen ≡ nothing_seen → around ≡ outside → above ≡ []
-    → check_all whole seen (parts_at (Some (record { place = place.Sheet; role = no_role; beside = nil; around = around; above = above })) tree)
+    → check_all whole seen
+    (parts_at (Some (record { place = place.Sheet; role = no_role; beside = nil; around = around; above = above })) tree)
     ≡ check_form tree
 from_start tree whole seen around above known none out no_above = rw (known, none, out, no_above) refl
 

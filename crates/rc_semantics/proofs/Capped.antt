@@ -26,4 +26,5 @@ one_more count faces rest =
     ∙ ap (λ n. min (n * rest) 513) (mul_comm count (min faces 513))
     ∙ ap (λ n. min n 513) (mul_assoc (min faces 513) count rest)
     ∙ times faces (count * rest)
-    ∙ ap (λ n. min n 513) (sym (mul_assoc faces count rest) ∙ ap (λ n. n * rest) (mul_comm faces count) ∙ mul_assoc count faces rest)
+    ∙ ap (λ n. min n 513)
+    (sym (mul_assoc faces count rest) ∙ ap (λ n. n * rest) (mul_comm faces count) ∙ mul_assoc count faces rest)

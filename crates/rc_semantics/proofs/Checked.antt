@@ -15,7 +15,8 @@ use Rattle.rc_semantics.specs.SecondParts.{Standing, standing_in, Part, offset_o
 use Rattle.rc_semantics.specs.Summary.{Whole, Summary, fault_by, kind_by, or_on, check_all}
 
 -- a part that is at fault
-pub faulty : (whole : Whole) (seen : Summary) (part : Part) (kind : SheetKind) (next : Result Summary SheetFault) (fail : SheetFail)
+pub faulty : (whole : Whole) (seen : Summary) (part : Part) (kind : SheetKind) (next : Result Summary SheetFault)
+    (fail : SheetFail)
     → kind_by whole seen part ≡ Some kind
     → fail ≡ fails.Fault (record { kind = kind; at = offset_of part })
     → IfFault fail (λ fault. or_on (fault_by whole seen part) next ≡ Err fault)
@@ -38,12 +39,14 @@ took checked seen new (Err (fails.Fault fault)) is same memory = absurd cc
 
 -- a fault of these parts is one of these and more
 pub before_more : (whole : Whole) (seen : Summary) (parts more : List Part) (fail : SheetFail)
-    → IfFault fail (λ fault. check_all whole seen parts ≡ Err fault) → IfFault fail (λ fault. check_all whole seen (parts ++ more) ≡ Err fault)
+    → IfFault fail (λ fault. check_all whole seen parts ≡ Err fault)
+    → IfFault fail (λ fault. check_all whole seen (parts ++ more) ≡ Err fault)
 before_more whole seen parts more fails.Memory is = tt
 before_more whole seen parts more (fails.Fault fault) is = check_all-faulty whole seen parts more fault is
 
 -- more parts behind these, which have none
-pub behind_these : (whole : Whole) (seen seen' : Summary) (parts more : List Part) (result : Result (Unit {0}) SheetFail) (new : Summary)
+pub behind_these : (whole : Whole) (seen seen' : Summary) (parts more : List Part) (result : Result (Unit {0}) SheetFail)
+    (new : Summary)
     → check_all whole seen parts ≡ Ok seen' → Checks (check_all whole seen' more) result new
     → Checks (check_all whole seen (parts ++ more)) result new
 behind_these whole seen seen' parts more result new is checks =
@@ -63,10 +66,12 @@ module _ (at : Standing) (rule : Rule) (all : Trees) (index : ℕ) (forms : List
       at_drop_more (λ parts. parts_in at rule all index (packed (trees_of parts))) forms index part lt
       ∙ ap (λ form. parts_in at rule all index (packed (trees_of (form ∷ drop (index + 1) forms)))) (sym is)
 
-  pub step_on : (whole : Whole) (seen seen' : Summary) → check_all whole seen (parts_at (standing_in at rule all index) (tree_of part)) ≡ Ok seen'
+  pub step_on : (whole : Whole) (seen seen' : Summary)
+      → check_all whole seen (parts_at (standing_in at rule all index) (tree_of part)) ≡ Ok seen'
       → check_all whole seen' later ≡ check_all whole seen left
   step_on whole seen seen' fine =
-      sym (ap (λ parts. check_all whole seen parts) left_at ∙ check_all-fine whole seen seen' (parts_at (standing_in at rule all index) (tree_of part)) later fine)
+      sym (ap (λ parts. check_all whole seen parts) left_at
+      ∙ check_all-fine whole seen seen' (parts_at (standing_in at rule all index) (tree_of part)) later fine)
 
   pub stop_here : (whole : Whole) (seen : Summary) (fail : SheetFail)
       → IfFault fail (λ fault. check_all whole seen (parts_at (standing_in at rule all index) (tree_of part)) ≡ Err fault)
@@ -81,10 +86,12 @@ pub fault_alike : (checked other : Result Summary SheetFault) (fail : SheetFail)
 fault_alike checked other fail same is = subst (λ result. IfFault fail (λ fault. result ≡ Err fault)) same is
 
 -- what an answer says of what is checked
-pub told_fault : (checked : Result Summary SheetFault) (new : Summary) (result : Result (Unit {0}) SheetFail) (fail : SheetFail) → result ≡ Err fail
+pub told_fault : (checked : Result Summary SheetFault) (new : Summary) (result : Result (Unit {0}) SheetFail) (fail : SheetFail)
+    → result ≡ Err fail
     → Checks checked result new → IfFault fail (λ fault. checked ≡ Err fault)
 told_fault checked new result fail is checks = subst (λ answer. Checks checked answer new) is checks
 
-pub told_fine : (checked : Result Summary SheetFault) (new : Summary) (result : Result (Unit {0}) SheetFail) (u : Unit {0}) → result ≡ Ok u
+pub told_fine : (checked : Result Summary SheetFault) (new : Summary) (result : Result (Unit {0}) SheetFail) (u : Unit {0})
+    → result ≡ Ok u
     → Checks checked result new → checked ≡ Ok new
 told_fine checked new result u is checks = subst (λ answer. Checks checked answer new) is checks

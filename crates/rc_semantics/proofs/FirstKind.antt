@@ -30,10 +30,12 @@ module _ (whole : Whole) (seen : Summary) (part : Part) where
       → Some WrongKind ≡ kind_by whole seen part
   kind_wrong first second third = rw (first, second, third) refl
 
-  pub kind_over : is_again seen part ≡ false → is_not_known whole seen part ≡ false → is_wrong seen part ≡ false → is_over whole seen part ≡ true
+  pub kind_over : is_again seen part ≡ false → is_not_known whole seen part ≡ false → is_wrong seen part ≡ false
+      → is_over whole seen part ≡ true
       → Some TooMany ≡ kind_by whole seen part
   kind_over first second third fourth = rw (first, second, third, fourth) refl
 
-  pub kind_none : is_again seen part ≡ false → is_not_known whole seen part ≡ false → is_wrong seen part ≡ false → is_over whole seen part ≡ false
+  pub kind_none : is_again seen part ≡ false → is_not_known whole seen part ≡ false → is_wrong seen part ≡ false
+      → is_over whole seen part ≡ false
       → is_setup_without_deck whole part ≡ false → None ≡ kind_by whole seen part
   kind_none first second third fourth fifth = rw (first, second, third, fourth, fifth) refl

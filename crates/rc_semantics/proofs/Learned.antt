@@ -30,13 +30,15 @@ standing_at outer rule parts index place =
 
 pub standing_by : (outer : Standing) (rule : Rule) (forms : List Form) (index : ℕ) (found given : Option Place)
     → found ≡ place_at rule (length forms) index → found ≡ given
-    → standing_in outer rule (packed (trees_of forms)) index ≡ option_map (standing_at outer rule (packed (trees_of forms)) index) given
+    → standing_in outer rule (packed (trees_of forms)) index
+    ≡ option_map (standing_at outer rule (packed (trees_of forms)) index) given
 standing_by outer rule forms index found given is told =
     ap (option_map (standing_at outer rule (packed (trees_of forms)) index))
     (ap (λ n. place_at rule n index) (count_packed forms) ∙ sym is ∙ told)
 
 -- what is known with the parts behind one that was learnt
-pub learnt : (at : Standing) (rule : Rule) (index : ℕ) (forms : List Form) (part : Form) (known known' : Whole) → index < length forms
+pub learnt : (at : Standing) (rule : Rule) (index : ℕ) (forms : List Form) (part : Form) (known known' : Whole)
+    → index < length forms
     → part ≡ get_or forms index part
     → known' ≡ know_all known (parts_at (standing_in at rule (packed (trees_of forms)) index) (tree_of part))
     → know_all known' (parts_in at rule (packed (trees_of forms)) (index + 1) (packed (trees_of (drop (index + 1) forms))))

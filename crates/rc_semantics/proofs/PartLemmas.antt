@@ -25,14 +25,16 @@ part_past (part ∷ parts) zero le = absurd (omega arith)
 part_past (part ∷ parts) (suc index) le = part_past parts index (omega arith)
 
 -- what `get` gives
-pub part_found : (parts : List Form) (index : ℕ) (found : Option (Bor Form)) → IfSome found (λ part. part.now ≡ get_or parts index part.now)
+pub part_found : (parts : List Form) (index : ℕ) (found : Option (Bor Form))
+    → IfSome found (λ part. part.now ≡ get_or parts index part.now)
     → MatchOption found (length parts ≤ index) (λ part. (index < length parts) × HoldsAt (λ y. part.now ≡ y) parts index)
     → part_seen found ≡ part_at index (packed (trees_of parts))
 part_found parts index None some cases = sym (part_past parts index cases)
 part_found parts index (Some part) some cases = ap tree_of some ∙ sym (part_there parts index part.now cases.0)
 
 -- a player among these or those
-pub among_both : (player : ℕ) (these those : List ℕ) → is_among player (these ++ those) ≡ (is_among player these || is_among player those)
+pub among_both : (player : ℕ) (these those : List ℕ) → is_among player (these ++ those)
+    ≡ (is_among player these || is_among player those)
 among_both player these those = list_any-append (nat_eq player) these those
 
 -- a test of all numbers from this one on

@@ -19,7 +19,8 @@ bytes_alike : (a b : List ℕ) → pointwise nat_eq a b ≡ bytes_eq a b
 bytes_alike a b = refl
 
 -- the look-up of a word in a set
-pub named_words : (word : List ℕ) (words : List (Bor (List ℕ))) → list_any (λ other. pointwise nat_eq word other.now) words ≡ is_named word (words_seen words)
+pub named_words : (word : List ℕ) (words : List (Bor (List ℕ))) → list_any (λ other. pointwise nat_eq word other.now) words
+    ≡ is_named word (words_seen words)
 named_words word [] = refl
 named_words word (other ∷ words) = rw (bytes_alike word other.now, named_words word words) refl
 

@@ -201,7 +201,8 @@ impl<'a> Around<'a> {
 
     /// What the variable with this word stands for, where it is in scope.
     pub fn sort_of(&self, word: &[u8]) -> Option<Sort>
-        ensures { option_map sort_seen result ≡ option_map (λ variable. variable.sort) (faults.variable_in self.now.scope word.now) }
+        ensures { option_map sort_seen result
+            ≡ option_map (λ variable. variable.sort) (faults.variable_in self.now.scope word.now) }
     {
         sort_among(&self.scope, word)
     }

@@ -87,7 +87,8 @@ impl<'a> Walk<'a> {
         from: u32,
     ) -> Result<(), SheetFail>
         ensures walked { (to : ℕ) → Checks (spec.check_all whole.now self.old.seen
-            (parts_spec.parts_at (Some (standing_seen at.now self.old.above)) (list (packed (trees_of parts.now)) from to))) result self.new.seen }
+            (parts_spec.parts_at (Some (standing_seen at.now self.old.above)) (list (packed (trees_of parts.now)) from to)))
+            result self.new.seen }
         ensures above { OnOk result (self.new.above ≡ self.old.above) }
     {
         let Some(rule) = rule_of(at.place, parts) else {
@@ -109,7 +110,8 @@ impl<'a> Walk<'a> {
         from: u32,
     ) -> Result<(), SheetFail>
         ensures walked { Checks (spec.check_all whole.now self.old.seen
-            (parts_spec.form (standing_seen at.now self.old.above) rule (packed (trees_of parts.now)) from ∷ [])) result self.new.seen }
+            (parts_spec.form (standing_seen at.now self.old.above) rule (packed (trees_of parts.now)) from ∷ []))
+            result self.new.seen }
         ensures shallow { OnOk result (faults.is_deep at.now.around.now rule ≡ false) }
         ensures above { OnOk result (self.new.above ≡ self.old.above) }
     {
@@ -130,7 +132,8 @@ impl<'a> Walk<'a> {
     ) -> Result<(), SheetFail>
         requires { faults.is_deep at.now.around.now rule ≡ false }
         ensures walked { Checks (spec.check_all whole.now self.old.seen
-            (parts_spec.parts_in (standing_seen at.now self.old.above) rule (packed (trees_of parts.now)) 0 (packed (trees_of parts.now)))) result self.new.seen }
+            (parts_spec.parts_in (standing_seen at.now self.old.above) rule (packed (trees_of parts.now)) 0
+            (packed (trees_of parts.now)))) result self.new.seen }
         ensures above { OnOk result (self.new.above ≡ self.old.above) }
     {
         let inner = match at.around.inner(self.alloc, rule, parts) {
@@ -163,7 +166,8 @@ impl<'a> Walk<'a> {
         part: &'a Form,
     ) -> Result<(), SheetFail>
         ensures walked { Checks (spec.check_all whole.now self.old.seen
-            (parts_spec.parts_at (option_map (λ at. standing_seen at self.old.above) standing.entry) (tree_of part.now))) result self.new.seen }
+            (parts_spec.parts_at (option_map (λ at. standing_seen at self.old.above) standing.entry) (tree_of part.now)))
+            result self.new.seen }
         ensures above { OnOk result (self.new.above ≡ self.old.above) }
     {
         match standing {

@@ -109,7 +109,8 @@ impl<'a> Whole<'a> {
     #[cycle(learning)]
     fn learn_list(&mut self, place: Place, role: Role, parts: &'a [Form]) -> Result<(), SheetFail>
         ensures known { (at : Standing) (from to : ℕ) → at.place ≡ place → at.role ≡ role
-            → OnOk result (self.new ≡ spec.know_all self.old (parts_spec.parts_at (Some at) (list (packed (trees_of parts.now)) from to))) }
+            → OnOk result (self.new
+            ≡ spec.know_all self.old (parts_spec.parts_at (Some at) (list (packed (trees_of parts.now)) from to))) }
         ensures memory { OnErr result (result ≡ Err SheetFail.Memory) }
     {
         let Some(rule) = rule_of(place, parts) else {
@@ -123,7 +124,8 @@ impl<'a> Whole<'a> {
     #[cycle(learning)]
     fn learn_parts(&mut self, role: Role, rule: Rule, parts: &'a [Form]) -> Result<(), SheetFail>
         ensures known { (at : Standing) → at.role ≡ role
-            → OnOk result (self.new ≡ spec.know_all self.old (parts_spec.parts_in at rule (packed (trees_of parts.now)) 0 (packed (trees_of parts.now)))) }
+            → OnOk result (self.new ≡ spec.know_all self.old
+            (parts_spec.parts_in at rule (packed (trees_of parts.now)) 0 (packed (trees_of parts.now)))) }
         ensures memory { OnErr result (result ≡ Err SheetFail.Memory) }
     {
         for (index, part) in parts.iter().enumerate() {

@@ -31,3 +31,10 @@ pub mod ReadsSetup
 pub mod ReadsSheet
 pub mod Readings
 pub mod Sizes
+pub mod Mentioned
+pub mod MentionedRows
+pub mod MentionedForms
+pub mod MentionedSetup
+pub mod MentionedSheet
+pub mod MentionedStages
+pub mod MentionedNumbers

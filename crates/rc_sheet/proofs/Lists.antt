@@ -1,5 +1,6 @@
 -- What is read off a list, by the form that it has, and the parts of lists.
-use Rattle.std.proofs.Common.{◌≡◌, ℕ, ◌-◌, ◌<◌, ◌≤◌, List, [], ◌∷◌, length, get_or, take, drop, Vec, Option, Some, None, Result, Ok, Err, IsTrue, refl, sym, ap, subst, ◌∙◌, arith}
+use denote.Param.Weighed.{most}
+use Rattle.std.proofs.Common.{◌≡◌, ℕ, max, ◌+◌, ◌-◌, ◌<◌, ◌≤◌, List, [], ◌∷◌, length, get_or, take, drop, Vec, Option, Some, None, Result, Ok, Err, refl, sym, ap, ◌∙◌, arith}
 use Rattle.std.specs.Prelude.{option_map}
 use Rattle.std.proofs.lemmas.List.{take_all}
 use Rattle.std.specs.Global.{Global}
@@ -7,11 +8,12 @@ use Rattle.rc_model.specs.Tree.{Tree, word, list, Trees, nil, cons}
 use Rattle.rc_form.specs.Form.{tree_of, trees_of, packed}
 use Rattle.rc_form.specs.declared.form.Form.{Form}
 use Rattle.rc_form.specs.declared.form.Form.TheVariants.{List as ListOf}
+use Rattle.rc_form.specs.declared.form.Form.TheViews.{sized-List}
+use Rattle.rc_form.proofs.form.Form.TheLaws.{the_size}
 use Rattle.rc_form.specs.declared.form.Span.{Span}
 use Rattle.rc_setup.proofs.FormLemmas.{tree_of_list}
 use Rattle.rc_sheet_model.specs.Sheet.{card_sort, CollExpr, filtered, Test, Domain}
 use Rattle.rc_sheet_model.specs.Naming.{Naming, Scope, bind, sort_of}
-use Rattle.rc_grammar.specs.Faults.{fits}
 use Rattle.rc_grammar.specs.declared.grammar.Place.{Place}
 use Rattle.rc_grammar.specs.declared.grammar.Rule.{Rule}
 use Rattle.rc_sheet.specs.ReadNames.{◌>>=◌, rule_at, binder_at}
@@ -34,23 +36,25 @@ pub list_gives : {X Y : Type 0} (view : X → Y) (reading : Tree → Option Y) (
     (rules forms : ℕ → Rule → Trees → Option Y)
     → ((parts : Trees) (from to : ℕ) → reading (list parts from to) ≡ (rule_at place parts >>= λ rule. rules from rule parts))
     → ((from : ℕ) (rule : Rule) (parts : Trees) → rules from rule parts ≡ forms from rule parts)
-    → (form : Form) (items : Vec Form Global) (span : Span) (rule : Rule) (told parts : List Form) (result : Result X ReadFail)
-    → form ≡ ListOf items span → told ≡ items.items → parts ≡ items.items → rule_at place (packed (trees_of told)) ≡ Some rule
+    → (form : Form) (items : Vec Form Global) (span : Span) (rule : Rule) (parts : List Form) (result : Result X ReadFail)
+    → form ≡ ListOf items span → parts ≡ items.items → rule_at place (packed (trees_of parts)) ≡ Some rule
     → Gives view result (forms span.from rule (packed (trees_of parts))) → Gives view result (reading (tree_of form))
-list_gives view reading place rules forms opens same form items span rule told parts result is told_is parts_is has gives =
+list_gives view reading place rules forms opens same form items span rule parts result is parts_is has gives =
     let trees : Trees = packed (trees_of items.items) in
-    let found = ap (λ forms. rule_at place (packed (trees_of forms))) (sym told_is) ∙ has in
+    let found = ap (λ forms. rule_at place (packed (trees_of forms))) (sym parts_is) ∙ has in
     let opened = ap reading (tree_of_list form items span is) ∙ opens trees span.from span.to in
     let first = ap (λ found. found >>= λ rule. rules span.from rule trees) found in
     let last = same span.from rule trees ∙ ap (λ parts. forms span.from rule (packed (trees_of parts))) (sym parts_is) in
     gives_same view result _ _ (opened ∙ first ∙ last) gives
 
--- a list's form has as many parts as the list
-pub fits_same : (rule : Rule) (told parts items : List Form) → told ≡ items → parts ≡ items
-    → IsTrue (fits (length told) rule) → IsTrue (fits (length parts) rule)
-fits_same rule told parts items told_is parts_is =
-    let P : List Form → Type 0 = λ forms. IsTrue (fits (length forms) rule) in
-    subst P (told_is ∙ sym parts_is)
+-- the parts of a list are less deep than the list
+pub parts_fall : (form : Form) (items : Vec Form Global) (span : Span) (parts : List Form) → form ≡ ListOf items span
+    → parts ≡ items.items → most the_size parts < the_size form
+parts_fall form items span parts is parts_is =
+    let depth : the_size (ListOf items span) ≡ max (most the_size items.items) 0 + 1 = sized-List items span in
+    let same : the_size form ≡ the_size (ListOf items span) = ap the_size is in
+    let parts_same : most the_size parts ≡ most the_size items.items = ap (most the_size) parts_is in
+    omega arith
 
 -- the trees of four parts
 pub four_parts : (forms : List Form) (b c d : Form) → 4 ≤ length forms → length forms < 5
@@ -64,8 +68,8 @@ four_parts (a ∷ b' ∷ c' ∷ d' ∷ []) b c d most least b_is c_is d_is = cc
 four_parts (a ∷ b' ∷ c' ∷ d' ∷ e ∷ forms) b c d most least b_is c_is d_is = absurd (omega arith)
 
 -- the cards that pass a test
-pub filter_said : (naming : Naming) (scope inner : Scope) (forms : List Form) (cards variable t : Form) (found : CollExpr) (bound : ℕ)
-    (passes : Test) → 4 ≤ length forms → length forms < 5
+pub filter_said : (naming : Naming) (scope inner : Scope) (forms : List Form) (cards variable t : Form) (found : CollExpr)
+    (bound : ℕ) (passes : Test) → 4 ≤ length forms → length forms < 5
     → cards ≡ get_or forms 1 cards → variable ≡ get_or forms 2 variable → t ≡ get_or forms 3 t
     → coll_at naming scope (tree_of cards) ≡ Some found → binder_at naming.names.vars scope (tree_of variable) ≡ Some bound
     → inner ≡ bind naming scope bound card_sort → test_at naming inner (tree_of t) ≡ Some passes
@@ -85,13 +89,14 @@ pub quantified_said : (naming : Naming) (scope inner : Scope) (forms : List Form
     → range_at naming scope (tree_of range) ≡ Some domain → binder_at naming.names.vars scope (tree_of variable) ≡ Some bound
     → inner ≡ bind naming scope bound (sort_of domain) → test_at naming inner (tree_of t) ≡ Some holds
     → quantified naming scope (packed (trees_of forms)) ≡ Some (domain, bound, holds)
-quantified_said naming scope inner forms range variable t domain bound holds most least range_is variable_is t_is has binds is says =
+quantified_said naming scope inner forms range v t domain bound holds most least range_is v_is t_is has binds is says =
+    let said = test_at naming in
     let last : Domain → ℕ → Option (Domain × ℕ × Test) =
-    λ domain bound. option_map (λ t. (domain, bound, t)) (test_at naming (bind naming scope bound (sort_of domain)) (tree_of t)) in
-    ap (quantified naming scope) (four_parts forms range variable t most least range_is variable_is t_is)
-    ∙ ap (λ domain. domain >>= λ domain. binder_at naming.names.vars scope (tree_of variable) >>= last domain) has
+    λ domain bound. option_map (λ t. (domain, bound, t)) (said (bind naming scope bound (sort_of domain)) (tree_of t)) in
+    ap (quantified naming scope) (four_parts forms range v t most least range_is v_is t_is)
+    ∙ ap (λ domain. domain >>= λ domain. binder_at naming.names.vars scope (tree_of v) >>= last domain) has
     ∙ ap (λ bound. bound >>= last domain) binds
-    ∙ ap (option_map (λ t. (domain, bound, t))) (ap (λ scope. test_at naming scope (tree_of t)) (sym is) ∙ says)
+    ∙ ap (option_map (λ t. (domain, bound, t))) (ap (λ scope. said scope (tree_of t)) (sym is) ∙ says)
 
 -- what is read off the parts behind a head
 pub behind_head : {Y : Type 0} (reading all : Trees → Option Y)

@@ -33,8 +33,9 @@ impl Reader {
                 Ok(CardExpr::Var(var))
             }
             Form::List { items, .. } => {
-                let rule = rule_at(Place::Card, items)?;
-                self.card_list(alloc, scope, rule, items)
+                let parts = items.as_slice();
+                let rule = rule_at(Place::Card, parts)?;
+                self.card_list(alloc, scope, rule, parts)
             }
         }
     }
@@ -128,8 +129,9 @@ impl Reader {
                 Ok(CollExpr::Var(var))
             }
             Form::List { items, span } => {
-                let rule = rule_at(Place::Collection, items)?;
-                self.collection_form(alloc, scope, span.from, rule, items)
+                let parts = items.as_slice();
+                let rule = rule_at(Place::Collection, parts)?;
+                self.collection_form(alloc, scope, span.from, rule, parts)
             }
         }
     }
@@ -262,8 +264,9 @@ impl Reader {
                 None => Err(ReadFail::Meaningless),
             },
             Form::List { items, .. } => {
-                let rule = rule_at(Place::Integer, items)?;
-                self.integer_list(alloc, scope, rule, items)
+                let parts = items.as_slice();
+                let rule = rule_at(Place::Integer, parts)?;
+                self.integer_list(alloc, scope, rule, parts)
             }
         }
     }
@@ -338,8 +341,9 @@ impl Reader {
         match form {
             Form::Atom { .. } => Err(ReadFail::Meaningless),
             Form::List { items, .. } => {
-                let rule = rule_at(Place::Test, items)?;
-                self.test_list(alloc, scope, rule, items)
+                let parts = items.as_slice();
+                let rule = rule_at(Place::Test, parts)?;
+                self.test_list(alloc, scope, rule, parts)
             }
         }
     }
@@ -496,8 +500,9 @@ impl Reader {
         match form {
             Form::Atom { word, .. } => side_word(scope, word.bytes()),
             Form::List { items, .. } => {
-                let rule = rule_at(Place::Side, items)?;
-                self.side_list(alloc, scope, rule, items)
+                let parts = items.as_slice();
+                let rule = rule_at(Place::Side, parts)?;
+                self.side_list(alloc, scope, rule, parts)
             }
         }
     }

@@ -11,6 +11,7 @@ mod items;
 mod laws;
 mod locations;
 mod names;
+mod numbering;
 mod owners;
 mod players;
 mod reader;
@@ -28,4 +29,5 @@ pub use fine_laws::stages_and_choices_are_few;
 pub use laws::{
     body_stands, effects_stand, expressions_stand, names_stand, setup_stands, sheet_stands,
 };
+pub use numbering::{mentions_stand, what_is_read_is_numbered};
 pub use rc_semantics::SheetFail;

@@ -28,11 +28,11 @@ words_of (cons tree trees) = word_of tree ++ words_of trees
 
 -- what the lists of a form mention, where it is said what one list of these parts mentions itself, behind its parts
 abbrev mutual
-  pub gathered : (Trees → List (List ℕ)) → Tree → List (List ℕ)
+  pub gathered : {A : Type 0} → (Trees → List A) → Tree → List A
   gathered own (word bytes from to) = []
   gathered own (list parts from to) = all_gathered own parts ++ own parts
 
-  pub all_gathered : (Trees → List (List ℕ)) → Trees → List (List ℕ)
+  pub all_gathered : {A : Type 0} → (Trees → List A) → Trees → List A
   all_gathered own nil = []
   all_gathered own (cons tree trees) = gathered own tree ++ all_gathered own trees
 

@@ -1,5 +1,5 @@
 //! How many stages and choices are read.
-use super::table::{Part, read_text};
+use super::table::{Kind, what_is_said};
 use std::process::Abort;
 use std::test::Fail;
 
@@ -9,13 +9,13 @@ fn is_read(
     count: usize,
     item: &'static str,
 ) -> Result<bool, Fail> {
-    let mut text = b"(".to_vec(rt.alloc())?;
+    let mut text = String::new(rt.alloc());
+    text.push_str("(")?;
     for _ in 0..count {
-        text.extend_from_slice(item.as_bytes())?;
+        text.push_str(item)?;
     }
-    text.extend_from_slice(b"(scoring max 0))")?;
-    assert!(rt; text.len() <= 100_000);
-    Ok(read_text(rt.alloc(), Part::Body, &text)?.is_some())
+    text.push_str("(scoring max 0))")?;
+    Ok(what_is_said(rt, Kind::Body, &text)?.is_some())
 }
 
 #[test]

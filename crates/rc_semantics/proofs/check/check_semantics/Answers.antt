@@ -8,12 +8,14 @@ pub returns-clause-fine : goal.returns-clause-fine
 returns-clause-fine c =
     answered_fine (tree_of c.args.form.now) c.part.new.self.seen c.part.result
     (subst (λ checked. Checks checked c.part.result c.part.new.self.seen)
-    (from_start (tree_of c.args.form.now) _ _ _ _ c.in_ok-whole.ensures.known c.new.ensures.seen c.outside-around.ensures c.new.ensures.above)
+    (from_start (tree_of c.args.form.now) _ _ _ _
+    c.in_ok-whole.ensures.known c.new.ensures.seen c.outside-around.ensures c.new.ensures.above)
     c.part.ensures.walked)
 
 pub returns-clause-found : goal.returns-clause-found
 returns-clause-found c =
     answered_found (tree_of c.args.form.now) c.part.new.self.seen c.part.result
     (subst (λ checked. Checks checked c.part.result c.part.new.self.seen)
-    (from_start (tree_of c.args.form.now) _ _ _ _ c.in_ok-whole.ensures.known c.new.ensures.seen c.outside-around.ensures c.new.ensures.above)
+    (from_start (tree_of c.args.form.now) _ _ _ _
+    c.in_ok-whole.ensures.known c.new.ensures.seen c.outside-around.ensures c.new.ensures.above)
     c.part.ensures.walked)

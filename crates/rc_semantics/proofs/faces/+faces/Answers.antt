@@ -10,18 +10,22 @@ use Rattle.rc_semantics.proofs.faces.+faces.Goals as goal
 
 pub group_faces-returns-in_default-as_slice : goal.group_faces-returns-in_default-as_slice
 group_faces-returns-in_default-as_slice t c =
-    ap (λ n. min n 513) (sym (ap faces_by (list_seen _ _ _ _ c.in-List.is c.as_slice.ensures.value) ∙ once_by_short _ _ _ c.in_default-as_slice.len_below))
+    ap (λ n. min n 513) (sym
+    (ap faces_by (list_seen _ _ _ _ c.in-List.is c.as_slice.ensures.value) ∙ once_by_short _ _ _ c.in_default-as_slice.len_below))
 
 pub group_faces-returns-in_default-as_slice-2 : goal.group_faces-returns-in_default-as_slice-2
 group_faces-returns-in_default-as_slice-2 t c =
-    ap (λ n. min n 513) (sym (ap faces_by (list_seen _ _ _ _ c.in-List.is c.as_slice.ensures.value) ∙ once_by_long _ _ _ c.in_default-as_slice.len_at_least))
+    ap (λ n. min n 513) (sym
+    (ap faces_by (list_seen _ _ _ _ c.in-List.is c.as_slice.ensures.value)
+    ∙ once_by_long _ _ _ c.in_default-as_slice.len_at_least))
 
 pub group_faces-returns-in-List-branches : goal.group_faces-returns-in-List-branches
 group_faces-returns-in-List-branches t c =
     let two = pair_by _ _ c.in-List.span.from c.in-List.span.to c.in-len2.len_at_least c.in-len2.len_below c.branches-item.is in
     let inner = ap branches_by (tree_of_list _ _ _ c.in-List-branches.is) in
     let same = ap (λ forms. branch_count (packed (trees_of forms))) c.deref.ensures.value in
-    c.branch_count.ensures ∙ ap (λ n. min n 513) (same ∙ sym (ap faces_by (list_seen _ _ _ _ c.in-List.is c.as_slice.ensures.value) ∙ two ∙ inner))
+    c.branch_count.ensures ∙ ap (λ n. min n 513)
+    (same ∙ sym (ap faces_by (list_seen _ _ _ _ c.in-List.is c.as_slice.ensures.value) ∙ two ∙ inner))
 
 pub group_faces-returns-in-Atom : goal.group_faces-returns-in-Atom
 group_faces-returns-in-Atom t c =

@@ -7,4 +7,5 @@ use Rattle.rc_semantics.proofs.parts.is_in_line.Given as goal
 -- the player stands in the teams that are left exactly where it stands in all
 abbrev pub invariant-loop-team : goal.invariant-loop-team
 invariant-loop-team l =
-    is_among l.player (team_players (packed (trees_of (drop l.team-index l.line)))) ≡ is_among l.player (team_players (packed (trees_of l.line)))
+    is_among l.player (team_players (packed (trees_of (drop l.team-index l.line))))
+    ≡ is_among l.player (team_players (packed (trees_of l.line)))

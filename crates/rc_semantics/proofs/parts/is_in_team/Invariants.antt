@@ -7,4 +7,5 @@ use Rattle.rc_semantics.proofs.parts.is_in_team.Given as goal
 -- the player stands among the members that are left exactly where it stands among all
 abbrev pub invariant-loop-member : goal.invariant-loop-member
 invariant-loop-member l =
-    is_among l.player (numbers_in (packed (trees_of (drop l.member-index l.team)))) ≡ is_among l.player (numbers_in (packed (trees_of l.team)))
+    is_among l.player (numbers_in (packed (trees_of (drop l.member-index l.team))))
+    ≡ is_among l.player (numbers_in (packed (trees_of l.team)))

@@ -8,5 +8,6 @@ use Rattle.rc_semantics.proofs.parts.misses_player.Given as goal
 -- the players that are left are all in teams exactly where all are
 abbrev pub invariant-loop-player : goal.invariant-loop-player
 invariant-loop-player l =
-    list_all (λ player. is_among player (team_players (packed (trees_of l.line)))) (range_with_len l.player (l.players - l.player))
+    list_all (λ player. is_among player (team_players (packed (trees_of l.line))))
+    (range_with_len l.player (l.players - l.player))
     ≡ list_all (λ player. is_among player (team_players (packed (trees_of l.line)))) (range_with_len 0 l.players)

@@ -4,4 +4,5 @@ use Rattle.rc_semantics.proofs.names.DifferentNames.contains.Goals as goal
 use Rattle.rc_semantics.proofs.Words.{named_words}
 
 pub returns : goal.returns
-returns c = c.contains.ensures ∙ named_words c.args.word.now c.self.inside.words.keys ∙ ap (is_named c.args.word.now) c.self.view_is
+returns c = c.contains.ensures ∙ named_words c.args.word.now c.self.inside.words.keys
+    ∙ ap (is_named c.args.word.now) c.self.view_is

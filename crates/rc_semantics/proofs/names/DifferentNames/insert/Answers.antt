@@ -6,4 +6,5 @@ use Rattle.rc_semantics.proofs.Words.{words_inserted}
 
 pub returns-clause-after : goal.returns-clause-after
 returns-clause-after c =
-    ap words_seen c.in_ok-insert.ensures.keys ∙ words_inserted c.args.word c.self.inside.words.keys ∙ ap (with_word c.args.word.now) c.self.view_is
+    ap words_seen c.in_ok-insert.ensures.keys ∙ words_inserted c.args.word c.self.inside.words.keys
+    ∙ ap (with_word c.args.word.now) c.self.view_is

@@ -15,9 +15,11 @@ list-returns-in-Err-clause-walked t c = λ to.
     let all = packed (trees_of c.args.parts.now) in
     subst
     (λ found. IfFault c.in-Err.fail
-    (λ fault. check_all c.args.whole.now c.args.self.now.seen (with_form at all c.args.from (λ rule. parts_in at rule all 0 all) found) ≡ Err fault))
+    (λ fault. check_all c.args.whole.now c.args.self.now.seen
+    (with_form at all c.args.from (λ rule. parts_in at rule all 0 all) found) ≡ Err fault))
     (sym (sym c.rule_of.ensures ∙ c.in-Some.is))
-    (before_more c.args.whole.now c.args.self.now.seen (form at c.in-Some.rule all c.args.from ∷ []) (parts_in at c.in-Some.rule all 0 all) c.in-Err.fail c.in-Err.ensures.walked)
+    (before_more c.args.whole.now c.args.self.now.seen (form at c.in-Some.rule all c.args.from ∷ [])
+    (parts_in at c.in-Some.rule all 0 all) c.in-Err.fail c.in-Err.ensures.walked)
 
 pub list-returns-clause-walked : goal.list-returns-clause-walked
 list-returns-clause-walked t c = λ to.
@@ -26,17 +28,21 @@ list-returns-clause-walked t c = λ to.
     let rule = c.in-Some.rule in
     let whole = c.args.whole.now in
     let inner = subst
-    (λ above. Checks (check_all whole c.form.new.self.seen (parts_in (standing_seen c.args.at.now above) rule all 0 all)) c.parts.result c.parts.new.self.seen)
+    (λ above. Checks (check_all whole c.form.new.self.seen
+    (parts_in (standing_seen c.args.at.now above) rule all 0 all)) c.parts.result c.parts.new.self.seen)
     c.in_default-form.ensures.above c.parts.ensures.walked in
     subst
-    (λ found. Checks (check_all whole c.args.self.now.seen (with_form at all c.args.from (λ rule. parts_in at rule all 0 all) found)) c.parts.result c.parts.new.self.seen)
+    (λ found. Checks (check_all whole c.args.self.now.seen
+    (with_form at all c.args.from (λ rule. parts_in at rule all 0 all) found)) c.parts.result c.parts.new.self.seen)
     (sym (sym c.rule_of.ensures ∙ c.in-Some.is))
-    (behind_these whole c.args.self.now.seen c.form.new.self.seen (form at rule all c.args.from ∷ []) (parts_in at rule all 0 all) c.parts.result c.parts.new.self.seen c.in_default-form.ensures.walked inner)
+    (behind_these whole c.args.self.now.seen c.form.new.self.seen (form at rule all c.args.from ∷ [])
+    (parts_in at rule all 0 all) c.parts.result c.parts.new.self.seen c.in_default-form.ensures.walked inner)
 
 pub part-returns-in-List-clause-walked : goal.part-returns-in-List-clause-walked
 part-returns-in-List-clause-walked t c =
     let at = standing_seen c.args.at.now c.args.self.now.above in
-    subst (λ tree. Checks (check_all c.args.whole.now c.args.self.now.seen (parts_at (Some at) tree)) c.list.result c.list.new.self.seen)
+    subst (λ tree. Checks
+    (check_all c.args.whole.now c.args.self.now.seen (parts_at (Some at) tree)) c.list.result c.list.new.self.seen)
     (sym (list_seen _ _ _ _ c.in-List.is c.deref.ensures.value)) (c.list.ensures.walked c.in-List.span.to)
 
 pub parts-loop-index-init : goal.parts-loop-index-init
@@ -59,8 +65,10 @@ parts-returns-in-Err-part_in-clause-walked t c =
     let part = c.index-parts-index.result in
     let whole = c.args.whole.now in
     let seen = c.loop-index.self.seen in
-    let checks = subst (λ place. Checks (check_all whole seen (parts_at place (tree_of part))) c.part_in.result c.part_in.new.self.seen)
-    (ap (λ above. option_map (λ at. standing_seen at above) c.standing_in-standing.result) c.loop-index.invariant.0 ∙ c.standing_in-standing.ensures at refl refl)
+    let checks = subst (λ place. Checks
+    (check_all whole seen (parts_at place (tree_of part))) c.part_in.result c.part_in.new.self.seen)
+    (ap (λ above. option_map (λ at. standing_seen at above) c.standing_in-standing.result) c.loop-index.invariant.0
+    ∙ c.standing_in-standing.ensures at refl refl)
     c.part_in.ensures.walked in
     fault_alike _ _ c.in-Err-part_in.fail c.loop-index.invariant.1
     (stop_here at c.args.rule all index c.args.parts.now part c.loop-index-test.true c.index-parts-index.is whole seen c.in-Err-part_in.fail
@@ -76,13 +84,17 @@ parts-loop-index-preserved t c =
     let part = c.index-parts-index.result in
     let whole = c.args.whole.now in
     let seen = c.loop-index.self.seen in
-    let checks = subst (λ place. Checks (check_all whole seen (parts_at place (tree_of part))) c.part_in.result c.part_in.new.self.seen)
-    (ap (λ above. option_map (λ at. standing_seen at above) c.standing_in-standing.result) c.loop-index.invariant.0 ∙ c.standing_in-standing.ensures at refl refl)
+    let checks = subst (λ place. Checks
+    (check_all whole seen (parts_at place (tree_of part))) c.part_in.result c.part_in.new.self.seen)
+    (ap (λ above. option_map (λ at. standing_seen at above) c.standing_in-standing.result) c.loop-index.invariant.0
+    ∙ c.standing_in-standing.ensures at refl refl)
     c.part_in.ensures.walked in (
       c.in_default-leave.ensures.above
-          ∙ ap (λ above. above ++ attributes_behind rule (tree_of part)) (c.in_default-part_in.ensures.above ∙ c.loop-index.invariant.0)
+          ∙ ap (λ above. above ++ attributes_behind rule (tree_of part))
+          (c.in_default-part_in.ensures.above ∙ c.loop-index.invariant.0)
           ∙ above_more c.args.self.now.above rule forms index part c.loop-index-test.true c.index-parts-index.is,
-      ap (λ known. check_all whole known (parts_in at rule all (index + 1) (packed (trees_of (drop (index + 1) forms))))) c.leave.ensures.seen
+      ap (λ known. check_all whole known
+          (parts_in at rule all (index + 1) (packed (trees_of (drop (index + 1) forms))))) c.leave.ensures.seen
           ∙ step_on at rule all index forms part c.loop-index-test.true c.index-parts-index.is whole seen c.part_in.new.self.seen
           (told_fine _ c.part_in.new.self.seen c.part_in.result c.in_default-part_in.field-0 c.in_default-part_in.is checks)
           ∙ c.loop-index.invariant.1,

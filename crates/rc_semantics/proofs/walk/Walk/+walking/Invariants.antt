@@ -12,5 +12,6 @@ invariant-parts-loop-index l =
     let all = packed (trees_of l.parts) in
     let at = standing_seen l.at l.fn.self.above in
     (l.self.above ≡ above_in l.fn.self.above l.rule all l.index)
-    × (check_all l.whole l.self.seen (parts_in at l.rule all l.index (packed (trees_of (drop l.index l.parts)))) ≡ check_all l.whole l.fn.self.seen (parts_in at l.rule all 0 all))
+    × (check_all l.whole l.self.seen (parts_in at l.rule all l.index (packed (trees_of (drop l.index l.parts))))
+    ≡ check_all l.whole l.fn.self.seen (parts_in at l.rule all 0 all))
     × ((index : ℕ) → inner_seen l.at.around.now l.inner index ≡ around_in l.at.around.now l.rule all index)

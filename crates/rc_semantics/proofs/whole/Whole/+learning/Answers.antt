@@ -26,12 +26,15 @@ learn_parts-loop-index-preserved t c = λ at role.
     elim c.match-place_at.branch [
       | learn_parts-in-Some+in_ok-learn w ↦ step
           (w.self-is
-          ∙ w.in_ok-learn.ensures.known (standing_at at rule all index w.in-Some.place) refl (ap (λ role. role_in role rule index) role ∙ sym w.role_in.ensures)
-          ∙ ap (λ place. know_all known (parts_at place (tree_of part))) (sym (standing_by at rule forms index c.place_at.result (Some w.in-Some.place) c.place_at.ensures w.in-Some.is)))
+          ∙ w.in_ok-learn.ensures.known (standing_at at rule all index w.in-Some.place) refl
+          (ap (λ role. role_in role rule index) role ∙ sym w.role_in.ensures)
+          ∙ ap (λ place. know_all known (parts_at place (tree_of part)))
+          (sym (standing_by at rule forms index c.place_at.result (Some w.in-Some.place) c.place_at.ensures w.in-Some.is)))
           ∙ c.loop-index.invariant at role
       | learn_parts-in_default w ↦ step
           (w.self-is
           ∙ ap (λ parts. know_all known parts)
-          (sym (ap (λ place. parts_at place (tree_of part)) (standing_by at rule forms index c.place_at.result None c.place_at.ensures w.in_default.is) ∙ nowhere (tree_of part))))
+          (sym (ap (λ place. parts_at place (tree_of part))
+          (standing_by at rule forms index c.place_at.result None c.place_at.ensures w.in_default.is) ∙ nowhere (tree_of part))))
           ∙ c.loop-index.invariant at role
     ]

@@ -9,74 +9,87 @@ use Rattle.rc_sheet.specs.ReadParts.{card_form, coll_form, colls_behind, int_for
 use Rattle.rc_sheet.specs.Sides.{side_seen}
 use Rattle.rc_sheet.proofs.Forms.{card_forms, coll_forms, int_forms, side_rule, side_forms, test_forms}
 use Rattle.rc_sheet.proofs.InTurn.{so_far, goes_on, is_done}
-use Rattle.rc_sheet.proofs.Lists.{list_gives, fits_same, behind_head, filter_said, quantified_said}
+use Rattle.rc_sheet.proofs.Lists.{list_gives, parts_fall, behind_head, filter_said, quantified_said}
 use Rattle.rc_sheet.proofs.reader.Reader.+reading.Goals as goal
 
+-- the parts of a list are less deep than the list, and as many as its form has
 pub card-card_list-requires : goal.card-card_list-requires
 card-card_list-requires t c =
-    (search rules, fits_same c.in_ok-rule-in-List.rule _ _ _ c.deref.ensures.value c.deref-in-List.ensures.value c.in_ok-rule-in-List.ensures.sized)
+    let falls = parts_fall c.args.form.now c.in-List.items c.in-List.span c.as_slice-parts.result.now c.in-List.is
+    c.as_slice-parts.ensures.value in
+    (omega arith, c.in_ok-rule-in-List.ensures.sized)
 
+pub collection-collection_form-requires : goal.collection-collection_form-requires
+collection-collection_form-requires t c =
+    let falls = parts_fall c.args.form.now c.in-List.items c.in-List.span c.as_slice-parts.result.now c.in-List.is
+    c.as_slice-parts.ensures.value in
+    (omega arith, c.in_ok-rule-in-List.ensures.sized)
+
+pub integer-integer_list-requires : goal.integer-integer_list-requires
+integer-integer_list-requires t c =
+    let falls = parts_fall c.args.form.now c.in-List.items c.in-List.span c.as_slice-parts.result.now c.in-List.is
+    c.as_slice-parts.ensures.value in
+    (omega arith, c.in_ok-rule-in-List.ensures.sized)
+
+pub test-test_list-requires : goal.test-test_list-requires
+test-test_list-requires t c =
+    let falls = parts_fall c.args.form.now c.in-List.items c.in-List.span c.as_slice-parts.result.now c.in-List.is
+    c.as_slice-parts.ensures.value in
+    (omega arith, c.in_ok-rule-in-List.ensures.sized)
+
+pub side-side_list-requires : goal.side-side_list-requires
+side-side_list-requires t c =
+    let falls = parts_fall c.args.form.now c.in-List.items c.in-List.span c.as_slice-parts.result.now c.in-List.is
+    c.as_slice-parts.ensures.value in
+    (omega arith, c.in_ok-rule-in-List.ensures.sized)
+
+-- what a list's form says is what the list says
 pub card-returns-in_ok-rule-in-List : goal.card-returns-in_ok-rule-in-List
 card-returns-in_ok-rule-in-List t c =
     let naming = c.args.self.now in
     let scope = c.args.scope.now in
     list_gives card_seen (card_at naming scope) place.Card (λ from. card_rule naming scope) (λ from. card_form naming scope)
-    (λ parts from to. refl) (λ from. card_forms naming scope) c.args.form.now c.in-List.items c.in-List.span c.in_ok-rule-in-List.rule
-    c.deref.result.now c.deref-in-List.result.now c.card_list.result c.in-List.is
-    c.deref.ensures.value c.deref-in-List.ensures.value c.in_ok-rule-in-List.ensures.given c.card_list.ensures
-
-pub collection-collection_form-requires : goal.collection-collection_form-requires
-collection-collection_form-requires t c =
-    (search rules, fits_same c.in_ok-rule-in-List.rule _ _ _ c.deref.ensures.value c.deref-in-List.ensures.value c.in_ok-rule-in-List.ensures.sized)
+    (λ parts from to. refl) (λ from. card_forms naming scope) c.args.form.now c.in-List.items c.in-List.span
+    c.in_ok-rule-in-List.rule c.as_slice-parts.result.now c.card_list.result c.in-List.is
+    c.as_slice-parts.ensures.value c.in_ok-rule-in-List.ensures.given c.card_list.ensures
 
 pub collection-returns-in_ok-rule-in-List : goal.collection-returns-in_ok-rule-in-List
 collection-returns-in_ok-rule-in-List t c =
     let naming = c.args.self.now in
     let scope = c.args.scope.now in
     list_gives coll_seen (coll_at naming scope) place.Collection (coll_rule naming scope) (coll_form naming scope)
-    (λ parts from to. refl) (coll_forms naming scope) c.args.form.now c.in-List.items c.in-List.span c.in_ok-rule-in-List.rule
-    c.deref.result.now c.deref-in-List.result.now c.collection_form.result c.in-List.is
-    c.deref.ensures.value c.deref-in-List.ensures.value c.in_ok-rule-in-List.ensures.given c.collection_form.ensures
-
-pub integer-integer_list-requires : goal.integer-integer_list-requires
-integer-integer_list-requires t c =
-    (search rules, fits_same c.in_ok-rule-in-List.rule _ _ _ c.deref.ensures.value c.deref-in-List.ensures.value c.in_ok-rule-in-List.ensures.sized)
+    (λ parts from to. refl) (coll_forms naming scope) c.args.form.now c.in-List.items c.in-List.span
+    c.in_ok-rule-in-List.rule c.as_slice-parts.result.now c.collection_form.result c.in-List.is
+    c.as_slice-parts.ensures.value c.in_ok-rule-in-List.ensures.given c.collection_form.ensures
 
 pub integer-returns-in_ok-rule-in-List : goal.integer-returns-in_ok-rule-in-List
 integer-returns-in_ok-rule-in-List t c =
     let naming = c.args.self.now in
     let scope = c.args.scope.now in
     list_gives int_seen (int_at naming scope) place.Integer (λ from. int_rule naming scope) (λ from. int_form naming scope)
-    (λ parts from to. refl) (λ from. int_forms naming scope) c.args.form.now c.in-List.items c.in-List.span c.in_ok-rule-in-List.rule
-    c.deref.result.now c.deref-in-List.result.now c.integer_list.result c.in-List.is
-    c.deref.ensures.value c.deref-in-List.ensures.value c.in_ok-rule-in-List.ensures.given c.integer_list.ensures
-
-pub test-test_list-requires : goal.test-test_list-requires
-test-test_list-requires t c =
-    (search rules, fits_same c.in_ok-rule-in-List.rule _ _ _ c.deref.ensures.value c.deref-in-List.ensures.value c.in_ok-rule-in-List.ensures.sized)
+    (λ parts from to. refl) (λ from. int_forms naming scope) c.args.form.now c.in-List.items c.in-List.span
+    c.in_ok-rule-in-List.rule c.as_slice-parts.result.now c.integer_list.result c.in-List.is
+    c.as_slice-parts.ensures.value c.in_ok-rule-in-List.ensures.given c.integer_list.ensures
 
 pub test-returns-in_ok-rule-in-List : goal.test-returns-in_ok-rule-in-List
 test-returns-in_ok-rule-in-List t c =
     let naming = c.args.self.now in
     let scope = c.args.scope.now in
     list_gives test_seen (test_at naming scope) place.Test (λ from. test_rule naming scope) (λ from. test_form naming scope)
-    (λ parts from to. refl) (λ from. test_forms naming scope) c.args.form.now c.in-List.items c.in-List.span c.in_ok-rule-in-List.rule
-    c.deref.result.now c.deref-in-List.result.now c.test_list.result c.in-List.is
-    c.deref.ensures.value c.deref-in-List.ensures.value c.in_ok-rule-in-List.ensures.given c.test_list.ensures
-
-pub side-side_list-requires : goal.side-side_list-requires
-side-side_list-requires t c =
-    (search rules, fits_same c.in_ok-rule-in-List.rule _ _ _ c.deref.ensures.value c.deref-in-List.ensures.value c.in_ok-rule-in-List.ensures.sized)
+    (λ parts from to. refl) (λ from. test_forms naming scope) c.args.form.now c.in-List.items c.in-List.span
+    c.in_ok-rule-in-List.rule c.as_slice-parts.result.now c.test_list.result c.in-List.is
+    c.as_slice-parts.ensures.value c.in_ok-rule-in-List.ensures.given c.test_list.ensures
 
 pub side-returns-in_ok-rule-in-List : goal.side-returns-in_ok-rule-in-List
 side-returns-in_ok-rule-in-List t c =
     let naming = c.args.self.now in
     let scope = c.args.scope.now in
     list_gives side_seen (side_at naming scope) place.Side (λ from. side_rule naming scope) (λ from. side_form naming scope)
-    (λ parts from to. refl) (λ from. side_forms naming scope) c.args.form.now c.in-List.items c.in-List.span c.in_ok-rule-in-List.rule
-    c.deref.result.now c.deref-in-List.result.now c.side_list.result c.in-List.is
-    c.deref.ensures.value c.deref-in-List.ensures.value c.in_ok-rule-in-List.ensures.given c.side_list.ensures
+    (λ parts from to. refl) (λ from. side_forms naming scope) c.args.form.now c.in-List.items c.in-List.span
+    c.in_ok-rule-in-List.rule c.as_slice-parts.result.now c.side_list.result c.in-List.is
+    c.as_slice-parts.ensures.value c.in_ok-rule-in-List.ensures.given c.side_list.ensures
 
+-- three readings in turn, of which the last is in the scope behind the binder
 pub filter-returns : goal.filter-returns
 filter-returns t c =
     let naming = c.args.self.now in
@@ -100,6 +113,7 @@ quantified-returns t c =
     c.in_ok-domain.ensures c.in_ok-bound.ensures.given
     (c.in_ok-bound.ensures.inner ∙ ap (bind naming scope bound) c.sort_of.ensures) c.in_ok-test.ensures
 
+-- one part after the other
 pub collections-loop-form-preserved : goal.collections-loop-form-preserved
 collections-loop-form-preserved t c =
     let naming = c.args.self.now in

@@ -6,6 +6,7 @@ use Rattle.rc_sheet.specs.ReadExpressions.{colls_at, tests_at}
 use Rattle.rc_sheet.proofs.InTurn.{so_far}
 use Rattle.rc_sheet.proofs.reader.Reader.+reading.Given as goal
 
+-- what was read stands before what the other forms say
 abbrev pub invariant-collections-loop-form : goal.invariant-collections-loop-form
 invariant-collections-loop-form l =
     let all = colls_at l.self l.scope in

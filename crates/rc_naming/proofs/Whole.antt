@@ -1,0 +1,131 @@
+-- The names that are known at the end are the names of the form.
+use Rattle.std.proofs.Common.{◌≡◌, ℕ, ◌+◌, ◌≤◌, List, [], ◌∷◌, ◌++◌, length, map, flat_map, refl, sym, ap, ◌∙◌, subst}
+use Rattle.std.specs.List.{range_with_len}
+use Rattle.std.proofs.lemmas.List.{append-nil, length-map}
+use Rattle.rc_model.specs.Tree.{Tree, Trees}
+use Rattle.rc_sheet_model.specs.Sheet.{Names, LocName, NumName}
+use Rattle.rc_sheet_model.specs.Numbering.{different, below}
+use Rattle.rc_sheet_model.specs.Naming.{Naming}
+use Rattle.rc_sheet_model.specs.FormMentions.{setup_lines, body, deck_lines, points_lines, all_gathered, names_of, attr_mentions, value_mentions, map_mentions, loc_mentions, num_mentions, var_mentions, all_var_words}
+use Rattle.rc_semantics.specs.SecondNames.{Mention}
+use Rattle.rc_naming.specs.Mentions.{Mentions, loc_mention, deck_location, all_locations, all_numbers, mentions_of}
+use Rattle.rc_naming.specs.Naming.{naming_of, loc_names, num_names, firsts}
+use Rattle.rc_naming.specs.Known.{with_all, with_words, with_mentions, none, joined, decks_in, all_points_in, body_in, naming_by}
+use Rattle.rc_naming.proofs.Firsts.{words_added, mentions_added, names_added}
+use Rattle.rc_naming.proofs.Gathered.{location_words, number_words}
+use Rattle.rc_naming.proofs.Steps.{with_all-joined}
+
+-- the setup and the body are all
+parts_are_all : (form : Tree) →
+    joined (joined (decks_in (setup_lines form)) (all_points_in (setup_lines form))) (body_in (body form)) ≡ mentions_of form
+parts_are_all form =
+    ap
+    (λ locs. record {
+      attrs = attr_mentions form;
+      values = value_mentions form;
+      maps = map_mentions form;
+      locs = locs ++ all_gathered loc_mention (body form);
+      nums = all_numbers form;
+      vars = var_mentions form;
+    })
+    (append-nil (flat_map deck_location (deck_lines form)))
+
+pub all_known : (form : Tree) →
+    with_all (with_all (with_all none (decks_in (setup_lines form))) (all_points_in (setup_lines form))) (body_in (body form))
+    ≡ with_all none (mentions_of form)
+all_known form =
+    let decks = decks_in (setup_lines form) in
+    let points = all_points_in (setup_lines form) in
+    let rest = body_in (body form) in
+    ap (λ known. with_all known rest) (with_all-joined none decks points)
+    ∙ with_all-joined none (joined decks points) rest
+    ∙ ap (with_all none) (parts_are_all form)
+
+pub same_naming : (attrs attrs' values values' maps maps' locs locs' nums nums' vars vars' : List (List ℕ))
+    (loc_names loc_names' : List LocName) (num_names num_names' : List NumName)
+    → attrs ≡ attrs' → values ≡ values' → maps ≡ maps' → locs ≡ locs' → nums ≡ nums' → vars ≡ vars'
+    → loc_names ≡ loc_names' → num_names ≡ num_names'
+    → ◌≡◌ {A = Naming}
+    (record { names = record { attrs = attrs; values = values; maps = maps; locs = locs; nums = nums; vars = vars }; locs = loc_names; nums = num_names })
+    (record { names = record { attrs = attrs'; values = values'; maps = maps'; locs = locs'; nums = nums'; vars = vars' }; locs = loc_names'; nums = num_names' })
+same_naming attrs attrs' values values' maps maps' locs locs' nums nums' vars vars' loc_names loc_names' num_names num_names' a b c d e f g h =
+    rw (a, b, c, d, e, f, g, h) refl
+
+-- the words of the mentions that are known
+locs_known : (form : Tree) → map (λ mention. mention.name) (with_mentions [] (all_locations form)) ≡ (names_of form).locs
+locs_known form = names_added (λ mention. mention.name) (all_locations form) ∙ ap different (location_words form)
+
+nums_known : (form : Tree) → map (λ mention. mention.name) (with_mentions [] (all_numbers form)) ≡ (names_of form).nums
+nums_known form = names_added (λ mention. mention.name) (all_numbers form) ∙ ap different (number_words form)
+
+pub naming_is : (form : Tree) → naming_by (with_all none (mentions_of form)) ≡ naming_of form
+naming_is form =
+    same_naming _ _ _ _ _ _ _ _ _ _ _ _ _ _ _ _
+    (words_added (attr_mentions form))
+    (words_added (value_mentions form))
+    (words_added (map_mentions form))
+    (locs_known form)
+    (nums_known form)
+    (words_added (var_mentions form))
+    (ap (loc_names 0) (mentions_added (all_locations form)))
+    (ap (num_names 0) (mentions_added (all_numbers form)))
+
+-- there are as many as names
+pub locs_fit : (form : Tree) (most : ℕ) → length (names_of form).locs ≤ most → length (with_mentions [] (all_locations form)) ≤ most
+locs_fit form most fits =
+    subst (λ n. n ≤ most)
+    (sym (ap (λ words. length words) (locs_known form)) ∙ length-map (with_mentions [] (all_locations form)) (λ mention. mention.name))
+    fits
+
+pub nums_fit : (form : Tree) (most : ℕ) → length (names_of form).nums ≤ most → length (with_mentions [] (all_numbers form)) ≤ most
+nums_fit form most fits =
+    subst (λ n. n ≤ most)
+    (sym (ap (λ words. length words) (nums_known form)) ∙ length-map (with_mentions [] (all_numbers form)) (λ mention. mention.name))
+    fits
+
+-- the first mentions are those of the names
+pub locs_in_order : (form : Tree) → map (λ mention. mention.name) (firsts (all_locations form)) ≡ (names_of form).locs
+locs_in_order form = ap (map (λ mention. mention.name)) (sym (mentions_added (all_locations form))) ∙ locs_known form
+
+pub nums_in_order : (form : Tree) → map (λ mention. mention.name) (firsts (all_numbers form)) ≡ (names_of form).nums
+nums_in_order form = ap (map (λ mention. mention.name)) (sym (mentions_added (all_numbers form))) ∙ nums_known form
+
+-- they are numbered one by one
+loc_numbers_from : (number : ℕ) (mentions : List Mention) →
+    map (λ loc. loc.name) (loc_names number mentions) ≡ range_with_len number (length mentions)
+loc_numbers_from number [] = refl
+loc_numbers_from number (mention ∷ mentions) = ap (λ rest. number ∷ rest) (loc_numbers_from (number + 1) mentions)
+
+num_numbers_from : (number : ℕ) (mentions : List Mention) →
+    map (λ num. num.name) (num_names number mentions) ≡ range_with_len number (length mentions)
+num_numbers_from number [] = refl
+num_numbers_from number (mention ∷ mentions) = ap (λ rest. number ∷ rest) (num_numbers_from (number + 1) mentions)
+
+-- as many as mentions
+as_many : (mentions : List Mention) (words : List (List ℕ)) → map (λ mention. mention.name) mentions ≡ words → length mentions ≡ length words
+as_many mentions words are = sym (length-map mentions (λ mention. mention.name)) ∙ ap (λ all. length all) are
+
+pub loc_numbers : (form : Tree) → map (λ loc. loc.name) (naming_of form).locs ≡ below (length (names_of form).locs)
+loc_numbers form =
+    loc_numbers_from 0 (firsts (all_locations form))
+    ∙ ap below (as_many (firsts (all_locations form)) (names_of form).locs (locs_in_order form))
+
+pub num_numbers : (form : Tree) → map (λ num. num.name) (naming_of form).nums ≡ below (length (names_of form).nums)
+num_numbers form =
+    num_numbers_from 0 (firsts (all_numbers form))
+    ∙ ap below (as_many (firsts (all_numbers form)) (names_of form).nums (nums_in_order form))
+
+-- where few are known, there are few names
+pub locs_told : (form : Tree) (known : Mentions) (most : ℕ) → known ≡ with_all none (mentions_of form) → length known.locs ≤ most →
+    length (names_of form).locs ≤ most
+locs_told form known most is few =
+    subst (λ n. n ≤ most)
+    (as_many known.locs (names_of form).locs (ap (λ k. map (λ mention. mention.name) k.locs) is ∙ locs_known form))
+    few
+
+pub nums_told : (form : Tree) (known : Mentions) (most : ℕ) → known ≡ with_all none (mentions_of form) → length known.nums ≤ most →
+    length (names_of form).nums ≤ most
+nums_told form known most is few =
+    subst (λ n. n ≤ most)
+    (as_many known.nums (names_of form).nums (ap (λ k. map (λ mention. mention.name) k.nums) is ∙ nums_known form))
+    few

@@ -1,0 +1,18 @@
+use Rattle.std.proofs.Common.{◌∙◌, ap, sym}
+use Rattle.rc_naming.specs.Known.{loc_seen, num_seen, naming_by}
+use Rattle.rc_naming.proofs.Stored.{map-map}
+use Rattle.rc_naming.proofs.Whole.{same_naming}
+use Rattle.rc_naming.proofs.known.Known.naming.Goals as goal
+
+pub returns : goal.returns
+returns c =
+    same_naming _ _ _ _ _ _ _ _ _ _ _ _ _ _ _ _
+    (c.in_ok-words_of.ensures ∙ c.as_slice.ensures.keys)
+    (c.in_ok-words_of-2.ensures ∙ c.as_slice-2.ensures.keys)
+    (c.in_ok-words_of-3.ensures ∙ c.as_slice-3.ensures.keys)
+    (c.in_ok-keys_of.ensures ∙ sym (map-map loc_seen (λ mention. mention.name) c.self.inside.locs.entries))
+    (c.in_ok-keys_of-2.ensures ∙ sym (map-map num_seen (λ mention. mention.name) c.self.inside.nums.entries))
+    (c.in_ok-words_of-4.ensures ∙ c.as_slice-4.ensures.keys)
+    c.in_ok-loc_names.ensures
+    c.in_ok-num_names.ensures
+    ∙ ap naming_by c.self.view_is

@@ -1,0 +1,136 @@
+//! The names that are known so far.
+ghost use Rattle.std.specs.Prelude.{◌≡◌, [], OnOk, option_map, option_to_list};
+ghost use Rattle.rc_form.specs.Form.{tree_of, trees_of, packed};
+ghost use Rattle.rc_sheet_model.specs.FormMentions.{word_of};
+ghost use Rattle.rc_naming.specs.Known.{with_first, with_words, with_all, own, none, in_deck_of, maps_alone, locs_alone, nums_alone, variables, loc_seen, num_seen};
+
+use crate::uses::{Kind, Located, attr_in, loc_in, map_in, num_in, value_in, word_of};
+use indexmap::{IndexMap, IndexSet};
+use rc_ast::Class;
+use rc_form::{Form, Word};
+use std::alloc::{AllocError, Global};
+use std::marker::Model;
+
+/// The different names of each kind that were mentioned so far, in the order of their first mention, and what the first
+/// mention of a location or of a stored number says.
+#[derive(Drop)]
+pub struct Known {
+    pub(crate) attrs: IndexSet<Word>,
+    pub(crate) values: IndexSet<Word>,
+    pub(crate) maps: IndexSet<Word>,
+    pub(crate) locs: IndexMap<Word, Located>,
+    pub(crate) nums: IndexMap<Word, Class>,
+    pub(crate) vars: IndexSet<Word>,
+}
+
+impl Model for Known {
+    ghost use Rattle.rc_naming.specs.Mentions.{Mentions};
+
+    ghost Value = { Mentions };
+
+    ghost use Rattle.rc_naming.specs.Known.{known_seen};
+
+    ghost view = { known_seen };
+}
+
+impl Known {
+    /// No names. It takes no memory.
+    pub fn new(alloc: Global) -> Known
+        ensures { result ≡ none }
+    {
+        Known {
+            attrs: IndexSet::new(alloc),
+            values: IndexSet::new(alloc),
+            maps: IndexSet::new(alloc),
+            locs: IndexMap::new(alloc),
+            nums: IndexMap::new(alloc),
+            vars: IndexSet::new(alloc),
+        }
+    }
+
+    /// Adds the attribute that the form is, where it is an atom.
+    pub fn add_attr(&mut self, form: &Form) -> Result<(), AllocError>
+        ensures { OnOk result (self.new ≡ with_all self.old (in_deck_of (word_of (tree_of form.now)) [])) }
+    {
+        add_word(&mut self.attrs, word_of(form))
+    }
+
+    /// Adds the value that the form is, where it is an atom.
+    pub fn add_value(&mut self, form: &Form) -> Result<(), AllocError>
+        ensures { OnOk result (self.new ≡ with_all self.old (in_deck_of [] (word_of (tree_of form.now)))) }
+    {
+        add_word(&mut self.values, word_of(form))
+    }
+
+    /// Adds a point map, where there is one.
+    pub fn add_map(&mut self, map: Option<Word>) -> Result<(), AllocError>
+        ensures { OnOk result (self.new ≡ with_all self.old (maps_alone (option_to_list map))) }
+    {
+        add_word(&mut self.maps, map)
+    }
+
+    /// Adds the variable that the form is, where it is an atom.
+    pub fn add_variable(&mut self, form: &Form) -> Result<(), AllocError>
+        ensures { OnOk result (self.new ≡ with_all self.old (variables (word_of (tree_of form.now)))) }
+    {
+        add_word(&mut self.vars, word_of(form))
+    }
+
+    /// Adds the name of this kind that a list of these parts mentions itself.
+    pub fn add_own(&mut self, kind: Kind, parts: &[Form]) -> Result<(), AllocError>
+        ensures { OnOk result (self.new ≡ with_all self.old (own kind (packed (trees_of parts.now)))) }
+    {
+        match kind {
+            Kind::Attr => add_word(&mut self.attrs, attr_in(parts)),
+            Kind::Value => add_word(&mut self.values, value_in(parts)),
+            Kind::Map => add_word(&mut self.maps, map_in(parts)),
+            Kind::Loc => self.add_location(loc_in(parts)),
+            Kind::Num => self.add_number(num_in(parts)),
+        }
+    }
+
+    /// Adds a mention of a location, where there is one.
+    fn add_location(&mut self, found: Option<(Word, Located)>) -> Result<(), AllocError>
+        ensures { OnOk result (self.new ≡ with_all self.old (locs_alone (option_to_list (option_map loc_seen found)))) }
+    {
+        match found {
+            Some(entry) => add_entry(&mut self.locs, entry.0, entry.1),
+            None => Ok(()),
+        }
+    }
+
+    /// Adds a mention of a stored number, where there is one.
+    fn add_number(&mut self, found: Option<(Word, Class)>) -> Result<(), AllocError>
+        ensures { OnOk result (self.new ≡ with_all self.old (nums_alone (option_to_list (option_map num_seen found)))) }
+    {
+        match found {
+            Some(entry) => add_entry(&mut self.nums, entry.0, entry.1),
+            None => Ok(()),
+        }
+    }
+}
+
+/// Adds a word, unless it is known.
+fn add_word(words: &mut IndexSet<Word>, word: Option<Word>) -> Result<(), AllocError>
+    ensures { OnOk result (words.new.keys ≡ with_words words.old.keys (option_to_list word)) }
+{
+    if let Some(word) = word {
+        words.insert(word)?;
+    }
+    Ok(())
+}
+
+/// Adds a word with what its mention says, unless the word is known.
+fn add_entry<V: Drop>(
+    entries: &mut IndexMap<Word, V>,
+    word: Word,
+    said: V,
+) -> Result<(), AllocError>
+    ensures { OnOk result (entries.new.entries ≡ with_first (λ e. e.0) entries.old.entries (word, said)) }
+{
+    if entries.contains_key(&word) {
+        return Ok(());
+    }
+    entries.insert(word, said)?;
+    Ok(())
+}

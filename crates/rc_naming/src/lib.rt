@@ -1,0 +1,19 @@
+//! The names of a sheet's form, numbered by their first mention.
+//!
+//! [`naming_of`] goes over a form whose shape is right, and gives the words of each kind in the order in which the printed
+//! form mentions them first. What a form mentions is defined in `rc_sheet_model`'s `FormMentions`.
+#![tactic(auto)]
+
+mod finish;
+mod known;
+mod laws;
+mod numbering;
+mod setup;
+mod sheet_parts;
+#[cfg(test)]
+mod tests;
+mod uses;
+mod walk;
+
+pub use laws::names_are_in_order;
+pub use numbering::{Naming, naming_of};

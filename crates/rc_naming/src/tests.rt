@@ -1,0 +1,4 @@
+//! Forms whose names are numbered by hand.
+mod setups;
+mod table;
+mod uses;
