@@ -36,7 +36,6 @@ const SAID: &[Said] = &[
                 "((stage player (end (= 0 1)) (do (cycle reverse))) (stage team (end (= 0 2)) (do (cycle reverse))) (scoring min ('SELF sto TRICKS)))",
                 "([Stage { number: 0, class: Player, end: EqInt(Lit(0), Lit(1)), body: [Do([Reverse])] }, Stage { number: 1, class: Team, end: EqInt(Lit(0), Lit(2)), body: [Do([Reverse])] }], (Min, Num(Num { who: Var(0), name: 1 })))",
             ),
-            ("((scoring max 0))", "([], (Max, Lit(0)))"),
         ],
     },
 ];
@@ -66,6 +65,7 @@ const REFUSED: &[Refused] = &[
             "((do (cycle reverse)) (scoring best 0))",
             "((do (cycle reverse)) (scoring max ('P sto TRICKS)))",
             "((do (cycle reverse)) (scoring max))",
+            "((scoring max 0))",
             "((do) (scoring max 0))",
             "((do (inc ('SELF sto TRICKS) 1)) (scoring max 0))",
         ],
