@@ -73,7 +73,8 @@ module _ {X : Type 0} (name : X → List ℕ) where
   pub names_added : (xs : List X) → map name (with_firsts name [] xs) ≡ different (map name xs)
   names_added xs = ap (map name) (added [] xs) ∙ different_names [] xs
 
-firsts_are : (seen : List (List ℕ)) (mentions : List Mention) → firsts (λ mention. mention.name) seen mentions ≡ firsts_from seen mentions
+firsts_are : (seen : List (List ℕ)) (mentions : List Mention) →
+    firsts (λ mention. mention.name) seen mentions ≡ firsts_from seen mentions
 firsts_are seen [] = refl
 firsts_are seen (mention ∷ mentions) =
     rw (firsts_are seen mentions, firsts_are (mention.name ∷ seen) mentions) refl
@@ -106,6 +107,7 @@ seen_added f name known (x ∷ xs) =
           ∙ sym (ap (λ all. with_firsts name all (map f xs)) (cond-false _ _ _ (among ∙ new)))
     ]
 
-pub seen_option : {X Y : Type 0} (f : X → Y) (found : Option X) → map f (option_to_list found) ≡ option_to_list (option_map f found)
+pub seen_option : {X Y : Type 0} (f : X → Y) (found : Option X) →
+    map f (option_to_list found) ≡ option_to_list (option_map f found)
 seen_option f None = refl
 seen_option f (Some x) = refl

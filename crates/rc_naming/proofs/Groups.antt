@@ -39,9 +39,12 @@ module _ (group : Form) (items : Vec Form Global) (span : Span) (is : group ≡ 
   pub group_other : (length slice ≡ 2 → ⊥) → in_groups (cons (tree_of group) nil) ≡ none
   group_other other = group_tree ∙ other_group slice span other
 
-  module _ (attr second : Form) (long : length slice ≡ 2) (is-attr : attr ≡ get_or slice 0 attr) (is-second : second ≡ get_or slice 1 second) where
+  module _ (attr second : Form) (long : length slice ≡ 2)
+      (is-attr : attr ≡ get_or slice 0 attr) (is-second : second ≡ get_or slice 1 second) where
     parts : in_groups (cons (tree_of group) nil) ≡ in_groups (alone (cons (tree_of attr) (cons (tree_of second) nil)) span)
-    parts = group_tree ∙ ap (λ forms. in_groups (alone (packed (trees_of forms)) span)) (two slice attr second long is-attr is-second)
+    parts =
+        group_tree
+        ∙ ap (λ forms. in_groups (alone (packed (trees_of forms)) span)) (two slice attr second long is-attr is-second)
 
     -- the second is a list
     pub group_atom : (bytes : List ℕ) (at : Span) → second ≡ Atom bytes at → in_groups (cons (tree_of group) nil) ≡ none
@@ -60,4 +63,5 @@ module _ (group : Form) (items : Vec Form Global) (span : Span) (is : group ≡ 
         ∙ ap (λ values. with_all known (in_deck_of ((word_of (tree_of attr) ++ branch_attr_words inner) ++ []) values))
         (sym (append-nil (branch_value_words inner)))
         ∙ sym (ap (with_all known) (
-        parts ∙ ap (λ tree. in_groups (alone (cons (tree_of attr) (cons tree nil)) span)) (tree_of_list second branches at listed)))
+        parts ∙ ap (λ tree. in_groups (alone (cons (tree_of attr) (cons tree nil)) span))
+        (tree_of_list second branches at listed)))

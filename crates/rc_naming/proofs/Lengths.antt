@@ -119,7 +119,8 @@ num_other (a ∷ b ∷ c ∷ []) three = absurd (three refl)
 num_other (a ∷ b ∷ c ∷ d ∷ ds) three = refl
 
 -- fewer than three parts bind nothing themselves
-pub bound_short : (forms : List Form) → length forms < 3 → all_var_words (packed (trees_of forms)) ≡ bound_words (packed (trees_of forms))
+pub bound_short : (forms : List Form) → length forms < 3 →
+    all_var_words (packed (trees_of forms)) ≡ bound_words (packed (trees_of forms))
 bound_short [] short = refl
 bound_short (a ∷ []) short = append-nil (var_words (tree_of a))
 bound_short (a ∷ b ∷ []) short = ap (λ words. var_words (tree_of a) ++ words) (append-nil (var_words (tree_of b)))

@@ -46,8 +46,10 @@ values-split tree trees = refl
 two-append : {A : Type 0} (a b : List A) → a ++ b ≡ (a ++ []) ++ b
 two-append a b = ap (λ xs. xs ++ b) (sym (append-nil a))
 
-both : (attrs attrs' values values' : List (List ℕ)) → attrs ≡ attrs' → values ≡ values' → in_deck_of attrs values ≡ in_deck_of attrs' values'
-both attrs attrs' values values' is-attrs is-values = ap (λ words. in_deck_of words values) is-attrs ∙ ap (in_deck_of attrs') is-values
+both : (attrs attrs' values values' : List (List ℕ)) → attrs ≡ attrs' → values ≡ values'
+    → in_deck_of attrs values ≡ in_deck_of attrs' values'
+both attrs attrs' values values' is-attrs is-values =
+    ap (λ words. in_deck_of words values) is-attrs ∙ ap (in_deck_of attrs') is-values
 
 pub groups-split : Splits in_groups (λ tree. in_groups (cons tree nil))
 groups-split (word bytes from to) trees = refl
@@ -95,7 +97,8 @@ pub points-split : Splits all_points_in points_in
 points-split line lines = points_line line lines (begins_with "put" "points" line)
 
 -- what is added form by form
-pub step : (all : Trees → Mentions) (one : Tree → Mentions) → Splits all one → (known new : Mentions) (forms : List Form) (i : ℕ) (form : Form) →
+pub step : (all : Trees → Mentions) (one : Tree → Mentions) → Splits all one
+    → (known new : Mentions) (forms : List Form) (i : ℕ) (form : Form) →
     i < length forms → form ≡ get_or forms i form → new ≡ with_all known (one (tree_of form)) →
     with_all new (all (packed (trees_of (drop (i + 1) forms)))) ≡ with_all known (all (packed (trees_of (drop i forms))))
 step all one splits known new forms i form lt is added =

@@ -46,9 +46,17 @@ pub same_naming : (attrs attrs' values values' maps maps' locs locs' nums nums' 
     → attrs ≡ attrs' → values ≡ values' → maps ≡ maps' → locs ≡ locs' → nums ≡ nums' → vars ≡ vars'
     → loc_names ≡ loc_names' → num_names ≡ num_names'
     → ◌≡◌ {A = Naming}
-    (record { names = record { attrs = attrs; values = values; maps = maps; locs = locs; nums = nums; vars = vars }; locs = loc_names; nums = num_names })
-    (record { names = record { attrs = attrs'; values = values'; maps = maps'; locs = locs'; nums = nums'; vars = vars' }; locs = loc_names'; nums = num_names' })
-same_naming attrs attrs' values values' maps maps' locs locs' nums nums' vars vars' loc_names loc_names' num_names num_names' a b c d e f g h =
+    (record {
+      names = record { attrs = attrs; values = values; maps = maps; locs = locs; nums = nums; vars = vars };
+      locs = loc_names;
+      nums = num_names;
+    })
+    (record {
+      names = record { attrs = attrs'; values = values'; maps = maps'; locs = locs'; nums = nums'; vars = vars' };
+      locs = loc_names';
+      nums = num_names';
+    })
+same_naming _ _ _ _ _ _ _ _ _ _ _ _ _ _ _ _ a b c d e f g h =
     rw (a, b, c, d, e, f, g, h) refl
 
 -- the words of the mentions that are known
@@ -71,16 +79,20 @@ naming_is form =
     (ap (num_names 0) (mentions_added (all_numbers form)))
 
 -- there are as many as names
-pub locs_fit : (form : Tree) (most : ℕ) → length (names_of form).locs ≤ most → length (with_mentions [] (all_locations form)) ≤ most
+pub locs_fit : (form : Tree) (most : ℕ) →
+    length (names_of form).locs ≤ most → length (with_mentions [] (all_locations form)) ≤ most
 locs_fit form most fits =
     subst (λ n. n ≤ most)
-    (sym (ap (λ words. length words) (locs_known form)) ∙ length-map (with_mentions [] (all_locations form)) (λ mention. mention.name))
+    (sym (ap (λ words. length words) (locs_known form))
+    ∙ length-map (with_mentions [] (all_locations form)) (λ mention. mention.name))
     fits
 
-pub nums_fit : (form : Tree) (most : ℕ) → length (names_of form).nums ≤ most → length (with_mentions [] (all_numbers form)) ≤ most
+pub nums_fit : (form : Tree) (most : ℕ) →
+    length (names_of form).nums ≤ most → length (with_mentions [] (all_numbers form)) ≤ most
 nums_fit form most fits =
     subst (λ n. n ≤ most)
-    (sym (ap (λ words. length words) (nums_known form)) ∙ length-map (with_mentions [] (all_numbers form)) (λ mention. mention.name))
+    (sym (ap (λ words. length words) (nums_known form))
+    ∙ length-map (with_mentions [] (all_numbers form)) (λ mention. mention.name))
     fits
 
 -- the first mentions are those of the names
@@ -102,7 +114,8 @@ num_numbers_from number [] = refl
 num_numbers_from number (mention ∷ mentions) = ap (λ rest. number ∷ rest) (num_numbers_from (number + 1) mentions)
 
 -- as many as mentions
-as_many : (mentions : List Mention) (words : List (List ℕ)) → map (λ mention. mention.name) mentions ≡ words → length mentions ≡ length words
+as_many : (mentions : List Mention) (words : List (List ℕ)) → map (λ mention. mention.name) mentions ≡ words
+    → length mentions ≡ length words
 as_many mentions words are = sym (length-map mentions (λ mention. mention.name)) ∙ ap (λ all. length all) are
 
 pub loc_numbers : (form : Tree) → map (λ loc. loc.name) (naming_of form).locs ≡ below (length (names_of form).locs)
@@ -116,15 +129,15 @@ num_numbers form =
     ∙ ap below (as_many (firsts (all_numbers form)) (names_of form).nums (nums_in_order form))
 
 -- where few are known, there are few names
-pub locs_told : (form : Tree) (known : Mentions) (most : ℕ) → known ≡ with_all none (mentions_of form) → length known.locs ≤ most →
-    length (names_of form).locs ≤ most
+pub locs_told : (form : Tree) (known : Mentions) (most : ℕ) → known ≡ with_all none (mentions_of form)
+    → length known.locs ≤ most → length (names_of form).locs ≤ most
 locs_told form known most is few =
     subst (λ n. n ≤ most)
     (as_many known.locs (names_of form).locs (ap (λ k. map (λ mention. mention.name) k.locs) is ∙ locs_known form))
     few
 
-pub nums_told : (form : Tree) (known : Mentions) (most : ℕ) → known ≡ with_all none (mentions_of form) → length known.nums ≤ most →
-    length (names_of form).nums ≤ most
+pub nums_told : (form : Tree) (known : Mentions) (most : ℕ) → known ≡ with_all none (mentions_of form)
+    → length known.nums ≤ most → length (names_of form).nums ≤ most
 nums_told form known most is few =
     subst (λ n. n ≤ most)
     (as_many known.nums (names_of form).nums (ap (λ k. map (λ mention. mention.name) k.nums) is ∙ nums_known form))
