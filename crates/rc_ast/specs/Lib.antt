@@ -5,3 +5,5 @@ pub mod Effects
 pub mod Items
 pub mod Sheet
 pub mod Examples
+pub mod Printing
+pub mod Unplaced

@@ -9,6 +9,7 @@ mod effects;
 mod expressions;
 mod items;
 mod names;
+mod printing;
 mod sheet;
 #[cfg(test)]
 mod tests;
@@ -18,5 +19,6 @@ pub use effects::{Effect, End};
 pub use expressions::{CardExpr, CollExpr, Domain, IntExpr, Loc, Num, Test, Who};
 pub use items::{Alt, SheetItem};
 pub use names::{Class, LocKind, LocName, Names, NumName, Sort};
+pub use printing::{print_sheet, printed_form_stands};
 pub use sheet::{Best, DeckLine, Sheet, Teams};
 pub use word::Word;

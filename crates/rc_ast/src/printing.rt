@@ -1,0 +1,16 @@
+//! Prints sheets.
+
+mod decks;
+mod effects;
+mod expressions;
+mod items;
+mod laws;
+mod printer;
+mod setup;
+mod sheet;
+#[cfg(test)]
+mod tests;
+mod words;
+
+pub use laws::printed_form_stands;
+pub use sheet::print_sheet;
