@@ -16,13 +16,15 @@ use Rattle.rc_sheet.proofs.Parts.{rest, behind_two, behind_three}
 use Rattle.rc_sheet.proofs.Readings.{of_rule, fits_known, behind_both}
 
 pub if_read : (naming : Naming) (scope : Scope) (parts : List Form) (rule : Rule) (t : Form)
-    → rule_at place.Effect (packed (trees_of parts)) ≡ Some rule → IsTrue (fits (length parts) rule) → rule ≡ rules.If → t ≡ get_or parts 1 t
+    → rule_at place.Effect (packed (trees_of parts)) ≡ Some rule → IsTrue (fits (length parts) rule) → rule ≡ rules.If
+    → t ≡ get_or parts 1 t
     → option_map (λ p. when p.0 p.1) (both (test_at naming scope (tree_of t)) (effects_at naming scope (rest 2 parts)))
     ≡ effect_of_list naming scope (packed (trees_of parts))
 if_read naming scope parts rule t given sized is at =
     let fit = fits_known (length parts) rule rules.If sized is in
     let few : 1 < length parts = grind arith in
-    sym (of_rule place.Effect (packed (trees_of parts)) (λ rule. effect_rule naming scope rule (packed (trees_of parts))) rule rules.If given is
+    sym (of_rule place.Effect (packed (trees_of parts))
+    (λ rule. effect_rule naming scope rule (packed (trees_of parts))) rule rules.If given is
     ∙ ap (effect_rule naming scope rules.If) (behind_two parts t few at))
 
 pub repeat_read : (naming : Naming) (scope : Scope) (parts : List Form) (rule : Rule) (times : Form)
@@ -33,10 +35,12 @@ pub repeat_read : (naming : Naming) (scope : Scope) (parts : List Form) (rule : 
 repeat_read naming scope parts rule times given sized is at =
     let fit = fits_known (length parts) rule rules.Repeat sized is in
     let few : 1 < length parts = grind arith in
-    sym (of_rule place.Effect (packed (trees_of parts)) (λ rule. effect_rule naming scope rule (packed (trees_of parts))) rule rules.Repeat given is
+    sym (of_rule place.Effect (packed (trees_of parts))
+    (λ rule. effect_rule naming scope rule (packed (trees_of parts))) rule rules.Repeat given is
     ∙ ap (effect_rule naming scope rules.Repeat) (behind_two parts times few at))
 
-pub each_read : (naming : Naming) (scope inner : Scope) (parts : List Form) (rule : Rule) (range variable : Form) (domain : Domain) (bound : ℕ)
+pub each_read : (naming : Naming) (scope inner : Scope) (parts : List Form) (rule : Rule) (range variable : Form)
+    (domain : Domain) (bound : ℕ)
     → rule_at place.Effect (packed (trees_of parts)) ≡ Some rule → IsTrue (fits (length parts) rule) → rule ≡ rules.Each
     → range ≡ get_or parts 1 range → variable ≡ get_or parts 2 variable
     → both (range_at naming scope (tree_of range)) (binder_at naming.names.vars scope (tree_of variable)) ≡ Some (domain, bound)
@@ -49,6 +53,8 @@ each_read naming scope inner parts rule range variable domain bound given sized 
     let read = λ (domain : Domain) (bound : ℕ). option_map (λ effects. for_each domain bound effects)
     (effects_at naming (bind naming scope bound (sort_of domain)) (rest 3 parts)) in
     ap (λ inner. option_map (λ effects. for_each domain bound effects) (effects_at naming inner (rest 3 parts))) inside
-    ∙ behind_both (range_at naming scope (tree_of range)) (binder_at naming.names.vars scope (tree_of variable)) read domain bound members
-    ∙ sym (of_rule place.Effect (packed (trees_of parts)) (λ rule. effect_rule naming scope rule (packed (trees_of parts))) rule rules.Each given is
+    ∙ behind_both (range_at naming scope (tree_of range))
+    (binder_at naming.names.vars scope (tree_of variable)) read domain bound members
+    ∙ sym (of_rule place.Effect (packed (trees_of parts))
+    (λ rule. effect_rule naming scope rule (packed (trees_of parts))) rule rules.Each given is
     ∙ ap (effect_rule naming scope rules.Each) (behind_three parts range variable few at also))

@@ -1,5 +1,5 @@
 -- Parts of a form that a second round found nothing wrong with, where the naming of the sheet is fixed.
-use Rattle.std.proofs.Common.{◌≡◌, ℕ, true, false, ◌||◌, nat_le, List, length, flat_map, slice_get, position, bytes_eq, Option, Some}
+use Rattle.std.proofs.Common.{◌≡◌, ℕ, true, false, ◌||◌, nat_le, List, length, flat_map, slice_get, position, bytes_eq, Some}
 use Rattle.rc_model.specs.Tree.{Tree, Trees}
 use Rattle.rc_sheet_model.specs.Sheet.{LocName, NumName}
 use Rattle.rc_sheet_model.specs.Limits.{most_variables, most_repeats}
@@ -73,7 +73,8 @@ pub record IsFineBinder (naming : Naming) (at : Standing) (parts : Trees) : Type
 
 -- what each form wants
 abbrev pub IsFineRule : Naming → Standing → Rule → Trees → Type 0
-IsFineRule naming at rule.Location parts = (is_misplaced at.role (mention_of parts) ≡ false) × IsLocMention naming (mention_of parts)
+IsFineRule naming at rule.Location parts = (is_misplaced at.role (mention_of parts) ≡ false) × IsLocMention naming
+    (mention_of parts)
 IsFineRule naming at rule.Counter parts = IsNumMention naming (mention_of parts)
 IsFineRule naming at rule.CurrentPlayer parts = at.around.player_stage ≡ true
 IsFineRule naming at rule.CurrentTeam parts = at.around.team_stage ≡ true

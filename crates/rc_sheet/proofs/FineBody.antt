@@ -22,12 +22,13 @@ use Rattle.rc_sheet.specs.ReadNames.{◌>>=◌, ensure}
 use Rattle.rc_sheet.specs.ReadItems.{none_begun, items_at, best_at, score_rule, score_at, but_last, last_of, body_at}
 use Rattle.rc_sheet.proofs.Fine.{Given, IsFine}
 use Rattle.rc_sheet.proofs.Finds.{Finds, finds, finds_if, implies, makes, follows_this, finds_both, finds_meaning, whether, where_true, ensures_so}
-use Rattle.rc_sheet.proofs.GoodParts.{◌▹◌, Each, each_by_parts, three_and_more, IsGood, IsGoodForm, GoodAt, AreGood, good_form, rule_among, no_list}
+use Rattle.rc_sheet.proofs.GoodParts.{◌▹◌, Each, each_by_parts, three_and_more, IsGood, IsGoodForm, GoodAt, AreGood, good_form, no_list}
 use Rattle.rc_sheet.proofs.GoodForms.{from_two, plain_part, with_three, list_says}
 use Rattle.rc_sheet.proofs.FineNames.{passes_test, Gives, Good}
 use Rattle.rc_sheet.proofs.FineExpressions.{reads}
 use Rattle.rc_sheet.proofs.CountedItems.{items_count}
 use Rattle.rc_sheet.proofs.FineItems.{length_of_both, last_of_four, HasRoom, parts_alike, Plays, items_find, plays}
+use Rattle.rc_sheet.proofs.Shapes.{rule_holds}
 
 -- which scores are best
 best_finds : (bytes : List ℕ) (from to : ℕ) → (is_word keyword.Max bytes || is_word keyword.Min bytes) ≡ true
@@ -173,7 +174,7 @@ module _ (given : Given) (naming : Naming) where
       let same = ap (with_form standing_alone parts from (λ found. parts_in standing_alone found parts 0 parts)) good.1.told in
       let room : HasRoom none_begun (parts_of (list parts from to))
       = record { stages = omega (arith, stages); sites = omega (arith, sites) } in
-      rule_among
+      rule_holds
       (λ found. IsGoodForm given naming standing_alone found parts
       → HasRoom none_begun (form standing_alone found parts from ∷ parts_in standing_alone found parts 0 parts)
       → IsGame (list parts from to))

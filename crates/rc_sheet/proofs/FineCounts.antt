@@ -5,24 +5,11 @@ use Rattle.rc_model.specs.Tree.{Tree}
 use Rattle.rc_sheet_model.specs.Limits.{most_stages, most_sites}
 use Rattle.rc_semantics.specs.SecondParts.{Part, atom, form, parts_of}
 use Rattle.rc_semantics.specs.SecondNames.{stages_in, choices_in}
-use Rattle.rc_semantics.specs.SecondFaults.{is_too_many, lacks_cards, passes, stage_count, choice_count, fault_where, faults_of, faults_behind, second_faults}
+use Rattle.rc_semantics.specs.SecondFaults.{is_too_many, passes, stage_count, choice_count, faults_of, faults_behind, second_faults}
 use Rattle.rc_grammar.specs.declared.grammar.Rule.TheVariants as rule
-use Rattle.rc_grammar.specs.declared.fault.SheetKind.{SheetKind}
-use Rattle.rc_grammar.specs.declared.fault.SheetKind.TheVariants.{TooMany, NoCards}
-use Rattle.rc_sheet.proofs.GoodParts.{none_of_both}
 use Rattle.rc_sheet.proofs.FineItems.{length_of_both}
-
--- what isn't at fault doesn't fail the test
-not_at_fault : (b : Bool) (kind : SheetKind) (part : Part) → fault_where b kind part ≡ [] → b ≡ false
-not_at_fault true kind part is = absurd cc
-not_at_fault false kind part is = refl
-
--- a part without faults makes nothing too many
-makes_no_more : (all earlier : List Part) (part : Part) → faults_of all earlier part ≡ [] → is_too_many all earlier part ≡ false
-makes_no_more all earlier part is =
-    let cards = none_of_both _ (fault_where (lacks_cards all part) NoCards part) is in
-    let many = none_of_both _ (fault_where (is_too_many all earlier part) TooMany part) cards.0 in
-    not_at_fault (is_too_many all earlier part) TooMany part many.1
+use Rattle.rc_sheet.proofs.Shapes.{none_in_both}
+use Rattle.rc_sheet.proofs.Faultless.{faultless}
 
 -- a count passes its limit only where a part makes something too many
 abbrev pub IsWatched : ℕ → (List Part → ℕ) → List Part → Type 0
@@ -35,8 +22,8 @@ pub stays_within : (most : ℕ) (count : List Part → ℕ) (all : List Part) �
     → faults_behind all earlier later ≡ [] → count earlier ≤ most → count (earlier ++ later) ≤ most
 stays_within most count all watched earlier [] is le = subst (λ parts. count parts ≤ most) (sym (append-nil earlier)) le
 stays_within most count all watched earlier (part ∷ later) is le =
-    let none = none_of_both (faults_of all earlier part) _ is in
-    let next = watched earlier part (makes_no_more all earlier part none.0) le in
+    let none = none_in_both (faults_of all earlier part) _ is in
+    let next = watched earlier part (faultless all earlier part none.0).few le in
     subst (λ parts. count parts ≤ most) (append_assoc earlier (part ∷ []) later)
     (stays_within most count all watched (earlier ++ part ∷ []) later none.1 next)
 
@@ -50,7 +37,7 @@ not_passed most count earlier part is le = by (nat_le (count earlier) most) (le-
     by false same is = absurd cc
 
 -- of a part that one count watches
-watched_part : (most : ℕ) (count : List Part → ℕ) (earlier : List Part) (part : Part) (deep : Bool)
+pub watched_part : (most : ℕ) (count : List Part → ℕ) (earlier : List Part) (part : Part) (deep : Bool)
     → ((passes most count earlier part || false) || deep) ≡ false → count earlier ≤ most → count (earlier ++ part ∷ []) ≤ most
 watched_part most count earlier part deep is le =
     let both = or_parts (passes most count earlier part || false) deep is in

@@ -5,6 +5,7 @@ use Rattle.std.proofs.lemmas.Bool.{not-true, not-false, and_from, or_from, false
 use Rattle.std.proofs.lemmas.Option.{slice_get_within, get_or_from_slice_get}
 use Rattle.std.proofs.lemmas.List.Folds.{find_at}
 use Rattle.std.proofs.lemmas.Slice.Eq.{bytes_eq-Decides}
+use Rattle.std.proofs.Math.Bool.{or-false}
 use Rattle.rc_model.specs.Tree.{Tree, word, list, Trees, nil, cons}
 use Rattle.rc_sheet_model.specs.Sheet.{Class, game_class, player_class, team_class, Sort, player_sort, LocKind, vloc, iloc, hloc, mem, Who, game, current_player, current_team, who_var, Loc, Sheet}
 use Rattle.rc_sheet_model.specs.Limits.{most_variables}
@@ -32,9 +33,10 @@ use Rattle.rc_grammar.specs.declared.fault.SheetFault.{SheetFault}
 use Rattle.rc_sheet.specs.ReadNames.{◌>>=◌, ensure, rule_at, name_at, binder_at, has_sort, place_in, sorted, variable_in, player_of_rule, player_at, team_of, team_parts, owner_rule, owner_at, holder_at, kind_word, is_loc_name, is_num_name, loc_parts, loc_rule, loc_at, num_parts, num_rule, num_at, map_at}
 use Rattle.rc_sheet.proofs.Fine.{Given, IsNamed, HasNumber, IsFineAtom, IsFineBinder}
 use Rattle.rc_sheet.proofs.Means.{means_so, found_passes}
-use Rattle.rc_sheet.proofs.ReadsNames.{same_bytes, sorts_same, kind_is}
+use Rattle.rc_sheet.proofs.ReadsNames.{same_bytes, sorts_same, kind_is, class_same}
 use Rattle.rc_sheet.proofs.Finds.{Finds, finds, finds_if, implies, makes, follows, follows_this, where_true, where_false, whether, ensures_so}
-use Rattle.rc_sheet.proofs.GoodParts.{◌▹◌, three_parts, IsGood, IsGoodForm, finds_by, list_finds, no_list}
+use Rattle.rc_sheet.proofs.GoodParts.{◌▹◌, IsGood, IsGoodForm, finds_by, list_finds, no_list}
+use Rattle.rc_sheet.proofs.Shapes.{three_only}
 
 -- an atom that its place doesn't refuse passes the test there
 pub passes_test : (b : Bool) (kind : SheetKind) (from : ℕ)
@@ -91,11 +93,6 @@ no_keyword (b ∷ bytes) is =
       subst (λ b. is_word keyword.Player (b ∷ bytes) ≡ false) (sym first) refl,
     )
 
--- the first of two, where the second fails
-or_false : (b : Bool) → (b || false) ≡ true → b ≡ true
-or_false true is = refl
-or_false false is = absurd cc
-
 -- either word is the other
 same_either_way : (xs ys : List ℕ) → bytes_eq xs ys ≡ false → bytes_eq ys xs ≡ false
 same_either_way xs ys is =
@@ -123,17 +120,11 @@ kind_fits : (kind : LocKind) (bytes : List ℕ) → kind_bytes kind ≡ bytes �
 kind_fits kind bytes is = (bytes_eq-Decides bytes (text_of (kind_word kind))).1 (sym is ∙ sym (kind_is kind))
 
 -- whether locations hold references is told by the word of their kind
-kind_tells : (kind : LocKind) (bytes : List ℕ) → kind_bytes kind ≡ bytes → is_mem kind ≡ is_word keyword.Mem bytes
+pub kind_tells : (kind : LocKind) (bytes : List ℕ) → kind_bytes kind ≡ bytes → is_mem kind ≡ is_word keyword.Mem bytes
 kind_tells vloc bytes is = ap (is_word keyword.Mem) is
 kind_tells iloc bytes is = ap (is_word keyword.Mem) is
 kind_tells hloc bytes is = ap (is_word keyword.Mem) is
 kind_tells mem bytes is = ap (is_word keyword.Mem) is
-
--- a class is the same as itself
-pub class_same : (class : Class) → same_class class class ≡ true
-class_same game_class = refl
-class_same player_class = refl
-class_same team_class = refl
 
 -- an attribute, a value and a map that the setup gives are the sheet's
 pub record Gives (sheet : Sheet) (given : Given) : Type 0 where
@@ -194,7 +185,7 @@ module _ (sheet : Sheet) (given : Given) where
   variable_finds at sort bytes is sorts fine =
       let scope = at.around.scope in
       let bound = bound_variable at bytes is (ap some_of sorts) fine in
-      let fits = or_false _ (subst (λ sorts. list_any (same_sort bound.variable.sort) sorts ≡ true) sorts bound.fits) in
+      let fits = sym (or-false _) ∙ subst (λ sorts. list_any (same_sort bound.variable.sort) sorts ≡ true) sorts bound.fits in
       where_true (is_variable bytes) (place_in scope bytes >>= sorted scope sort) None is
       (follows_this (place_in scope bytes) bound.var (sorted scope sort) (finds_if _ bound.var bound.placed refl)
       (where_true (has_sort sort (slice_get scope bound.var)) (Some bound.var) None (ap (has_sort sort) bound.there ∙ fits)
@@ -263,7 +254,7 @@ module _ (sheet : Sheet) (given : Given) where
   pub team_of_finds : (at : Standing) (parts : Trees) → GoodForm at rule.TeamOf parts
       → Finds (owner_rule at.around.scope rule.TeamOf parts) (IsOwnerOf at.around team_class)
   team_of_finds at parts form =
-      three_parts (λ parts. GoodForm at rule.TeamOf parts
+      three_only (λ parts. GoodForm at rule.TeamOf parts
       → Finds (team_parts at.around.scope parts) (IsOwnerOf at.around team_class)) parts form.fit
       (λ head second player form. makes (player_at at.around.scope player) team_of (player_finds _ player refl form.good.1.1.0)
       (λ who is. team_is_owner at.around who is)) form
@@ -438,7 +429,7 @@ module _ (sheet : Sheet) (given : Given) where
       → Finds (loc_parts (naming_of sheet) at.around.scope from parts) (LocAt at.around (word_in 1 parts))
   unfolding loc_parts
   loc_parts_finds at parts from form =
-      three_parts (λ parts. GoodForm at rule.Location parts
+      three_only (λ parts. GoodForm at rule.Location parts
       → Finds (loc_parts (naming_of sheet) at.around.scope from parts) (LocAt at.around (word_in 1 parts))) parts form.fit
       (λ holder kind name form.
       let m = form.fine.fits.1 in
@@ -492,7 +483,7 @@ module _ (sheet : Sheet) (given : Given) where
       → Finds (num_parts (naming_of sheet) at.around.scope parts) (IsNum sheet at.around)
   unfolding num_parts
   num_parts_finds at parts form =
-      three_parts (λ parts. GoodForm at rule.Counter parts
+      three_only (λ parts. GoodForm at rule.Counter parts
       → Finds (num_parts (naming_of sheet) at.around.scope parts) (IsNum sheet at.around)) parts form.fit
       (λ holder sto name form.
       let m = form.fine.fits in

@@ -1,7 +1,7 @@
 -- The readings of lists, by their forms, as the readers take them apart.
 use Rattle.std.proofs.Common.{◌≡◌, ℕ, Option, Some, None, refl, ap, ◌∙◌}
 use Rattle.std.specs.Prelude.{option_map}
-use Rattle.rc_model.specs.Tree.{Tree, Trees, nil, cons}
+use Rattle.rc_model.specs.Tree.{Trees, nil, cons}
 use Rattle.rc_sheet_model.specs.Sheet.{all_of, any_of}
 use Rattle.rc_sheet_model.specs.Naming.{Naming, Scope, bind, sort_of}
 use Rattle.rc_sheet.specs.ReadNames.{◌>>=◌, binder_at, owner_rule}

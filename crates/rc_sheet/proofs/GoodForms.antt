@@ -12,7 +12,8 @@ use Rattle.rc_grammar.specs.declared.grammar.Rule.{Rule}
 use Rattle.rc_sheet.specs.ReadNames.{◌>>=◌, rule_at}
 use Rattle.rc_sheet.proofs.Fine.{Given}
 use Rattle.rc_sheet.proofs.Finds.{Finds}
-use Rattle.rc_sheet.proofs.GoodParts.{Each, two_parts, three_parts, four_parts, one_and_more, two_and_more, three_and_more, IsGood, GoodAt, AreGood, IsGoodForm, finds_by}
+use Rattle.rc_sheet.proofs.GoodParts.{Each, one_and_more, two_and_more, three_and_more, IsGood, GoodAt, AreGood, IsGoodForm, finds_by}
+use Rattle.rc_sheet.proofs.Shapes.{two_only, three_only, four_only}
 
 -- from so many on
 pub from_one : (P : ℕ → Type 0) → ((j : ℕ) → P (suc j)) → (i : ℕ) → 1 ≤ i → P i
@@ -53,7 +54,7 @@ module _ (given : Given) (naming : Naming) (R : Tree → Type 0) where
       → Says at rule read P parts
   with_two {at = at} {rule = rule} {read = read} {P = P} {parts = parts} two then =
       record {
-        says = λ each form. two_parts (SaysOf at rule read P) parts (sym (two (count parts)) ∙ form.fit) then each form;
+        says = λ each form. two_only (SaysOf at rule read P) parts (sym (two (count parts)) ∙ form.fit) then each form;
       }
 
   -- of three
@@ -62,7 +63,7 @@ module _ (given : Given) (naming : Naming) (R : Tree → Type 0) where
       → Says at rule read P parts
   with_three {at = at} {rule = rule} {read = read} {P = P} {parts = parts} three then =
       record {
-        says = λ each form. three_parts (SaysOf at rule read P) parts (sym (three (count parts)) ∙ form.fit) then each form;
+        says = λ each form. three_only (SaysOf at rule read P) parts (sym (three (count parts)) ∙ form.fit) then each form;
       }
 
   -- of four
@@ -72,7 +73,7 @@ module _ (given : Given) (naming : Naming) (R : Tree → Type 0) where
       → Says at rule read P parts
   with_four {at = at} {rule = rule} {read = read} {P = P} {parts = parts} four then =
       record {
-        says = λ each form. four_parts (SaysOf at rule read P) parts (sym (four (count parts)) ∙ form.fit) then each form;
+        says = λ each form. four_only (SaysOf at rule read P) parts (sym (four (count parts)) ∙ form.fit) then each form;
       }
 
   -- so many parts and one more at least

@@ -1,18 +1,18 @@
 -- Trees that stand well in a form: they are of their place's shape, and all their parts are fine. A list that stands well is
 -- a form each of whose parts does.
-use Rattle.std.proofs.Common.{◌≡◌, ℕ, ◌+◌, ◌≤◌, Bool, true, false, cond, List, [], ◌∷◌, ◌++◌, Option, Some, None, option_map, find, nat_lt, ◌==◌, refl, sym, subst, ap, ◌∙◌, arith, eqb-true, ltb-true}
+use Rattle.std.proofs.Common.{◌≡◌, ℕ, ◌+◌, ◌≤◌, Bool, true, false, cond, List, [], ◌∷◌, ◌++◌, Option, Some, None, option_map, nat_lt, refl, sym, subst, ap, ◌∙◌, arith, ltb-true}
 use Rattle.std.specs.List.{AllByRecursion}
-use Rattle.std.proofs.lemmas.Option.{same_Some}
 use Rattle.rc_model.specs.Tree.{Tree, word, list, Trees, nil, cons}
 use Rattle.rc_sheet_model.specs.Naming.{Naming}
 use Rattle.rc_semantics.specs.SecondParts.{Standing, parts_at, parts_in, standing_in, with_form}
 use Rattle.rc_grammar.specs.Grammar.{forms_of}
-use Rattle.rc_grammar.specs.Faults.{faults_at, faults_in, told_faults, lacks_players, told_rule, plain_rule, or_else, rule_of, place_at, count, fits}
+use Rattle.rc_grammar.specs.Faults.{faults_at, faults_in, told_faults, lacks_players, rule_of, place_at, count, fits}
 use Rattle.rc_grammar.specs.declared.grammar.Place.{Place}
 use Rattle.rc_grammar.specs.declared.grammar.Rule.{Rule}
 use Rattle.rc_sheet.specs.ReadNames.{◌>>=◌, sized, rule_at}
 use Rattle.rc_sheet.proofs.Fine.{Given, IsFine, IsFineForm}
 use Rattle.rc_sheet.proofs.Finds.{Finds}
+use Rattle.rc_sheet.proofs.Shapes.{none_in_both, inner_faults, rule_holds}
 
 infixr 5 ◌▹◌
 -- the proof for the first form of a place, and those for the others
@@ -37,46 +37,11 @@ mutual
   each_by_parts words lists nil = tt
   each_by_parts words lists (cons tree trees) = (by_parts words lists tree, each_by_parts words lists trees)
 
--- neither of two lists has anything
-pub none_of_both : {A : Type 0} (xs ys : List A) → xs ++ ys ≡ [] → (xs ≡ []) × (ys ≡ [])
-none_of_both [] ys is = (refl, is)
-none_of_both (x ∷ xs) ys is = absurd cc
-
 -- of both
 pub all_of_both : {A : Type 0} (P : A → Type 0) (xs ys : List A) → AllByRecursion P (xs ++ ys)
     → AllByRecursion P xs × AllByRecursion P ys
 all_of_both P [] ys all = (tt, all)
 all_of_both P (x ∷ xs) ys all = let rest = all_of_both P xs ys all.1 in ((all.0, rest.0), rest.1)
-
--- so many parts
-pub two_parts : (P : Trees → Type 0) (parts : Trees) → (count parts == 2) ≡ true
-    → ((a b : Tree) → P (cons a (cons b nil))) → P parts
-two_parts P (cons a (cons b nil)) is then = then a b
-two_parts P nil is then = absurd cc
-two_parts P (cons a nil) is then = absurd cc
-two_parts P (cons a (cons b (cons c parts))) is then =
-    let two = eqb-true (count (cons a (cons b (cons c parts)))) 2 is in absurd (omega (arith, two))
-
--- three
-pub three_parts : (P : Trees → Type 0) (parts : Trees) → (count parts == 3) ≡ true
-    → ((a b c : Tree) → P (cons a (cons b (cons c nil)))) → P parts
-three_parts P (cons a (cons b (cons c nil))) is then = then a b c
-three_parts P nil is then = absurd cc
-three_parts P (cons a nil) is then = absurd cc
-three_parts P (cons a (cons b nil)) is then = absurd cc
-three_parts P (cons a (cons b (cons c (cons d parts)))) is then =
-    let three = eqb-true (count (cons a (cons b (cons c (cons d parts))))) 3 is in absurd (omega (arith, three))
-
--- four
-pub four_parts : (P : Trees → Type 0) (parts : Trees) → (count parts == 4) ≡ true
-    → ((a b c d : Tree) → P (cons a (cons b (cons c (cons d nil))))) → P parts
-four_parts P (cons a (cons b (cons c (cons d nil)))) is then = then a b c d
-four_parts P nil is then = absurd cc
-four_parts P (cons a nil) is then = absurd cc
-four_parts P (cons a (cons b nil)) is then = absurd cc
-four_parts P (cons a (cons b (cons c nil))) is then = absurd cc
-four_parts P (cons a (cons b (cons c (cons d (cons e parts))))) is then =
-    let four = eqb-true (count (cons a (cons b (cons c (cons d (cons e parts)))))) 4 is in absurd (omega (arith, four))
 
 -- so many parts, and one more at least
 pub one_and_more : (P : Trees → Type 0) (parts : Trees) → nat_lt 1 (count parts) ≡ true
@@ -100,38 +65,6 @@ three_and_more P (cons a nil) is then = absurd cc
 three_and_more P (cons a (cons b nil)) is then = absurd cc
 three_and_more P (cons a (cons b (cons c rest))) is then =
     let more = ltb-true 3 (count (cons a (cons b (cons c rest)))) is in then a b c rest (omega (arith, more))
-
--- a form that fits has no fault but those of its parts
-no_fault : {A : Type 0} (b c : Bool) (x y : A) (inner : List A) → cond b (cond c (x ∷ inner) inner) (y ∷ []) ≡ []
-    → (b ≡ true) × (inner ≡ [])
-no_fault true true x y inner is = absurd cc
-no_fault true false x y inner is = (refl, is)
-no_fault false c x y inner is = absurd cc
-
--- what holds of each holds of what is found among them
-found_among : {A : Type 0} (P : A → Type 0) (test : A → Bool) (all : List A) (x : A) → find test all ≡ Some x
-    → AllByRecursion P all → P x
-found_among P test [] x is each = absurd cc
-found_among P test (a ∷ all) x is each = by (test a) is (λ is. found_among P test all x is each.1)
-  where
-    by : (b : Bool) → cond b (Some a) (find test all) ≡ Some x → (find test all ≡ Some x → P x) → P x
-    by true is later = subst P (same_Some a x is) each.0
-    by false is later = later is
-
--- or else among these
-among_both : (P : Rule → Type 0) (first second : Option Rule) (x : Rule) → or_else first second ≡ Some x
-    → ((a : Rule) → first ≡ Some a → P a) → ((a : Rule) → second ≡ Some a → P a) → P x
-among_both P None second x is p q = q x is
-among_both P (Some a) second x is p q = p x is
-
--- what holds of each form of a place holds of the one that a list has there
-pub rule_among : (P : Rule → Type 0) (place : Place) (parts : Trees) (x : Rule) → rule_of place parts ≡ Some x
-    → AllByRecursion P (forms_of place) → P x
-rule_among P place nil x is each = absurd cc
-rule_among P place (cons head parts) x is each =
-    among_both P (told_rule place head parts) (plain_rule place head) x is
-    (λ a is. found_among P _ (forms_of place) a is each)
-    (λ a is. found_among P _ (forms_of place) a is each)
 
 -- a form that fits is found
 pub sized_finds : {A : Type 0} {P : A → Type 0} (n : ℕ) (rule : Rule) (read : Rule → Option A) → fits n rule ≡ true
@@ -175,11 +108,12 @@ module _ (given : Given) (naming : Naming) where
       record { shaped = subst (λ p. faults_at (Some p) tree ≡ []) (sym (same place)) shaped; fine = fine }
 
   -- the parts of a form stand well
-  are_good : (at : Standing) (rule : Rule) (all : Trees) (index : ℕ) (trees : Trees) → faults_in rule (count all) index trees ≡ []
+  pub are_good : (at : Standing) (rule : Rule) (all : Trees) (index : ℕ) (trees : Trees)
+      → faults_in rule (count all) index trees ≡ []
       → AllByRecursion (IsFine given naming) (parts_in at rule all index trees) → AreGood at rule all index trees
   are_good at rule all index nil shaped fine = tt
   are_good at rule all index (cons tree trees) shaped fine =
-      let none = none_of_both (faults_at (place_at rule (count all) index) tree) _ shaped in
+      let none = none_in_both (faults_at (place_at rule (count all) index) tree) _ shaped in
       let both = all_of_both (IsFine given naming) (parts_at (standing_in at rule all index) tree) _ fine in (
         good_at (place_at rule (count all) index) _ tree (λ place. refl) none.0 both.0,
         are_good at rule all (index + 1) trees none.1 both.1,
@@ -192,13 +126,21 @@ module _ (given : Given) (naming : Naming) where
       → (rule : Rule) × IsGoodForm at rule parts
   form_at at parts from None is shaped fine = absurd cc
   form_at at parts from (Some rule) is shaped fine =
-      let none = no_fault (fits (count parts) rule) (lacks_players rule parts) _ _ _ shaped in
+      let none = inner_faults (fits (count parts) rule) (lacks_players rule parts) _ _ _ shaped in
       (rule, record { told = is; fit = none.0; fine = fine.0; good = are_good at rule parts 0 parts none.1 fine.1 })
 
   -- a list that stands well is a form
   pub good_form : (at : Standing) (parts : Trees) (from to : ℕ) → IsGood at (list parts from to)
       → (rule : Rule) × IsGoodForm at rule parts
   good_form at parts from to good = form_at at parts from (rule_of at.place parts) refl good.shaped good.fine
+
+  -- a list at a place with one form is of that form
+  pub only_form : (p : Place) (r : Rule) (at : Standing) (parts : Trees) (from to : ℕ) → at.place ≡ p
+      → AllByRecursion (λ x. x ≡ r) (forms_of p) → IsGood at (list parts from to) → IsGoodForm at r parts
+  only_form p r at parts from to here only good =
+      let found = good_form at parts from to good in
+      let same = rule_holds (λ x. x ≡ r) p parts found.0 (sym (ap (λ p. rule_of p parts) here) ∙ found.1.told) only in
+      subst (λ x. IsGoodForm at x parts) same found.1
 
   -- What a list says is found where it is found by each of the forms that it may have. The forms may be told of another place
   -- that has the same.
@@ -209,7 +151,7 @@ module _ (given : Given) (naming : Naming) where
   finds_by {P = P} read place at parts from to same good each =
       let found = good_form at parts from to good in
       let is = sym same ∙ found.1.told in
-      let found_form = rule_among (λ rule. IsGoodForm at rule parts → Finds (read rule) P) place parts found.0 is each in
+      let found_form = rule_holds (λ rule. IsGoodForm at rule parts → Finds (read rule) P) place parts found.0 is each in
       subst (λ o. Finds (sized (count parts) o >>= read) P) (sym is)
       (sized_finds (count parts) found.0 read found.1.fit (found_form found.1))
 
@@ -226,5 +168,5 @@ module _ (given : Given) (naming : Naming) where
       → forms_of place ≡ [] → ⊥
   no_list place at parts from to here good none =
       let found = good_form at parts from to good in
-      rule_among (λ rule. ⊥) place parts found.0 (sym (ap (λ p. rule_of p parts) here) ∙ found.1.told)
+      rule_holds (λ rule. ⊥) place parts found.0 (sym (ap (λ p. rule_of p parts) here) ∙ found.1.told)
       (subst (AllByRecursion (λ rule. ⊥)) (sym none) tt)

@@ -32,7 +32,8 @@ before-end seen more listed is_listed (x ∷ front) =
     ap (more (seen x)) (before-end seen more listed is_listed front) ∙ sym (is_listed (seen x) (map seen front))
 
 -- the part at an index stands before those that are left
-pub part_at : {R : Type 0} (all : Trees → R) (forms : List Form) (i : ℕ) (part : Form) → i < length forms → part ≡ get_or forms i part
+pub part_at : {R : Type 0} (all : Trees → R) (forms : List Form) (i : ℕ) (part : Form) → i < length forms
+    → part ≡ get_or forms i part
     → all (packed (trees_of (drop i forms))) ≡ all (cons (tree_of part) (packed (trees_of (drop (i + 1) forms))))
 part_at all forms i part lt is =
     at_drop_more (λ left. all (packed (trees_of left))) forms i part lt

@@ -25,7 +25,8 @@ pub player_stage_read : (naming : Naming) (begun : Begun) (parts : List Form) (r
 player_stage_read naming begun parts rule end given sized is at =
     let fit = fits_known (length parts) rule rules.PlayerStage sized is in
     let few : 2 < length parts = grind arith in
-    sym (of_rule place.Item (packed (trees_of parts)) (λ rule. item_rule naming begun rule (packed (trees_of parts))) rule rules.PlayerStage given is
+    sym (of_rule place.Item (packed (trees_of parts))
+    (λ rule. item_rule naming begun rule (packed (trees_of parts))) rule rules.PlayerStage given is
     ∙ ap (item_rule naming begun rules.PlayerStage) (behind_third parts end few at))
 
 pub team_stage_read : (naming : Naming) (begun : Begun) (parts : List Form) (rule : Rule) (end : Form)
@@ -36,7 +37,8 @@ pub team_stage_read : (naming : Naming) (begun : Begun) (parts : List Form) (rul
 team_stage_read naming begun parts rule end given sized is at =
     let fit = fits_known (length parts) rule rules.TeamStage sized is in
     let few : 2 < length parts = grind arith in
-    sym (of_rule place.Item (packed (trees_of parts)) (λ rule. item_rule naming begun rule (packed (trees_of parts))) rule rules.TeamStage given is
+    sym (of_rule place.Item (packed (trees_of parts))
+    (λ rule. item_rule naming begun rule (packed (trees_of parts))) rule rules.TeamStage given is
     ∙ ap (item_rule naming begun rules.TeamStage) (behind_third parts end few at))
 
 -- the items before the scoring, and the scoring
@@ -51,20 +53,24 @@ last_of-push (form ∷ []) last = refl
 last_of-push (form ∷ next ∷ forms) last = last_of-push (next ∷ forms) last
 
 -- with an item there are two parts
-two_parts : (items : List Form) (last : Form) → (length items ≡ 0 → ⊥) → nat_le 2 (count (packed (trees_of (items ++ last ∷ [])))) ≡ true
+two_parts : (items : List Form) (last : Form) → (length items ≡ 0 → ⊥)
+    → nat_le 2 (count (packed (trees_of (items ++ last ∷ [])))) ≡ true
 two_parts [] last some = absurd (some refl)
 two_parts (form ∷ forms) last some =
     let same = count_packed (forms ++ last ∷ []) in
     let long = length-append forms (last ∷ []) in
     le-leb 2 _ (omega (arith, same, long))
 
-pub body_read : (naming : Naming) (parts items : List Form) (scoring : Form) → parts ≡ items ++ scoring ∷ [] → (length items ≡ 0 → ⊥)
+pub body_read : (naming : Naming) (parts items : List Form) (scoring : Form) → parts ≡ items ++ scoring ∷ []
+    → (length items ≡ 0 → ⊥)
     → both (option_map (λ p. p.0) (items_at naming none_begun (packed (trees_of items)))) (score_at naming (tree_of scoring))
     ≡ body_at naming (packed (trees_of parts))
 body_read naming parts items scoring is some =
-    let read : Option (SheetItems × (Best × IntExpr)) = both (option_map (λ p. p.0) (items_at naming none_begun (but_last (packed (trees_of (items ++ scoring ∷ []))))))
+    let read : Option (SheetItems × (Best × IntExpr)) = both
+    (option_map (λ p. p.0) (items_at naming none_begun (but_last (packed (trees_of (items ++ scoring ∷ []))))))
     (last_of (packed (trees_of (items ++ scoring ∷ []))) >>= score_at naming) in
-    ap (λ front. both (option_map (λ p. p.0) (items_at naming none_begun front)) (score_at naming (tree_of scoring))) (sym (but_last-push items scoring))
+    ap (λ front. both (option_map (λ p. p.0) (items_at naming none_begun front)) (score_at naming (tree_of scoring)))
+    (sym (but_last-push items scoring))
     ∙ ap (λ last. both (option_map (λ p. p.0) (items_at naming none_begun (but_last (packed (trees_of (items ++ scoring ∷ []))))))
     (last >>= score_at naming)) (sym (last_of-push items scoring))
     ∙ ap (λ (b : Bool). ensure b >>= λ two. read) (sym (two_parts items scoring some))

@@ -1,8 +1,10 @@
 -- What holds of what is read, where something is read.
-use Rattle.std.proofs.Common.{◌≡◌, Bool, true, false, cond, List, [], ◌∷◌, get_or, Option, Some, None, IfSome, slice_get, position, find, option_map, refl, subst}
+use Rattle.std.proofs.Common.{◌≡◌, ℕ, Bool, true, false, cond, List, [], ◌∷◌, get_or, Option, Some, None, IfSome, slice_get, position, find, option_map, refl, subst}
 use Rattle.std.proofs.lemmas.Option.{slice_get-get_or}
 use Rattle.std.proofs.lemmas.List.Quantifiers.{position-Some}
-use Rattle.rc_sheet.specs.ReadNames.{◌>>=◌, both, ensure}
+use Rattle.rc_grammar.specs.Faults.{fits}
+use Rattle.rc_grammar.specs.declared.grammar.Rule.{Rule}
+use Rattle.rc_sheet.specs.ReadNames.{◌>>=◌, both, ensure, sized}
 
 -- P holds of what was read
 pub record Means {A : Type 0} (found : Option A) (P : A → Type 0) : Type 0 where
@@ -27,6 +29,10 @@ means_so {P = P} found a means is = holds_of (subst (λ o. Means o P) is means)
 pub means_if : {A : Type 0} {P : A → Type 0} (found : Option A) → ((a : A) → found ≡ Some a → P a) → Means found P
 means_if None each = nothing
 means_if (Some a) each = something a (each a refl)
+
+-- whatever is read
+pub anything : {A : Type 0} (found : Option A) → Means found (λ a. Unit {0})
+anything found = means_if found (λ a is. tt)
 
 -- more follows of it
 pub weaker : {A : Type 0} {P Q : A → Type 0} (found : Option A) → Means found P → ((a : A) → P a → Q a) → Means found Q
@@ -62,6 +68,11 @@ either false x y first second = second refl
 pub ensured : (b : Bool) → Means (ensure b) (λ u. b ≡ true)
 ensured true = something tt refl
 ensured false = nothing
+
+-- a form that is read at a place is the one that its parts tell
+pub sized_is : (n : ℕ) (found : Option Rule) → Means (sized n found) (λ r. found ≡ Some r)
+sized_is n None = nothing
+sized_is n (Some r) = either (fits n r) (Some r) None (λ is. something r refl) (λ is. nothing)
 
 -- the first that passes does
 pub found_passes : {A : Type 0} (test : A → Bool) (all : List A) → Means (find test all) (λ a. test a ≡ true)

@@ -1,7 +1,7 @@
 -- What a part of a sheet mentions are the words that its form mentions, in order: of one kind of names, whichever it is.
 use Prim.Native.String.{String}
 use Rattle.std.proofs.Common.{◌≡◌, ℕ, nat_le, Bool, true, false, if◌then◌else◌, not, ◌&&◌, ◌||◌, List, [], ◌++◌, map, flat_map, codes, slice_index_or, refl, sym, subst, ap, ap₂, ◌∙◌, append_assoc}
-use Rattle.std.proofs.lemmas.Bool.{cond-false, and_parts, false≢true}
+use Rattle.std.proofs.lemmas.Bool.{cond-false, and_parts, false≢true, or_parts}
 use Rattle.std.proofs.lemmas.List.{append-nil, map-append}
 use Rattle.std.proofs.lemmas.Grind.{flat_map-append}
 use Rattle.rc_model.specs.Tree.{Tree, word, list, Trees, nil, cons}
@@ -263,17 +263,12 @@ head_at text (list parts from to) stands told = absurd stands
 abbrev pub IsPlain : Tree → Type 0
 IsPlain head = IsHead false false false false head
 
--- neither of two
-neither : (a b : Bool) → (a || b) ≡ false → (a ≡ false) × (b ≡ false)
-neither true b is = absurd cc
-neither false b is = (refl, is)
-
 -- no word of a kind of locations, and not that of stored numbers
 pub no_kind : (tree : Tree) → is_sort_word tree ≡ false → is_kind tree ≡ false
-no_kind tree other = (neither (is_kind tree) (is_atom "sto" tree) other).0
+no_kind tree other = (or_parts (is_kind tree) (is_atom "sto" tree) other).0
 
 pub no_number : (tree : Tree) → is_sort_word tree ≡ false → is_atom "sto" tree ≡ false
-no_number tree other = (neither (is_kind tree) (is_atom "sto" tree) other).1
+no_number tree other = (or_parts (is_kind tree) (is_atom "sto" tree) other).1
 
 -- what a list mentions itself whose head tells nothing, and whose second part is no word of a kind
 pub own-plain : (kind : Kind) (binder : Bool) (head second : Tree) (rest : Trees) → IsHead false false false binder head

@@ -11,11 +11,11 @@ use Rattle.rc_naming.proofs.Whole.{loc_numbers, num_numbers}
 use Rattle.rc_sheet.specs.ReadNames.{rule_at}
 use Rattle.rc_sheet.specs.ReadItems.{body_at}
 use Rattle.rc_sheet.specs.ReadSheet.{setup_form_at, sheet_of, game_parts, game_rule, sheet_at}
-use Rattle.rc_sheet.proofs.Means.{Means, nothing, something, means_so, behind}
+use Rattle.rc_sheet.proofs.Means.{Means, nothing, something, means_so, behind, anything}
 use Rattle.rc_sheet.proofs.ReadsSheet.{sheet_means}
 use Rattle.rc_sheet.proofs.Mentioned.{attrs, values, maps, locs, nums, vars}
 use Rattle.rc_sheet.proofs.MentionedSheet.{names_numbered}
-use Rattle.rc_sheet.proofs.MentionedStages.{AreInOrder, anything, body_in_order}
+use Rattle.rc_sheet.proofs.MentionedStages.{AreInOrder, body_in_order}
 use Rattle.rc_grammar.specs.declared.grammar.Place.TheVariants as place
 use Rattle.rc_grammar.specs.declared.grammar.Rule.{Rule}
 use Rattle.rc_grammar.specs.declared.grammar.Rule.TheVariants as rule

@@ -11,7 +11,7 @@ use Rattle.rc_grammar.specs.Faults.{count}
 use Rattle.rc_sheet.specs.ReadNames.{◌>>=◌, ensure, rule_at}
 use Rattle.rc_sheet.specs.ReadEffects.{effects_at, alts_at}
 use Rattle.rc_sheet.specs.ReadItems.{Begun, none_begun, with_stage, with_site, stage_of, choice_of, end_at, item_at, item_rule, items_at, score_at, but_last, last_of, body_at}
-use Rattle.rc_sheet.proofs.Means.{Means, nothing, something, means_if, weaker, mapped, behind, both_mean, ensured}
+use Rattle.rc_sheet.proofs.Means.{Means, nothing, something, weaker, mapped, behind, both_mean, ensured, anything}
 use Rattle.rc_grammar.specs.declared.grammar.Place.TheVariants as place
 use Rattle.rc_grammar.specs.declared.grammar.Rule.{Rule}
 use Rattle.rc_grammar.specs.declared.grammar.Rule.TheVariants as rule
@@ -56,10 +56,6 @@ counted_append before between after stages sites stages' sites' first later =
           run_append before.stages between.stages after.stages stages stages' first.in_stages later.in_stages;
       in_sites = run_append before.sites between.sites after.sites sites sites' first.in_sites later.in_sites;
     }
-
--- whatever is read
-pub anything : {A : Type 0} (found : Option A) → Means found (λ a. Unit {0})
-anything found = means_if found (λ a is. tt)
 
 -- a stage counts itself before the items in it
 stage_counts : (begun : Begun) (class : Class) (end : Option Test) (items : Option (SheetItems × Begun))

@@ -35,7 +35,8 @@ behind_three (first ∷ next ∷ []) second third few is also = absurd (omega ar
 behind_three (first ∷ next ∷ last ∷ parts) second third few is also =
     ap (λ form. cons (tree_of first) (cons (tree_of form) (cons (tree_of last) (packed (trees_of parts))))) (sym is)
     ∙ ap (λ form. cons (tree_of first) (cons (tree_of second) (cons (tree_of form) (packed (trees_of parts))))) (sym also)
-    ∙ ap (λ left. cons (tree_of first) (cons (tree_of second) (cons (tree_of third) left))) (rest_is 3 (first ∷ next ∷ last ∷ parts))
+    ∙ ap (λ left. cons (tree_of first) (cons (tree_of second) (cons (tree_of third) left)))
+    (rest_is 3 (first ∷ next ∷ last ∷ parts))
 
 pub four_parts : (parts : List Form) (second third fourth : Form) → length parts ≡ 4
     → second ≡ get_or parts 1 second → third ≡ get_or parts 2 third → fourth ≡ get_or parts 3 fourth
@@ -59,4 +60,5 @@ behind_third (first ∷ []) third few is = absurd (omega arith)
 behind_third (first ∷ next ∷ []) third few is = absurd (omega arith)
 behind_third (first ∷ next ∷ last ∷ parts) third few is =
     ap (λ form. cons (tree_of first) (cons (tree_of next) (cons (tree_of form) (packed (trees_of parts))))) (sym is)
-    ∙ ap (λ left. cons (tree_of first) (cons (tree_of next) (cons (tree_of third) left))) (rest_is 3 (first ∷ next ∷ last ∷ parts))
+    ∙ ap (λ left. cons (tree_of first) (cons (tree_of next) (cons (tree_of third) left)))
+    (rest_is 3 (first ∷ next ∷ last ∷ parts))

@@ -1,5 +1,5 @@
 -- What is read stands for its form: deck trees and the entries of point maps.
-use Rattle.std.proofs.Common.{◌≡◌, ℕ, ◌+◌, true, false, cond, nat_le, List, [], ◌∷◌, ℤ, Option, Some, None, option_map, bytes_eq, refl, sym, subst, ap, arith, le-leb}
+use Rattle.std.proofs.Common.{◌≡◌, ℕ, true, nat_le, List, [], ◌∷◌, ℤ, Option, Some, None, refl, subst, arith, le-leb}
 use Rattle.std.specs.Prelude.{codes}
 use Rattle.std.specs.Option.{option_and_then}
 use Rattle.std.proofs.lemmas.Slice.Eq.{bytes_eq-Decides}
@@ -12,15 +12,15 @@ use Rattle.rc_sheet_model.specs.Rows.{Some as Full}
 use Rattle.rc_sheet_model.specs.Naming.{Naming, Named, Literal}
 use Rattle.rc_sheet_model.specs.StandsSetup.{StandsGroups, StandsBranches, StandValues, StandEntries}
 use Rattle.rc_setup.specs.Naming.{number_of}
-use Rattle.rc_setup.specs.Reading.{both, unless_nil, plain, read_groups, read_group, read_group_parts, read_branch_list, read_branches, read_branch, read_branch_parts, is_word, read_deck, read_deck_parts, unclamped, read_values, read_value_list, read_points, entry_with, read_entry, read_entry_parts, read_all_entries, read_entries}
-use Rattle.rc_sheet.specs.ReadNames.{name_at}
+use Rattle.rc_setup.specs.Reading.{both, unless_nil, plain, read_groups, read_group, read_branch_list, read_branches, read_branch, is_word, read_deck, unclamped, read_values, read_value_list, read_points, entry_with, read_entry, read_all_entries, read_entries}
 use Rattle.rc_sheet.specs.ReadSetup.{face_words}
 use Rattle.rc_sheet.proofs.Faces.{number_of_name}
 use Rattle.rc_sheet.proofs.Means.{Means, nothing, something, weaker, mapped, either}
 use Rattle.rc_sheet.proofs.ReadsNames.{name_means}
 
 -- what two parts make
-made : {A B C : Type 0} {P : A → Type 0} {Q : B → Type 0} {R : C → Type 0} (make : A → B → C) (first : Option A) (second : Option B)
+made : {A B C : Type 0} {P : A → Type 0} {Q : B → Type 0} {R : C → Type 0} (make : A → B → C) (first : Option A)
+    (second : Option B)
     → Means first P → Means second Q → ((a : A) (b : B) → P a → Q b → R (make a b)) → Means (both make first second) R
 made make None second p q more = nothing
 made make (Some a) None p q more = nothing
@@ -38,7 +38,8 @@ full P (cons tree trees) found means = weaker found means (λ a holds. (some_par
 
 -- a name by its number
 number_means : (words : List (List ℕ)) (tree : Tree) → Means (number_of words tree) (λ n. Named words n tree)
-number_means words tree = subst (λ found. Means found (λ n. Named words n tree)) (number_of_name words tree) (name_means words tree)
+number_means words tree = subst (λ found. Means found (λ n. Named words n tree)) (number_of_name words tree)
+    (name_means words tree)
 
 -- `(ATTR (BRANCH+))`
 abbrev StandsGroup : Naming → ℕ → Branches → Tree → Type 0
@@ -71,7 +72,8 @@ mutual
       → Means (read_groups (face_words naming) trees) (λ groups. StandsGroups naming groups trees)
   groups_mean naming nil = something no_group tt
   groups_mean naming (cons tree trees) =
-      made (λ first rest. group first.0 first.1 rest) (read_group (face_words naming) tree) (read_groups (face_words naming) trees)
+      made (λ first rest. group first.0 first.1 rest) (read_group (face_words naming) tree)
+      (read_groups (face_words naming) trees)
       (group_means naming tree) (groups_mean naming trees) (λ first rest stands later. (stands, later))
 
   -- GROUP
@@ -82,7 +84,8 @@ mutual
   group_means naming (list (cons head nil) from to) = nothing
   group_means naming (list (cons head (cons second nil)) from to) =
       made (λ attr branches. (attr, branches)) (number_of naming.names.attrs head) (read_branch_list (face_words naming) second)
-      (number_means naming.names.attrs head) (branch_list_means naming second) (λ attr branches named stands. (named, (stands, tt)))
+      (number_means naming.names.attrs head) (branch_list_means naming second)
+      (λ attr branches named stands. (named, (stands, tt)))
   group_means naming (list (cons head (cons second (cons third others))) from to) = nothing
 
   -- `(BRANCH+)`
@@ -97,7 +100,8 @@ mutual
       → Means (read_branches (face_words naming) trees) (λ branches. StandsBranches naming branches trees)
   branches_mean naming nil = something no_branch tt
   branches_mean naming (cons tree trees) =
-      made (λ first rest. branch first.0 first.1 rest) (read_branch (face_words naming) tree) (read_branches (face_words naming) trees)
+      made (λ first rest. branch first.0 first.1 rest) (read_branch (face_words naming) tree)
+      (read_branches (face_words naming) trees)
       (branch_means naming tree) (branches_mean naming trees)
       (λ first rest stands later. branch_first naming first.0 first.1 rest tree trees stands later)
 
@@ -172,7 +176,8 @@ entry_means naming (list (cons head (cons second (cons third nil))) from to) =
     made entry_with (number_of naming.names.attrs head)
     (both (λ values points. (values, points)) (read_value_list (face_words naming) second) (read_points third))
     (number_means naming.names.attrs head)
-    (made {R = λ worth. Row (Full (StandValues naming worth.0)) second × Literal worth.1 third} (λ values points. (values, points))
+    (made {R = λ worth. Row (Full (StandValues naming worth.0)) second × Literal worth.1 third}
+    (λ values points. (values, points))
     (read_value_list (face_words naming) second) (read_points third)
     (value_list_means naming second) (points_mean third) (λ values points stand is. (stand, is)))
     (λ attr worth named stand. (named, (stand.0, (stand.1, tt))))

@@ -173,6 +173,13 @@ sorts_same group_sort group_sort is = refl
 sorts_same sort sort' is = absurd cc
 
 -- the same of classes
+-- a class is the same as itself
+pub class_same : (class : Class) → same_class class class ≡ true
+class_same game_class = refl
+class_same player_class = refl
+class_same team_class = refl
+
+-- and as no other
 pub classes_same : (class class' : Class) → same_class class class' ≡ true → class ≡ class'
 classes_same game_class game_class is = refl
 classes_same player_class player_class is = refl

@@ -1,14 +1,13 @@
 -- What is read stands for its form: the setup of a sheet.
 use Prim.Native.String.{String}
-use Rattle.std.proofs.Common.{◌≡◌, ℕ, ◌+◌, Bool, true, false, cond, ◌&&◌, ◌||◌, ◌==◌, nat_le, List, [], ◌∷◌, ◌++◌, length, ℤ, pos, negsuc, Option, Some, None, is_none, option_map, bytes_eq, refl, sym, subst, ap, ap₂, ◌∙◌, arith, eqb-true, append_assoc}
+use Rattle.std.proofs.Common.{◌≡◌, ℕ, ◌+◌, Bool, true, false, cond, ◌&&◌, ◌||◌, ◌==◌, nat_le, List, [], ◌∷◌, ◌++◌, length, ℤ, pos, negsuc, Option, Some, None, is_none, bytes_eq, refl, sym, subst, ap, ap₂, ◌∙◌, arith, eqb-true, append_assoc}
 use Rattle.std.specs.Prelude.{codes}
 use Rattle.std.specs.List.{AllZip, zip, range_with_len}
 use Rattle.std.proofs.lemmas.List.{append-nil}
 use Rattle.rc_deck.proofs.Orders.{AllZip-append}
 use Rattle.rc_model.specs.Tree.{Tree, word, list, Trees, nil, cons}
 use Rattle.rc_model.specs.Literal.{integer}
-use Rattle.rc_model.specs.Deck.{Entry}
-use Rattle.rc_sheet_model.specs.Sheet.{Teams, DeckLine, Sheet, game_class, Who, game}
+use Rattle.rc_sheet_model.specs.Sheet.{Teams, Sheet, game_class, Who, game}
 use Rattle.rc_sheet_model.specs.Limits.{most_players}
 use Rattle.rc_sheet_model.specs.Rows.{◌▸◌, End, Row, Word, Atom}
 use Rattle.rc_sheet_model.specs.Rows.{Some as Full}
@@ -18,9 +17,9 @@ use Rattle.rc_sheet_model.specs.StandsExpressions.{StandsHolder}
 use Rattle.rc_sheet_model.specs.StandsSetup.{StandsPlayers, StandsTeam, StandTeams, StandsTeams, StandsGroups, StandsDeck, StandEntries, StandsMap, begins_with, lines_with, are_lines, team_lines, numbered, StandsSetup}
 use Rattle.rc_grammar.specs.Keyword.{text_of}
 use Rattle.rc_setup.specs.Reading.{read_deck, read_entries}
-use Rattle.rc_sheet.specs.ReadNames.{◌>>=◌, both, ensure, rule_at, name_at, loc_at}
+use Rattle.rc_sheet.specs.ReadNames.{ensure, rule_at, name_at, loc_at}
 use Rattle.rc_sheet.specs.ReadSetup.{Setup, Lines, no_line, within, count_at, members_at, team_rule, team_at, teams_at, face_words, home_of, deck_at, points_at, players_line, teams_line, deck_line, points_line, line_rule, line_at, lines_at, setup_of, setup_at, setup_in}
-use Rattle.rc_sheet.proofs.Means.{Means, nothing, something, means_if, means_so, weaker, mapped, behind, either, ensured, paired}
+use Rattle.rc_sheet.proofs.Means.{Means, nothing, something, means_if, weaker, behind, either, ensured, paired}
 use Rattle.rc_sheet.proofs.ReadsNames.{Told, told_at, name_means, loc_means}
 use Rattle.rc_sheet.proofs.ReadsFaces.{some_part, deck_tree_means, entries_mean}
 use Rattle.rc_grammar.specs.declared.keyword.Keyword.{Keyword}
@@ -51,7 +50,8 @@ members_mean (cons part parts) =
     (λ player players is stand. (is, stand))
 
 -- `(p+)`, by its rule
-team_rule_means : (rule : Rule) (parts : Trees) → Told rule parts → Means (team_rule rule parts) (λ team. Full (StandsTeam team) parts)
+team_rule_means : (rule : Rule) (parts : Trees) → Told rule parts
+    → Means (team_rule rule parts) (λ team. Full (StandsTeam team) parts)
 team_rule_means rule.Team nil told = absurd told
 team_rule_means rule.Team (cons part parts) told =
     weaker (members_at (cons part parts)) (members_mean (cons part parts)) (λ team stand. (some_part part parts, stand))
@@ -106,12 +106,12 @@ map_means naming number map entries =
     (λ all stand. (subst (λ n. Named naming.names.maps n map) (eqb-true found number same) named, stand))))
 
 -- one of a kind, or none
-abbrev listed : {A : Type 0} → Option A → List A
+abbrev pub listed : {A : Type 0} → Option A → List A
 listed None = []
 listed (Some a) = a ∷ []
 
 -- None is listed where there is none.
-none_listed : {A : Type 0} (found : Option A) → is_none found ≡ true → listed found ≡ []
+pub none_listed : {A : Type 0} (found : Option A) → is_none found ≡ true → listed found ≡ []
 none_listed None is = refl
 none_listed (Some a) is = absurd cc
 
@@ -263,7 +263,8 @@ line_rule_means naming said a b c d from to rule.PutPoints (cons put (cons point
       of_teams = stand.of_teams;
       of_decks = stand.of_decks;
       of_points =
-          subst (λ all. AllZip (StandsMap naming) all (d ++ list (cons put (cons points (cons map (cons tree nil)))) from to ∷ []))
+          subst (λ all. AllZip (StandsMap naming) all
+          (d ++ list (cons put (cons points (cons map (cons tree nil)))) from to ∷ []))
           (sym (numbered_more said.points entries))
           (one_more (StandsMap naming) (numbered said.points) d (length said.points, entries) _ stand.of_points
           (told.0, (told.1, (is.0, (is.1, tt)))));
@@ -309,8 +310,11 @@ lines_mean : (naming : Naming) (said : Lines) (a b c d : List Tree) (lines : Tre
     × Stand naming all (a ++ lines_with "create" "players" lines) (b ++ lines_with "create" "teams" lines)
     (c ++ lines_with "create" "deck" lines) (d ++ lines_with "put" "points" lines))
 lines_mean naming said a b c d nil stand =
-    something said
-    (refl, same_lines naming said a b c d _ _ _ _ (sym (append-nil a)) (sym (append-nil b)) (sym (append-nil c)) (sym (append-nil d)) stand)
+    something said (
+      refl,
+      same_lines naming said a b c d _ _ _ _ (sym (append-nil a)) (sym (append-nil b)) (sym (append-nil c))
+          (sym (append-nil d)) stand,
+    )
 lines_mean naming said a b c d (cons line lines) stand =
     behind (line_at naming said line) (λ next. lines_at naming next lines) (line_means naming said a b c d line stand)
     (λ next here. weaker (lines_at naming next lines) (lines_mean naming next _ _ _ _ lines here.1)

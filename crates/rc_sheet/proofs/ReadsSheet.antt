@@ -1,6 +1,6 @@
 -- What is read stands for its form: a whole sheet.
 use Rattle.std.proofs.Common.{◌≡◌, refl}
-use Rattle.rc_model.specs.Tree.{Tree, word, list, Trees, nil, cons}
+use Rattle.rc_model.specs.Tree.{Tree, word, list, Trees, cons}
 use Rattle.rc_sheet_model.specs.Sheet.{Sheet}
 use Rattle.rc_sheet_model.specs.Rows.{◌▸◌, Row, Atom}
 use Rattle.rc_sheet_model.specs.Rows.{Some as Full}
@@ -28,7 +28,7 @@ setup_rule_means naming from to rule.Setup (cons head lines) told =
 setup_rule_means naming from to rule parts told = nothing
 
 -- `(setup LINE+)`
-setup_form_means : (naming : Naming) (tree : Tree)
+pub setup_form_means : (naming : Naming) (tree : Tree)
     → Means (setup_form_at naming tree)
     (λ said. (sheet : Sheet) → setup_in sheet ≡ said → Row (Atom "setup" ▸ Full (StandsSetup naming sheet)) tree)
 unfolding setup_form_at

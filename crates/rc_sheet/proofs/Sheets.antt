@@ -1,5 +1,5 @@
 -- A sheet is read where its setup and its body are.
-use Rattle.std.proofs.Common.{◌≡◌, Option, Some, None, sym, ap, ◌∙◌}
+use Rattle.std.proofs.Common.{◌≡◌, Option, Some, ap, ◌∙◌}
 use Rattle.rc_model.specs.Tree.{Tree, Trees}
 use Rattle.rc_sheet_model.specs.Sheet.{SheetItems, Best, IntExpr, Sheet}
 use Rattle.rc_sheet_model.specs.Naming.{Naming}

@@ -10,3 +10,4 @@ pub mod ReadItems
 pub mod ReadSetup
 pub mod SetupViews
 pub mod ReadSheet
+pub mod PrintedAgain

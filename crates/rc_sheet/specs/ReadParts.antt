@@ -1,7 +1,7 @@
 -- What the parts of a list say, by how many there are and what they are, and what a list of each form makes of its parts: the
 -- readings of expressions and tests again, cut as the readers are. The two are one (`rc_sheet/proofs/Forms.antt`).
 use Rattle.std.specs.Prelude.{ℕ, Option, Some, None, option_map}
-use Rattle.rc_model.specs.Tree.{Tree, Trees, nil, cons}
+use Rattle.rc_model.specs.Tree.{Trees, nil, cons}
 use Rattle.rc_sheet_model.specs.Sheet.{card_sort, CardExpr, top_card, bottom_card, max_card, min_card, CollExpr, cards_in, filtered, union_of, CollExprs, IntExpr, number, size_of, sum_of, worth_of, add, subtract, multiply, Test, ne, less, less_eq, more, more_eq, has_value, and_of, or_of, not_of, all_of, any_of, Tests, Domain}
 use Rattle.rc_sheet_model.specs.Naming.{Naming, Scope, bind, sort_of}
 use Rattle.rc_sheet.specs.ReadNames.{◌>>=◌, both, name_at, binder_at, owner_rule, loc_parts, num_parts, map_at}
@@ -107,6 +107,14 @@ abbrev pub side_form : Naming → Scope → Rule → Trees → Option Side
 side_form naming scope rule parts =
     side_by rule (int_form naming scope rule parts) (card_form naming scope rule parts) (card_and_attr naming scope parts)
     (owner_rule scope rule parts)
+
+-- which of two numbers is less
+abbrev pub order_test : Rule → IntExpr → IntExpr → Option Test
+order_test rule.Less a b = Some (less a b)
+order_test rule.LessOrEqual a b = Some (less_eq a b)
+order_test rule.More a b = Some (more a b)
+order_test rule.MoreOrEqual a b = Some (more_eq a b)
+order_test rule a b = None
 
 abbrev pub test_form : Naming → Scope → Rule → Trees → Option Test
 test_form naming scope rule.Equal parts = equality naming scope parts

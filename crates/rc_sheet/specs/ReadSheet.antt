@@ -1,6 +1,6 @@
 -- What a whole form says.
 use Rattle.std.specs.Prelude.{Option, Some, None}
-use Rattle.rc_model.specs.Tree.{Tree, word, list, Trees, nil, cons}
+use Rattle.rc_model.specs.Tree.{Tree, word, list, Trees, cons}
 use Rattle.rc_sheet_model.specs.Sheet.{SheetItems, Best, IntExpr, Sheet}
 use Rattle.rc_sheet_model.specs.Naming.{Naming}
 use Rattle.rc_sheet.specs.ReadNames.{◌>>=◌, rule_at}

@@ -1,5 +1,5 @@
 -- The fields of a reader and of a scope.
-use Rattle.std.specs.Prelude.{◌≡◌, ◌≤◌, List, length, map}
+use Rattle.std.specs.Prelude.{◌≤◌, length, map}
 use Rattle.rc_sheet_model.specs.Naming.{Naming}
 use Rattle.rc_sheet_model.specs.Naming.{Variable as PureVariable}
 use Rattle.rc_sheet_model.specs.Naming.{Scope as PureScope}

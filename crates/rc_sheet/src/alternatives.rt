@@ -94,7 +94,8 @@ impl Reader {
         variable: &Form,
     ) -> Result<(Domain, u32, Scope), ReadFail>
         ensures given { Gives (λ all. (domain_seen all.0, all.1)) result
-            (both (reading.domain_at self.now scope.now (tree_of domain.now)) (binder_at self.now.names.vars scope.now (tree_of variable.now))) }
+            (both (reading.domain_at self.now scope.now (tree_of domain.now))
+            (binder_at self.now.names.vars scope.now (tree_of variable.now))) }
         ensures inner { IfOk result (λ all. all.2 ≡ model.bind self.now scope.now all.1 (model.sort_of (domain_seen all.0))) }
     {
         let domain = self.domain(alloc, scope, domain)?;

@@ -26,7 +26,8 @@ use std::alloc::Global;
 impl Reader {
     /// An end of a location.
     pub fn spot(&self, scope: &Scope, form: &Form) -> Result<(End, Loc), ReadFail>
-        ensures { Gives (λ spot. (end_seen spot.0, loc_seen spot.1)) result (reading.spot_at self.now scope.now (tree_of form.now)) }
+        ensures { Gives (λ spot. (end_seen spot.0, loc_seen spot.1)) result
+            (reading.spot_at self.now scope.now (tree_of form.now)) }
     {
         match form {
             Form::Atom { .. } => Err(ReadFail::Meaningless),
@@ -140,7 +141,8 @@ impl Reader {
         effects: Result<Vec<Effect>, ReadFail>,
     ) -> Result<Effect, ReadFail>
         ensures { (read : Option Effects) → Gives (λ all. effects_seen all.items) effects read
-            → Gives effect_seen result (option_map (λ p. when p.0 p.1) (both (test_at self.now scope.now (tree_of test.now)) read)) }
+            → Gives effect_seen result (option_map (λ p. when p.0 p.1)
+            (both (test_at self.now scope.now (tree_of test.now)) read)) }
     {
         let test = self.test(alloc, scope, test)?;
         Ok(Effect::when(test, effects?))
@@ -155,7 +157,8 @@ impl Reader {
         effects: Result<Vec<Effect>, ReadFail>,
     ) -> Result<Effect, ReadFail>
         ensures { (read : Option Effects) → Gives (λ all. effects_seen all.items) effects read
-            → Gives effect_seen result (option_map (λ p. repeat p.0 p.1) (both (int_at self.now scope.now (tree_of count.now)) read)) }
+            → Gives effect_seen result (option_map (λ p. repeat p.0 p.1)
+            (both (int_at self.now scope.now (tree_of count.now)) read)) }
     {
         let count = self.integer(alloc, scope, count)?;
         Ok(Effect::repeated(count, effects?))
@@ -170,7 +173,8 @@ impl Reader {
         variable: &Form,
     ) -> Result<(Domain, u32, Scope), ReadFail>
         ensures given { Gives (λ all. (domain_seen all.0, all.1)) result
-            (both (range_at self.now scope.now (tree_of range.now)) (binder_at self.now.names.vars scope.now (tree_of variable.now))) }
+            (both (range_at self.now scope.now (tree_of range.now))
+            (binder_at self.now.names.vars scope.now (tree_of variable.now))) }
         ensures inner { IfOk result (λ all. all.2 ≡ model.bind self.now scope.now all.1 (model.sort_of (domain_seen all.0))) }
     {
         let domain = self.range(alloc, scope, range)?;
@@ -220,7 +224,8 @@ impl Reader {
         scope: &Scope,
         forms: &[Form],
     ) -> Result<Vec<Effect>, ReadFail>
-        ensures { Gives (λ all. effects_seen all.items) result (reading.effects_at self.now scope.now (packed (trees_of forms.now))) }
+        ensures { Gives (λ all. effects_seen all.items) result
+            (reading.effects_at self.now scope.now (packed (trees_of forms.now))) }
     {
         let mut all = Vec::new(alloc);
         for form in forms {

@@ -366,21 +366,9 @@ impl Reader {
                 let test = self.equality(alloc, scope, parts)?;
                 Ok(Test::Ne(Box::new(alloc, test)?))
             }
-            Rule::Less => {
+            Rule::Less | Rule::LessOrEqual | Rule::More | Rule::MoreOrEqual => {
                 let (a, b) = self.two_integers(alloc, scope, parts)?;
-                Ok(Test::Less(Box::new(alloc, a)?, Box::new(alloc, b)?))
-            }
-            Rule::LessOrEqual => {
-                let (a, b) = self.two_integers(alloc, scope, parts)?;
-                Ok(Test::LessEq(Box::new(alloc, a)?, Box::new(alloc, b)?))
-            }
-            Rule::More => {
-                let (a, b) = self.two_integers(alloc, scope, parts)?;
-                Ok(Test::More(Box::new(alloc, a)?, Box::new(alloc, b)?))
-            }
-            Rule::MoreOrEqual => {
-                let (a, b) = self.two_integers(alloc, scope, parts)?;
-                Ok(Test::MoreEq(Box::new(alloc, a)?, Box::new(alloc, b)?))
+                order_test(alloc, rule, a, b)
             }
             Rule::Is => self.value_test(alloc, scope, parts),
             Rule::And => Ok(Test::and_of(self.tests(alloc, scope, parts)?)),
@@ -537,6 +525,20 @@ impl Reader {
                 Ok(Side::Number(value))
             }
         }
+    }
+}
+
+/// The test of which of two numbers is less.
+fn order_test(alloc: Global, rule: Rule, a: IntExpr, b: IntExpr) -> Result<Test, ReadFail>
+    ensures { Gives test_seen result (behind.order_test rule (int_seen a) (int_seen b)) }
+{
+    let (a, b) = (Box::new(alloc, a)?, Box::new(alloc, b)?);
+    match rule {
+        Rule::Less => Ok(Test::Less(a, b)),
+        Rule::LessOrEqual => Ok(Test::LessEq(a, b)),
+        Rule::More => Ok(Test::More(a, b)),
+        Rule::MoreOrEqual => Ok(Test::MoreEq(a, b)),
+        _ => Err(ReadFail::Meaningless),
     }
 }
 

@@ -127,7 +127,8 @@ impl Reader {
     ) -> Result<(SheetItem, Begun), ReadFail>
         ensures { (read : Option (SheetItems × reading.Begun)) → Gives items_read body read
             → Gives item_read result
-            (option_map (λ p. (stage number (class_seen class) p.0 p.1.0, p.1.1)) (both (reading.end_at self.now (tree_of end.now)) read)) }
+            (option_map (λ p. (stage number (class_seen class) p.0 p.1.0, p.1.1))
+            (both (reading.end_at self.now (tree_of end.now)) read)) }
     {
         let end = self.end(alloc, end)?;
         let (body, behind) = body?;
@@ -235,7 +236,8 @@ impl Reader {
         parts: &[Form],
     ) -> Result<(Best, IntExpr), ReadFail>
         requires { IsTrue (fits (length parts.now) rule) }
-        ensures { Gives (λ p. (best_seen p.0, int_seen p.1)) result (reading.score_rule self.now rule (packed (trees_of parts.now))) }
+        ensures { Gives (λ p. (best_seen p.0, int_seen p.1)) result
+            (reading.score_rule self.now rule (packed (trees_of parts.now))) }
     {
         match rule {
             Rule::Scoring => {
@@ -247,7 +249,8 @@ impl Reader {
         }
     }
 
-    /// The items of a sheet, of which there is one at least, and the scoring, which stands last: which scores are best, and the score.
+    /// The items of a sheet, of which there is one at least, and the scoring, which stands last: which scores are best, and the
+    /// score.
     pub fn body(
         &self,
         alloc: Global,

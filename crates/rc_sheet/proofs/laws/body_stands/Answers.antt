@@ -1,4 +1,3 @@
-use Rattle.rc_sheet.proofs.Fine.{IsFine}
 use Rattle.rc_sheet.specs.ReadItems.{items_at, score_at, body_at}
 use Rattle.rc_sheet.proofs.Means.{means_so}
 use Rattle.rc_sheet.proofs.ReadsItems.{items_mean, score_means, body_means}

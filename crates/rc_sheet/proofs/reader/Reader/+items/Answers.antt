@@ -30,7 +30,8 @@ items-loop-form-preserved t c =
     let naming = c.args.self.now in
     rw c.in_ok-push.ensures.items
     (goes_on_from item_seen item (item_at naming) (items_at naming) (λ begun tree trees. refl) (begun_seen c.loop-form.behind)
-    (begun_seen c.in_ok-item.after) c.loop-form.all.items c.args.forms.now c.loop-form.form-index c.form-item.result c.in_ok-item.item _
+    (begun_seen c.in_ok-item.after) c.loop-form.all.items c.args.forms.now c.loop-form.form-index
+    c.form-item.result c.in_ok-item.item _
     c.loop-form-test.true c.form-item.is c.in_ok-item.ensures c.loop-form.invariant)
 
 pub items-returns : goal.items-returns

@@ -1,4 +1,4 @@
-use Rattle.std.proofs.Common.{◌+◌, ◌-◌, length, take, drop, Some, refl, sym, ap, ◌∙◌, rules, arith}
+use Rattle.std.proofs.Common.{◌+◌, ◌-◌, length, take, drop, Some, refl, sym, ap, ◌∙◌, arith}
 use Rattle.rc_ast.specs.Expressions.{card_seen, coll_seen, int_seen, test_seen, domain_seen}
 use Rattle.rc_sheet_model.specs.Sheet.{filtered, coll, test}
 use Rattle.rc_sheet_model.specs.Lists.{colls_from, tests_from}

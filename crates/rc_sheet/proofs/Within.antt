@@ -1,0 +1,42 @@
+-- A sheet that is read off a form without a fault is within its limits.
+use Rattle.std.proofs.Common.{◌≡◌, ◌≤◌, [], length, Some, sym, subst, ap}
+use Rattle.rc_model.specs.Tree.{Tree}
+use Rattle.rc_sheet_model.specs.Sheet.{Names, Sheet}
+use Rattle.rc_sheet_model.specs.Limits.{most_attrs, most_values, most_maps}
+use Rattle.rc_sheet_model.specs.FormMentions.{names_of}
+use Rattle.rc_sheet_model.specs.WellFormed.{IsWithinLimits}
+use Rattle.rc_grammar.specs.Faults.{faults}
+use Rattle.rc_grammar.specs.declared.grammar.Place.TheVariants as place
+use Rattle.rc_semantics.specs.SecondFaults.{second_faults}
+use Rattle.rc_naming.specs.Naming.{naming_of}
+use Rattle.rc_sheet.specs.ReadSheet.{sheet_at}
+use Rattle.rc_sheet.proofs.Means.{means_so}
+use Rattle.rc_sheet.proofs.MentionedNumbers.{sheet_reads}
+use Rattle.rc_sheet.proofs.FewNames.{few_attributes, few_values, few_maps}
+use Rattle.rc_sheet.proofs.ReadLimits.{sheet_few}
+use Rattle.rc_sheet.proofs.FineCards.{sheet_has_cards}
+use Rattle.rc_sheet.proofs.OwnedNames.{few_locations, few_numbers}
+
+-- it has the names of its form
+pub names_are : (tree : Tree) (sheet : Sheet) → sheet_at (naming_of tree) tree ≡ Some sheet → sheet.names ≡ names_of tree
+names_are tree sheet is =
+    ap (λ n. n.names) (means_so (sheet_at (naming_of tree) tree) sheet (sheet_reads (naming_of tree) tree) is).named
+
+-- and so keeps its limits
+pub within_limits : (tree : Tree) (sheet : Sheet) → faults place.Sheet tree ≡ [] → second_faults tree ≡ []
+    → sheet_at (naming_of tree) tree ≡ Some sheet → IsWithinLimits sheet
+within_limits tree sheet shaped sound is =
+    let few = means_so (sheet_at (naming_of tree) tree) sheet (sheet_few (naming_of tree) tree) is in
+    let names = sym (names_are tree sheet is) in
+    record {
+      some_players = few.some_players;
+      players = few.players;
+      cards = (sheet_has_cards tree sheet shaped sound is).1;
+      locations = few_locations tree sheet shaped sound is;
+      numbers = few_numbers tree sheet shaped sound is;
+      attrs = subst (λ (n : Names). length n.attrs ≤ most_attrs) names (few_attributes tree shaped sound);
+      values = subst (λ (n : Names). length n.values ≤ most_values) names (few_values tree shaped sound);
+      maps = subst (λ (n : Names). length n.maps ≤ most_maps) names (few_maps tree shaped sound);
+      stages = few.stages;
+      sites = few.sites;
+    }

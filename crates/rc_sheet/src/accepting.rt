@@ -1,0 +1,67 @@
+//! The sheet of a form.
+ghost use Rattle.std.specs.Prelude.{◌≡◌, ℕ, Some, None, IfOk, IfErr};
+ghost use Rattle.rc_model.specs.Placed.{IsPlaced};
+ghost use Rattle.rc_form.specs.Form.{tree_of, IsPrintable};
+ghost use Rattle.rc_form.specs.SameForm.{IsOfAtoms};
+ghost use Rattle.rc_ast.specs.Sheet.{sheet_seen};
+ghost use Rattle.rc_sheet_model.specs.Stands.{Stands};
+ghost use Rattle.rc_sheet_model.specs.WellFormed.{IsWellFormed};
+ghost use Rattle.rc_naming.specs.Naming.{naming_of};
+ghost use Rattle.rc_semantics.specs.SecondFaults.{sheet_fault};
+ghost use Rattle.rc_semantics.specs.Checks.{IfFault};
+ghost use Rattle.rc_sheet.specs.ReadSheet.{sheet_at};
+
+use crate::fail::ReadFail;
+use crate::reader::Reader;
+use rc_ast::Sheet;
+use rc_form::Form;
+use rc_grammar::check_shape;
+use rc_naming::naming_of;
+use rc_semantics::{SheetFail, check_semantics};
+use std::alloc::Global;
+
+/// Makes the sheet of a form. The error is the form's first fault, or that there was no memory: the first fault of its shape
+/// and its numbers, or else the first of its names, sorts and limits.
+///
+/// The time is linear in the form but for look-ups among at most 256 names of a kind.
+pub fn sheet_of(alloc: Global, form: &Form) -> Result<Sheet, SheetFail>
+    requires placed { (size : ℕ) × IsPlaced size (tree_of form.now) }
+    requires printable { IsPrintable (tree_of form.now) }
+    requires of_atoms { IsOfAtoms (tree_of form.now) }
+    ensures read { IfOk result (λ sheet. sheet_at (naming_of (tree_of form.now)) (tree_of form.now) ≡ Some (sheet_seen sheet)) }
+    ensures stands { IfOk result (λ sheet. Stands (sheet_seen sheet) (tree_of form.now)) }
+    ensures well { IfOk result (λ sheet. IsWellFormed (sheet_seen sheet)) }
+    ensures fine { IfOk result (λ _. sheet_fault (tree_of form.now) ≡ None) }
+    ensures found { IfErr result (λ fail. IfFault fail (λ fault. sheet_fault (tree_of form.now) ≡ Some fault)) }
+{
+    if let Err(fault) = check_shape(form) {
+        return Err(SheetFail::Fault(fault));
+    }
+    if let Err(fail) = check_semantics(alloc, form) {
+        return Err(fail);
+    }
+    sheet_of_faultless(alloc, form)
+}
+
+/// The sheet of a form without a fault.
+fn sheet_of_faultless(alloc: Global, form: &Form) -> Result<Sheet, SheetFail>
+    requires faultless { sheet_fault (tree_of form.now) ≡ None }
+    requires printable { IsPrintable (tree_of form.now) }
+    requires of_atoms { IsOfAtoms (tree_of form.now) }
+    ensures read { IfOk result (λ sheet. sheet_at (naming_of (tree_of form.now)) (tree_of form.now) ≡ Some (sheet_seen sheet)) }
+    ensures stands { IfOk result (λ sheet. Stands (sheet_seen sheet) (tree_of form.now)) }
+    ensures well { IfOk result (λ sheet. IsWellFormed (sheet_seen sheet)) }
+    ensures memory { IfErr result (λ fail. fail ≡ SheetFail.Memory) }
+{
+    let Ok(naming) = naming_of(alloc, form) else {
+        return Err(SheetFail::Memory);
+    };
+    let Some(reader) = Reader::new(naming) else {
+        return Err(SheetFail::Memory);
+    };
+    match reader.sheet(alloc, form) {
+        Ok(sheet) => Ok(sheet),
+        Err(ReadFail::Memory) => Err(SheetFail::Memory),
+        Err(ReadFail::Meaningless) => unreachable!(),
+    }
+}
