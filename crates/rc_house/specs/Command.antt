@@ -1,18 +1,18 @@
 -- The commands, and what they make of a source.
-use Rattle.std.specs.Prelude.{Some, None, ◌≡◌, ℕ, ◌<◌, ◌⊎◌, List, [], ◌∷◌, length, codes}
+use Rattle.std.specs.Prelude.{◌≡◌, ℕ, ◌⊎◌, List, [], ◌∷◌, codes}
 use Rattle.rc_model.specs.Transcript.{line}
-use Rattle.rc_model.specs.Tree.{Tree, printed}
+use Rattle.rc_model.specs.Tree.{Tree}
 use Rattle.rc_model.specs.Spelled.{Spelled}
 use Rattle.rc_model.specs.SmallText.{HasHouse}
 use Rattle.rc_form.specs.declared.fault.FormKind.{FormKind}
 use Rattle.rc_form.specs.FormFault.{IsFormFault}
-use Rattle.rc_semantics.specs.SecondFaults.{sheet_fault}
-use Rattle.rc_grammar.specs.declared.fault.SheetFault.{SheetFault}
+use Rattle.rc_sheet_model.specs.Printing.{printed_sheet}
 use Rattle.rc_house.specs.declared.status.SourceKind.{SourceKind}
 use Rattle.rc_house.specs.declared.status.SourceKind.TheVariants.{Shape}
 use Rattle.rc_house.specs.declared.command.Command.{Command}
 use Rattle.rc_house.specs.declared.command.Command.TheVariants.{Play, Sheet}
-use Rattle.rc_house.specs.Status.{source_kind, sheet_kind}
+use Rattle.rc_house.specs.Status.{source_kind}
+use Rattle.rc_house.specs.Accepted.{HasSheetWith, IsAccepted, HasFirstFault}
 
 -- how many lists a command reads from the front of its source
 abbrev pub wanted : Command → ℕ
@@ -42,59 +42,49 @@ HasFormFault source want kind at =
     ⊎ (Spelled source want [] at × (kind ≡ Shape))
 
 -- the wanted lists of the source can be read, and this holds of the first
-pub record HasSheet (source : List ℕ) (want : ℕ) (P : Tree → Type 0) : Type 0 where
-  pub sheet : Tree
+pub record HasFirstForm (source : List ℕ) (want : ℕ) (P : Tree → Type 0) : Type 0 where
+  pub form : Tree
   pub others : List Tree
   pub rest : ℕ
-  pub spelled : Spelled source want (sheet ∷ others) rest
-  pub holds : P sheet
+  pub spelled : Spelled source want (form ∷ others) rest
+  pub holds : P form
 
--- the first fault of a form that is to be a sheet
-abbrev pub HasFirstFault : SourceKind → ℕ → Tree → Type 0
-HasFirstFault kind at sheet =
-    (found : SheetFault) × (sheet_fault sheet ≡ Some found) × (kind ≡ sheet_kind found.kind) × (at ≡ found.at)
-
--- a form without a fault
-abbrev pub IsFaultless : Tree → Type 0
-IsFaultless sheet = sheet_fault sheet ≡ None
-
--- the first fault of the source's forms, or else of its sheet
+-- the first fault of the source's forms, or else of its sheet: of the sheet's parts, or else of sight
 abbrev pub HasSheetFault : List ℕ → ℕ → SourceKind → ℕ → Type 0
-HasSheetFault source want kind at = HasFormFault source want kind at ⊎ HasSheet source want (HasFirstFault kind at)
+HasSheetFault source want kind at = HasFormFault source want kind at ⊎ HasFirstForm source want (HasFirstFault kind at)
 
--- the first list of the source, printed on a line; what follows it isn't looked at
-abbrev pub HasPrintedForm : List ℕ → List ℕ → Type 0
-HasPrintedForm source bytes =
-    (form : Tree) × (rest : ℕ) × Spelled source 1 (form ∷ []) rest × (bytes ≡ line (printed form))
+-- the sheet of the source's first list, printed on a line; what follows the list isn't looked at
+abbrev pub HasPrintedSheet : List ℕ → List ℕ → Type 0
+HasPrintedSheet source bytes = HasFirstForm source 1 (HasSheetWith (λ sheet. bytes ≡ line (printed_sheet sheet)))
 
--- the lists of the source can be read and there is a first one, but it is no source of a game that is built
-abbrev pub HasNoHouse : List ℕ → Type 0
-HasNoHouse source =
-    (forms : List Tree) × (rest : ℕ) × Spelled source 2 forms rest × (0 < length forms)
-    × ((bytes : List ℕ) → HasHouse source bytes → ⊥)
+-- the text that a command writes
+abbrev pub HasText : Command → List ℕ → List ℕ → Type 0
+HasText Play source bytes = HasHouse source bytes
+HasText Sheet source bytes = HasPrintedSheet source bytes
 
--- The command has this answer to its source, if the sheet has no fault.
-abbrev pub HasFaultlessAnswer : Command → List ℕ → Answer → Type 0
-HasFaultlessAnswer Play source (text bytes) = HasHouse source bytes
-HasFaultlessAnswer Play source (fault kind at) = HasFormFault source 2 kind at
-HasFaultlessAnswer Play source unbuilt = HasNoHouse source
-HasFaultlessAnswer Sheet source (text bytes) = HasPrintedForm source bytes
-HasFaultlessAnswer Sheet source (fault kind at) = HasFormFault source 1 kind at
-HasFaultlessAnswer Sheet source unbuilt = ⊥
+-- what the command is to do with the source isn't built: the source is none of a small game
+abbrev pub IsUnbuilt : Command → List ℕ → Type 0
+IsUnbuilt Play source = (bytes : List ℕ) → HasHouse source bytes → ⊥
+IsUnbuilt Sheet source = ⊥
+
+-- The command has this answer to its source, if the sheet is accepted.
+abbrev pub HasAcceptedAnswer : Command → List ℕ → Answer → Type 0
+HasAcceptedAnswer command source (text bytes) = HasText command source bytes
+HasAcceptedAnswer command source (fault kind at) = ⊥
+HasAcceptedAnswer command source unbuilt = IsUnbuilt command source
 
 -- the command has this answer to its source
 abbrev pub HasAnswer : Command → List ℕ → Answer → Type 0
-HasAnswer command source (text bytes) =
-    HasSheet source (wanted command) IsFaultless × HasFaultlessAnswer command source (text bytes)
+HasAnswer command source (text bytes) = HasFirstForm source (wanted command) IsAccepted × HasText command source bytes
 HasAnswer command source (fault kind at) = HasSheetFault source (wanted command) kind at
-HasAnswer command source unbuilt = HasSheet source (wanted command) IsFaultless × HasFaultlessAnswer command source unbuilt
+HasAnswer command source unbuilt = HasFirstForm source (wanted command) IsAccepted × IsUnbuilt command source
 
 -- The command has this answer to its source, and no other.
 pub record IsAnswer (command : Command) (source : List ℕ) (answer : Answer) : Type 0 where
   pub has : HasAnswer command source answer
   pub only : (other : Answer) → HasAnswer command source other → other ≡ answer
 
--- the same where the sheet has no fault
-pub record IsFaultlessAnswer (command : Command) (source : List ℕ) (answer : Answer) : Type 0 where
-  pub has : HasFaultlessAnswer command source answer
-  pub only : (other : Answer) → HasFaultlessAnswer command source other → other ≡ answer
+-- the same where the sheet is accepted
+pub record IsAcceptedAnswer (command : Command) (source : List ℕ) (answer : Answer) : Type 0 where
+  pub has : HasAcceptedAnswer command source answer
+  pub only : (other : Answer) → HasAcceptedAnswer command source other → other ≡ answer

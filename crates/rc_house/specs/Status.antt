@@ -6,7 +6,7 @@ use Rattle.rc_form.specs.declared.fault.FormKind.TheVariants as form
 use Rattle.rc_grammar.specs.declared.fault.SheetKind.{SheetKind}
 use Rattle.rc_grammar.specs.declared.fault.SheetKind.TheVariants as part
 use Rattle.rc_house.specs.declared.status.SourceKind.{SourceKind}
-use Rattle.rc_house.specs.declared.status.SourceKind.TheVariants.{BadByte, Stray, TooDeep, AtomLong, Unclosed, Shape, Number, Twice, Unknown, WrongKind, TooMany, NoCards}
+use Rattle.rc_house.specs.declared.status.SourceKind.TheVariants.{BadByte, Stray, TooDeep, AtomLong, Unclosed, Shape, Number, Twice, Unknown, WrongKind, TooMany, NoCards, Unseen}
 use Rattle.rc_house.specs.declared.status.Status.{Status}
 use Rattle.rc_house.specs.declared.status.Status.TheVariants.{Done, Sheet, Memory, ReadFault, WriteFault, TooLong, Unbuilt}
 
@@ -24,6 +24,7 @@ kind_name Unknown = codes "Unknown"
 kind_name WrongKind = codes "WrongKind"
 kind_name TooMany = codes "TooMany"
 kind_name NoCards = codes "NoCards"
+kind_name Unseen = codes "Unseen"
 
 -- the kind that a fault of forms is in a source
 abbrev pub source_kind : FormKind → SourceKind

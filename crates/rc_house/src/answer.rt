@@ -6,22 +6,25 @@ ghost use Rattle.rc_model.specs.Spelled.{Spelled};
 ghost use Rattle.rc_model.specs.SmallGame as model;
 ghost use Rattle.rc_model.specs.SmallText.{IsSmall};
 ghost use Rattle.rc_form.specs.Form.{tree_of, trees_of, IsPrintable};
+ghost use Rattle.rc_form.specs.SameForm.{IsOfAtoms};
+ghost use Rattle.rc_ast.specs.Sheet.{sheet_seen};
 ghost use Rattle.rc_house.specs.Game.{game_of};
-ghost use Rattle.rc_house.specs.Command.{wanted, fault, IsAnswer, IsFaultlessAnswer};
+ghost use Rattle.rc_house.specs.Command.{wanted, fault, IsAnswer, IsAcceptedAnswer};
 ghost use Rattle.rc_house.specs.declared.status.SourceKind.TheVariants.{Shape};
-ghost use Rattle.rc_house.specs.Status.{source_kind, sheet_kind};
+ghost use Rattle.rc_house.specs.Status.{source_kind};
+ghost use Rattle.rc_house.specs.Accepted.{IsFirstSheet};
 ghost use Rattle.rc_house.specs.Answer.{seen};
-ghost use Rattle.rc_house.specs.Reading.{IsRead, sheet_fault_of};
+ghost use Rattle.rc_house.specs.Reading.{IsRead};
 
+use crate::accepting::{SourceFail, accept};
 use crate::command::Command;
 use crate::game::SmallGame;
 use crate::play::house;
 use crate::printing::{print, print_line};
 use crate::small_text::read_game;
 use crate::status::SourceKind;
+use rc_flow::Checked;
 use rc_form::{Form, FormFail, FormFault, Forms, read_forms};
-use rc_grammar::{SheetFault, check_shape};
-use rc_semantics::{SheetFail, check_semantics};
 use std::alloc::{AllocError, Global};
 
 /// What a command answers to its source.
@@ -67,73 +70,18 @@ fn answer_of_forms(
     requires small { length source.now ≤ 1048576 }
     requires read { IsRead source.now (wanted command) (trees_of forms.now.list.items) forms.now.rest }
     requires printable { All (λ form. IsPrintable (tree_of form)) forms.now.list.items }
+    requires of_atoms { All (λ form. IsOfAtoms (tree_of form)) forms.now.list.items }
     requires placed { All (λ form. IsPlaced (length source.now) (tree_of form)) forms.now.list.items }
     ensures { IfOk result (λ answer. IsAnswer command source.now (seen answer)) }
 {
-    match first_fault(alloc, forms)? {
-        Some(found) => Ok(sheet_fault(found)),
-        None => faultless_answer(alloc, command, source, forms),
-    }
-}
-
-/// The first fault of the first form, as a sheet.
-fn first_fault(alloc: Global, forms: &Forms) -> Result<Option<SheetFault>, AllocError>
-    requires { (size : ℕ) × All (λ form. IsPlaced size (tree_of form)) forms.now.list.items }
-    ensures { IfOk result (λ found. found ≡ sheet_fault_of (trees_of forms.now.list.items)) }
-{
-    let Some(sheet) = forms.list.first() else {
-        return Ok(None);
-    };
-    if let Err(found) = check_shape(sheet) {
-        return Ok(Some(found));
-    }
-    match check_semantics(alloc, sheet) {
-        Ok(()) => Ok(None),
-        Err(SheetFail::Fault(found)) => Ok(Some(found)),
-        Err(SheetFail::Memory) => Err(AllocError),
-    }
-}
-
-/// The answer to a source whose sheet has this fault.
-fn sheet_fault(found: SheetFault) -> Answer
-    ensures { seen result ≡ fault (sheet_kind found.kind) found.at }
-{
-    Answer::Fault {
-        kind: SourceKind::from(found.kind),
-        at: found.at,
-    }
-}
-
-/// The answer of a command to a source with these forms, where the sheet has no fault.
-fn faultless_answer(
-    alloc: Global,
-    command: Command,
-    source: &[u8],
-    forms: &Forms,
-) -> Result<Answer, AllocError>
-    requires small { length source.now ≤ 1048576 }
-    requires read { IsRead source.now (wanted command) (trees_of forms.now.list.items) forms.now.rest }
-    requires printable { All (λ form. IsPrintable (tree_of form)) forms.now.list.items }
-    requires placed { All (λ form. IsPlaced (length source.now) (tree_of form)) forms.now.list.items }
-    ensures { IfOk result (λ answer. IsFaultlessAnswer command source.now (seen answer)) }
-{
-    match command {
-        Command::Play => play_answer(alloc, source, forms),
-        Command::Sheet => sheet_answer(alloc, source, forms),
-    }
-}
-
-/// The answer of `sheet` to a source with these forms.
-fn sheet_answer(alloc: Global, source: &[u8], forms: &Forms) -> Result<Answer, AllocError>
-    requires small { length source.now ≤ 1048576 }
-    requires read { IsRead source.now 1 (trees_of forms.now.list.items) forms.now.rest }
-    requires printable { All (λ form. IsPrintable (tree_of form)) forms.now.list.items }
-    ensures { IfOk result (λ answer. IsFaultlessAnswer Command.Sheet source.now (seen answer)) }
-{
-    let [sheet] = forms.list.as_slice() else {
+    let Some(form) = forms.list.first() else {
         return Ok(missing(forms));
     };
-    Ok(Answer::Text(print_line(alloc, sheet)?))
+    match accept(alloc, form) {
+        Ok(checked) => accepted_answer(alloc, command, source, forms, &checked),
+        Err(SourceFail::Fault { kind, at }) => Ok(Answer::Fault { kind, at }),
+        Err(SourceFail::Memory) => Err(AllocError),
+    }
 }
 
 /// The answer where the sheet is missing.
@@ -147,17 +95,35 @@ fn missing(forms: &Forms) -> Answer
     }
 }
 
-/// The answer of `play` to a source with these forms.
+/// The answer of a command to a source with these forms, of which the first is accepted as this sheet.
+fn accepted_answer(
+    alloc: Global,
+    command: Command,
+    source: &[u8],
+    forms: &Forms,
+    checked: &Checked,
+) -> Result<Answer, AllocError>
+    requires small { length source.now ≤ 1048576 }
+    requires read { IsRead source.now (wanted command) (trees_of forms.now.list.items) forms.now.rest }
+    requires printable { All (λ form. IsPrintable (tree_of form)) forms.now.list.items }
+    requires placed { All (λ form. IsPlaced (length source.now) (tree_of form)) forms.now.list.items }
+    requires accepted { IsFirstSheet (trees_of forms.now.list.items) (sheet_seen checked.now) }
+    ensures { IfOk result (λ answer. IsAcceptedAnswer command source.now (seen answer)) }
+{
+    match command {
+        Command::Play => play_answer(alloc, source, forms),
+        Command::Sheet => Ok(Answer::Text(print_line(alloc, checked.sheet())?)),
+    }
+}
+
+/// The answer of `play` to a source with these forms, of which the first is accepted.
 fn play_answer(alloc: Global, source: &[u8], forms: &Forms) -> Result<Answer, AllocError>
     requires small { length source.now ≤ 1048576 }
     requires read { IsRead source.now 2 (trees_of forms.now.list.items) forms.now.rest }
     requires printable { All (λ form. IsPrintable (tree_of form)) forms.now.list.items }
     requires placed { All (λ form. IsPlaced (length source.now) (tree_of form)) forms.now.list.items }
-    ensures { IfOk result (λ answer. IsFaultlessAnswer Command.Play source.now (seen answer)) }
+    ensures { IfOk result (λ answer. IsAcceptedAnswer Command.Play source.now (seen answer)) }
 {
-    if forms.list.is_empty() {
-        return Ok(missing(forms));
-    }
     match game_of_forms(alloc, source, forms)? {
         Some(game) => Ok(Answer::Text(house(alloc, &game)?.into_bytes())),
         None => Ok(Answer::Unbuilt),

@@ -1,12 +1,15 @@
 //! Small games from their sources to their transcripts, and sheets as they are printed.
 #![tactic(auto)]
 
+mod accepting;
 mod answer;
 mod command;
 mod game;
 mod play;
 mod printing;
 mod running;
+#[cfg(test)]
+mod sight_tests;
 mod small_text;
 mod status;
 mod transcript;

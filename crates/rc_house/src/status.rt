@@ -36,6 +36,8 @@ pub enum SourceKind {
     TooMany,
     /// There is no deck.
     NoCards,
+    /// A guard or a domain of a choice reads a location that its mover may not see.
+    Unseen,
 }
 
 impl SourceKind {
@@ -57,6 +59,7 @@ impl SourceKind {
             SourceKind::WrongKind => "WrongKind",
             SourceKind::TooMany => "TooMany",
             SourceKind::NoCards => "NoCards",
+            SourceKind::Unseen => "Unseen",
         }
     }
 }

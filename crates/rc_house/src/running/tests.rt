@@ -6,6 +6,8 @@ use std::alloc::AllocError;
 use std::process::Abort;
 use std::test::Fail;
 
+mod sheets;
+
 /// Two players with two cards each, of which the last dealt is worth least.
 const SHEET: &str = "\
 (game
@@ -640,29 +642,4 @@ fn hostile_sources_of_the_largest_size_are_refused(rt: HostRuntime) -> Result<()
     )?;
     let closes = vec![in rt.alloc(); b')'; 1_048_576]?;
     expect_fault(&rt, "sheet", &closes, SourceKind::Stray, "Stray", 0)
-}
-
-#[test]
-fn sheet_prints_the_first_list_whatever_follows(rt: HostRuntime) -> Result<(), Fail> {
-    let source = source_with(rt.alloc(), PLAN)?;
-    let printed =
-        "(game (setup (create players 2) (create deck (game hloc STOCK) (deck (RANK (1 2 3 4)))) (put points WORTH ((RANK (1) 1) (RANK (2) 2) (RANK (3) 3) (RANK (4) 4)))) (do (all player 'P (repeat 2 (move (top (game hloc STOCK)) (top ('P iloc HAND)))))) (stage player (end (all player 'P (= (size ('P iloc HAND)) 0))) (choice (any ((current player) iloc HAND) 'C (do (move 'C (top ((current player) vloc PLAYED))))))) (scoring max (sum ('SELF vloc PLAYED) using WORTH)))\n";
-    assert_eq!(rt; printed.len(), 463);
-    for (source, written) in [
-        (source.as_str(), printed),
-        (SHEET, printed),
-        (printed, printed),
-        (
-            " (game,(setup(create\tplayers 007)(create deck(game hloc S)(deck(R(A)))));c\n(do(shuffle(game hloc S)))(scoring max -0)) )",
-            "(game (setup (create players 007) (create deck (game hloc S) (deck (R (A))))) (do (shuffle (game hloc S))) (scoring max -0))\n",
-        ),
-    ] {
-        let end = End {
-            status: Status::Done,
-            written,
-            noted: "",
-        };
-        expect_command(&rt, source, "sheet", source.as_bytes(), end)?;
-    }
-    Ok(())
 }

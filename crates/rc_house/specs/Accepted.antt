@@ -1,0 +1,55 @@
+-- Which forms are accepted as sheets, and the first fault of one that isn't.
+use Rattle.std.specs.Prelude.{Some, None, ◌≡◌, ℕ, ◌⊎◌, List, [], ◌∷◌}
+use Rattle.rc_model.specs.Tree.{Tree}
+use Rattle.rc_grammar.specs.declared.fault.SheetFault.{SheetFault}
+use Rattle.rc_semantics.specs.SecondFaults.{sheet_fault}
+use Rattle.rc_sheet_model.specs.Sheet.{Sheet}
+use Rattle.rc_sheet_model.specs.Stands.{Stands}
+use Rattle.rc_sheet_model.specs.WellFormed.{IsWellFormed}
+use Rattle.rc_sheet_model.specs.Sight.{IsInSight, IsUnseen}
+use Rattle.rc_naming.specs.Naming.{naming_of}
+use Rattle.rc_sheet.specs.ReadSheet.{sheet_at}
+use Rattle.rc_house.specs.declared.accepting.SourceFail.{SourceFail}
+use Rattle.rc_house.specs.declared.accepting.SourceFail.TheVariants as fails
+use Rattle.rc_house.specs.declared.status.SourceKind.{SourceKind}
+use Rattle.rc_house.specs.declared.status.SourceKind.TheVariants.{Unseen}
+use Rattle.rc_house.specs.Status.{sheet_kind}
+
+-- The sheet of a form that has no fault of its parts: a well formed sheet that the form stands for. Of each form there is one
+-- at most, which is what the form says with its names numbered by their first mention.
+pub record IsSheetOf (form : Tree) (sheet : Sheet) : Type 0 where
+  pub faultless : sheet_fault form ≡ None
+  pub stands : Stands sheet form
+  pub well : IsWellFormed sheet
+  pub says : sheet_at (naming_of form) form ≡ Some sheet
+
+-- this holds of the form's sheet
+abbrev pub HasSheetWith : (Sheet → Type 0) → Tree → Type 0
+HasSheetWith P form = (sheet : Sheet) × IsSheetOf form sheet × P sheet
+
+-- no guard and no domain of a choice reads what its mover doesn't see, and no part has a fault
+abbrev pub IsAccepted : Tree → Type 0
+IsAccepted = HasSheetWith IsInSight
+
+-- the first fault of the parts of a form that is to be a sheet
+abbrev pub HasPartFault : SourceKind → ℕ → Tree → Type 0
+HasPartFault kind at form =
+    (found : SheetFault) × (sheet_fault form ≡ Some found) × (kind ≡ sheet_kind found.kind) × (at ≡ found.at)
+
+-- the first location that stands in a guard or a domain and is out of sight there
+abbrev pub HasSightFault : SourceKind → ℕ → Tree → Type 0
+HasSightFault kind at form = (kind ≡ Unseen) × HasSheetWith (λ sheet. IsUnseen sheet at) form
+
+-- the first fault of a form that is to be a sheet: of its parts, or else of sight
+abbrev pub HasFirstFault : SourceKind → ℕ → Tree → Type 0
+HasFirstFault kind at form = HasPartFault kind at form ⊎ HasSightFault kind at form
+
+-- the first of these forms is accepted, and this is its sheet
+abbrev pub IsFirstSheet : List Tree → Sheet → Type 0
+IsFirstSheet [] sheet = ⊥
+IsFirstSheet (form ∷ others) sheet = IsSheetOf form sheet × IsInSight sheet
+
+-- what holds of a fault; nothing is said where memory ran out
+abbrev pub IfFault : SourceFail → (SourceKind → ℕ → Type 0) → Type 0
+IfFault fails.Memory P = Unit {0}
+IfFault (fails.Fault kind at) P = P kind at
