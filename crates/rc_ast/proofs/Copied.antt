@@ -1,20 +1,28 @@
 -- A form that is printed in the place of another one, by the rows of the grammar.
 use Prim.Native.String.{String}
-use Rattle.std.proofs.Common.{◌≡◌, ℕ, ◌+◌, ◌-◌, true, List, codes, refl, ap, ◌∙◌, nat_le}
+use Rattle.std.proofs.Common.{◌≡◌, ℕ, ◌+◌, ◌-◌, true, List, codes, refl, ap, ◌∙◌, nat_le, inl, sym}
 use Rattle.rc_model.specs.Tree.{Tree, word, list, Trees, nil, cons}
 use Rattle.rc_sheet_model.specs.Rows.{◌▸◌, End, count, AtLeast, Row, Word, Atom, IsOpenAtMost, AreOpenAtMost}
 use Rattle.rc_sheet_model.specs.Printing.{keyword}
 use Rattle.rc_sheet_model.specs.WellFormed.{is_atom}
+use Rattle.rc_ast.specs.Respelled.{IsWordRespelled, IsRespelled, AreRespelled}
 use Rattle.rc_ast.specs.Unplaced.{IsBare, AreBare}
 
--- the tree is such a one, it is bare, and it has no more lists open than the form has
+-- the tree has no more lists open than the form has, and is the form but for offsets and the spelling of numbers
+abbrev pub Keeps : Tree → Tree → Type 0
+Keeps form tree = ((room : ℕ) → IsOpenAtMost room form → IsOpenAtMost room tree) × IsRespelled form tree
+
+abbrev pub AllKeep : Trees → Trees → Type 0
+AllKeep forms trees = ((room : ℕ) → AreOpenAtMost room forms → AreOpenAtMost room trees) × AreRespelled forms trees
+
+-- the tree is such a one, it is bare, and keeps the form
 abbrev pub Good : (Tree → Type 0) → Tree → Tree → Type 0
-Good New form tree = New tree × IsBare tree × ((room : ℕ) → IsOpenAtMost room form → IsOpenAtMost room tree)
+Good New form tree = New tree × IsBare tree × Keeps form tree
 
 -- so are the parts, and there are as many
 abbrev pub AreGood : (Trees → Type 0) → Trees → Trees → Type 0
 AreGood New forms trees =
-    (count trees ≡ count forms) × New trees × AreBare trees × ((room : ℕ) → AreOpenAtMost room forms → AreOpenAtMost room trees)
+    (count trees ≡ count forms) × New trees × AreBare trees × AllKeep forms trees
 
 -- where a form is such a one, the tree is good
 pub record Copies (Old New : Tree → Type 0) (tree : Tree) : Type 0 where
@@ -27,15 +35,17 @@ pub keyword_copied : (text : String) → is_atom (codes text) ≡ true → Copie
 keyword_copied text is = record { of = of }
   where
     of : (form : Tree) → Atom text form → Good (Atom text) form (keyword text)
-    of form stands = (refl, (is, refl, refl), λ room opened. tt)
+    of (word bytes from to) stands = (refl, (is, refl, refl), (λ room opened. tt, inl (sym stands)))
+    of (list parts from to) stands = absurd stands
 
 -- an atom
-pub word_copied : {P Q : List ℕ → Type 0} {bytes : List ℕ} → ((others : List ℕ) → P others → Q bytes × (is_atom bytes ≡ true))
+pub word_copied : {P Q : List ℕ → Type 0} {bytes : List ℕ} → ((others : List ℕ) → P others
+    → Q bytes × (is_atom bytes ≡ true) × IsWordRespelled others bytes)
     → Copies (Word P) (Word Q) (word bytes 0 0)
 word_copied {P = P} {Q = Q} {bytes = bytes} each = record { of = of }
   where
     of : (form : Tree) → Word P form → Good (Word Q) form (word bytes 0 0)
-    of (word others from to) stands = let both = each others stands in (both.0, (both.1, refl, refl), λ room opened. tt)
+    of (word others from to) stands = let all = each others stands in (all.0, (all.1, refl, refl), (λ room opened. tt, all.2))
     of (list parts from to) stands = absurd stands
 
 -- a list
@@ -46,7 +56,7 @@ row_copied {P = P} {Q = Q} {trees = trees} parts = record { of = of }
     of (word bytes from to) stands = absurd stands
     of (list forms from to) stands =
         let good = parts.of forms stands in
-        (good.1, (refl, refl, good.2), λ room opened. (opened.0, good.3 (room - 1) opened.1))
+        (good.1, (refl, refl, good.2), (λ room opened. (opened.0, good.3.0 (room - 1) opened.1), good.3.1))
 
 -- a part and those behind it, which may go by it
 pub bound_copied : {A B : Tree → Type 0} {P Q : Trees → Type 0} {tree : Tree} {trees : Trees} → Copies A B tree
@@ -58,7 +68,9 @@ bound_copied {A = A} {B = B} {P = P} {Q = Q} {tree = tree} {trees = trees} first
     of (cons form forms) stands =
         let good = first.of form stands.0 in
         let are = (others form stands.0).of forms stands.1 in
-        (ap (λ n. n + 1) are.0, (good.0, are.1), (good.1, are.2), λ room opened. (good.2 room opened.0, are.3 room opened.1))
+        let kept : AllKeep (cons form forms) (cons tree trees) =
+        (λ room opened. (good.2.0 room opened.0, are.3.0 room opened.1), (good.2.1, are.3.1)) in
+        (ap (λ n. n + 1) are.0, (good.0, are.1), (good.1, are.2), kept)
 
 pub part_copied : {A B : Tree → Type 0} {P Q : Trees → Type 0} {tree : Tree} {trees : Trees} → Copies A B tree
     → AreCopied P Q trees → AreCopied (A ▸ P) (B ▸ Q) (cons tree trees)
@@ -69,7 +81,7 @@ pub end_copied : AreCopied End End nil
 end_copied = record { of = of }
   where
     of : (forms : Trees) → End forms → AreGood End forms nil
-    of nil stands = (refl, tt, tt, λ room opened. tt)
+    of nil stands = (refl, tt, tt, (λ room opened. tt, tt))
     of (cons form forms) stands = absurd stands
 
 -- at least so many parts

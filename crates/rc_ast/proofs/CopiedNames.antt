@@ -1,12 +1,12 @@
 -- Names, variables, numbers, owners and locations, printed in the place of their forms.
 use Prim.Native.String.{String}
-use Rattle.std.proofs.Common.{◌≡◌, ℕ, Bool, true, false, List, [], ◌∷◌, ◌++◌, map, codes, get_or, slice_get, Option, Some, None, option_map, ℤ, refl, sym, subst, ap, ◌∙◌}
+use Rattle.std.proofs.Common.{◌≡◌, ℕ, Bool, true, false, List, [], ◌∷◌, ◌++◌, map, codes, get_or, slice_get, Option, Some, None, option_map, ℤ, refl, sym, subst, ap, ◌∙◌, inl, inr}
 use Rattle.std.specs.List.{list_all}
 use Rattle.std.proofs.lemmas.Bool.{and_parts, and_from}
 use Rattle.std.proofs.lemmas.List.{map-append}
 use Rattle.std.proofs.lemmas.List.Folds.{list_all-append}
 use Rattle.std.proofs.lemmas.List.Sums.{AllPass-from_list_all}
-use Rattle.std.proofs.lemmas.Option.{get_or_from_slice_get, slice_get_within, slice_get-map}
+use Rattle.std.proofs.lemmas.Option.{same_Some, get_or_from_slice_get, slice_get_within, slice_get-map}
 use Rattle.rc_model.specs.Tree.{Tree, word, list}
 use Rattle.rc_sheet_model.specs.Sheet.{Sort, LocKind, vloc, iloc, hloc, mem, LocName, Who, game, current_player, current_team, team_of_current, team_of_var, who_var, Loc, Num, Sheet, player_sort}
 use Rattle.rc_sheet_model.specs.Rows.{◌▸◌, End, Row, Atom}
@@ -14,6 +14,7 @@ use Rattle.rc_sheet_model.specs.Naming.{Naming, naming_of, Scope, bind, self_sco
 use Rattle.rc_sheet_model.specs.Printing.{keyword, row, named, number_form, Bound, binding, who_form, kind_bytes, kind_form, loc_form, num_form, one, two, with_map}
 use Rattle.rc_sheet_model.specs.StandsExpressions.{StandsOwner, StandsHolder, StandsLoc, StandsNum, Two, TwoOwners}
 use Rattle.rc_sheet_model.specs.WellFormed.{is_atom, is_plain_word, is_variable_word, HasWords}
+use Rattle.rc_ast.specs.Respelled.{IsWordRespelled}
 use Rattle.rc_ast.specs.Unplaced.{loc_unplaced}
 use Rattle.rc_ast.proofs.PrintedNumbers.{printed_literal}
 use Rattle.rc_ast.proofs.Copied.{Good, Copies, keyword_copied, word_copied, row_copied, part_copied, end_copied}
@@ -51,10 +52,12 @@ pub named_copied : (words : List (List ℕ)) (n : ℕ) → list_all is_plain_wor
 named_copied words n all =
     word_copied (λ bytes stands.
     let at = plain_at words n bytes all stands.0 in
-    subst (λ w. ((slice_get words n ≡ Some w) × (is_variable w ≡ false)) × (is_atom w ≡ true)) (sym at.0) (stands, at.1))
+    subst (λ w. ((slice_get words n ≡ Some w) × (is_variable w ≡ false)) × (is_atom w ≡ true) × IsWordRespelled bytes w)
+    (sym at.0) (stands, at.1, inl refl))
 
 pub literal_copied : (value : ℤ) → Copies (Literal value) (Literal value) (number_form value)
-literal_copied value = word_copied (λ bytes stands. printed_literal value bytes stands)
+literal_copied value = word_copied (λ bytes stands.
+    let is = printed_literal value bytes stands in (is.0, is.1, inr (value, stands, refl)))
 
 -- the words of a scope
 pub record Fits (scope : Scope) (bound : Bound) : Type 0 where
@@ -76,7 +79,7 @@ in_scope_copied {scope = scope} {bound = bound} fits sort var =
     ∙ ap (option_map (λ variable. variable.word)) stands.0 in
     let at = listed_atom is_atom (λ w atom. atom) bound var bytes fits.atoms is in
     subst (λ w. ((slice_get scope var ≡ Some (record { word = w; sort = sort })) × (is_variable w ≡ true)) ×
-    (is_atom w ≡ true)) (sym at.0) (stands, at.1))
+    (is_atom w ≡ true) × IsWordRespelled bytes w) (sym at.0) (stands, at.1, inl refl))
 
 -- owners
 current_copied : Copies (Row (Atom "current" ▸ Atom "player" ▸ End)) (Row (Atom "current" ▸ Atom "player" ▸ End))
@@ -134,8 +137,9 @@ kind_atom mem = refl
 
 kind_is : (found : Option LocName) (bytes : List ℕ) → option_map (λ loc. kind_word loc.kind) found ≡ Some bytes
     → (option_map (λ loc. kind_word loc.kind) found ≡ Some (kind_bytes found)) × (is_atom (kind_bytes found) ≡ true)
+    × IsWordRespelled bytes (kind_bytes found)
 kind_is None bytes is = absurd cc
-kind_is (Some loc) bytes is = (refl, kind_atom loc.kind)
+kind_is (Some loc) bytes is = (refl, kind_atom loc.kind, inl (same_Some (kind_word loc.kind) bytes is))
 
 pub kind_copied : (naming : Naming) (name : ℕ) → Copies (KindOf naming name) (KindOf naming name) (kind_form naming name)
 kind_copied naming name = word_copied (λ bytes stands. kind_is (slice_get naming.locs name) bytes stands)
@@ -148,8 +152,9 @@ module _ (sheet : Sheet) (words : HasWords sheet) where
   binder_copied var =
       word_copied (λ bytes stands.
       let at = variable_at sheet.names.vars var bytes words.vars stands.0 in
-      subst (λ w. ((slice_get sheet.names.vars var ≡ Some w) × (is_variable w ≡ true)) × (is_atom w ≡ true)) (sym at.0)
-      (stands, at.1))
+      subst (λ w. ((slice_get sheet.names.vars var ≡ Some w) × (is_variable w ≡ true)) ×
+      (is_atom w ≡ true) × IsWordRespelled bytes w) (sym at.0)
+      (stands, at.1, inl refl))
 
   -- the scope behind a binder
   pub bind_fits : {scope : Scope} {bound : Bound} → Fits scope bound → (sort : Sort) (var : ℕ) (form : Tree)

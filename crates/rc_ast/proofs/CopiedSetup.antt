@@ -12,7 +12,8 @@ use Rattle.rc_sheet_model.specs.Naming.{Naming, naming_of, Named, KindOf}
 use Rattle.rc_sheet_model.specs.Printing.{packed, keyword, row, named, number_form, group_forms, branch_forms, players_form, team_form, teams_forms, deck_form, entry_form, map_form, setup_forms}
 use Rattle.rc_sheet_model.specs.StandsSetup.{StandsPlayers, StandsTeam, StandTeams, StandsTeams, StandsGroups, StandsBranches, StandsDeck, StandValues, StandEntries, StandsMap, begins_with, lines_with, are_lines, team_lines, numbered, StandsSetup}
 use Rattle.rc_sheet_model.specs.WellFormed.{HasWords}
-use Rattle.rc_ast.specs.Unplaced.{AreBare, unplaced}
+use Rattle.rc_ast.specs.Respelled.{IsRespelled, AreRespelled, lines_in_order, setup_in_order}
+use Rattle.rc_ast.specs.Unplaced.{IsBare, AreBare, unplaced}
 use Rattle.rc_ast.proofs.Copied.{Good, Copies, AreCopied, keyword_copied, row_copied, part_copied, end_copied, least_copied}
 use Rattle.rc_ast.proofs.CopiedNames.{two_copied, named_copied, literal_copied, kind_copied}
 
@@ -123,10 +124,11 @@ pub record Zipped {A : Type 0} (New : A → Tree → Type 0) (xs : List A) (form
   pub stand : AllZip New xs (map tree_of xs)
   pub bare : AreBare (packed (map tree_of xs))
   pub opened : (room : ℕ) → AllOpen room forms → AreOpenAtMost room (packed (map tree_of xs))
+  pub spelled : AreRespelled (packed forms) (packed (map tree_of xs))
 
 zip_copied : {A : Type 0} (Old New : A → Tree → Type 0) (tree_of : A → Tree) → ((x : A) → Copies (Old x) (New x) (tree_of x))
     → (xs : List A) (forms : List Tree) → AllZip Old xs forms → Zipped New xs forms tree_of
-zip_copied Old New tree_of each [] [] stand = record { stand = tt; bare = tt; opened = λ room opened. tt }
+zip_copied Old New tree_of each [] [] stand = record { stand = tt; bare = tt; opened = λ room opened. tt; spelled = tt }
 zip_copied Old New tree_of each [] (form ∷ forms) stand = absurd stand
 zip_copied Old New tree_of each (x ∷ xs) [] stand = absurd stand
 zip_copied Old New tree_of each (x ∷ xs) (form ∷ forms) stand =
@@ -135,7 +137,8 @@ zip_copied Old New tree_of each (x ∷ xs) (form ∷ forms) stand =
     record {
       stand = (good.0, rest.stand);
       bare = (good.1, rest.bare);
-      opened = λ room opened. (good.2 room opened.0, rest.opened room opened.1);
+      opened = λ room opened. (good.2.0 room opened.0, rest.opened room opened.1);
+      spelled = (good.2.1, rest.spelled);
     }
 
 -- parts behind others
@@ -147,6 +150,14 @@ are_open : (room : ℕ) (trees others : List Tree) → AreOpenAtMost room (packe
     → AreOpenAtMost room (packed (trees ++ others))
 are_open room [] others opened more = more
 are_open room (tree ∷ trees) others opened more = (opened.0, are_open room trees others opened.1 more)
+
+are_spelled : (forms others trees more : List Tree) → AreRespelled (packed forms) (packed trees)
+    → AreRespelled (packed others) (packed more) → AreRespelled (packed (forms ++ others)) (packed (trees ++ more))
+are_spelled [] others [] more spelled rest = rest
+are_spelled [] others (tree ∷ trees) more spelled rest = absurd spelled
+are_spelled (form ∷ forms) others [] more spelled rest = absurd spelled
+are_spelled (form ∷ forms) others (tree ∷ trees) more spelled rest =
+    (spelled.0, are_spelled forms others trees more spelled.1 rest)
 
 module _ (first second : String) where
   lines_append : (trees others : List Tree)
@@ -279,6 +290,7 @@ module _ (sheet : Sheet) (words : HasWords sheet) where
     pub stands : StandsSetup names (unplaced sheet) (packed forms)
     pub bare : AreBare (packed forms)
     pub opened : (room : ℕ) → AreOpenAtMost room lines → AreOpenAtMost room (packed forms)
+    pub spelled : AreRespelled (packed (lines_in_order lines)) (packed forms)
 
   lines_copied : (lines : Trees) → StandsSetup names sheet lines → SetUp lines all_lines
   lines_copied lines setup =
@@ -305,21 +317,35 @@ module _ (sheet : Sheet) (words : HasWords sheet) where
             (are_open room teams_lines _ (teams.opened room (lines_open "create" "teams" room lines opened))
             (are_open room deck_lines map_lines (decks.opened room (lines_open "create" "deck" room lines opened))
             (maps.opened room (lines_open "put" "points" room lines opened))));
+        spelled =
+            are_spelled (lines_with "create" "players" lines) _ players_lines _ players.spelled
+            (are_spelled (lines_with "create" "teams" lines) _ teams_lines _ teams.spelled
+            (are_spelled (lines_with "create" "deck" lines) (lines_with "put" "points" lines) deck_lines map_lines decks.spelled
+            maps.spelled));
       }
 
-  pub setup_copied : Copies (Row (Atom "setup" ▸ Some (StandsSetup names sheet)))
-      (Row (Atom "setup" ▸ Some (StandsSetup names (unplaced sheet))))
-      (row (keyword "setup" ∷ setup_forms sheet))
-  setup_copied = record { of = of }
-    where
-      of : (form : Tree) → Row (Atom "setup" ▸ Some (StandsSetup names sheet)) form
-          → Good (Row (Atom "setup" ▸ Some (StandsSetup names (unplaced sheet)))) form (row (keyword "setup" ∷ setup_forms sheet))
-      of (word bytes from to) stands = absurd stands
-      of (list nil from to) stands = absurd stands
-      of (list (cons head lines) from to) stands =
-          let setup : SetUp lines (setup_forms sheet) = subst (SetUp lines) (sym setup_is) (lines_copied lines stands.1.1) in (
-            (refl, (le-leb 1 _ (omega arith), setup.stands)),
-            (refl, refl, ((refl, refl, refl), setup.bare)),
-            λ room opened.
-                (opened.0, (tt, setup.opened (room - 1) opened.1.1)),
-          )
+  abbrev IsSetup : Sheet → Tree → Type 0
+  IsSetup other = Row (Atom "setup" ▸ Some (StandsSetup names other))
+
+  abbrev setup_form : Tree
+  setup_form = row (keyword "setup" ∷ setup_forms sheet)
+
+  -- what is printed for a setup
+  pub record GoodSetup (form : Tree) : Type 0 where
+    pub stands : IsSetup (unplaced sheet) setup_form
+    pub bare : IsBare setup_form
+    pub opened : (room : ℕ) → IsOpenAtMost room form → IsOpenAtMost room setup_form
+    pub spelled : IsRespelled (setup_in_order form) setup_form
+
+  pub setup_copied : (form : Tree) → IsSetup sheet form → GoodSetup form
+  setup_copied (word bytes from to) stands = absurd stands
+  setup_copied (list nil from to) stands = absurd stands
+  setup_copied (list (cons head lines) from to) stands =
+      let setup : SetUp lines (setup_forms sheet) = subst (SetUp lines) (sym setup_is) (lines_copied lines stands.1.1) in
+      let good = (keyword_copied "setup" refl).of head stands.0 in
+      record {
+        stands = (refl, (le-leb 1 _ (omega arith), setup.stands));
+        bare = (refl, refl, ((refl, refl, refl), setup.bare));
+        opened = λ room opened. (opened.0, (tt, setup.opened (room - 1) opened.1.1));
+        spelled = (good.2.1, setup.spelled);
+      }

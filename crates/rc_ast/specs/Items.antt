@@ -11,7 +11,7 @@ use Rattle.rc_ast.specs.Effects.{effects_seen}
 
 abbrev pub alt_seen : Alt → PureAlt
 alt_seen (DoAlt effects) = do_alt (effects_seen effects.items)
-alt_seen (IfAlt guard effects) = if_alt (test_seen guard) (effects_seen effects.items)
+alt_seen (IfAlt guard effects) = if_alt (test_seen guard.value) (effects_seen effects.items)
 alt_seen (Any' domain bound p alt) = any_alt (domain_seen domain) bound (alt_seen alt)
 
 -- the trees of a vector's items

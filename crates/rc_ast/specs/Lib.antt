@@ -7,3 +7,4 @@ pub mod Sheet
 pub mod Examples
 pub mod Printing
 pub mod Unplaced
+pub mod Respelled

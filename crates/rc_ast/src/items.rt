@@ -11,7 +11,7 @@ use crate::{Class, Domain, Effect, Test};
 #[derive(Debug, Drop)]
 pub enum Alt {
     Do(Vec<Effect>),
-    If(Test, Vec<Effect>),
+    If(Box<Test>, Vec<Effect>),
     Any(Domain, u32, Box<Alt>),
 }
 

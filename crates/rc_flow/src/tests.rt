@@ -106,7 +106,8 @@ fn first_where_size(alloc: Global, cards: CollExpr) -> Result<Option<u32>, Memor
     let cards = Box::new(alloc, cards)?;
     let size = Box::new(alloc, IntExpr::Size(cards))?;
     let zero = Box::new(alloc, IntExpr::Lit(0))?;
-    first_in(alloc, Alt::If(Test::EqInt(size, zero), effects(alloc)?))
+    let guard = Box::new(alloc, Test::EqInt(size, zero))?;
+    first_in(alloc, Alt::If(guard, effects(alloc)?))
 }
 
 #[test]
@@ -156,7 +157,8 @@ fn the_least_offset_is_the_first(rt: HostRuntime) -> Result<(), Fail> {
     let alloc = rt.alloc();
     let one = top_of(alloc, cards_in(Who::Game, STOCK, 60))?;
     let other = top_of(alloc, cards_in(Who::Game, STOCK, 50))?;
-    let got = first_in(alloc, Alt::If(Test::EqCard(one, other), effects(alloc)?))?;
+    let guard = Box::new(alloc, Test::EqCard(one, other))?;
+    let got = first_in(alloc, Alt::If(guard, effects(alloc)?))?;
     assert_eq!(rt; got, Some(50));
     Ok(())
 }

@@ -7,6 +7,7 @@ use Rattle.rc_grammar.specs.declared.fault.SheetFault.{SheetFault}
 use Rattle.rc_semantics.specs.SecondFaults.{sheet_fault}
 use Rattle.rc_sheet_model.specs.Sheet.{Sheet}
 use Rattle.rc_sheet_model.specs.Sight.{unseen_offsets, IsInSight, IsUnseen}
+use Rattle.rc_sheet.proofs.OneSheet.{one_well_formed}
 use Rattle.rc_house.specs.declared.status.SourceKind.{SourceKind}
 use Rattle.rc_house.specs.Status.{sheet_kind}
 use Rattle.rc_house.specs.Accepted.{IsSheetOf, IsAccepted, HasPartFault, HasFirstFault}
@@ -15,7 +16,7 @@ use Rattle.rc_house.proofs.Options.{some_is}
 
 -- a form has one sheet
 pub one_sheet : (form : Tree) (sheet other : Sheet) → IsSheetOf form sheet → IsSheetOf form other → other ≡ sheet
-one_sheet form sheet other is is' = some_is (sym is'.says ∙ is.says)
+one_sheet form sheet other is is' = one_well_formed form sheet other is.faultless is.stands is.well is'.stands is'.well
 
 -- one location is the first out of sight
 one_unseen : (sheet : Sheet) (at other : ℕ) → IsUnseen sheet at → IsUnseen sheet other → other ≡ at

@@ -7,21 +7,18 @@ use Rattle.rc_sheet_model.specs.Sheet.{Sheet}
 use Rattle.rc_sheet_model.specs.Stands.{Stands}
 use Rattle.rc_sheet_model.specs.WellFormed.{IsWellFormed}
 use Rattle.rc_sheet_model.specs.Sight.{IsInSight, IsUnseen}
-use Rattle.rc_naming.specs.Naming.{naming_of}
-use Rattle.rc_sheet.specs.ReadSheet.{sheet_at}
 use Rattle.rc_house.specs.declared.accepting.SourceFail.{SourceFail}
 use Rattle.rc_house.specs.declared.accepting.SourceFail.TheVariants as fails
 use Rattle.rc_house.specs.declared.status.SourceKind.{SourceKind}
 use Rattle.rc_house.specs.declared.status.SourceKind.TheVariants.{Unseen}
 use Rattle.rc_house.specs.Status.{sheet_kind}
 
--- The sheet of a form that has no fault of its parts: a well formed sheet that the form stands for. Of each form there is one
--- at most, which is what the form says with its names numbered by their first mention.
+-- The sheet of a form that has no fault of its parts: the well formed sheet that stands for the form. Of each form there is one
+-- at most.
 pub record IsSheetOf (form : Tree) (sheet : Sheet) : Type 0 where
   pub faultless : sheet_fault form ≡ None
   pub stands : Stands sheet form
   pub well : IsWellFormed sheet
-  pub says : sheet_at (naming_of form) form ≡ Some sheet
 
 -- this holds of the form's sheet
 abbrev pub HasSheetWith : (Sheet → Type 0) → Tree → Type 0

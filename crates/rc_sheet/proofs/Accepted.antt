@@ -1,8 +1,8 @@
 -- What is known of a form without a fault.
 use Rattle.std.proofs.Common.{◌≡◌, ◌≤◌, List, [], ◌∷◌, length, Option, Some, None, refl, sym, subst, ap, ◌∙◌}
 use Rattle.std.proofs.lemmas.Option.{same_Some}
-use Rattle.rc_model.specs.Tree.{Tree}
-use Rattle.rc_form.specs.Form.{IsPrintable}
+use Rattle.rc_model.specs.Tree.{Tree, word, list}
+use Rattle.rc_form.specs.Form.{FitsIn, IsPrintable}
 use Rattle.rc_form.specs.SameForm.{IsOfAtoms}
 use Rattle.rc_sheet_model.specs.Sheet.{Sheet}
 use Rattle.rc_sheet_model.specs.Naming.{Naming}
@@ -40,6 +40,15 @@ none_first (x ∷ xs) ys none = absurd cc
 
 pub faultless : (tree : Tree) → sheet_fault tree ≡ None → (faults place.Sheet tree ≡ []) × (second_faults tree ≡ [])
 faultless tree none = none_first (faults place.Sheet tree) (second_faults tree) none
+
+-- a form without a fault is a list, and what may be printed is none too deep
+pub printable : (tree : Tree) → sheet_fault tree ≡ None → FitsIn 64 tree → IsPrintable tree
+printable (word bytes from to) none fits = absurd cc
+printable (list parts from to) none fits = fits
+
+pub fits_in : (tree : Tree) → IsPrintable tree → FitsIn 64 tree
+fits_in (word bytes from to) printable = absurd printable
+fits_in (list parts from to) printable = printable
 
 -- what is read with the names of the form stands for it
 pub stands_read : (naming : Naming) (tree : Tree) (sheet : Sheet) → sheet_at naming tree ≡ Some sheet → Stands sheet tree

@@ -169,12 +169,12 @@ number_new names before above bytes n covers new is = by (is_among n before) ref
         (same_word names found.0 bytes n found.2 is) found.1) new)
 
 -- where parts of a list begin
-abbrev behind_at : ℕ → Trees → Trees
+abbrev pub behind_at : ℕ → Trees → Trees
 behind_at zero trees = trees
 behind_at (suc n) nil = nil
 behind_at (suc n) (cons tree trees) = behind_at n trees
 
-none_before : (trees : Trees) → attributes_among (front 0 trees) ≡ []
+pub none_before : (trees : Trees) → attributes_among (front 0 trees) ≡ []
 none_before nil = refl
 none_before (cons tree trees) = refl
 
@@ -240,7 +240,7 @@ below_first (word bytes from to) trees = refl
 below_first (list groups from to) trees = refl
 
 -- the next index
-next_front : (index : ℕ) (all : Trees) (tree : Tree) (rest : Trees) → behind_at index all ≡ cons tree rest
+pub next_front : (index : ℕ) (all : Trees) (tree : Tree) (rest : Trees) → behind_at index all ≡ cons tree rest
     → (behind_at (index + 1) all ≡ rest)
     × (attributes_among (front (index + 1) all) ≡ attributes_among (front index all) ++ attributes_of tree)
 next_front index all tree rest is =

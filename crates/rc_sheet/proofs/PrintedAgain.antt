@@ -89,8 +89,13 @@ module _ (sheet : Sheet) (formed : IsWellFormed sheet) where
   is_printed : Printed
   is_printed =
       let shallow = formed.shallow in
-      let good = (sheet_copied sheet formed.words).of shallow.0 shallow.1 in
-      record { stands = good.0; bare = good.1; printable = open_fits most_open (sheet_form sheet) (good.2 most_open shallow.2) }
+      let good = sheet_copied sheet formed.words shallow.0 shallow.1 in
+      record {
+        stands = good.stands;
+        bare = good.bare;
+        printable = open_fits most_open (sheet_form sheet)
+            (good.opened most_open shallow.2);
+      }
 
   pub spells_again : SpellsAgain (sheet_form sheet) (printed_sheet sheet)
   spells_again = SpellsAgain-printed (sheet_form sheet) is_printed.printable (bare_atoms (sheet_form sheet) is_printed.bare)

@@ -298,7 +298,7 @@ kind_means found (word bytes from to) is =
 kind_means found (list parts from to) is = absurd cc
 
 -- the kind and the class of the locations of a name
-loc_name_means : (tree : Tree) (class : Class) (found : Option LocName) → is_loc_name tree class found ≡ true
+pub loc_name_means : (tree : Tree) (class : Class) (found : Option LocName) → is_loc_name tree class found ≡ true
     → Word (λ bytes. option_map (λ loc. kind_bytes loc.kind) found ≡ Some bytes) tree
     × (option_map (λ loc. loc.class) found ≡ Some class)
 loc_name_means tree class None is = absurd cc
@@ -307,7 +307,7 @@ loc_name_means tree class (Some loc) is =
     (kind_means loc tree both.0, ap Some (classes_same loc.class class both.1))
 
 -- the class of the numbers of a name
-num_name_means : (class : Class) (found : Option NumName) → is_num_name class found ≡ true
+pub num_name_means : (class : Class) (found : Option NumName) → is_num_name class found ≡ true
     → option_map (λ num. num.class) found ≡ Some class
 num_name_means class None is = absurd cc
 num_name_means class (Some num) is = ap Some (classes_same num.class class is)

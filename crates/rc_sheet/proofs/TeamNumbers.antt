@@ -14,7 +14,7 @@ Differ [] = Unit {0}
 Differ (n ∷ ns) = (is_among n ns ≡ false) × Differ ns
 
 -- each of them is another
-none_equal : (n : ℕ) (ns : List ℕ) → is_among n ns ≡ false → AllByRecursion (λ m. nat_eq n m ≡ false) ns
+pub none_equal : (n : ℕ) (ns : List ℕ) → is_among n ns ≡ false → AllByRecursion (λ m. nat_eq n m ≡ false) ns
 none_equal n [] is = tt
 none_equal n (m ∷ ns) is = let both = or_parts (nat_eq n m) (is_among n ns) is in (both.0, none_equal n ns both.1)
 
@@ -24,7 +24,7 @@ distinct [] differ = tt
 distinct (n ∷ ns) differ = (none_equal n ns differ.0, distinct ns differ.1)
 
 -- how often a number stands among others
-none_counted : (n : ℕ) (ns : List ℕ) → is_among n ns ≡ false → count_by (nat_eq n) ns ≡ 0
+pub none_counted : (n : ℕ) (ns : List ℕ) → is_among n ns ≡ false → count_by (nat_eq n) ns ≡ 0
 none_counted n [] is = refl
 none_counted n (m ∷ ns) is =
     let both = or_parts (nat_eq n m) (is_among n ns) is in

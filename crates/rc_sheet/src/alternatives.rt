@@ -79,7 +79,7 @@ impl Reader {
             Rule::If => {
                 let guard = self.test(alloc, scope, &parts[1])?;
                 let effects = self.effects(alloc, scope, &parts[2..])?;
-                Ok(Alt::If(guard, effects))
+                Ok(Alt::If(Box::new(alloc, guard)?, effects))
             }
             _ => Err(ReadFail::Meaningless),
         }

@@ -3,6 +3,7 @@
 
 mod accepting;
 mod alternatives;
+mod converse_law;
 mod decks;
 mod effects;
 mod expressions;
@@ -16,6 +17,7 @@ mod locations;
 mod name_laws;
 mod names;
 mod numbering;
+mod one_law;
 mod owners;
 mod player_laws;
 mod players;
@@ -30,11 +32,12 @@ mod sheet;
 #[cfg(test)]
 mod sheet_tests;
 mod sides;
+mod sound_law;
 #[cfg(test)]
 mod tests;
 
 pub use accepting::sheet_of;
-pub use fail::ReadFail;
+pub use converse_law::a_sheet_has_its_shape;
 pub use fine_laws::stages_and_choices_are_few;
 pub use given_laws::{
     decks_are_decks, points_have_entries, teams_are_a_partition, there_are_few_cards,
@@ -47,6 +50,8 @@ pub use limit_laws::{
 };
 pub use name_laws::names_are_few;
 pub use numbering::{mentions_stand, what_is_read_is_numbered};
+pub use one_law::a_form_has_one_sheet;
 pub use printing_laws::printed_sheet_reads_back;
-pub use rc_semantics::SheetFail;
+pub use rc_semantics::{SheetFail, SheetFault, SheetKind};
 pub use setup_laws::{maps_are_in_turn, setup_is_given};
+pub use sound_law::{a_sheet_has_no_fault, a_sheet_has_no_second_fault};

@@ -1,5 +1,5 @@
 //! A reader of forms, which knows the names of the sheet.
-ghost use Rattle.std.specs.Prelude.{◌≡◌, ◌≤◌, length, IfSome};
+ghost use Rattle.std.specs.Prelude.{◌≡◌, ◌≤◌, ◌<◌, length, IfSome, IfNone};
 
 use rc_ast::{LocName, Names, NumName};
 use rc_naming::Naming;
@@ -36,7 +36,8 @@ impl Reader {
         requires maps { length naming.names.maps.items ≤ 256 }
         requires locs { length naming.names.locs.items ≤ 256 }
         requires nums { length naming.names.nums.items ≤ 256 }
-        ensures { IfSome result (λ reader. reader ≡ naming_seen naming) }
+        ensures some { IfSome result (λ reader. reader ≡ naming_seen naming) }
+        ensures none { IfNone result (4294967295 < length naming.names.vars.items) }
     {
         if naming.names.vars.len() > 4_294_967_295 {
             return None;

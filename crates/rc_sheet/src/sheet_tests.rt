@@ -1,4 +1,9 @@
 //! Whole sheets of texts, and the first faults of others.
+ghost use Rattle.std.specs.Prelude.{ℕ};
+ghost use Rattle.rc_model.specs.Placed.{IsPlaced};
+ghost use Rattle.rc_form.specs.Form.{tree_of, IsPrintable};
+ghost use Rattle.rc_form.specs.SameForm.{IsOfAtoms};
+
 mod orders;
 mod pairs;
 mod table;
@@ -9,9 +14,10 @@ mod wrong_kind;
 
 use crate::accepting::sheet_of;
 use rc_ast::{Best, Class, LocKind, LocName, Sheet};
-use rc_form::read_forms;
+use rc_form::{Form, read_forms};
 use rc_grammar::{SheetFault, SheetKind};
 use rc_semantics::SheetFail;
+use std::alloc::Global;
 use std::process::Abort;
 use std::test::Fail;
 
@@ -43,13 +49,22 @@ const CHANGES: &[(&str, &str, SheetKind, u32)] = &[
     ("create players 2", "create teams (0)", SheetKind::Shape, 6),
 ];
 
+/// The sheet of a form that was read.
+fn made(alloc: Global, form: &Form) -> Result<Sheet, SheetFail>
+    requires placed { (size : ℕ) × IsPlaced size (tree_of form.now) }
+    requires printable { IsPrintable (tree_of form.now) }
+    requires of_atoms { IsOfAtoms (tree_of form.now) }
+{
+    sheet_of(alloc, form)
+}
+
 fn sheet_in(rt: &(impl AllocGlobal + Abort), text: &str) -> Result<Result<Sheet, SheetFail>, Fail> {
     assert!(rt; text.len() <= 100_000);
     let forms = read_forms(rt.alloc(), text.as_bytes(), 1)?;
     let Some(form) = forms.list.first() else {
         return Err("each text has a list".into());
     };
-    Ok(sheet_of(rt.alloc(), form))
+    Ok(made(rt.alloc(), form))
 }
 
 #[test]

@@ -1,6 +1,6 @@
 //! The lines of a setup in each order, and a setup without cards.
+use super::made;
 use super::table::{Frame, Rows, check_rows};
-use crate::accepting::sheet_of;
 use rc_form::read_forms;
 use rc_grammar::SheetKind::{NoCards, Number, Shape, WrongKind};
 use std::process::Abort;
@@ -57,7 +57,7 @@ fn sheet_with(rt: &(impl AllocGlobal + Abort), order: [usize; 4]) -> Result<Stri
     assert!(rt; text.len() <= 100_000);
     let forms = read_forms(rt.alloc(), text.as_bytes(), 1)?;
     let form = forms.list.first().ok_or("there is a list")?;
-    match sheet_of(rt.alloc(), form) {
+    match made(rt.alloc(), form) {
         Ok(sheet) => Ok(format!(in rt.alloc(); "{sheet:?}")?),
         Err(_) => Err("no order has a fault".into()),
     }

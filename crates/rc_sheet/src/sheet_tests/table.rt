@@ -1,5 +1,5 @@
 //! How a table of sheets is run: each row is a fragment, which is put into a place of a sheet that has no other fault.
-use crate::accepting::sheet_of;
+use super::made;
 use rc_form::read_forms;
 use rc_grammar::{SheetFault, SheetKind};
 use rc_semantics::SheetFail;
@@ -134,7 +134,7 @@ impl Written {
         let Some(form) = forms.list.first() else {
             return Err("each row is in a list".into());
         };
-        let found = match sheet_of(rt.alloc(), form) {
+        let found = match made(rt.alloc(), form) {
             Ok(_) => None,
             Err(SheetFail::Fault(fault)) => Some(fault),
             Err(SheetFail::Memory) => return Err("memory".into()),

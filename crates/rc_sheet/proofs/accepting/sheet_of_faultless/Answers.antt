@@ -2,7 +2,7 @@ use Rattle.std.proofs.Common.{◌∙◌, ap, ◌≤◌, length, sym, subst, arit
 use Rattle.rc_form.specs.Form.{tree_of}
 use Rattle.rc_ast.specs.Sheet.{sheet_seen}
 use Rattle.rc_sheet.specs.ReadSheet.{sheet_at}
-use Rattle.rc_sheet.proofs.Accepted.{stands_read, well_read, none_read, few_attrs, few_values, few_maps, few_locs, few_nums, is_read}
+use Rattle.rc_sheet.proofs.Accepted.{printable, stands_read, well_read, none_read, few_attrs, few_values, few_maps, few_locs, few_nums, is_read}
 use Rattle.rc_sheet.proofs.accepting.sheet_of_faultless.Goals as goal
 
 pub naming_of-requires-clause-locs : goal.naming_of-requires-clause-locs
@@ -40,7 +40,7 @@ pub unreachable-requires : goal.unreachable-requires
 unreachable-requires c =
     let tree = tree_of c.args.form.now in
     let none = rw c.in-Err-Meaningless.field-0-is at c.in-Err-Meaningless.ensures in
-    is_read tree c.requires.faultless (none_read c.in-Some.reader tree (c.in-Some.ensures ∙ c.in-Ok.ensures.names) none)
+    is_read tree c.requires.faultless (none_read c.in-Some.reader tree (c.in-Some.ensures.some ∙ c.in-Ok.ensures.names) none)
 
 pub returns-in-Ok-sheet-clause-stands : goal.returns-in-Ok-sheet-clause-stands
 returns-in-Ok-sheet-clause-stands c =
@@ -49,10 +49,11 @@ returns-in-Ok-sheet-clause-stands c =
 pub returns-in-Ok-sheet-clause-well : goal.returns-in-Ok-sheet-clause-well
 returns-in-Ok-sheet-clause-well c =
     well_read c.in-Some.reader (tree_of c.args.form.now) (sheet_seen c.in-Ok-sheet.sheet)
-    (c.in-Some.ensures ∙ c.in-Ok.ensures.names) c.requires.faultless c.requires.printable
+    (c.in-Some.ensures.some ∙ c.in-Ok.ensures.names) c.requires.faultless
+    (printable (tree_of c.args.form.now) c.requires.faultless c.requires.shallow)
     c.requires.of_atoms c.in-Ok-sheet.ensures
 
 pub returns-in-Ok-sheet-clause-read : goal.returns-in-Ok-sheet-clause-read
 returns-in-Ok-sheet-clause-read c =
-    ap (λ naming. sheet_at naming (tree_of c.args.form.now)) (sym (c.in-Some.ensures ∙ c.in-Ok.ensures.names))
+    ap (λ naming. sheet_at naming (tree_of c.args.form.now)) (sym (c.in-Some.ensures.some ∙ c.in-Ok.ensures.names))
     ∙ c.in-Ok-sheet.ensures

@@ -1,0 +1,20 @@
+//! Laws of forms and sheets: a form that stands for a well formed sheet has no fault. No function here does anything.
+ghost use Rattle.std.specs.Prelude.{◌≡◌, [], None};
+ghost use Rattle.rc_model.specs.Tree.{Tree};
+ghost use Rattle.rc_sheet_model.specs.Sheet.{Sheet};
+ghost use Rattle.rc_sheet_model.specs.Stands.{Stands};
+ghost use Rattle.rc_sheet_model.specs.WellFormed.{IsWellFormed};
+ghost use Rattle.rc_grammar.specs.Faults.{faults};
+ghost use Rattle.rc_grammar.specs.declared.grammar.Place.TheVariants as place;
+ghost use Rattle.rc_semantics.specs.SecondFaults.{second_faults, sheet_fault};
+
+/// A form that stands for a well formed sheet, and whose shape has no fault, has no fault of the second round.
+pub fn a_sheet_has_no_second_fault()
+    ensures { (tree : Tree) (sheet : Sheet) → Stands sheet tree → IsWellFormed sheet → faults place.Sheet tree ≡ []
+        → second_faults tree ≡ [] }
+{}
+
+/// A form that stands for a well formed sheet has no fault.
+pub fn a_sheet_has_no_fault()
+    ensures { (tree : Tree) (sheet : Sheet) → Stands sheet tree → IsWellFormed sheet → sheet_fault tree ≡ None }
+{}
