@@ -5,7 +5,8 @@ use Rattle.std.proofs.lemmas.Int.{ints}
 use Rattle.std.proofs.lemmas.List.Sums.{fold_push}
 use Rattle.rc_model.specs.Deck.{Face, fits_entry}
 use Rattle.rc_deck.specs.declared.scoring.PointEntry.{PointEntry}
-use Rattle.rc_deck.specs.Points.{entry_of, points_added, IsWithinClamp}
+use Rattle.rc_model.specs.Clamp.{IsWithinClamp}
+use Rattle.rc_deck.specs.Points.{entry_of, points_added}
 
 -- the sum for a face, before it is clamped
 abbrev pub sum_of : Face → List PointEntry → ℤ

@@ -1,5 +1,5 @@
 -- Point maps as the model has them.
-use Rattle.std.specs.Prelude.{if◌then◌else◌, List, map, ℤ, pos, neg_ℤ, ◌≤ℤ◌}
+use Rattle.std.specs.Prelude.{if◌then◌else◌, List, map, ℤ, pos}
 use Rattle.rc_model.specs.Deck.{Entry, Face, fits_entry}
 use Rattle.rc_deck.specs.declared.scoring.PointMap.{PointMap}
 use Rattle.rc_deck.specs.declared.scoring.PointEntry.{PointEntry}
@@ -11,10 +11,6 @@ entry_of entry = record { attr = entry.attr; values = entry.values.items; points
 -- the entries of a map, in order
 abbrev pub entries_of : PointMap → List Entry
 entries_of points = map entry_of points.entries.items
-
--- within -1,000,000,000 .. 1,000,000,000
-abbrev pub IsWithinClamp : ℤ → Type 0
-IsWithinClamp z = (neg_ℤ (pos 1000000000) ≤ℤ z) × (z ≤ℤ pos 1000000000)
 
 -- what an entry adds to the sum for a face
 abbrev pub points_added : Face → Entry → ℤ

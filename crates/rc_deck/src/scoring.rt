@@ -1,6 +1,7 @@
 ghost use Rattle.std.specs.Prelude.{◌≡◌, ◌≤◌, ◌^◌, ◌==◌, ◌&&◌, All, vec_len, pos, neg_ℤ, ◌≤ℤ◌};
 ghost use Rattle.rc_model.specs.Deck.{points_of, fits_entry};
-ghost use Rattle.rc_deck.specs.Points.{entries_of, entry_of, points_added, IsWithinClamp};
+ghost use Rattle.rc_model.specs.Clamp.{IsWithinClamp};
+ghost use Rattle.rc_deck.specs.Points.{entries_of, entry_of, points_added};
 
 use crate::Face;
 

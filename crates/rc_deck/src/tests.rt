@@ -1,5 +1,6 @@
 ghost use Rattle.std.specs.Prelude.{◌≡◌, All, IfOk, vec_len};
-ghost use Rattle.rc_deck.specs.Points.{entries_of, IsWithinClamp};
+ghost use Rattle.rc_model.specs.Clamp.{IsWithinClamp};
+ghost use Rattle.rc_deck.specs.Points.{entries_of};
 
 use crate::{
     Branch, DeckTree, Face, Group, Memory, PointEntry, PointMap, attr, count_of, faces_of, points,

@@ -2,6 +2,7 @@
 use Rattle.std.specs.Prelude.{ℕ, suc, ◌+◌, Bool, true, false, not, ◌&&◌, ◌||◌, ◌==◌, nat_lt, if◌then◌else◌, List, [], ◌∷◌, ◌++◌, length, slice_get, slice_index, find, ℤ, pos, neg_ℤ, int_le, Option, Some, None, is_none, option_map, option_to_list, Result, Ok, Err}
 use Rattle.std.specs.List.{list_any}
 use Rattle.std.specs.Str.{bytes_eq}
+use Rattle.rc_model.specs.Clamp.{largest_number}
 use Rattle.rc_model.specs.Literal.{integer}
 use Rattle.rc_model.specs.Tree.{Tree, word, list, Trees, nil, cons}
 use Rattle.rc_grammar.specs.Keyword.{text_of}
@@ -34,7 +35,7 @@ is_within least most None = false
 is_within least most (Some n) = int_le least n && int_le n most
 
 abbrev pub is_number : List ℕ → Bool
-is_number bytes = is_within (neg_ℤ (pos 1000000000)) (pos 1000000000) (integer bytes)
+is_number bytes = is_within (neg_ℤ (pos largest_number)) (pos largest_number) (integer bytes)
 
 -- what a test refuses is of this kind
 abbrev pub unless : Bool → SheetKind → Option SheetKind

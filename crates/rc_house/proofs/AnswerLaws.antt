@@ -7,7 +7,7 @@ use Rattle.rc_house.specs.declared.answer.Answer.{Answer as Stored}
 use Rattle.std.proofs.lemmas.List.Elements.{All-map, All-same, All-head}
 use Rattle.std.proofs.lemmas.List.{length-map}
 use Rattle.std.proofs.lemmas.Int.{ints, clamps}
-use Rattle.rc_model.specs.Clamp.{clamped}
+use Rattle.rc_model.specs.Clamp.{clamped, IsWithinClamp}
 use Rattle.rc_model.specs.Deck.{Entry, Face, fits_entry, points_of}
 use Rattle.std.specs.Prelude.{fold, if◌then◌else◌, pos, ◌+ℤ◌}
 use Rattle.rc_model.specs.DeckText.{HaveWorths}
@@ -15,7 +15,7 @@ use Rattle.rc_model.specs.Placed.{starts, Rise, IsPlaced}
 use Rattle.rc_model.specs.Spelled.{Spelled}
 use Rattle.rc_model.specs.SmallGame.{SmallGame, small_house}
 use Rattle.rc_model.specs.SmallText.{IsSmall, IsSmallSheet, IsSmallPlan}
-use Rattle.rc_house.specs.Play.{IsPlayable, IsWithinClamp}
+use Rattle.rc_house.specs.Play.{IsPlayable}
 use Rattle.rc_form.specs.declared.fault.FormKind.{FormKind}
 use Rattle.rc_form.specs.FormFault.{IsFormFault}
 use Rattle.rc_house.specs.declared.command.Command.{Command}

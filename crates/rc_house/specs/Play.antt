@@ -1,14 +1,11 @@
 -- What a game must be to be played, and the choices that values of the program tell.
-use Rattle.std.specs.Prelude.{◌≡◌, ℕ, ◌≤◌, ℤ, pos, neg_ℤ, ◌≤ℤ◌, Option, List, Vec, length, slice_get, map, All}
+use Rattle.std.specs.Prelude.{◌≡◌, ℕ, ◌≤◌, Option, List, Vec, length, slice_get, map, All}
 use Rattle.std.specs.Option.{option_map}
 use Rattle.std.specs.Global.{Global}
 use Rattle.rc_house.specs.Transcript.{pick_of}
 use Rattle.rc_house.specs.declared.play.rounds.Play.{Play as StoredPlay}
+use Rattle.rc_model.specs.Clamp.{IsWithinClamp}
 use Rattle.rc_model.specs.SmallGame.{SmallGame, Play}
-
--- within -1,000,000,000 .. 1,000,000,000
-abbrev pub IsWithinClamp : ℤ → Type 0
-IsWithinClamp worth = (neg_ℤ (pos 1000000000) ≤ℤ worth) × (worth ≤ℤ pos 1000000000)
 
 -- The game lies within the limits of small games, and has one script for each player.
 pub record IsPlayable (game : SmallGame) : Type 0 where

@@ -1,9 +1,10 @@
 -- Which forms stand for a deck tree and for the entries of a point map. Their names are numbered in the order of their first
 -- mention.
-use Rattle.std.specs.Prelude.{◌≡◌, ◌≢◌, ℕ, ◌≤◌, not, List, [], ◌∷◌, ◌++◌, length, map, All, AllPairs, slice_get, slice_index, filter, flat_map, codes, ℤ, pos, neg_ℤ, ◌≤ℤ◌, Some}
+use Rattle.std.specs.Prelude.{◌≡◌, ◌≢◌, ℕ, ◌≤◌, not, List, [], ◌∷◌, ◌++◌, length, map, All, AllPairs, slice_get, slice_index, filter, flat_map, codes, ℤ, Some}
 use Rattle.std.specs.Str.{bytes_eq}
 use Rattle.rc_model.specs.Tree.{Tree, word, list, Trees, nil, cons}
 use Rattle.rc_model.specs.Literal.{integer}
+use Rattle.rc_model.specs.Clamp.{IsWithinClamp}
 use Rattle.rc_model.specs.Deck.{Groups, no_group, group, Branches, no_branch, branch, Face, AreFaces, Entry, points_of}
 
 -- the words of the attributes and of the values, each at the place that is its number
@@ -84,8 +85,7 @@ pub record IsPoints (points : ℤ) (tree : Tree) : Type 0 where
   pub bytes : List ℕ
   pub written : IsWord tree bytes
   pub spelled : integer bytes ≡ Some points
-  pub least : neg_ℤ (pos 1000000000) ≤ℤ points
-  pub most : points ≤ℤ pos 1000000000
+  pub within : IsWithinClamp points
 
 -- `(ATTR (VALUE ..) n)`
 pub record EntryStands (names : Names) (entry : Entry) (tree : Tree) : Type 0 where

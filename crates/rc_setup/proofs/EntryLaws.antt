@@ -1,6 +1,5 @@
 -- Entries are read from a form exactly where they stand there.
-use Rattle.std.proofs.Common.{◌≡◌, ◌≢◌, ℕ, Bool, true, false, cond, ◌&&◌, List, [], ◌∷◌, length, Option, Some, None, ℤ, pos, neg_ℤ, ◌≤ℤ◌, option_map, inl, inr, refl, sym, ap, subst, ◌∙◌}
-use Rattle.std.specs.Prelude.{int_le}
+use Rattle.std.proofs.Common.{◌≡◌, ◌≢◌, ℕ, Bool, true, false, cond, ◌&&◌, List, [], ◌∷◌, length, Option, Some, None, ℤ, option_map, inl, inr, refl, sym, ap, subst, ◌∙◌}
 use Rattle.std.specs.Option.{option_and_then}
 use Rattle.std.specs.Int.Signed.{le_z_yes}
 use Rattle.std.proofs.Math.Dec.{T}
@@ -9,6 +8,7 @@ use Rattle.std.proofs.lemmas.Float.{T_from_true}
 use Rattle.std.proofs.lemmas.Option.{same_Some}
 use Rattle.rc_model.specs.Tree.{Tree, word, list, Trees, nil, cons}
 use Rattle.rc_model.specs.Literal.{integer}
+use Rattle.rc_model.specs.Clamp.{IsWithinClamp, is_within_clamp}
 use Rattle.rc_model.specs.Deck.{Entry}
 use Rattle.rc_model.specs.DeckText.{Names, IsList, ValuesStand, IsPoints, EntryStands, AllEntriesStand, EntriesStand}
 use Rattle.rc_setup.specs.Naming.{number_of}
@@ -37,15 +37,14 @@ values_complete names differ (value ∷ values) nil stand = absurd stand
 values_complete names differ (value ∷ values) (cons tree trees) stand =
     both_of ◌∷◌ (number_of names.values tree) (read_values names trees) value values (number_of-complete names.values tree value differ.1 stand.0) (values_complete names differ values trees stand.1)
 
-unclamped_within : (found points : ℤ) → unclamped found ≡ Some points → (found ≡ points) × (neg_ℤ (pos 1000000000) ≤ℤ points) × (points ≤ℤ pos 1000000000)
+unclamped_within : (found points : ℤ) → unclamped found ≡ Some points → (found ≡ points) × IsWithinClamp points
 unclamped_within found points e =
-    elim (cases_Bool (int_le (neg_ℤ (pos 1000000000)) found && int_le found (pos 1000000000))) [
+    elim (cases_Bool (is_within_clamp found)) [
       | inl within ↦
           let same : found ≡ points = same_Some _ _ (sym (cond-true _ _ _ within) ∙ e) in
           let parts = and_parts _ _ within in (
             same,
-            subst (λ z. neg_ℤ (pos 1000000000) ≤ℤ z) same (le_z_yes (T_from_true _ parts.0)),
-            subst (λ z. z ≤ℤ pos 1000000000) same (le_z_yes (T_from_true _ parts.1)),
+            subst IsWithinClamp same (le_z_yes (T_from_true _ parts.0), le_z_yes (T_from_true _ parts.1)),
           )
       | inr past ↦ let none = sym (cond-false _ _ _ past) ∙ e in absurd cc
     ]
@@ -62,8 +61,7 @@ points_sound points (word bytes from to) e = go (integer bytes) refl e
           bytes = bytes;
           written = (from, to, refl);
           spelled = is ∙ ap (λ z. Some z) within.0;
-          least = within.1;
-          most = within.2;
+          within = within.1;
         }
 
 truth : (b : Bool) → T b → b ≡ true
@@ -72,7 +70,7 @@ truth false told = absurd told
 
 points_complete : (points : ℤ) (tree : Tree) → IsPoints points tree → read_points tree ≡ Some points
 points_complete points tree is =
-    let within : (int_le (neg_ℤ (pos 1000000000)) points && int_le points (pos 1000000000)) ≡ true = and_from _ _ (truth _ is.least.le) (truth _ is.most.le) in
+    let within : is_within_clamp points ≡ true = and_from _ _ (truth _ is.within.0.le) (truth _ is.within.1.le) in
     ap read_points is.written.2 ∙ ap (option_and_then unclamped) is.spelled ∙ cond-true _ _ _ within
 
 entry_sound : (names : Names) (entry : Entry) (tree : Tree) → read_entry names tree ≡ Some entry → EntryStands names entry tree

@@ -5,7 +5,7 @@ use Rattle.std.specs.Prelude.{◌++◌}
 use Rattle.rc_model.specs.Tree.{Tree, word, list, Trees, nil, cons}
 use Rattle.rc_model.specs.Deck.{Groups, Face, Entry, AreFaces, points_of}
 use Rattle.rc_model.specs.DeckText.{Names, names_of, in_deck, in_entries, DeckStands, EntriesStand, AllEntriesStand, HasEachOnce, HaveWorths}
-use Rattle.rc_deck.specs.Points.{IsWithinClamp}
+use Rattle.rc_model.specs.Clamp.{IsWithinClamp}
 use Rattle.rc_setup.specs.Size.{count_of_trees, count_of_parts}
 
 -- each part is an entry
@@ -22,7 +22,7 @@ count_of_entries names entries tree stands = count_of_stands names entries stand
 within_all : (names : Names) (entries : List Entry) (trees : Trees) → AllEntriesStand names entries trees → (k : ℕ) (d : Entry) → k < length entries → IsWithinClamp (get_or entries k d).points
 within_all names [] trees stand k d lt = absurd (omega arith)
 within_all names (entry ∷ entries) nil stand k d lt = absurd stand
-within_all names (entry ∷ entries) (cons tree trees) stand zero d lt = (stand.0.points.least, stand.0.points.most)
+within_all names (entry ∷ entries) (cons tree trees) stand zero d lt = stand.0.points.within
 within_all names (entry ∷ entries) (cons tree trees) stand (suc k) d lt = within_all names entries trees stand.1 k d (omega arith)
 
 pub entries_within : (names : Names) (entries : List Entry) (tree : Tree) → EntriesStand names entries tree → All (λ entry. IsWithinClamp entry.points) entries

@@ -1,9 +1,10 @@
 -- Deck trees and entries by recursion over a form: what is read there, or nothing.
-use Rattle.std.specs.Prelude.{ℕ, ◌&&◌, Bool, true, false, if◌then◌else◌, List, [], ◌∷◌, codes, ℤ, pos, neg_ℤ, int_le, Option, Some, None, option_map}
+use Rattle.std.specs.Prelude.{ℕ, ◌&&◌, Bool, true, false, if◌then◌else◌, List, [], ◌∷◌, codes, ℤ, Option, Some, None, option_map}
 use Rattle.std.specs.Option.{option_and_then}
 use Rattle.std.specs.Str.{bytes_eq}
 use Rattle.rc_model.specs.Tree.{Tree, word, list, Trees, nil, cons}
 use Rattle.rc_model.specs.Literal.{integer}
+use Rattle.rc_model.specs.Clamp.{is_within_clamp}
 use Rattle.rc_model.specs.Deck.{Groups, no_group, group, Branches, no_branch, branch, Entry}
 use Rattle.rc_model.specs.DeckText.{Names}
 use Rattle.rc_setup.specs.Naming.{number_of}
@@ -86,7 +87,7 @@ read_value_list names (list parts from to) = unless_nil parts (read_values names
 
 -- the number, where it is within the clamp
 abbrev pub unclamped : ℤ → Option ℤ
-unclamped points = if int_le (neg_ℤ (pos 1000000000)) points && int_le points (pos 1000000000) then Some points else None
+unclamped points = if is_within_clamp points then Some points else None
 
 abbrev pub read_points : Tree → Option ℤ
 read_points (word bytes from to) = option_and_then unclamped (integer bytes)

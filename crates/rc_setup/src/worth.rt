@@ -4,7 +4,8 @@ ghost use Rattle.std.specs.List.{list_any};
 ghost use Rattle.rc_model.specs.Deck.{points_of, Face as Pairs};
 ghost use Rattle.rc_model.specs.DeckText.{HaveWorths, HasEachOnce};
 ghost use Rattle.rc_form.specs.Form.{tree_of};
-ghost use Rattle.rc_deck.specs.Points.{entries_of as entries_seen, IsWithinClamp};
+ghost use Rattle.rc_model.specs.Clamp.{IsWithinClamp};
+ghost use Rattle.rc_deck.specs.Points.{entries_of as entries_seen};
 ghost use Rattle.rc_setup.specs.Size.{count_of_parts};
 
 use crate::{deck_of, entries_of, names_of};

@@ -7,7 +7,7 @@ use Rattle.rc_model.specs.Literal.{integer}
 use Rattle.rc_model.specs.Tree.{Tree, word, list, Trees, nil, cons}
 use Rattle.rc_sheet_model.specs.Sheet.{Class, game_class, player_class, team_class, Sort, player_sort, card_sort, group_sort, Who, game, who_var, CardExpr, card_var, top_card, bottom_card, max_card, min_card, group_var, cards_in, union_of, no_coll, coll, IntExpr, literal, number, size_of, sum_of, worth_of, add, subtract, multiply, Test, eq_int, eq_card, eq_attr, eq_who, ne, less, less_eq, more, more_eq, and_of, or_of, not_of, no_test, test, Domain, each_player, each_card, Sheet}
 use Rattle.rc_sheet_model.specs.Lists.{coll_list, test_list}
-use Rattle.rc_sheet_model.specs.Limits.{IsInRange}
+use Rattle.rc_model.specs.Clamp.{IsWithinClamp, largest_number}
 use Rattle.rc_sheet_model.specs.Naming.{naming_of, Scope, sort_of, class_of}
 use Rattle.rc_sheet_model.specs.WellFormed.{Around, is_equality, IsAttr, HasSort, IsOwner, IsCard, IsColl, AreColls, IsInt, IsTest, AreTests, IsRange}
 use Rattle.rc_semantics.specs.Classes.{same_sort, same_class}
@@ -34,13 +34,13 @@ use Rattle.rc_sheet.proofs.FineNames.{passes_test, no_keyword, Gives, Good, Good
 use Rattle.rc_sheet.proofs.ReadsNames.{class_same}
 
 -- a number that is written, within its range
-pub integer_finds : (bytes : List ℕ) → is_number bytes ≡ true → Finds (integer bytes) IsInRange
+pub integer_finds : (bytes : List ℕ) → is_number bytes ≡ true → Finds (integer bytes) IsWithinClamp
 integer_finds bytes is = by (integer bytes) is
   where
-    by : (found : Option ℤ) → is_within (neg_ℤ (pos 1000000000)) (pos 1000000000) found ≡ true → Finds found IsInRange
+    by : (found : Option ℤ) → is_within (neg_ℤ (pos largest_number)) (pos largest_number) found ≡ true → Finds found IsWithinClamp
     by None is = absurd cc
     by (Some z) is =
-        let both = and_parts (int_le (neg_ℤ (pos 1000000000)) z) (int_le z (pos 1000000000)) is in
+        let both = and_parts (int_le (neg_ℤ (pos largest_number)) z) (int_le z (pos largest_number)) is in
         let least = both.0 in
         let most = both.1 in
         finds z (omega (arith, ints, least), omega (arith, ints, most))

@@ -11,7 +11,7 @@ use Rattle.rc_model.specs.Literal.{integer}
 use Rattle.rc_model.specs.Deck.{Entry}
 use Rattle.rc_model.specs.DeckText.{Names}
 use Rattle.rc_sheet_model.specs.Sheet.{Sheet}
-use Rattle.rc_sheet_model.specs.Limits.{IsInRange}
+use Rattle.rc_model.specs.Clamp.{IsWithinClamp, largest_number}
 use Rattle.rc_sheet_model.specs.WellFormed.{IsEntry}
 use Rattle.rc_setup.specs.Naming.{number_of}
 use Rattle.rc_setup.specs.Reading.{read_values, read_value_list, unclamped, read_points, entry_with, read_entry, read_all_entries, read_entries}
@@ -37,18 +37,18 @@ made_of make (Some a) None p q more = nothing
 made_of make (Some a) (Some b) p q more = something (make a b) (more a b p.holds q.holds)
 
 -- a number within the clamp is in range
-unclamped_fits : (found : Option ℤ) → Means (option_and_then unclamped found) IsInRange
+unclamped_fits : (found : Option ℤ) → Means (option_and_then unclamped found) IsWithinClamp
 unclamped_fits None = nothing
 unclamped_fits (Some points) =
     either _ (Some points) None
     (λ is.
-    let both = and_parts (int_le (neg_ℤ (pos 1000000000)) points) (int_le points (pos 1000000000)) is in
+    let both = and_parts (int_le (neg_ℤ (pos largest_number)) points) (int_le points (pos largest_number)) is in
     let least = both.0 in
     let most = both.1 in
     something points (omega (arith, ints, least), omega (arith, ints, most)))
     (λ is. nothing)
 
-points_fit : (tree : Tree) → Means (read_points tree) IsInRange
+points_fit : (tree : Tree) → Means (read_points tree) IsWithinClamp
 points_fit (word bytes from to) = unclamped_fits (integer bytes)
 points_fit (list parts from to) = nothing
 
@@ -70,7 +70,7 @@ entry_fits names (list (cons head (cons second (cons third nil))) from to) =
     made_of entry_with (number_of names.attrs head) (both_read (λ values points. (values, points)) (read_value_list names second)
     (read_points third))
     (anything _)
-    (made_of {R = λ worth. (1 ≤ length worth.0) × IsInRange worth.1} (λ values points. (values, points))
+    (made_of {R = λ worth. (1 ≤ length worth.0) × IsWithinClamp worth.1} (λ values points. (values, points))
     (read_value_list names second) (read_points third) (values_some names second) (points_fit third)
     (λ values points some fits. (some, fits)))
     (λ attr worth a fits. fits)

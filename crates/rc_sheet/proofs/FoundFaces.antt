@@ -7,6 +7,7 @@ use Rattle.rc_model.specs.Literal.{integer}
 use Rattle.rc_model.specs.Tree.{Tree, word, list, Trees, nil, cons}
 use Rattle.rc_model.specs.Deck.{no_group, group, no_branch, branch}
 use Rattle.rc_sheet_model.specs.Naming.{Naming}
+use Rattle.rc_model.specs.Clamp.{largest_number, is_within_clamp}
 use Rattle.rc_grammar.specs.Faults.{is_word, is_variable, is_within, is_number, atom_kind, atom_faults, place_at, count}
 use Rattle.rc_grammar.specs.declared.keyword.Keyword.TheVariants as keyword
 use Rattle.rc_grammar.specs.declared.grammar.Place.{Place}
@@ -57,11 +58,11 @@ number_found names bytes from to plain named =
     (finds_if (position (bytes_eq bytes) names) n.0 n.1 tt)
 
 -- a number in range is within the clamp
-clamp_found : (found : Option ℤ) → is_within (neg_ℤ (pos 1000000000)) (pos 1000000000) found ≡ true
+clamp_found : (found : Option ℤ) → is_within (neg_ℤ (pos largest_number)) (pos largest_number) found ≡ true
     → IsFound (option_and_then unclamped found)
 clamp_found None is = absurd cc
 clamp_found (Some points) is =
-    where_true (int_le (neg_ℤ (pos 1000000000)) points && int_le points (pos 1000000000)) (Some points) None is (finds points tt)
+    where_true (is_within_clamp points) (Some points) None is (finds points tt)
 
 module _ (given : Given) (naming : Naming) where
   -- no atom stands where its place refuses it

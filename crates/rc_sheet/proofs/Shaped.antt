@@ -10,7 +10,7 @@ use Rattle.std.proofs.lemmas.Option.{same_Some}
 use Rattle.rc_model.specs.Literal.{integer}
 use Rattle.rc_model.specs.Tree.{Tree, word, list, Trees, nil, cons}
 use Rattle.rc_sheet_model.specs.Sheet.{Sort, player_sort, LocKind, vloc, iloc, hloc, mem, LocName, Who, game, current_player, current_team, team_of_current, team_of_var, who_var, Loc, Num}
-use Rattle.rc_sheet_model.specs.Limits.{IsInRange}
+use Rattle.rc_model.specs.Clamp.{IsWithinClamp, largest_number}
 use Rattle.rc_sheet_model.specs.Rows.{◌▸◌, End, Row, Word, Atom}
 use Rattle.rc_sheet_model.specs.Rows.{count as row_count}
 use Rattle.rc_sheet_model.specs.Naming.{Naming, Scope, Named, Binder, InScope, Literal, KindOf}
@@ -193,19 +193,19 @@ kind_shaped naming name (word bytes from to) is =
     atom_shaped place.Kind bytes from to (kind_by (slice_get naming.locs name) bytes is)
 
 -- a number within its range
-range_taken : (z : ℤ) → IsInRange z → is_within (neg_ℤ (pos 1000000000)) (pos 1000000000) (Some z) ≡ true
+range_taken : (z : ℤ) → IsWithinClamp z → is_within (neg_ℤ (pos largest_number)) (pos largest_number) (Some z) ≡ true
 range_taken z is =
     let least = is.0 in
     let most = is.1 in
-    let low : true ≡ int_le (neg_ℤ (pos 1000000000)) z = omega (arith, ints, least) in
-    let high : true ≡ int_le z (pos 1000000000) = omega (arith, ints, most) in
+    let low : true ≡ int_le (neg_ℤ (pos largest_number)) z = omega (arith, ints, least) in
+    let high : true ≡ int_le z (pos largest_number) = omega (arith, ints, most) in
     ap₂ ◌&&◌ (sym low) (sym high)
 
-number_taken : (z : ℤ) (bytes : List ℕ) → integer bytes ≡ Some z → IsInRange z → is_number bytes ≡ true
+number_taken : (z : ℤ) (bytes : List ℕ) → integer bytes ≡ Some z → IsWithinClamp z → is_number bytes ≡ true
 number_taken z bytes is range =
-    ap (λ o. is_within (neg_ℤ (pos 1000000000)) (pos 1000000000) o) is ∙ range_taken z range
+    ap (λ o. is_within (neg_ℤ (pos largest_number)) (pos largest_number) o) is ∙ range_taken z range
 
-pub literal_shaped : (z : ℤ) (tree : Tree) → Literal z tree → IsInRange z
+pub literal_shaped : (z : ℤ) (tree : Tree) → Literal z tree → IsWithinClamp z
     → (faults place.Integer tree ≡ []) × (faults place.Side tree ≡ []) × (faults place.Points tree ≡ [])
 literal_shaped z (list parts from to) is range = absurd is
 literal_shaped z (word bytes from to) is range =

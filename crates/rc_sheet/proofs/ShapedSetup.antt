@@ -7,7 +7,7 @@ use Rattle.std.proofs.lemmas.List.Elements.{recursion_from_All}
 use Rattle.rc_model.specs.Deck.{Groups, no_group, group, Branches, no_branch, branch, Entry}
 use Rattle.rc_model.specs.Tree.{Tree, word, list, Trees, nil, cons}
 use Rattle.rc_sheet_model.specs.Sheet.{Teams, DeckLine, game, Sheet}
-use Rattle.rc_sheet_model.specs.Limits.{IsInRange}
+use Rattle.rc_model.specs.Clamp.{IsWithinClamp}
 use Rattle.rc_sheet_model.specs.Rows.{◌▸◌, End, Row, Atom}
 use Rattle.rc_sheet_model.specs.Rows.{Some as Full}
 use Rattle.rc_sheet_model.specs.Naming.{Naming, naming_of, Named, Literal, KindOf}
@@ -48,7 +48,7 @@ value_list_shaped naming values (list parts from to) row =
 -- `(ATTR (VALUE+) n)`
 entry_shaped : (naming : Naming) (entry : Entry) (tree : Tree)
     → Row (Named naming.names.attrs entry.attr ▸ Row (Full (StandValues naming entry.values)) ▸ Literal entry.points ▸ End) tree
-    → IsInRange entry.points → faults place.Entry tree ≡ []
+    → IsWithinClamp entry.points → faults place.Entry tree ≡ []
 entry_shaped naming entry tree row range =
     three_parts (Named naming.names.attrs entry.attr) (Row (Full (StandValues naming entry.values))) (Literal entry.points)
     (λ tree. faults place.Entry tree ≡ []) tree row

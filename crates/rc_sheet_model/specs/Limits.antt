@@ -1,5 +1,5 @@
--- The limits of a sheet.
-use Rattle.std.specs.Prelude.{ℕ, ℤ, pos, neg_ℤ, ◌≤ℤ◌}
+-- The limits of a sheet, but for the range of its numbers.
+use Rattle.std.specs.Prelude.{ℕ}
 
 abbrev pub most_players : ℕ
 most_players = 8
@@ -40,11 +40,3 @@ most_repeats = 2
 -- lists that are open at one place
 abbrev pub most_open : ℕ
 most_open = 64
-
--- the size of a number
-abbrev pub largest : ℕ
-largest = 1000000000
-
--- a number of a sheet is within -1,000,000,000 .. 1,000,000,000
-abbrev pub IsInRange : ℤ → Type 0
-IsInRange z = (neg_ℤ (pos largest) ≤ℤ z) × (z ≤ℤ pos largest)

@@ -9,7 +9,8 @@ use Rattle.rc_sheet_model.specs.Sheet.{Teams, Class, game_class, player_class, t
 use Rattle.rc_sheet_model.specs.Lists.{coll_list, test_list, effect_list, item_list}
 use Rattle.rc_sheet_model.specs.Rows.{IsOpenAtMost}
 use Rattle.rc_sheet_model.specs.Naming.{Scope, naming_of, bind, self_scope, sort_of, class_of, is_variable, loc_class, num_class}
-use Rattle.rc_sheet_model.specs.Limits.{most_players, most_cards, most_locations, most_numbers, most_attrs, most_values, most_maps, most_stages, most_sites, most_variables, most_repeats, most_open, IsInRange}
+use Rattle.rc_model.specs.Clamp.{IsWithinClamp}
+use Rattle.rc_sheet_model.specs.Limits.{most_players, most_cards, most_locations, most_numbers, most_attrs, most_values, most_maps, most_stages, most_sites, most_variables, most_repeats, most_open}
 use Rattle.rc_sheet_model.specs.Mentions.{attr_of, value_of, in_setup, stages_in, sites_in}
 use Rattle.rc_sheet_model.specs.Numbering.{below, IsNumbered}
 use Rattle.rc_sheet_model.specs.Stands.{Stands}
@@ -145,7 +146,7 @@ module _ (sheet : Sheet) where
     AreColls around (coll cards parts) = IsColl around cards × AreColls around parts
 
     pub IsInt : Around → IntExpr → Type 0
-    IsInt around (literal value) = IsInRange value
+    IsInt around (literal value) = IsWithinClamp value
     IsInt around (number num) = IsNum around num
     IsInt around (size_of cards) = IsColl around cards
     IsInt around (sum_of cards map) = IsColl around cards × IsMap map
@@ -279,7 +280,7 @@ IsDeck sheet line =
     × (loc_class (naming_of sheet) line.loc ≡ Some game_class) × (holds_references sheet line.loc ≡ Some false)
 
 abbrev pub IsEntry : Entry → Type 0
-IsEntry entry = (1 ≤ length entry.values) × IsInRange entry.points
+IsEntry entry = (1 ≤ length entry.values) × IsWithinClamp entry.points
 
 -- the teams have a player each, and each player stands in one of them, once
 pub record ArePartition (players : ℕ) (teams : Teams) : Type 0 where

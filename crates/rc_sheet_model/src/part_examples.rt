@@ -11,7 +11,7 @@ ghost use Rattle.rc_sheet_model.specs.StandsItems.{StandsAlt};
 ghost use Rattle.rc_sheet_model.specs.Stands.{Stands};
 ghost use Rattle.rc_sheet_model.specs.Numbering.{IsNumbered};
 ghost use Rattle.rc_sheet_model.specs.FormMentions.{AreNames, names_of};
-ghost use Rattle.rc_sheet_model.specs.Limits.{IsInRange};
+ghost use Rattle.rc_model.specs.Clamp.{IsWithinClamp};
 ghost use Rattle.rc_sheet_model.specs.WellFormed.{outside, IsTest, IsEffect, IsBinder, IsOwner, IsItem, IsDeck, AreGroups, AreTeams, IsWithinLimits};
 ghost use Rattle.rc_sheet_model.specs.Examples.{form_of};
 ghost use Rattle.rc_sheet_model.specs.PartExamples.{parts, naming, three, truth, single, around_by, loc_at, num_of, swapped_text, swapped, with_cards, with_locs, with_nums, with_stages, with_choices, with_players};
@@ -181,10 +181,10 @@ pub fn faces()
 
 /// Numbers and repeats at their limits and one past them.
 pub fn small_limits()
-    ensures most { IsInRange (pos 1000000000) }
-    ensures least { IsInRange (neg_ℤ (pos 1000000000)) }
-    ensures too_large { IsInRange (pos 1000000001) → ⊥ }
-    ensures too_small { IsInRange (neg_ℤ (pos 1000000001)) → ⊥ }
+    ensures most { IsWithinClamp (pos 1000000000) }
+    ensures least { IsWithinClamp (neg_ℤ (pos 1000000000)) }
+    ensures too_large { IsWithinClamp (pos 1000000001) → ⊥ }
+    ensures too_small { IsWithinClamp (neg_ℤ (pos 1000000001)) → ⊥ }
     ensures second_repeat { IsEffect parts (around_by [] 0 1) (repeat (literal (pos 0)) (effects_from (shuffle (loc_at game 0 0) ∷ []))) }
     ensures third_repeat { IsEffect parts (around_by [] 0 2)
         (repeat (literal (pos 0)) (effects_from (shuffle (loc_at game 0 0) ∷ []))) → ⊥ }

@@ -54,7 +54,9 @@ returns-in-Some-2 g c =
     let e = read_entry_of names c.args.form.now c.in-List.items c.in-List.span c.index.result.now second third c.in-List.is (omega arith) c.index.ensures c.index-3.ensures c.index-2.ensures in
     let listed : Some values ≡ read_value_list names (tree_of second) = sym (ap (λ o. option_map (λ values. values.items) o) c.in-Some-2.is) ∙ c.in_ok-values.ensures in
     let is = points_sound points (tree_of third) (sym c.in-Some-read_points.ensures) in
-    let fits : SFits w64 points = first_of (search rules, omega (arith, ints, is.least, is.most)) in
+    let least = is.within.0 in
+    let most = is.within.1 in
+    let fits : SFits w64 points = first_of (search rules, omega (arith, ints, least, most)) in
     ap (λ entry. Some entry) c.entry_with.ensures
     ∙ ap (λ z. Some (entry_with attr (values, z))) (to_z-of_z fits)
     ∙ ap (λ o. both entry_with (Some attr) (both (λ values points. (values, points)) o (Some points))) listed
