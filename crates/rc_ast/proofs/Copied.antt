@@ -1,8 +1,8 @@
 -- A form that is printed in the place of another one, by the rows of the grammar.
 use Prim.Native.String.{String}
-use Rattle.std.proofs.Common.{◌≡◌, ℕ, ◌+◌, ◌-◌, true, List, codes, refl, ap, ◌∙◌, nat_le, inl, sym}
-use Rattle.rc_model.specs.Tree.{Tree, word, list, Trees, nil, cons}
-use Rattle.rc_sheet_model.specs.Rows.{◌▸◌, End, count, AtLeast, Row, Word, Atom, IsOpenAtMost, AreOpenAtMost}
+use Rattle.std.proofs.Common.{◌≡◌, ℕ, suc, ◌-◌, true, List, codes, refl, ap, ◌∙◌, nat_le, inl, sym}
+use Rattle.rc_model.specs.Tree.{Tree, word, list, Trees, nil, cons, count, IsOpenAtMost, AreOpenAtMost}
+use Rattle.rc_sheet_model.specs.Rows.{◌▸◌, End, AtLeast, Row, Word, Atom}
 use Rattle.rc_sheet_model.specs.Printing.{keyword}
 use Rattle.rc_sheet_model.specs.WellFormed.{is_atom}
 use Rattle.rc_ast.specs.Respelled.{IsWordRespelled, IsRespelled, AreRespelled}
@@ -70,7 +70,7 @@ bound_copied {A = A} {B = B} {P = P} {Q = Q} {tree = tree} {trees = trees} first
         let are = (others form stands.0).of forms stands.1 in
         let kept : AllKeep (cons form forms) (cons tree trees) =
         (λ room opened. (good.2.0 room opened.0, are.3.0 room opened.1), (good.2.1, are.3.1)) in
-        (ap (λ n. n + 1) are.0, (good.0, are.1), (good.1, are.2), kept)
+        (ap suc are.0, (good.0, are.1), (good.1, are.2), kept)
 
 pub part_copied : {A B : Tree → Type 0} {P Q : Trees → Type 0} {tree : Tree} {trees : Trees} → Copies A B tree
     → AreCopied P Q trees → AreCopied (A ▸ P) (B ▸ Q) (cons tree trees)

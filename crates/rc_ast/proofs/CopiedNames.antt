@@ -10,7 +10,8 @@ use Rattle.std.proofs.lemmas.Option.{same_Some, get_or_from_slice_get, slice_get
 use Rattle.rc_model.specs.Tree.{Tree, word, list}
 use Rattle.rc_sheet_model.specs.Sheet.{Sort, LocKind, vloc, iloc, hloc, mem, LocName, Who, game, current_player, current_team, team_of_current, team_of_var, who_var, Loc, Num, Sheet, player_sort}
 use Rattle.rc_sheet_model.specs.Rows.{◌▸◌, End, Row, Atom}
-use Rattle.rc_sheet_model.specs.Naming.{Naming, naming_of, Scope, bind, self_scope, is_variable, kind_word, Named, Binder, InScope, Literal, KindOf}
+use Rattle.rc_model.specs.Words.{is_variable}
+use Rattle.rc_sheet_model.specs.Naming.{Naming, naming_of, Scope, bind, self_scope, kind_word, Named, Binder, InScope, Literal, KindOf}
 use Rattle.rc_sheet_model.specs.Printing.{keyword, row, named, number_form, Bound, binding, who_form, kind_bytes, kind_form, loc_form, num_form, one, two, with_map}
 use Rattle.rc_sheet_model.specs.StandsExpressions.{StandsOwner, StandsHolder, StandsLoc, StandsNum, Two, TwoOwners}
 use Rattle.rc_sheet_model.specs.WellFormed.{is_atom, is_plain_word, is_variable_word, HasWords}

@@ -4,10 +4,10 @@ use Rattle.std.proofs.Common.{◌≡◌, ℕ, ◌-◌, Bool, true, false, ◌||�
 use Rattle.std.specs.Prelude.{Some as Present}
 use Rattle.std.specs.List.{AllZip}
 use Rattle.std.proofs.lemmas.Bool.{and_from}
-use Rattle.rc_model.specs.Tree.{Tree, word, list, Trees, nil, cons}
+use Rattle.rc_model.specs.Tree.{Tree, word, list, Trees, nil, cons, IsOpenAtMost, AreOpenAtMost}
 use Rattle.rc_model.specs.Deck.{Groups, no_group, group, Branches, no_branch, branch, Entry}
 use Rattle.rc_sheet_model.specs.Sheet.{Teams, DeckLine, Sheet}
-use Rattle.rc_sheet_model.specs.Rows.{◌▸◌, End, Some, Row, Atom, IsOpenAtMost, AreOpenAtMost}
+use Rattle.rc_sheet_model.specs.Rows.{◌▸◌, End, Some, Row, Atom}
 use Rattle.rc_sheet_model.specs.Naming.{Naming, naming_of, Named, KindOf}
 use Rattle.rc_sheet_model.specs.Printing.{packed, keyword, row, named, number_form, group_forms, branch_forms, players_form, team_form, teams_forms, deck_form, entry_form, map_form, setup_forms}
 use Rattle.rc_sheet_model.specs.StandsSetup.{StandsPlayers, StandsTeam, StandTeams, StandsTeams, StandsGroups, StandsBranches, StandsDeck, StandValues, StandEntries, StandsMap, begins_with, lines_with, are_lines, team_lines, numbered, StandsSetup}

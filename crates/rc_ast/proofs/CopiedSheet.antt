@@ -1,8 +1,7 @@
 -- The form that is printed for a sheet stands for it, but for offsets, where another form does.
 use Rattle.std.proofs.Common.{ℕ, ◌-◌, [], ◌∷◌, refl}
-use Rattle.rc_model.specs.Tree.{Tree, word, list, nil, cons}
+use Rattle.rc_model.specs.Tree.{Tree, word, list, nil, cons, IsOpenAtMost}
 use Rattle.rc_sheet_model.specs.Sheet.{Best, highest, lowest, Sheet}
-use Rattle.rc_sheet_model.specs.Rows.{IsOpenAtMost}
 use Rattle.rc_sheet_model.specs.Stands.{StandsBest, StandsScoring, Stands}
 use Rattle.rc_sheet_model.specs.Printing.{best_form, scoring_form, sheet_form}
 use Rattle.rc_sheet_model.specs.WellFormed.{HasWords}

@@ -4,9 +4,9 @@ use Rattle.std.specs.List.{list_all}
 use Rattle.std.proofs.lemmas.List.{append-nil}
 use Rattle.std.proofs.Math.Seq.{drop-append_seam}
 use Rattle.rc_model.specs.Token.{Token, opening, closing, atom, tokens, tokens_from, between, in_atom, is_part, atom_front}
-use Rattle.rc_model.specs.Tree.{Tree, word, list, Trees, nil, cons, spelling, spellings, IsSound, AreSound, printed, printed_parts, printed_behind}
+use Rattle.rc_model.specs.Tree.{Tree, word, list, Trees, nil, cons, spelling, spellings, IsSound, AreSound, printed, printed_parts, printed_behind, IsOpenAtMost, AreOpenAtMost}
 use Rattle.rc_model.specs.Spelled.{Spelled, IsTopList}
-use Rattle.rc_form.specs.Form.{FitsIn, FitIn, IsPrintable}
+use Rattle.rc_form.specs.Form.{IsPrintable}
 use Rattle.rc_form.specs.SameForm.{SameForm, SameForms, SpellsAgain, IsAtom, IsOfAtoms, AreOfAtoms}
 use Rattle.rc_form.proofs.Tokens.{tokens_from-in_atom}
 use Rattle.rc_form.proofs.SpellingLaws.{read-Spelled, Spelled-unique}
@@ -113,20 +113,20 @@ mutual
 
 mutual
   -- a tree that may be printed is sound where it is printed
-  IsSound-placed : (room at : ℕ) (tree : Tree) → FitsIn room tree → IsOfAtoms tree → IsSound room (placed at tree)
+  IsSound-placed : (room at : ℕ) (tree : Tree) → IsOpenAtMost room tree → IsOfAtoms tree → IsSound room (placed at tree)
   IsSound-placed room at (word bytes from to) fits of_atoms = (of_atoms.short, refl)
   IsSound-placed room at (list parts from to) fits of_atoms =
       let ordered : at < at + suc (length (printed_parts parts ++ 41 ∷ [])) = omega arith in
       (fits.0, ordered, AreSound-placed_parts (room - 1) (at + 1) parts fits.1 of_atoms)
 
   -- so are the parts of a list
-  AreSound-placed_parts : (room at : ℕ) (trees : Trees) → FitIn room trees → AreOfAtoms trees → AreSound room (placed_parts at trees)
+  AreSound-placed_parts : (room at : ℕ) (trees : Trees) → AreOpenAtMost room trees → AreOfAtoms trees → AreSound room (placed_parts at trees)
   AreSound-placed_parts room at nil fit of_atoms = tt
   AreSound-placed_parts room at (cons tree trees) fit of_atoms =
       (IsSound-placed room at tree fit.0 of_atoms.0, AreSound-placed_behind room (at + length (printed tree)) trees fit.1 of_atoms.1)
 
   -- so are parts that follow another
-  AreSound-placed_behind : (room at : ℕ) (trees : Trees) → FitIn room trees → AreOfAtoms trees → AreSound room (placed_behind at trees)
+  AreSound-placed_behind : (room at : ℕ) (trees : Trees) → AreOpenAtMost room trees → AreOfAtoms trees → AreSound room (placed_behind at trees)
   AreSound-placed_behind room at nil fit of_atoms = tt
   AreSound-placed_behind room at (cons tree trees) fit of_atoms =
       (IsSound-placed room (at + 1) tree fit.0 of_atoms.0, AreSound-placed_behind room (at + 1 + length (printed tree)) trees fit.1 of_atoms.1)

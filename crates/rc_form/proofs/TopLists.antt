@@ -2,26 +2,26 @@
 use Rattle.std.proofs.Common.{ℕ, ◌-◌, List, [], ◌∷◌}
 use Rattle.std.specs.List.{All}
 use Rattle.std.proofs.lemmas.List.Elements.{All-nil, All-cons, All-weaker}
-use Rattle.rc_model.specs.Tree.{Tree, word, list, Trees, nil, cons, IsSound, AreSound}
+use Rattle.rc_model.specs.Tree.{Tree, word, list, Trees, nil, cons, IsSound, AreSound, IsOpenAtMost, AreOpenAtMost}
 use Rattle.rc_model.specs.Spelled.{IsTopList, AreTopLists}
-use Rattle.rc_form.specs.Form.{tree_of, trees_of, FitsIn, FitIn, IsPrintable}
+use Rattle.rc_form.specs.Form.{tree_of, trees_of, IsPrintable}
 use Rattle.rc_form.specs.declared.form.Form.{Form}
 
 mutual
   -- what is sound has room
-  FitsIn-sound : (room : ℕ) (tree : Tree) → IsSound room tree → FitsIn room tree
-  FitsIn-sound room (word bytes from to) sound = tt
-  FitsIn-sound room (list parts from to) sound = (sound.0, FitIn-sound (room - 1) parts sound.2)
+  IsOpenAtMost-sound : (room : ℕ) (tree : Tree) → IsSound room tree → IsOpenAtMost room tree
+  IsOpenAtMost-sound room (word bytes from to) sound = tt
+  IsOpenAtMost-sound room (list parts from to) sound = (sound.0, AreOpenAtMost-sound (room - 1) parts sound.2)
 
   -- the same of several trees
-  FitIn-sound : (room : ℕ) (trees : Trees) → AreSound room trees → FitIn room trees
-  FitIn-sound room nil sound = tt
-  FitIn-sound room (cons tree trees) sound = (FitsIn-sound room tree sound.0, FitIn-sound room trees sound.1)
+  AreOpenAtMost-sound : (room : ℕ) (trees : Trees) → AreSound room trees → AreOpenAtMost room trees
+  AreOpenAtMost-sound room nil sound = tt
+  AreOpenAtMost-sound room (cons tree trees) sound = (IsOpenAtMost-sound room tree sound.0, AreOpenAtMost-sound room trees sound.1)
 
 -- what may stand at top level may be printed
 IsPrintable-top : (tree : Tree) → IsTopList tree → IsPrintable tree
 IsPrintable-top (word bytes from to) is_top = is_top
-IsPrintable-top (list parts from to) is_top = FitsIn-sound 64 (list parts from to) is_top
+IsPrintable-top (list parts from to) is_top = IsOpenAtMost-sound 64 (list parts from to) is_top
 
 -- each form is a list
 pub All-top : (forms : List Form) → AreTopLists (trees_of forms) → All (λ form. IsTopList (tree_of form)) forms

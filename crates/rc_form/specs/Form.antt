@@ -1,16 +1,12 @@
 -- A form as a tree, in which no clause meets a vector.
-use Rattle.std.specs.Prelude.{ℕ, ◌-◌, ◌<◌, List, [], ◌∷◌, map, Vec}
+use Rattle.std.specs.Prelude.{ℕ, List, map, Vec}
 use Rattle.std.specs.Global.{Global}
-use Rattle.rc_model.specs.Tree.{Tree, word, list, Trees, nil, cons}
+use Rattle.rc_model.specs.Tree.{Tree, word, list, IsOpenAtMost}
+pub use Rattle.rc_model.specs.Tree.{packed}
 use Rattle.rc_form.specs.declared.form.Form.{Form}
 use Rattle.rc_form.specs.declared.form.Span.{Span}
 use Rattle.rc_form.specs.declared.form.Form.TheOpen.{Form-F, Atom, List as ListOf}
 use Rattle.rc_form.specs.declared.form.Form.TheFolds.{fold-Form}
-
--- these trees as the parts of a list
-abbrev pub packed : List Tree → Trees
-packed [] = nil
-packed (tree ∷ trees) = cons tree (packed trees)
 
 -- the tree of a form whose parts are trees
 abbrev pub tree_step : Form-F Tree → Tree
@@ -33,17 +29,7 @@ atom_tree bytes span = word bytes span.from span.to
 abbrev pub list_tree : Vec Form Global → Span → Tree
 list_tree items span = list (packed (trees_of items.items)) span.from span.to
 
--- no more lists than there is room for are open at one place of a tree, or of trees
-abbrev mutual
-  pub FitsIn : ℕ → Tree → Type 0
-  FitsIn room (word bytes from to) = Unit {0}
-  FitsIn room (list parts from to) = (0 < room) × FitIn (room - 1) parts
-
-  pub FitIn : ℕ → Trees → Type 0
-  FitIn room nil = Unit {0}
-  FitIn room (cons tree trees) = FitsIn room tree × FitIn room trees
-
 -- the tree is a list, and at most 64 lists are open at one place, itself among them
 abbrev pub IsPrintable : Tree → Type 0
 IsPrintable (word bytes from to) = ⊥
-IsPrintable (list parts from to) = FitsIn 64 (list parts from to)
+IsPrintable (list parts from to) = IsOpenAtMost 64 (list parts from to)

@@ -1,10 +1,12 @@
 -- The first round of faults of a form: parts that are no form of their place, and atoms that are no numbers of their place.
-use Rattle.std.specs.Prelude.{ℕ, suc, ◌+◌, Bool, true, false, not, ◌&&◌, ◌||◌, ◌==◌, nat_lt, if◌then◌else◌, List, [], ◌∷◌, ◌++◌, length, slice_get, slice_index, find, ℤ, pos, neg_ℤ, int_le, Option, Some, None, is_none, option_map, option_to_list, Result, Ok, Err}
+use Rattle.std.specs.Prelude.{ℕ, ◌+◌, Bool, true, false, not, ◌&&◌, ◌||◌, ◌==◌, nat_lt, if◌then◌else◌, List, [], ◌∷◌, ◌++◌, length, slice_get, find, ℤ, pos, neg_ℤ, int_le, Option, Some, None, is_none, option_map, option_to_list, Result, Ok, Err}
 use Rattle.std.specs.List.{list_any}
 use Rattle.std.specs.Str.{bytes_eq}
 use Rattle.rc_model.specs.Clamp.{largest_number}
 use Rattle.rc_model.specs.Literal.{integer}
 use Rattle.rc_model.specs.Tree.{Tree, word, list, Trees, nil, cons}
+pub use Rattle.rc_model.specs.Tree.{count, start_of}
+pub use Rattle.rc_model.specs.Words.{is_variable}
 use Rattle.rc_grammar.specs.Keyword.{text_of}
 use Rattle.rc_grammar.specs.Grammar.{forms_of, front_of, more_of}
 use Rattle.rc_grammar.specs.declared.keyword.Keyword.{Keyword}
@@ -20,10 +22,6 @@ use Rattle.rc_grammar.specs.declared.fault.SheetFault.{SheetFault}
 -- the word is this keyword
 abbrev pub is_word : Keyword → List ℕ → Bool
 is_word keyword bytes = bytes_eq bytes (text_of keyword)
-
--- the word begins with `'`
-abbrev pub is_variable : List ℕ → Bool
-is_variable bytes = slice_index bytes 0 == 39
 
 -- the word is a kind of location
 abbrev pub is_kind : List ℕ → Bool
@@ -135,11 +133,6 @@ abbrev pub rule_of : Place → Trees → Option Rule
 rule_of place nil = None
 rule_of place (cons head parts) = or_else (told_rule place head parts) (plain_rule place head)
 
--- how many trees there are
-abbrev pub count : Trees → ℕ
-count nil = 0
-count (cons tree trees) = suc (count trees)
-
 -- how many parts stand behind those of which there may be more
 abbrev pub back_of : Rule → ℕ
 back_of rule.Game = 1
@@ -179,11 +172,6 @@ some_names_players (cons tree trees) = names_players tree || some_names_players 
 abbrev pub lacks_players : Rule → Trees → Bool
 lacks_players rule.Setup parts = not (some_names_players parts)
 lacks_players rule parts = false
-
--- where a tree begins
-abbrev pub start_of : Tree → ℕ
-start_of (word bytes from to) = from
-start_of (list parts from to) = from
 
 -- a fault of shape here
 abbrev pub shape : ℕ → SheetFault

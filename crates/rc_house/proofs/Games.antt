@@ -1,10 +1,10 @@
 -- A sheet and a plan that are read are those of a small game, and those of a small game are read.
 use Rattle.std.proofs.Common.{◌≡◌, ℕ, List, [], ◌∷◌, Some, None, ℤ, sym, ap, subst, ◌∙◌}
-use Rattle.rc_model.specs.Tree.{Tree, word, list, Trees, printed}
+use Rattle.rc_model.specs.Tree.{Tree, word, list, Trees, printed, IsOpenAtMost}
 use Rattle.rc_model.specs.DeckText.{HaveWorths, IsList}
 use Rattle.rc_model.specs.SmallGame.{SmallGame}
 use Rattle.rc_model.specs.SmallText.{part_at, IsSmallSheet, IsSmallPlan}
-use Rattle.rc_form.specs.Form.{FitsIn, IsPrintable}
+use Rattle.rc_form.specs.Form.{IsPrintable}
 use Rattle.rc_house.specs.SmallReading.{CountsReading, counts_at, PlanReading, plan_at}
 use Rattle.rc_house.specs.Parts.{SheetReading, sheet_of, plan_of, game_from}
 use Rattle.rc_house.proofs.Options.{some_is}
@@ -13,11 +13,11 @@ use Rattle.rc_house.proofs.Plan.{plan_takes, plan_again}
 use Rattle.rc_house.proofs.Paths.{part_fits}
 
 -- a list is printable where it fits
-list_printable : (tree : Tree) (parts : Trees) → FitsIn 64 tree → IsList tree parts → IsPrintable tree
-list_printable tree parts fits listed = subst IsPrintable (sym listed.2) (subst (FitsIn 64) listed.2 fits)
+list_printable : (tree : Tree) (parts : Trees) → IsOpenAtMost 64 tree → IsList tree parts → IsPrintable tree
+list_printable tree parts fits listed = subst IsPrintable (sym listed.2) (subst (IsOpenAtMost 64) listed.2 fits)
 
 -- what is printable fits
-fits : (tree : Tree) → IsPrintable tree → FitsIn 64 tree
+fits : (tree : Tree) → IsPrintable tree → IsOpenAtMost 64 tree
 fits (word bytes from to) printable = absurd printable
 fits (list parts from to) printable = printable
 

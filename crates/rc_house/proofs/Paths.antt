@@ -5,7 +5,7 @@ use Rattle.std.specs.Option.{option_copied}
 use Rattle.std.specs.Global.{Global}
 use Rattle.std.proofs.lemmas.Option.{option_and_then_some}
 use Rattle.std.proofs.lemmas.List.{length-append}
-use Rattle.rc_model.specs.Tree.{Tree, word, list, Trees, nil, cons, nth}
+use Rattle.rc_model.specs.Tree.{Tree, word, list, Trees, nil, cons, nth, IsOpenAtMost, AreOpenAtMost, count}
 use Rattle.rc_model.specs.SmallText.{part_at}
 use Rattle.rc_model.specs.Placed.{starts, all_starts}
 use Rattle.rc_form.specs.declared.form.Form as form_type
@@ -14,8 +14,8 @@ use Rattle.rc_form.specs.declared.form.Form.TheOpen.{List as OpenList}
 use Rattle.rc_form.specs.declared.form.Form.TheFolds.{fold-roll-Form}
 use Rattle.rc_form.specs.declared.form.Span.{Span}
 use denote.Ref.{Bor}
-use Rattle.rc_form.specs.Form.{packed, tree_step, tree_of, list_tree, FitsIn, FitIn}
-use Rattle.rc_setup.specs.Size.{count_of_trees, count_of_parts}
+use Rattle.rc_form.specs.Form.{packed, tree_step, tree_of, list_tree}
+use Rattle.rc_setup.specs.Size.{count_of_parts}
 use Rattle.rc_house.specs.Parts.{part_in}
 
 -- a path leads first to the part at its first place
@@ -32,24 +32,24 @@ nth_packed (form ∷ forms) (suc place) = nth_packed forms place
 
 -- where there is more room, no fewer lists fit
 mutual
-  pub fits_more : (room more : ℕ) (tree : Tree) → room ≤ more → FitsIn room tree → FitsIn more tree
+  pub fits_more : (room more : ℕ) (tree : Tree) → room ≤ more → IsOpenAtMost room tree → IsOpenAtMost more tree
   fits_more room more (word bytes from to) le fits = tt
   fits_more room more (list parts from to) le fits = (omega (arith, fits.0), fit_more (room - 1) (more - 1) parts (omega arith) fits.1)
 
-  pub fit_more : (room more : ℕ) (trees : Trees) → room ≤ more → FitIn room trees → FitIn more trees
+  pub fit_more : (room more : ℕ) (trees : Trees) → room ≤ more → AreOpenAtMost room trees → AreOpenAtMost more trees
   fit_more room more nil le fits = tt
   fit_more room more (cons tree trees) le fits = (fits_more room more tree le fits.0, fit_more room more trees le fits.1)
 
 -- the tree at a place fits where all fit
-nth_fits : (room place : ℕ) (trees : Trees) (tree : Tree) → FitIn room trees → nth place trees ≡ Some tree → FitsIn room tree
+nth_fits : (room place : ℕ) (trees : Trees) (tree : Tree) → AreOpenAtMost room trees → nth place trees ≡ Some tree → IsOpenAtMost room tree
 nth_fits room place nil tree fits e = absurd cc
 nth_fits room zero (cons first trees) tree fits e =
-    let is : first ≡ tree = cc in subst (FitsIn room) is fits.0
+    let is : first ≡ tree = cc in subst (IsOpenAtMost room) is fits.0
 nth_fits room (suc place) (cons first trees) tree fits e = nth_fits room place trees tree fits.1 e
 
 -- a part fits where its tree fits
-pub part_fits : (room : ℕ) (path : List ℕ) (tree part : Tree) → FitsIn room tree → part_at path tree ≡ Some part → FitsIn room part
-part_fits room [] tree part fits e = let is : tree ≡ part = cc in subst (FitsIn room) is fits
+pub part_fits : (room : ℕ) (path : List ℕ) (tree part : Tree) → IsOpenAtMost room tree → part_at path tree ≡ Some part → IsOpenAtMost room part
+part_fits room [] tree part fits e = let is : tree ≡ part = cc in subst (IsOpenAtMost room) is fits
 part_fits room (place ∷ path) (word bytes from to) part fits e = absurd cc
 part_fits room (place ∷ path) (list parts from to) part fits e =
     option_and_then_some _ _ _ e (λ next at_next e.
@@ -80,7 +80,7 @@ some_start : (tree : Tree) → 1 ≤ length (starts tree)
 some_start (word bytes from to) = omega arith
 some_start (list parts from to) = omega arith
 
-trees_few : (trees : Trees) → count_of_trees trees ≤ length (all_starts trees)
+trees_few : (trees : Trees) → count trees ≤ length (all_starts trees)
 trees_few nil = omega arith
 trees_few (cons tree trees) = let few = trees_few trees in omega (arith, some_start tree, length-append (starts tree) (all_starts trees))
 

@@ -1,8 +1,9 @@
 -- Which forms stand for a deck tree and for the entries of a point map. Their names are numbered in the order of their first
 -- mention.
-use Rattle.std.specs.Prelude.{◌≡◌, ◌≢◌, ℕ, ◌≤◌, not, List, [], ◌∷◌, ◌++◌, length, map, All, AllPairs, slice_get, slice_index, filter, flat_map, codes, ℤ, Some}
+use Rattle.std.specs.Prelude.{◌≡◌, ◌≢◌, ℕ, ◌≤◌, false, not, List, [], ◌∷◌, ◌++◌, length, map, All, AllPairs, slice_get, filter, flat_map, codes, ℤ, Some}
 use Rattle.std.specs.Str.{bytes_eq}
 use Rattle.rc_model.specs.Tree.{Tree, word, list, Trees, nil, cons}
+use Rattle.rc_model.specs.Words.{is_variable}
 use Rattle.rc_model.specs.Literal.{integer}
 use Rattle.rc_model.specs.Clamp.{IsWithinClamp}
 use Rattle.rc_model.specs.Deck.{Groups, no_group, group, Branches, no_branch, branch, Face, AreFaces, Entry, points_of}
@@ -23,7 +24,7 @@ IsList tree parts = (from to : ℕ) × (tree ≡ list parts from to)
 pub record IsName (names : List (List ℕ)) (number : ℕ) (tree : Tree) : Type 0 where
   pub name : List ℕ
   pub written : IsWord tree name
-  pub plain : slice_index name 0 ≢ 39
+  pub plain : is_variable name ≡ false
   pub numbered : slice_get names number ≡ Some name
 
 -- `(ATTR PARTS)`: the attribute has this number, and the list behind it has parts of this kind

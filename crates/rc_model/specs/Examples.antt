@@ -2,7 +2,7 @@
 use Rattle.std.specs.Prelude.{ℕ, List, [], ◌∷◌, map, pos, codes}
 use Rattle.rc_model.specs.SmallGame.{SmallGame}
 use Rattle.rc_model.specs.SmallText.{SheetParts, PlanWords}
-use Rattle.rc_model.specs.Tree.{Tree, word, list, Trees, nil, cons}
+use Rattle.rc_model.specs.Tree.{Tree, word, list, packed}
 
 -- two players with two cards each, out of four that are worth 1 to 4
 abbrev pub four_cards : List (List ℕ) → ℕ → SmallGame
@@ -21,12 +21,8 @@ four_cards scripts turns =
 abbrev pub atom : List ℕ → Tree
 atom bytes = word bytes 0 0
 
-abbrev pub parts_of : List Tree → Trees
-parts_of [] = nil
-parts_of (tree ∷ trees) = cons tree (parts_of trees)
-
 abbrev pub form : List Tree → Tree
-form trees = list (parts_of trees) 0 0
+form trees = list (packed trees) 0 0
 
 abbrev pub one_word : List ℕ → Tree
 one_word bytes = form (atom bytes ∷ [])

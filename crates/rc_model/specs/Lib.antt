@@ -1,5 +1,7 @@
 pub mod Token
 pub mod Tree
+pub mod Words
+pub mod Numbers
 pub mod Placed
 pub mod Spelled
 pub mod Literal

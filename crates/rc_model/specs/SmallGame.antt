@@ -1,8 +1,9 @@
 -- A small game and its play. A stock is dealt out to the players. Round by round the next player, if he has a card,
 -- puts one of his cards on the table and adds its worth to his score.
 use Rattle.std.specs.Prelude.{ℕ, zero, suc, ◌+◌, ◌-◌, ◌*◌, ◌%◌, min, ◌==◌, nat_lt, nat_le, ◌&&◌, if◌then◌else◌, List, [], ◌∷◌, length, slice_get, slice_index, slice_index_or, take, drop, reverse, remove, map, filter, flat_map, count_by, fold, ℤ, pos, ◌+ℤ◌, int_lt, int_le, Option, Some, None, option_to_list, is_some}
-use Rattle.std.specs.List.{range_with_len, list_any}
+use Rattle.std.specs.List.{list_any}
 pub use Rattle.rc_model.specs.Clamp.{clamped}
+pub use Rattle.rc_model.specs.Numbers.{below}
 use Rattle.rc_model.specs.Transcript.{Pick, done, limit, Score, Record, Standing, house_text}
 
 -- The players, what each card is worth from the bottom of the stock to its top, how many cards a player is dealt,
@@ -15,10 +16,6 @@ pub record SmallGame : Type 0 where
   pub deal : ℕ
   pub seats : ℕ
   pub turns : ℕ
-
--- the numbers below n, in order
-abbrev pub below : ℕ → List ℕ
-below n = range_with_len 0 n
 
 -- the cards in the order in which they are dealt, from the top of the stock to its bottom
 abbrev pub dealt_cards : SmallGame → List ℕ

@@ -12,6 +12,21 @@ mutual
     nil : Trees
     cons : Tree → Trees → Trees
 
+-- these trees as the parts of a list
+abbrev pub packed : List Tree → Trees
+packed [] = nil
+packed (tree ∷ trees) = cons tree (packed trees)
+
+-- how many trees there are
+abbrev pub count : Trees → ℕ
+count nil = 0
+count (cons tree trees) = suc (count trees)
+
+-- where a tree begins
+abbrev pub start_of : Tree → ℕ
+start_of (word bytes from to) = from
+start_of (list parts from to) = from
+
 -- the tokens that spell a tree
 abbrev mutual
   pub spelling : Tree → List Token
@@ -31,6 +46,16 @@ abbrev mutual
   pub AreSound : ℕ → Trees → Type 0
   AreSound room nil = Unit {0}
   AreSound room (cons tree trees) = IsSound room tree × AreSound room trees
+
+-- no more lists than these are open at one place of a tree, or of trees
+abbrev mutual
+  pub IsOpenAtMost : ℕ → Tree → Type 0
+  IsOpenAtMost room (word bytes from to) = Unit {0}
+  IsOpenAtMost room (list parts from to) = (0 < room) × AreOpenAtMost (room - 1) parts
+
+  pub AreOpenAtMost : ℕ → Trees → Type 0
+  AreOpenAtMost room nil = Unit {0}
+  AreOpenAtMost room (cons tree trees) = IsOpenAtMost room tree × AreOpenAtMost room trees
 
 -- the bytes of a tree with one space between parts and none elsewhere
 abbrev mutual

@@ -1,10 +1,9 @@
 -- Lists that have fewer parts than a row of the grammar, or more.
 use Rattle.std.proofs.Common.{◌≡◌, ℕ, ◌<◌, ◌≤◌, false, List, [], ◌∷◌, ◌++◌, length, None, refl, ap, sym, ◌∙◌, arith}
 use Rattle.std.proofs.lemmas.List.{append-nil}
-use Rattle.rc_model.specs.Tree.{Tree, word, list, Trees, nil, cons}
+use Rattle.rc_model.specs.Tree.{Tree, word, list, Trees, nil, cons, count}
 use Rattle.rc_form.specs.declared.form.Form.{Form}
 use Rattle.rc_form.specs.Form.{tree_of, trees_of, packed}
-use Rattle.rc_sheet_model.specs.Rows.{count}
 use Rattle.rc_grammar.specs.declared.keyword.Keyword.{Keyword}
 use Rattle.rc_sheet_model.specs.FormMentions.{attr_word, value_word, map_word, setup_lines, body, deck_groups, points_map, points_entries, bound_words, var_words, all_var_words}
 use Rattle.rc_naming.specs.Mentions.{loc_mention, num_mention}

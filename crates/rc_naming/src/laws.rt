@@ -1,7 +1,7 @@
 //! Laws about namings. No function here does anything.
 ghost use Rattle.std.specs.Prelude.{◌≡◌, length, map};
 ghost use Rattle.rc_model.specs.Tree.{Tree};
-ghost use Rattle.rc_sheet_model.specs.Numbering.{below};
+ghost use Rattle.rc_model.specs.Numbers.{below};
 ghost use Rattle.rc_sheet_model.specs.FormMentions.{names_of, loc_mentions, num_mentions};
 ghost use Rattle.rc_naming.specs.Mentions.{all_locations, all_numbers};
 ghost use Rattle.rc_naming.specs.Naming.{firsts, naming_of};

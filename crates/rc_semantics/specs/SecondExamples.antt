@@ -3,7 +3,7 @@ use Prim.Native.String.{String}
 use Rattle.std.specs.Prelude.{◌≡◌, ℕ, ◌+◌, ◌-◌, ◌==◌, Bool, true, false, not, List, [], ◌∷◌, ◌++◌, filter, map, position, unwrap_or, codes, Some, None}
 use Rattle.rc_model.specs.Tree.{word, list, Trees, nil, cons}
 use Rattle.rc_sheet_model.specs.Examples.{form_of}
-use Rattle.rc_sheet_model.specs.Numbering.{below}
+use Rattle.rc_model.specs.Numbers.{below}
 use Rattle.rc_semantics.specs.SecondParts.{given_value, standing_alone, Part, atom, form}
 use Rattle.rc_semantics.specs.SecondFaults.{is_too_many, second_faults, sheet_fault}
 use Rattle.rc_grammar.specs.declared.grammar.Rule.{Rule}

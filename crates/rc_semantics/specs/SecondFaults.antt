@@ -4,7 +4,7 @@ use Rattle.std.specs.Prelude.{ℕ, nat_le, nat_lt, ◌==◌, Bool, true, false, 
 use Rattle.std.specs.List.{list_any, list_all}
 use Rattle.rc_model.specs.Tree.{Tree, word, list, Trees}
 use Rattle.rc_sheet_model.specs.Sheet.{Class, game_class, player_class, team_class, Sort, player_sort, card_sort, group_sort}
-use Rattle.rc_sheet_model.specs.Numbering.{below}
+use Rattle.rc_model.specs.Numbers.{below}
 use Rattle.rc_sheet_model.specs.Limits.{most_cards, most_locations, most_numbers, most_attrs, most_values, most_maps, most_stages, most_sites, most_variables, most_repeats}
 use Rattle.rc_sheet_model.specs.Naming.{Variable, Scope}
 use Rattle.rc_sheet_model.specs.WellFormed.{Around, is_among}

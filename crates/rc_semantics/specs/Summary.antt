@@ -3,7 +3,7 @@
 use Rattle.std.specs.Prelude.{ℕ, ◌+◌, ◌-◌, min, nat_lt, nat_le, Bool, true, false, not, ◌&&◌, ◌||◌, if◌then◌else◌, List, [], ◌∷◌, ◌++◌, length, unwrap_or, Option, Some, None, option_map, is_some, Result, Ok, Err}
 use Rattle.std.specs.List.{list_all}
 use Rattle.rc_model.specs.Tree.{Trees}
-use Rattle.rc_sheet_model.specs.Numbering.{below}
+use Rattle.rc_model.specs.Numbers.{below}
 use Rattle.rc_sheet_model.specs.Limits.{most_cards, most_locations, most_numbers, most_attrs, most_values, most_maps, most_stages, most_sites}
 use Rattle.rc_sheet_model.specs.WellFormed.{is_among}
 use Rattle.rc_grammar.specs.Faults.{count}

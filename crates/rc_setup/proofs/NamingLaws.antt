@@ -1,10 +1,10 @@
 -- Names added one by one are the different ones in the order of the first mention. A name's number is its place.
-use Rattle.std.proofs.Common.{◌≡◌, ◌≢◌, ℕ, ◌+◌, ◌<◌, ◌≤◌, ◌&&◌, ◌||◌, not, Bool, true, false, cond, eqb, ltb, List, [], ◌∷◌, ◌++◌, length, get_or, fold, Some, None, ⊎_elim, inl, inr, refl, sym, ap, subst, ◌∙◌, append_assoc, arith}
-use Rattle.std.specs.Prelude.{flat_map, filter, slice_index, slice_get}
+use Rattle.std.proofs.Common.{◌≡◌, ◌≢◌, ℕ, ◌+◌, ◌<◌, ◌≤◌, ◌&&◌, ◌||◌, not, Bool, true, false, cond, ltb, List, [], ◌∷◌, ◌++◌, length, get_or, fold, Some, None, ⊎_elim, inl, inr, refl, sym, ap, subst, ◌∙◌, append_assoc, arith}
+use Rattle.std.specs.Prelude.{flat_map, filter, slice_get}
 use Rattle.std.specs.List.{list_any, position, position_or_len}
 use Rattle.std.specs.Bool.{one_answer}
 use Rattle.std.specs.Str.{bytes_eq}
-use Rattle.std.proofs.lemmas.Bool.{cases_Bool, eqb-true, eq-eqb, ne_eqb, lt-ltb, cond-true, cond-false, false≢true}
+use Rattle.std.proofs.lemmas.Bool.{cases_Bool, lt-ltb, cond-true, cond-false}
 use Rattle.std.proofs.lemmas.List.{append-nil}
 use Rattle.std.proofs.lemmas.List.Folds.{list_any-append}
 use Rattle.std.proofs.lemmas.List.Quantifiers.{position-Some}
@@ -98,7 +98,7 @@ with_mentions-none mentions =
 pub number_of-sound : (names : List (List ℕ)) (tree : Tree) (number : ℕ) → number_of names tree ≡ Some number → IsName names number tree
 number_of-sound names (list parts from to) number e = absurd cc
 number_of-sound names (word bytes from to) number e =
-    elim (cases_Bool (eqb (slice_index bytes 0) 39)) [
+    elim (cases_Bool (is_variable bytes)) [
       | inl quoted ↦ let none = sym (cond-true _ _ _ quoted) ∙ e in absurd cc
       | inr plain ↦
           let found : position (bytes_eq bytes) names ≡ Some number = sym (cond-false _ _ _ plain) ∙ e in
@@ -107,7 +107,7 @@ number_of-sound names (word bytes from to) number e =
           record {
             name = bytes;
             written = (from, to, refl);
-            plain = λ same. false≢true (sym plain ∙ eq-eqb _ _ same);
+            plain = plain;
             numbered = slice_get-get_or names number bytes place.0 ∙ ap (λ name. Some name) (sym is);
           }
     ]
@@ -128,7 +128,6 @@ earlier_differs names name number place differ here lt =
 pub number_of-complete : (names : List (List ℕ)) (tree : Tree) (number : ℕ) → AllDiffer names → IsName names number tree → number_of names tree ≡ Some number
 number_of-complete names tree number differ is_name =
     let name = is_name.name in
-    let plain : eqb (slice_index name 0) 39 ≡ false = ne_eqb _ _ is_name.plain in
     let within : number < length names = slice_get_within names number name is_name.numbered in
     let here : bytes_eq name (get_or names number name) ≡ true =
     (bytes_eq-Decides _ _).1 (sym (get_or_from_slice_get names number name name is_name.numbered)) in
@@ -136,5 +135,5 @@ number_of-complete names tree number differ is_name =
     position_or_len_is (bytes_eq name) names number name (omega arith) (λ k lt. earlier_differs names name number k differ is_name.numbered lt) (λ _. here) in
     let inside : ltb number (length names) ≡ true = lt-ltb _ _ within in
     ap (number_of names) is_name.written.2
-    ∙ cond-false _ _ _ plain
+    ∙ cond-false _ _ _ is_name.plain
     ∙ rw (place, inside) refl

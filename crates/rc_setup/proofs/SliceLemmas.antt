@@ -1,11 +1,10 @@
 -- Slices of two or three parts.
 use Rattle.std.proofs.Common.{◌≡◌, ℕ, ◌<◌, ◌≤◌, List, [], ◌∷◌, length, get_or, Result, Ok, Err, OnOk, Some, None, Option, refl, sym, ap, ◌∙◌, arith}
-use Rattle.rc_model.specs.Tree.{Tree, word, list, Trees, nil, cons}
+use Rattle.rc_model.specs.Tree.{Tree, word, list, Trees, nil, cons, count}
 use Rattle.rc_model.specs.Deck.{Entry}
 use Rattle.rc_model.specs.DeckText.{Names, in_entry}
 use Rattle.rc_form.specs.declared.form.Form.{Form}
 use Rattle.rc_form.specs.Form.{tree_of, trees_of, packed}
-use Rattle.rc_setup.specs.Size.{count_of_trees}
 use Rattle.rc_setup.specs.Reading.{Group, read_group_parts, read_entry_parts, unless_nil}
 
 pub two_up : {X : Type 0} (xs : List X) (a b : X) → 2 ≤ length xs → a ≡ get_or xs 0 a → b ≡ get_or xs 1 b → (rest : List X) × (xs ≡ a ∷ b ∷ rest)
@@ -57,6 +56,6 @@ unless_nil_none [] found none = refl
 unless_nil_none (form ∷ forms) found none = absurd (omega arith)
 
 -- a list has as many parts as forms
-pub count_of_packed : (forms : List Form) → count_of_trees (packed (trees_of forms)) ≡ length forms
+pub count_of_packed : (forms : List Form) → count (packed (trees_of forms)) ≡ length forms
 count_of_packed [] = refl
 count_of_packed (form ∷ forms) = let rest = count_of_packed forms in omega arith

@@ -2,14 +2,14 @@
 use Rattle.std.proofs.Common.{◌≡◌, ℕ, zero, suc, ◌+◌, ◌<◌, ◌≤◌, List, [], ◌∷◌, length, get_or, map, min, All, ℤ, Option, Some, None, IfSome, refl, sym, ap, subst, ◌∙◌, arith}
 use Rattle.std.proofs.lemmas.Option.{same_Some}
 use Rattle.std.specs.Prelude.{◌++◌}
-use Rattle.rc_model.specs.Tree.{Tree, word, list, Trees, nil, cons}
+use Rattle.rc_model.specs.Tree.{Tree, word, list, Trees, nil, cons, count}
 use Rattle.rc_model.specs.Deck.{Groups, Face, Entry, AreFaces, points_of}
 use Rattle.rc_model.specs.DeckText.{Names, names_of, in_deck, in_entries, DeckStands, EntriesStand, AllEntriesStand, HasEachOnce, HaveWorths}
 use Rattle.rc_model.specs.Clamp.{IsWithinClamp}
-use Rattle.rc_setup.specs.Size.{count_of_trees, count_of_parts}
+use Rattle.rc_setup.specs.Size.{count_of_parts}
 
 -- each part is an entry
-count_of_stands : (names : Names) (entries : List Entry) (trees : Trees) → AllEntriesStand names entries trees → length entries ≡ count_of_trees trees
+count_of_stands : (names : Names) (entries : List Entry) (trees : Trees) → AllEntriesStand names entries trees → length entries ≡ count trees
 count_of_stands names [] nil stand = refl
 count_of_stands names [] (cons tree trees) stand = absurd stand
 count_of_stands names (entry ∷ entries) nil stand = absurd stand

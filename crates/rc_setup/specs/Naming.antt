@@ -1,8 +1,9 @@
 -- Names are numbered as they are mentioned.
-use Rattle.std.specs.Prelude.{◌≡◌, ◌≢◌, ℕ, ◌≤◌, ◌==◌, if◌then◌else◌, List, [], ◌∷◌, ◌++◌, length, fold, AllPairs, slice_index, Option, None}
+use Rattle.std.specs.Prelude.{◌≡◌, ◌≢◌, ℕ, ◌≤◌, if◌then◌else◌, List, [], ◌∷◌, ◌++◌, length, fold, AllPairs, Option, None}
 use Rattle.std.specs.List.{list_any, position}
 use Rattle.std.specs.Str.{bytes_eq}
 use Rattle.rc_model.specs.Tree.{Tree, word, list}
+use Rattle.rc_model.specs.Words.{is_variable}
 use Rattle.rc_model.specs.DeckText.{Names, Mention, attribute, value}
 
 -- the names and one more, which goes last where it is new
@@ -28,5 +29,5 @@ AreFew names = (length names.attrs ≤ 65536) × (length names.values ≤ 65536)
 
 -- the number of the name that a tree is, if it is one of the names
 abbrev pub number_of : List (List ℕ) → Tree → Option ℕ
-number_of names (word bytes from to) = if slice_index bytes 0 == 39 then None else position (bytes_eq bytes) names
+number_of names (word bytes from to) = if is_variable bytes then None else position (bytes_eq bytes) names
 number_of names (list parts from to) = None

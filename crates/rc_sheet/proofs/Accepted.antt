@@ -1,8 +1,8 @@
 -- What is known of a form without a fault.
 use Rattle.std.proofs.Common.{◌≡◌, ◌≤◌, List, [], ◌∷◌, length, Option, Some, None, refl, sym, subst, ap, ◌∙◌}
 use Rattle.std.proofs.lemmas.Option.{same_Some}
-use Rattle.rc_model.specs.Tree.{Tree, word, list}
-use Rattle.rc_form.specs.Form.{FitsIn, IsPrintable}
+use Rattle.rc_model.specs.Tree.{Tree, word, list, IsOpenAtMost}
+use Rattle.rc_form.specs.Form.{IsPrintable}
 use Rattle.rc_form.specs.SameForm.{IsOfAtoms}
 use Rattle.rc_sheet_model.specs.Sheet.{Sheet}
 use Rattle.rc_sheet_model.specs.Naming.{Naming}
@@ -42,11 +42,11 @@ pub faultless : (tree : Tree) → sheet_fault tree ≡ None → (faults place.Sh
 faultless tree none = none_first (faults place.Sheet tree) (second_faults tree) none
 
 -- a form without a fault is a list, and what may be printed is none too deep
-pub printable : (tree : Tree) → sheet_fault tree ≡ None → FitsIn 64 tree → IsPrintable tree
+pub printable : (tree : Tree) → sheet_fault tree ≡ None → IsOpenAtMost 64 tree → IsPrintable tree
 printable (word bytes from to) none fits = absurd cc
 printable (list parts from to) none fits = fits
 
-pub fits_in : (tree : Tree) → IsPrintable tree → FitsIn 64 tree
+pub fits_in : (tree : Tree) → IsPrintable tree → IsOpenAtMost 64 tree
 fits_in (word bytes from to) printable = absurd printable
 fits_in (list parts from to) printable = printable
 

@@ -3,7 +3,8 @@ use Rattle.std.proofs.Common.{◌≡◌, length, map, Some, refl, sym, subst, ap
 use Rattle.rc_model.specs.Tree.{Tree, word, list, Trees, cons}
 use Rattle.rc_sheet_model.specs.Sheet.{Sheet}
 use Rattle.rc_sheet_model.specs.FormMentions.{names_of, AreNames}
-use Rattle.rc_sheet_model.specs.Numbering.{below, IsNumbered}
+use Rattle.rc_model.specs.Numbers.{below}
+use Rattle.rc_sheet_model.specs.Numbering.{IsNumbered}
 use Rattle.rc_sheet_model.specs.Naming.{Naming, naming_of}
 use Rattle.rc_sheet_model.specs.Stands.{Stands}
 use Rattle.rc_naming.specs.Naming.{naming_of as naming_of_form}

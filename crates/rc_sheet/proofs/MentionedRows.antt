@@ -11,7 +11,8 @@ use Rattle.rc_sheet_model.specs.Sheet.{Names, Sort, player_sort, LocKind, vloc, 
 use Rattle.rc_sheet_model.specs.Mentions.{Mention, attr_name, value_name, map_name, loc_name, num_name, var_name, in_loc, in_num}
 use Rattle.rc_sheet_model.specs.FormMentions.{is_atom, is_kind, is_measure, is_binder, word_of, var_words, all_var_words}
 use Rattle.rc_sheet_model.specs.Rows.{◌▸◌, End, Row, Word, Atom}
-use Rattle.rc_sheet_model.specs.Naming.{Naming, Scope, is_variable, kind_word, Named, Binder, InScope, Literal, KindOf}
+use Rattle.rc_model.specs.Words.{is_variable}
+use Rattle.rc_sheet_model.specs.Naming.{Naming, Scope, kind_word, Named, Binder, InScope, Literal, KindOf}
 use Rattle.rc_sheet_model.specs.StandsExpressions.{StandsOwner, StandsHolder, StandsLoc, StandsNum}
 use Rattle.rc_sheet.proofs.Mentioned.{Kind, attrs, values, maps, locs, nums, vars, said, words_in, all_words_in, own, said-append, words_in-word, words_in-list, Says, SayAll, behind_silent, behind_word, behind_part, no_part, text_silent, alone, is_sort_word, Speaks, Speak, end_speaks, last_speaks, atom_then, tells, IsHead, head_at, IsPlain, own-plain, no_kind, no_number, row_other, plain_speaks}
 

@@ -19,7 +19,7 @@ use Rattle.rc_sheet.specs.ReadNames.{◌>>=◌, both, rule_at, name_at, binder_a
 use Rattle.rc_sheet.specs.ReadExpressions.{range_of, Side, number_side, card_side, value_side, owner_side, side_of_sort, variable_side, side_word, equal_test, card_at, coll_at, coll_rule, colls_at, int_at, int_rule, side_at, side_by, value_parts, card_rule, test_at, tests_at}
 use Rattle.rc_sheet.proofs.Means.{Means, something, either}
 use Rattle.rc_sheet.proofs.Means.{behind as read_behind}
-use Rattle.rc_sheet.proofs.ReadsNames.{variable_same, place_means, class_same}
+use Rattle.rc_sheet.proofs.ReadsNames.{place_means, class_same}
 use Rattle.rc_sheet.proofs.OneRows.{behind_word, row_one, row_two, row_three, three_parts}
 use Rattle.rc_sheet.proofs.OneNames.{Differ, Apart, more_apart, variable_word, one_variable, one_player_var, owner_forms, loc_rule_in_cards, num_rule_in_numbers, num_rule_in_sides, along, Only, only_quiet, only_map, only_both, only_pair, only_then, only_made, only_sized, only_said, by_rule, one_attr, one_value, one_binder, one_map, one_loc_parts, one_num_parts}
 use Rattle.rc_grammar.specs.declared.keyword.Keyword.TheVariants as keyword
@@ -40,7 +40,7 @@ no_number rest =
 
 pub variable_unread : (bytes : List ℕ) (value : ℤ) → is_variable bytes ≡ true → integer bytes ≡ Some value → ⊥
 variable_unread bytes value is =
-    variable_word (λ bytes. integer bytes ≡ Some value → ⊥) bytes (sym (variable_same bytes) ∙ is)
+    variable_word (λ bytes. integer bytes ≡ Some value → ⊥) bytes is
     (λ rest said. let none = no_number rest in absurd cc)
 
 -- a variable as a side
@@ -56,7 +56,7 @@ side_var scope sort var side bytes from to alone stands is =
     subst (λ v. Means (variable_side v (slice_get scope v)) (λ s. s ≡ side)) (sym same)
     (subst (λ o. Means (variable_side var o) (λ s. s ≡ side)) (sym stands.0)
     (subst (λ o. Means o (λ s. s ≡ side)) (sym is) (something side refl)))))
-    (λ unbound. absurd (differ_both (is_variable bytes) (variable_same bytes ∙ stands.1) unbound))
+    (λ unbound. absurd (differ_both (is_variable bytes) stands.1 unbound))
   where
     differ_both : (b : Bool) → b ≡ true → b ≡ false → ⊥
     differ_both true is is' = absurd cc

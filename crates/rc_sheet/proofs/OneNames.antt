@@ -12,7 +12,7 @@ use Rattle.rc_sheet_model.specs.Sheet.{Names, Class, player_sort, Sort, LocKind,
 use Rattle.rc_sheet_model.specs.Mentions.{Mention, attr_name, value_name, map_name, loc_name, num_name, var_name}
 use Rattle.rc_sheet_model.specs.Rows.{◌▸◌, End, Row, Word, Atom}
 use Rattle.rc_sheet_model.specs.Naming.{Naming, Variable, Scope, naming_of, class_of, Named, Binder, InScope, KindOf}
-use Rattle.rc_sheet_model.specs.Naming.{is_variable as is_bound_word}
+use Rattle.rc_model.specs.Words.{is_variable}
 use Rattle.rc_sheet_model.specs.Naming.{kind_word as kind_bytes}
 use Rattle.rc_sheet_model.specs.StandsExpressions.{StandsOwner, StandsHolder, StandsLoc, StandsNum}
 use Rattle.rc_grammar.specs.Faults.{is_form_word, fits}
@@ -117,7 +117,7 @@ abbrev pub classed : Option NumName → Option Class
 classed found = option_map (λ num. num.class) found
 
 -- a word that begins with `'`
-pub variable_word : (P : List ℕ → Type 0) (bytes : List ℕ) → is_bound_word bytes ≡ true → ((rest : List ℕ) → P (39 ∷ rest))
+pub variable_word : (P : List ℕ → Type 0) (bytes : List ℕ) → is_variable bytes ≡ true → ((rest : List ℕ) → P (39 ∷ rest))
     → P bytes
 variable_word P [] is each = absurd cc
 variable_word P (b ∷ bytes) is each = subst (λ b. P (b ∷ bytes)) (sym (eqb-true b 39 is)) (each bytes)

@@ -4,12 +4,12 @@ use Rattle.std.specs.List.{list_all, AllByRecursion}
 use Rattle.std.proofs.lemmas.Bool.{both_ways}
 use Rattle.rc_model.specs.Tree.{Tree, word, list, Trees, nil, cons}
 use Rattle.rc_sheet_model.specs.Sheet.{Sheet}
-use Rattle.rc_sheet_model.specs.Naming.{is_variable as is_variable_word_of}
+use Rattle.rc_model.specs.Words.{is_variable}
 use Rattle.rc_sheet_model.specs.Numbering.{different}
 use Rattle.rc_sheet_model.specs.FormMentions.{word_of, var_words, bound_words, all_var_words, var_mentions, attr_mentions, value_mentions, map_mentions, loc_mentions, num_mentions}
 use Rattle.rc_sheet_model.specs.FormMentions.{is_binder as is_binder_head}
 use Rattle.rc_sheet_model.specs.WellFormed.{is_atom, is_plain_word, is_variable_word, HasWords}
-use Rattle.rc_grammar.specs.Faults.{is_variable, atom_kind, unless, faults, faults_at, faults_in, place_at, count, fits}
+use Rattle.rc_grammar.specs.Faults.{atom_kind, unless, faults, faults_at, faults_in, place_at, count, fits}
 use Rattle.rc_grammar.specs.declared.fault.SheetKind.TheVariants.{Shape}
 use Rattle.rc_grammar.specs.declared.grammar.Place.{Place}
 use Rattle.rc_grammar.specs.declared.grammar.Place.TheVariants as place
@@ -36,21 +36,16 @@ use Rattle.rc_sheet.proofs.Within.{names_are}
 
 -- WORDS
 
--- a word begins with its first byte
-same_variable : (bytes : List ℕ) → is_atom bytes ≡ true → is_variable bytes ≡ is_variable_word_of bytes
-same_variable [] stands = absurd cc
-same_variable (b ∷ bytes) stands = refl
-
 plain_atom : (bytes : List ℕ) → is_atom bytes ≡ true → unless (not (is_variable bytes)) Shape ≡ None
     → is_plain_word bytes ≡ true
 plain_atom bytes stands fine =
     ap₂ (λ a b. a && b) stands
-    (ap not (sym (same_variable bytes stands)) ∙ taken (not (is_variable bytes)) Shape fine)
+    (taken (not (is_variable bytes)) Shape fine)
 
 variable_atom : (bytes : List ℕ) → is_atom bytes ≡ true → unless (is_variable bytes) Shape ≡ None
     → is_variable_word bytes ≡ true
 variable_atom bytes stands fine =
-    ap₂ (λ a b. a && b) stands (sym (same_variable bytes stands) ∙ taken (is_variable bytes) Shape fine)
+    ap₂ (λ a b. a && b) stands (taken (is_variable bytes) Shape fine)
 
 -- where a name is wanted stands a plain word
 plain_tree : (tree : Tree) → IsOfAtoms tree → faults_at (Some place.Name) tree ≡ [] → is_plain_word (bytes_of tree) ≡ true

@@ -1,14 +1,13 @@
 -- The text that is printed for a sheet is read back.
-use Rattle.std.proofs.Common.{◌≡◌, ℕ, ◌-◌, List, [], ◌∷◌, ◌++◌, length, refl, sym, subst, ap, ap₂, ◌∙◌, leb-true}
+use Rattle.std.proofs.Common.{◌≡◌, ℕ, List, [], ◌∷◌, ◌++◌, length, refl, sym, subst, ap, ap₂, ◌∙◌, leb-true}
 use Rattle.std.proofs.lemmas.Bool.{and_parts}
 use Rattle.rc_model.specs.Tree.{Tree, word, list, Trees, nil, cons, printed, printed_parts, printed_behind}
 use Rattle.rc_model.specs.Spelled.{Spelled}
-use Rattle.rc_form.specs.Form.{FitsIn, FitIn, IsPrintable}
+use Rattle.rc_form.specs.Form.{IsPrintable}
 use Rattle.rc_form.specs.SameForm.{SameForm, SameForms, SpellsAgain, IsOfAtoms, AreOfAtoms}
 use Rattle.rc_form.proofs.SpellingLaws.{read-Spelled, Spelled-unique}
 use Rattle.rc_form.proofs.PrintedIsSpelled.{SpellsAgain-printed}
 use Rattle.rc_sheet_model.specs.Sheet.{Sheet}
-use Rattle.rc_sheet_model.specs.Rows.{IsOpenAtMost, AreOpenAtMost}
 use Rattle.rc_sheet_model.specs.Limits.{most_open}
 use Rattle.rc_sheet_model.specs.Stands.{Stands}
 use Rattle.rc_sheet_model.specs.Printing.{sheet_form, printed_sheet}
@@ -16,16 +15,6 @@ use Rattle.rc_sheet_model.specs.WellFormed.{IsWellFormed}
 use Rattle.rc_ast.specs.Unplaced.{unplaced, IsBare, AreBare}
 use Rattle.rc_ast.proofs.CopiedSheet.{sheet_copied}
 use Rattle.rc_sheet.specs.PrintedAgain.{form_unplaced, forms_unplaced, IsReadBack}
-
--- a form in which no more lists are open than there is room for fits in it
-mutual
-  open_fits : (room : ℕ) (tree : Tree) → IsOpenAtMost room tree → FitsIn room tree
-  open_fits room (word bytes from to) shallow = tt
-  open_fits room (list parts from to) shallow = (shallow.0, open_fit (room - 1) parts shallow.1)
-
-  open_fit : (room : ℕ) (trees : Trees) → AreOpenAtMost room trees → FitIn room trees
-  open_fit room nil shallow = tt
-  open_fit room (cons tree trees) shallow = (open_fits room tree shallow.0, open_fit room trees shallow.1)
 
 -- bare forms are of atoms
 mutual
@@ -93,8 +82,7 @@ module _ (sheet : Sheet) (formed : IsWellFormed sheet) where
       record {
         stands = good.stands;
         bare = good.bare;
-        printable = open_fits most_open (sheet_form sheet)
-            (good.opened most_open shallow.2);
+        printable = good.opened most_open shallow.2;
       }
 
   pub spells_again : SpellsAgain (sheet_form sheet) (printed_sheet sheet)

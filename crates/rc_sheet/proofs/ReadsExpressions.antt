@@ -5,14 +5,14 @@ use Rattle.rc_model.specs.Tree.{Tree, word, list, Trees, nil, cons}
 use Rattle.rc_sheet_model.specs.Sheet.{Sort, player_sort, card_sort, group_sort, Who, who_var, CardExpr, card_var, top_card, bottom_card, max_card, min_card, CollExpr, group_var, cards_in, union_of, no_coll, coll, IntExpr, literal, number, size_of, sum_of, worth_of, add, subtract, multiply, Test, eq_int, eq_card, eq_attr, eq_who, ne, less, less_eq, more, more_eq, and_of, or_of, not_of, no_test, test, each_player, each_card}
 use Rattle.rc_sheet_model.specs.Rows.{◌▸◌, End, Row, Atom}
 use Rattle.rc_sheet_model.specs.Naming.{Naming, Variable, Scope, bind, sort_of, class_of, Named}
-use Rattle.rc_sheet_model.specs.Naming.{is_variable as is_bound_word}
+use Rattle.rc_model.specs.Words.{is_variable}
 use Rattle.rc_sheet_model.specs.StandsExpressions.{StandsOwner, StandsCard, StandsColl, StandColls, StandsInt, StandsTest, StandTests, StandsRange}
 use Rattle.rc_semantics.specs.Classes.{same_class}
-use Rattle.rc_grammar.specs.Faults.{is_variable, is_form_word}
+use Rattle.rc_grammar.specs.Faults.{is_form_word}
 use Rattle.rc_sheet.specs.ReadNames.{◌>>=◌, rule_at, name_at, binder_at, place_in, variable_in, loc_parts, num_parts}
 use Rattle.rc_sheet.specs.ReadExpressions.{range_of, Side, number_side, card_side, value_side, owner_side, side_of_sort, variable_side, side_word, equal_test, side_by, card_at, card_rule, coll_at, coll_rule, colls_at, int_at, int_rule, side_at, value_parts, test_at, test_rule, tests_at, range_at}
 use Rattle.rc_sheet.proofs.Means.{Means, nothing, something, means_if, weaker, mapped, behind, paired, both_mean, either}
-use Rattle.rc_sheet.proofs.ReadsNames.{word_form, Told, told_at, least_left, variable_same, name_means, binder_means, classes_same, place_means, variable_is, variable_means, owner_rule_means, loc_parts_mean, num_parts_mean, map_means}
+use Rattle.rc_sheet.proofs.ReadsNames.{word_form, Told, told_at, least_left, name_means, binder_means, classes_same, place_means, variable_is, variable_means, owner_rule_means, loc_parts_mean, num_parts_mean, map_means}
 use Rattle.rc_grammar.specs.declared.keyword.Keyword.TheVariants as keyword
 use Rattle.rc_grammar.specs.declared.grammar.Place.TheVariants as place
 use Rattle.rc_grammar.specs.declared.grammar.Rule.{Rule}
@@ -44,7 +44,7 @@ StandsSide naming scope (owner_side who) tree = StandsOwner scope who tree
 
 -- a variable as a side
 sort_side_means : (naming : Naming) (scope : Scope) (bytes : List ℕ) (from to var : ℕ) (sort : Sort)
-    → slice_get scope var ≡ Some (record { word = bytes; sort = sort }) → is_bound_word bytes ≡ true
+    → slice_get scope var ≡ Some (record { word = bytes; sort = sort }) → is_variable bytes ≡ true
     → Means (side_of_sort var sort) (λ side. StandsSide naming scope side (word bytes from to))
 sort_side_means naming scope bytes from to var player_sort found is = something (owner_side (who_var var)) (found, is)
 sort_side_means naming scope bytes from to var card_sort found is = something (card_side (card_var var)) (found, is)
@@ -52,7 +52,7 @@ sort_side_means naming scope bytes from to var group_sort found is = nothing
 
 -- the variable in a place of the scope
 variable_side_means : (naming : Naming) (scope : Scope) (bytes : List ℕ) (from to var : ℕ) (variable : Variable)
-    → slice_get scope var ≡ Some variable → bytes ≡ variable.word → is_bound_word bytes ≡ true
+    → slice_get scope var ≡ Some variable → bytes ≡ variable.word → is_variable bytes ≡ true
     → Means (variable_side var (slice_get scope var)) (λ side. StandsSide naming scope side (word bytes from to))
 variable_side_means naming scope bytes from to var variable found same is =
     let variable' : Variable = record { word = bytes; sort = variable.sort } in
@@ -68,7 +68,7 @@ side_word_means naming scope bytes from to =
     either (is_variable bytes) (place_in scope bytes >>= (λ place. variable_side place (slice_get scope place)))
     (option_map (λ value. number_side (literal value)) (integer bytes))
     (λ is. behind (place_in scope bytes) (λ place. variable_side place (slice_get scope place)) (place_means scope bytes)
-    (λ var found. variable_side_means naming scope bytes from to var found.0 found.1 found.2 (sym (variable_same bytes) ∙ is)))
+    (λ var found. variable_side_means naming scope bytes from to var found.0 found.1 found.2 is))
     (λ is. mapped (integer bytes) (λ value. number_side (literal value)) (literal_means bytes) (λ value stands. stands))
 
 -- what a list is as a side, by its rule

@@ -3,11 +3,10 @@ use Rattle.std.proofs.Common.{◌≡◌, ℕ, true, nat_le, List, [], ◌∷◌,
 use Rattle.std.specs.Prelude.{codes}
 use Rattle.std.specs.Option.{option_and_then}
 use Rattle.std.proofs.lemmas.Slice.Eq.{bytes_eq-Decides}
-use Rattle.rc_model.specs.Tree.{Tree, word, list, Trees, nil, cons}
+use Rattle.rc_model.specs.Tree.{Tree, word, list, Trees, nil, cons, count}
 use Rattle.rc_model.specs.Literal.{integer}
 use Rattle.rc_model.specs.Deck.{Groups, no_group, group, Branches, no_branch, branch, Entry}
 use Rattle.rc_sheet_model.specs.Rows.{◌▸◌, End, Row, Word, Atom}
-use Rattle.rc_sheet_model.specs.Rows.{count as row_count}
 use Rattle.rc_sheet_model.specs.Rows.{Some as Full}
 use Rattle.rc_sheet_model.specs.Naming.{Naming, Named, Literal}
 use Rattle.rc_sheet_model.specs.StandsSetup.{StandsGroups, StandsBranches, StandValues, StandEntries}
@@ -27,8 +26,8 @@ made make (Some a) None p q more = nothing
 made make (Some a) (Some b) p q more = something (make a b) (more a b p.holds q.holds)
 
 -- a part is some part
-pub some_part : (tree : Tree) (trees : Trees) → nat_le 1 (row_count (cons tree trees)) ≡ true
-some_part tree trees = le-leb 1 (row_count (cons tree trees)) (omega arith)
+pub some_part : (tree : Tree) (trees : Trees) → nat_le 1 (count (cons tree trees)) ≡ true
+some_part tree trees = le-leb 1 (count (cons tree trees)) (omega arith)
 
 -- where there is a part
 full : {A : Type 0} (P : A → Trees → Type 0) (trees : Trees) (found : Option A) → Means found (λ a. P a trees)

@@ -16,7 +16,7 @@ use Rattle.rc_sheet.specs.ReadExpressions.{test_at}
 use Rattle.rc_sheet.specs.ReadEffects.{effects_at}
 use Rattle.rc_sheet.specs.ReadItems.{Begun, none_begun, with_stage, with_site, stage_of, choice_of, end_rule, end_at, item_at, item_rule, items_at, best_at, score_rule, score_at, but_last, last_of, body_at}
 use Rattle.rc_sheet.proofs.Means.{Means, nothing, something, means_if, weaker, mapped, behind, both_mean, either, ensured}
-use Rattle.rc_sheet.proofs.ReadsNames.{word_form, Told, told_at, count_same, least_left}
+use Rattle.rc_sheet.proofs.ReadsNames.{word_form, Told, told_at, least_left}
 use Rattle.rc_sheet.proofs.ReadsExpressions.{int_means, test_means}
 use Rattle.rc_sheet.proofs.ReadsEffects.{effects_mean, alts_mean}
 use Rattle.rc_grammar.specs.declared.keyword.Keyword.TheVariants as keyword
@@ -150,6 +150,6 @@ body_means naming trees =
     (λ p stand. stand))
     (last_means naming trees))
     (λ p all. (
-      ap (nat_le 2) (count_same trees) ∙ two,
+      two,
       joined naming (StandsScore naming p.1.0 p.1.1) p.0 trees all.1.0 all.0 all.1.1 all.1.2,
     )))

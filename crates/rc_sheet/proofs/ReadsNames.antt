@@ -2,19 +2,18 @@
 use Rattle.std.proofs.Common.{◌≡◌, ℕ, suc, ◌+◌, true, ◌&&◌, ◌==◌, nat_le, nat_lt, List, [], ◌∷◌, length, Option, Some, None, is_none, slice_get, position, option_map, bytes_eq, refl, sym, subst, ap, ap₂, ◌∙◌, arith, ltb-true, le-leb, eqb-true}
 use Rattle.std.proofs.lemmas.Bool.{and_parts}
 use Rattle.std.proofs.lemmas.Slice.Eq.{bytes_eq-Decides}
-use Rattle.rc_model.specs.Tree.{Tree, word, list, Trees, nil, cons}
+use Rattle.rc_model.specs.Tree.{Tree, word, list, Trees, nil, cons, count}
 use Rattle.rc_sheet_model.specs.Sheet.{Class, game_class, player_class, team_class, Sort, player_sort, card_sort, group_sort, LocKind, vloc, iloc, hloc, mem, LocName, NumName, Who, game, current_player, current_team, who_var}
 use Rattle.rc_sheet_model.specs.Rows.{◌▸◌, End, Row, Word, Atom}
-use Rattle.rc_sheet_model.specs.Rows.{count as row_count}
 use Rattle.rc_sheet_model.specs.Limits.{most_variables}
 use Rattle.rc_sheet_model.specs.Naming.{Naming, Variable, Scope, class_of, Named, Binder, InScope}
-use Rattle.rc_sheet_model.specs.Naming.{is_variable as is_bound_word}
+use Rattle.rc_model.specs.Words.{is_variable}
 use Rattle.rc_sheet_model.specs.Naming.{kind_word as kind_bytes}
 use Rattle.rc_sheet_model.specs.StandsExpressions.{StandsOwner, StandsHolder, StandsLoc, StandsNum}
 use Rattle.rc_semantics.specs.Classes.{same_sort, same_class}
 use Rattle.rc_grammar.specs.Grammar.{forms_of, front_of}
 use Rattle.rc_grammar.specs.Keyword.{text_of}
-use Rattle.rc_grammar.specs.Faults.{is_variable, is_form_word, fits_head, begins, second_word, is_told, told_rule, plain_rule, or_else, rule_of, count, fits}
+use Rattle.rc_grammar.specs.Faults.{is_form_word, fits_head, begins, second_word, is_told, told_rule, plain_rule, or_else, rule_of, fits}
 use Rattle.rc_sheet.specs.ReadNames.{◌>>=◌, ensure, sized, rule_at, name_at, binder_at, has_sort, place_in, sorted, variable_in, player_of_rule, player_at, team_of, owner_rule, owner_at, holder_at, kind_word, is_loc_name, is_num_name, loc_parts, loc_rule, loc_at, num_parts, num_rule, num_at, map_at}
 use Rattle.rc_sheet.proofs.Means.{Means, nothing, something, weaker, mapped, behind, either, ensured, found_passes, place_passes}
 use Rattle.rc_grammar.specs.declared.keyword.Keyword.{Keyword}
@@ -112,18 +111,12 @@ told_at place (cons head parts) =
     (first_or_else (told_rule place head parts) (plain_rule place head)
     (told_begins place head parts) (plain_begins place head parts))
 
--- both ways of counting parts
-pub count_same : (parts : Trees) → row_count parts ≡ count parts
-count_same nil = refl
-count_same (cons tree parts) = let same = count_same parts in omega (arith, same)
-
 -- as many parts are left behind the first of a form
 pub least_left : (least front n : ℕ) (parts : Trees) → nat_lt front n ≡ true → front + count parts + 1 ≡ n + least
-    → nat_le least (row_count parts) ≡ true
+    → nat_le least (count parts) ≡ true
 least_left least front n parts more is =
-    let same = count_same parts in
     let less = ltb-true front n more in
-    le-leb least (row_count parts) (omega (arith, same, less, is))
+    le-leb least (count parts) (omega (arith, less, is))
 
 -- two words that tell a rule are all of it
 pub two_words : (first second : Keyword) (parts : Trees) (from to : ℕ)
@@ -133,11 +126,6 @@ two_words first second nil from to head a b n = absurd b
 two_words first second (cons tree nil) from to head a b n = (a, (b, tt))
 two_words first second (cons tree (cons next parts)) from to head a b n =
     let two = eqb-true (suc (count (cons tree (cons next parts)))) 2 n in absurd (omega (arith, two))
-
--- both ways of telling a variable
-pub variable_same : (bytes : List ℕ) → is_variable bytes ≡ is_bound_word bytes
-variable_same [] = refl
-variable_same (b ∷ bytes) = refl
 
 -- a word's place among words
 place_of : (words : List (List ℕ)) (bytes : List ℕ)
@@ -151,7 +139,7 @@ pub name_means : (words : List (List ℕ)) (tree : Tree) → Means (name_at word
 unfolding name_at
 name_means words (word bytes from to) =
     either (is_variable bytes) None (position (bytes_eq bytes) words) (λ is. nothing)
-    (λ is. weaker (position (bytes_eq bytes) words) (place_of words bytes) (λ n found. (found, sym (variable_same bytes) ∙ is)))
+    (λ is. weaker (position (bytes_eq bytes) words) (place_of words bytes) (λ n found. (found, is)))
 name_means words (list parts from to) = nothing
 
 -- a binder by its variable's number
@@ -161,7 +149,7 @@ unfolding binder_at
 binder_means naming scope (word bytes from to) =
     either (is_variable bytes && nat_le (length scope) most_variables) (position (bytes_eq bytes) naming.names.vars) None
     (λ is. weaker (position (bytes_eq bytes) naming.names.vars) (place_of naming.names.vars bytes)
-    (λ n found. (found, sym (variable_same bytes) ∙ (and_parts (is_variable bytes) (nat_le (length scope) most_variables) is).0)))
+    (λ n found. (found, (and_parts (is_variable bytes) (nat_le (length scope) most_variables) is).0)))
     (λ is. nothing)
 binder_means naming scope (list parts from to) = nothing
 
@@ -215,7 +203,7 @@ variable_means scope sort bytes from to =
     (λ is. behind (place_in scope bytes) (sorted scope sort) (place_means scope bytes)
     (λ var found. either (has_sort sort (slice_get scope var)) (Some var) None
     (λ has. something var
-    (sorted_is found.0 bytes sort (slice_get scope var) found.1 found.2 has, sym (variable_same bytes) ∙ is))
+    (sorted_is found.0 bytes sort (slice_get scope var) found.1 found.2 has, is))
     (λ has. nothing)))
     (λ is. nothing)
 

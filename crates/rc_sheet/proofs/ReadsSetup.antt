@@ -5,13 +5,12 @@ use Rattle.std.specs.Prelude.{codes}
 use Rattle.std.specs.List.{AllZip, zip, range_with_len}
 use Rattle.std.proofs.lemmas.List.{append-nil}
 use Rattle.rc_deck.proofs.Orders.{AllZip-append}
-use Rattle.rc_model.specs.Tree.{Tree, word, list, Trees, nil, cons}
+use Rattle.rc_model.specs.Tree.{Tree, word, list, Trees, nil, cons, count}
 use Rattle.rc_model.specs.Literal.{integer}
 use Rattle.rc_sheet_model.specs.Sheet.{Teams, Sheet, game_class, Who, game}
 use Rattle.rc_sheet_model.specs.Limits.{most_players}
 use Rattle.rc_sheet_model.specs.Rows.{◌▸◌, End, Row, Word, Atom}
 use Rattle.rc_sheet_model.specs.Rows.{Some as Full}
-use Rattle.rc_sheet_model.specs.Rows.{count as row_count}
 use Rattle.rc_sheet_model.specs.Naming.{Naming, class_of, Named, Literal, KindOf, loc_class}
 use Rattle.rc_sheet_model.specs.StandsExpressions.{StandsHolder}
 use Rattle.rc_sheet_model.specs.StandsSetup.{StandsPlayers, StandsTeam, StandTeams, StandsTeams, StandsGroups, StandsDeck, StandEntries, StandsMap, begins_with, lines_with, are_lines, team_lines, numbered, StandsSetup}
@@ -326,7 +325,7 @@ lines_mean naming said a b c d (cons line lines) stand =
 
 -- where the players stand on a line there is a line
 some_line : (players : ℕ) (lines : Trees) → AllZip StandsPlayers (players ∷ []) (lines_with "create" "players" lines)
-    → nat_le 1 (row_count lines) ≡ true
+    → nat_le 1 (count lines) ≡ true
 some_line players nil none = absurd none
 some_line players (cons line lines) some = some_part line lines
 

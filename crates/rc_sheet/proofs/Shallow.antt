@@ -1,10 +1,9 @@
 -- A sheet that is read off a shallow form is shallow.
-use Rattle.std.proofs.Common.{◌≡◌, ℕ, ◌-◌, Some}
-use Rattle.rc_model.specs.Tree.{Tree, word, list, Trees, nil, cons}
-use Rattle.rc_form.specs.Form.{FitsIn, FitIn, IsPrintable}
+use Rattle.std.proofs.Common.{◌≡◌, Some}
+use Rattle.rc_model.specs.Tree.{Tree, word, list, IsOpenAtMost}
+use Rattle.rc_form.specs.Form.{IsPrintable}
 use Rattle.rc_sheet_model.specs.Sheet.{Sheet}
 use Rattle.rc_sheet_model.specs.Limits.{most_open}
-use Rattle.rc_sheet_model.specs.Rows.{IsOpenAtMost, AreOpenAtMost}
 use Rattle.rc_sheet_model.specs.Naming.{Naming}
 use Rattle.rc_sheet_model.specs.WellFormed.{IsShallow}
 use Rattle.rc_sheet.specs.ReadSheet.{sheet_at}
@@ -16,20 +15,10 @@ pub sheet_shallow : (naming : Naming) (tree : Tree) (sheet : Sheet) → sheet_at
     → IsOpenAtMost most_open tree → IsShallow sheet
 sheet_shallow naming tree sheet is shallow = (tree, means_so (sheet_at naming tree) sheet (sheet_means naming tree) is, shallow)
 
--- a form that fits in a room has no more lists open
-mutual
-  fits_open : (room : ℕ) (tree : Tree) → FitsIn room tree → IsOpenAtMost room tree
-  fits_open room (word bytes from to) fits = tt
-  fits_open room (list parts from to) fits = (fits.0, fit_open (room - 1) parts fits.1)
-
-  fit_open : (room : ℕ) (trees : Trees) → FitIn room trees → AreOpenAtMost room trees
-  fit_open room nil fit = tt
-  fit_open room (cons tree trees) fit = (fits_open room tree fit.0, fit_open room trees fit.1)
-
--- and so has a form that may be printed
+-- a form that may be printed is shallow
 printable_open : (tree : Tree) → IsPrintable tree → IsOpenAtMost most_open tree
 printable_open (word bytes from to) fits = absurd fits
-printable_open (list parts from to) fits = fits_open most_open (list parts from to) fits
+printable_open (list parts from to) fits = fits
 
 pub printable_shallow : (naming : Naming) (tree : Tree) (sheet : Sheet) → sheet_at naming tree ≡ Some sheet
     → IsPrintable tree → IsShallow sheet

@@ -8,19 +8,17 @@ use Rattle.std.proofs.lemmas.Slice.Eq.{bytes_eq-Decides}
 use Rattle.std.proofs.lemmas.Int.{ints}
 use Rattle.std.proofs.lemmas.Option.{same_Some}
 use Rattle.rc_model.specs.Literal.{integer}
-use Rattle.rc_model.specs.Tree.{Tree, word, list, Trees, nil, cons}
+use Rattle.rc_model.specs.Tree.{Tree, word, list, Trees, nil, cons, count}
 use Rattle.rc_sheet_model.specs.Sheet.{Sort, player_sort, LocKind, vloc, iloc, hloc, mem, LocName, Who, game, current_player, current_team, team_of_current, team_of_var, who_var, Loc, Num}
 use Rattle.rc_model.specs.Clamp.{IsWithinClamp, largest_number}
 use Rattle.rc_sheet_model.specs.Rows.{◌▸◌, End, Row, Word, Atom}
-use Rattle.rc_sheet_model.specs.Rows.{count as row_count}
 use Rattle.rc_sheet_model.specs.Naming.{Naming, Scope, Named, Binder, InScope, Literal, KindOf}
 use Rattle.rc_sheet_model.specs.Naming.{kind_word as kind_bytes}
 use Rattle.rc_sheet_model.specs.StandsExpressions.{StandsOwner, StandsHolder, StandsLoc, StandsNum}
 use Rattle.rc_grammar.specs.Grammar.{front_of, more_of}
 use Rattle.rc_grammar.specs.Keyword.{text_of}
-use Rattle.rc_grammar.specs.Faults.{is_word, is_variable, is_kind, atom_kind, is_within, is_number, unless, faults, faults_at, faults_in, told_faults, lacks_players, rule_of, behind_front, or_behind, place_at, count, fits}
+use Rattle.rc_grammar.specs.Faults.{is_word, is_variable, is_kind, atom_kind, is_within, is_number, unless, faults, faults_at, faults_in, told_faults, lacks_players, rule_of, behind_front, or_behind, place_at, fits}
 use Rattle.rc_sheet.specs.ReadNames.{sized, rule_at}
-use Rattle.rc_sheet.proofs.ReadsNames.{variable_same, count_same}
 use Rattle.rc_sheet.proofs.OneRows.{three_parts}
 use Rattle.rc_sheet.proofs.OneNames.{variable_word, owner_forms, held, loc_rule_in_cards, loc_rule_in_domain, loc_rule_alone, num_rule_in_numbers, num_rule_in_sides, num_rule_alone}
 use Rattle.rc_grammar.specs.declared.fault.SheetFault.{SheetFault}
@@ -118,27 +116,24 @@ row_shaped p r parts from to is plain all =
     form_shaped p r parts from to both.0 both.1 plain all
 
 -- a form of which there may be more parts fits where there are so many behind its head
-pub more_fit : (least : ℕ) (parts : Trees) → nat_le least (row_count parts) ≡ true → nat_lt least (suc (count parts)) ≡ true
+pub more_fit : (least : ℕ) (parts : Trees) → nat_le least (count parts) ≡ true → nat_lt least (suc (count parts)) ≡ true
 more_fit least parts is =
-    let same = count_same parts in
-    let enough = leb-true least (row_count parts) is in
-    lt-ltb least (suc (count parts)) (omega (arith, same, enough))
+    let enough = leb-true least (count parts) is in
+    lt-ltb least (suc (count parts)) (omega (arith, enough))
 
 -- or behind two parts, and behind three
-pub more_fit_two : (parts : Trees) → nat_le 1 (row_count parts) ≡ true → nat_lt 2 (suc (suc (count parts))) ≡ true
+pub more_fit_two : (parts : Trees) → nat_le 1 (count parts) ≡ true → nat_lt 2 (suc (suc (count parts))) ≡ true
 more_fit_two parts is =
-    let same = count_same parts in
-    let enough = leb-true 1 (row_count parts) is in
-    lt-ltb 2 (suc (suc (count parts))) (omega (arith, same, enough))
+    let enough = leb-true 1 (count parts) is in
+    lt-ltb 2 (suc (suc (count parts))) (omega (arith, enough))
 
-pub more_fit_three : (parts : Trees) → nat_le 1 (row_count parts) ≡ true → nat_lt 3 (suc (suc (suc (count parts)))) ≡ true
+pub more_fit_three : (parts : Trees) → nat_le 1 (count parts) ≡ true → nat_lt 3 (suc (suc (suc (count parts)))) ≡ true
 more_fit_three parts is =
-    let same = count_same parts in
-    let enough = leb-true 1 (row_count parts) is in
-    lt-ltb 3 (suc (suc (suc (count parts)))) (omega (arith, same, enough))
+    let enough = leb-true 1 (count parts) is in
+    lt-ltb 3 (suc (suc (suc (count parts)))) (omega (arith, enough))
 
 -- where one of a kind stands behind the front and there may be more
-pub some_shaped : (p : Place) (least : ℕ) (parts : Trees) → nat_le (suc least) (row_count parts) ≡ true → AllShaped p parts
+pub some_shaped : (p : Place) (least : ℕ) (parts : Trees) → nat_le (suc least) (count parts) ≡ true → AllShaped p parts
     → AreShaped (p ∷ []) (Some p) parts
 some_shaped p least nil is all = let none = leb-true (suc least) 0 is in absurd (omega (arith, none))
 some_shaped p least (cons tree trees) is all = all
@@ -160,13 +155,13 @@ pub name_shaped : (words : List (List ℕ)) (n : ℕ) (tree : Tree) → Named wo
 name_shaped words n (list parts from to) named = absurd named
 name_shaped words n (word bytes from to) named =
     let plain : unless (not (is_variable bytes)) Shape ≡ None =
-    ap (λ b. unless (not b) Shape) (variable_same bytes ∙ named.1) in
+    ap (λ b. unless (not b) Shape) named.1 in
     (atom_shaped place.Name bytes from to plain, atom_shaped place.Branch bytes from to plain)
 
 pub binder_shaped : (naming : Naming) (bound : ℕ) (tree : Tree) → Binder naming bound tree → faults place.Variable tree ≡ []
 binder_shaped naming bound (list parts from to) binds = absurd binds
 binder_shaped naming bound (word bytes from to) binds =
-    atom_shaped place.Variable bytes from to (ap (λ b. unless b Shape) (variable_same bytes ∙ binds.1))
+    atom_shaped place.Variable bytes from to (ap (λ b. unless b Shape) binds.1)
 
 -- a variable stands wherever its sort does
 pub variable_shaped : (p : Place) (scope : Scope) (sort : Sort) (var : ℕ) (tree : Tree) → InScope scope sort var tree

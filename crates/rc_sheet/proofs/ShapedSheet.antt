@@ -2,19 +2,17 @@
 use Rattle.std.proofs.Common.{◌≡◌, ℕ, ◌+◌, ◌≤◌, ◌==◌, Bool, true, false, [], refl, ap, ap₂, arith, eq-eqb, ne_eqb, leb-true, lt-ltb}
 use Rattle.std.specs.Prelude.{codes}
 use Rattle.std.proofs.lemmas.Option.{slice_get_past}
-use Rattle.rc_model.specs.Tree.{Tree, word, Trees, nil, cons}
+use Rattle.rc_model.specs.Tree.{Tree, word, Trees, nil, cons, count}
 use Rattle.rc_sheet_model.specs.Sheet.{SheetItems, no_item, item, Sheet}
 use Rattle.rc_sheet_model.specs.Rows.{◌▸◌, End, AtLeast, Row, Atom}
 use Rattle.rc_sheet_model.specs.Rows.{Some as Full}
-use Rattle.rc_sheet_model.specs.Rows.{count as row_count}
 use Rattle.rc_sheet_model.specs.Naming.{naming_of}
 use Rattle.rc_sheet_model.specs.StandsSetup.{StandsSetup}
 use Rattle.rc_sheet_model.specs.StandsItems.{StandItems}
 use Rattle.rc_sheet_model.specs.Stands.{StandsScoring, Stands}
 use Rattle.rc_sheet_model.specs.WellFormed.{AreItems, IsWellFormed}
 use Rattle.rc_grammar.specs.Grammar.{front_of}
-use Rattle.rc_grammar.specs.Faults.{faults, faults_in, behind_front, or_behind, place_at, count}
-use Rattle.rc_sheet.proofs.ReadsNames.{count_same}
+use Rattle.rc_grammar.specs.Faults.{faults, faults_in, behind_front, or_behind, place_at}
 use Rattle.rc_sheet.proofs.OneRows.{row_part}
 use Rattle.rc_sheet.proofs.OneItems.{within_stages}
 use Rattle.rc_sheet.proofs.Shaped.{by_form, part_in}
@@ -60,9 +58,8 @@ module _ (sheet : Sheet) where
       tree stands
       (λ f t from to setup body here there.
       let parts = cons (word (codes "game") f t) (cons setup body) in
-      let enough = leb-true 2 (row_count body) there.0 in
-      let same = count_same body in
-      let fit = lt-ltb 3 (count parts) (omega (arith, enough, same)) in
+      let enough = leb-true 2 (count body) there.0 in
+      let fit = lt-ltb 3 (count parts) (omega (arith, enough)) in
       by_form place.Sheet rule.Game parts from to refl fit refl
       (part_in rule.Game (count parts) 0 (place.Word keyword.Game) (word (codes "game") f t) (cons setup body) refl refl
       (part_in rule.Game (count parts) 1 place.Setup setup body refl (setup_shaped sheet setup here well)

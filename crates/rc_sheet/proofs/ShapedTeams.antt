@@ -7,15 +7,14 @@ use Rattle.std.proofs.lemmas.Bool.{cond-true, cond-false, or_left, or_right, eqb
 use Rattle.std.proofs.Math.Nat.{lt_of_not-le}
 use Rattle.std.proofs.lemmas.Map.Steps.{le-length_from_below}
 use Rattle.rc_model.specs.Literal.{integer}
-use Rattle.rc_model.specs.Tree.{Tree, word, list, Trees, nil, cons}
+use Rattle.rc_model.specs.Tree.{Tree, word, list, Trees, nil, cons, count}
 use Rattle.rc_sheet_model.specs.Sheet.{Teams}
 use Rattle.rc_sheet_model.specs.Rows.{Some as Full}
-use Rattle.rc_sheet_model.specs.Rows.{count as row_count}
 use Rattle.rc_sheet_model.specs.Naming.{Literal}
 use Rattle.rc_sheet_model.specs.StandsSetup.{StandsPlayers, StandsTeam, StandTeams, StandsTeams}
 use Rattle.rc_sheet_model.specs.WellFormed.{is_among, ArePartition}
 use Rattle.rc_grammar.specs.Grammar.{front_of, more_of}
-use Rattle.rc_grammar.specs.Faults.{is_within, faults, rule_of, count, fits}
+use Rattle.rc_grammar.specs.Faults.{is_within, faults, rule_of, fits}
 use Rattle.rc_sheet.proofs.OneRows.{row_words, row_word_part}
 use Rattle.rc_sheet.proofs.TeamNumbers.{none_counted}
 use Rattle.rc_sheet.proofs.Shaped.{AllShaped, AreShaped, is_plain, form_shaped, row_shaped, more_fit_two, accepted, atom_shaped}
@@ -139,7 +138,7 @@ member_shaped n (word bytes from to) is less =
 pub loose_shaped : (p : Place) (r : Rule) (parts : Trees) (from to : ℕ)
     → ((a : Tree) (rest : Trees) → rule_of p (cons a rest) ≡ Some r)
     → ((a : Tree) (rest : Trees) → fits (count (cons a rest)) r ≡ true) → is_plain r ≡ true
-    → nat_le 1 (row_count parts) ≡ true → AreShaped (front_of r) (more_of r) parts → faults p (list parts from to) ≡ []
+    → nat_le 1 (count parts) ≡ true → AreShaped (front_of r) (more_of r) parts → faults p (list parts from to) ≡ []
 loose_shaped p r nil from to told fit plain some all = let none = leb-true 1 0 some in absurd (omega (arith, none))
 loose_shaped p r (cons a rest) from to told fit plain some all =
     form_shaped p r (cons a rest) from to (told a rest) (fit a rest) plain all

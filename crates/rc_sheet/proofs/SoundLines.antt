@@ -4,10 +4,10 @@ use Rattle.std.specs.Prelude.{codes}
 use Rattle.std.specs.List.{AllByRecursion, AllZip}
 use Rattle.std.proofs.lemmas.Bool.{and_parts}
 use Rattle.std.proofs.lemmas.List.Elements.{recursion_from_All}
-use Rattle.rc_model.specs.Tree.{Tree, word, list, Trees, nil, cons}
+use Rattle.rc_model.specs.Tree.{Tree, word, list, Trees, nil, cons, start_of}
 use Rattle.rc_model.specs.Deck.{Entry}
 use Rattle.rc_sheet_model.specs.Sheet.{Teams, game, Loc, DeckLine, Sheet}
-use Rattle.rc_sheet_model.specs.Rows.{◌▸◌, End, Row, Atom, start}
+use Rattle.rc_sheet_model.specs.Rows.{◌▸◌, End, Row, Atom}
 use Rattle.rc_sheet_model.specs.Rows.{Some as Full}
 use Rattle.rc_sheet_model.specs.Naming.{naming_of, class_of, Named, Literal, KindOf}
 use Rattle.rc_sheet_model.specs.StandsSetup.{StandsPlayers, StandsTeam, StandTeams, StandsTeams, StandsGroups, StandsDeck, StandEntries, StandsMap, begins_with, lines_with, are_lines, team_lines, numbered, StandsSetup}
@@ -186,7 +186,7 @@ module _ (sheet : Sheet) (all : List Part) where
       (λ l. LineSound (list (cons (word (codes "create") f t) (cons (word (codes "deck") f' t') l)) from to)) parts more
       (λ l d here there beside.
       let whole = cons (word (codes "create") f t) (cons (word (codes "deck") f' t') (cons l (cons d nil))) in
-      let loc : Loc = record { who = game; name = line.loc; at = start l } in
+      let loc : Loc = record { who = game; name = line.loc; at = start_of l } in
       list_sound sheet all (standing place.Line outside no_role beside []) rule.CreateDeck whole from to refl
       (record { once = refl; known = refl; kind_fits = refl; shallow = refl; said = tt }) (
         fixed sheet all _ _ _ _ _ _,

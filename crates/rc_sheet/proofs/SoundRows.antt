@@ -31,7 +31,6 @@ use Rattle.rc_sheet.proofs.GoodParts.{Each}
 use Rattle.rc_sheet.proofs.OneRows.{behind_word, row_two, row_three, three_parts}
 use Rattle.rc_sheet.proofs.OneNames.{Apart, variable_word, held, owner_forms, more_apart}
 use Rattle.rc_sheet.proofs.OneExpressions.{variable_unread}
-use Rattle.rc_sheet.proofs.ReadsNames.{variable_same}
 use Rattle.rc_sheet.proofs.SoundParts.{standing, all_join, AllSound, Sound, sound_alone, plain_atom, constant_atom, plain_word, FormSound, sound_list, rest_sound, AreGiven}
 use Rattle.rc_sheet.proofs.SoundNames.{found_at, TakesLocs, TakesNums, fixed}
 
@@ -134,7 +133,7 @@ pub var_side : (scope : Scope) (sort : Sort) (var : ℕ) (side : SideSort) (byte
 var_side scope sort var side bytes from to alone stands is =
     let found : variable_in scope bytes ≡ Some (record { word = bytes; sort = sort }) =
     found_at scope var (record { word = bytes; sort = sort }) alone stands.0 in
-    cond-true (is_variable bytes) _ _ (variable_same bytes ∙ stands.1) ∙ ap side_of_variable found ∙ is
+    cond-true (is_variable bytes) _ _ stands.1 ∙ ap side_of_variable found ∙ is
 
 -- a literal is no variable
 pub literal_constant : (bytes : List ℕ) (value : ℤ) → integer bytes ≡ Some value → is_variable bytes ≡ false

@@ -6,7 +6,7 @@ use Rattle.std.specs.List.{list_all, AllByRecursion, IsDistinct}
 use Rattle.rc_model.specs.Tree.{Tree, word, Trees, cons}
 use Rattle.rc_sheet_model.specs.Sheet.{Teams, Class, game_class, player_class, team_class, DeckLine, Sheet}
 use Rattle.rc_sheet_model.specs.Limits.{most_cards, most_attrs, most_values, most_maps}
-use Rattle.rc_sheet_model.specs.Numbering.{below}
+use Rattle.rc_model.specs.Numbers.{below}
 use Rattle.rc_sheet_model.specs.Mentions.{stages_in, sites_in}
 use Rattle.rc_sheet_model.specs.Rows.{◌▸◌, End, AtLeast, Row, Atom}
 use Rattle.rc_sheet_model.specs.Rows.{Some as Full}

@@ -9,7 +9,7 @@ use Rattle.std.proofs.lemmas.List.Sums.{sum_by-cons}
 use Rattle.std.proofs.lemmas.Map.Steps.{le-length_from_below}
 use Rattle.rc_model.specs.Tree.{word, list, Trees, nil, cons}
 use Rattle.rc_sheet_model.specs.Sheet.{Teams}
-use Rattle.rc_sheet_model.specs.Numbering.{below}
+use Rattle.rc_model.specs.Numbers.{below}
 use Rattle.rc_sheet_model.specs.StandsSetup.{StandsTeam, StandTeams}
 use Rattle.rc_sheet_model.specs.WellFormed.{is_among, ArePartition}
 use Rattle.rc_semantics.specs.SecondNames.{numbers_in, team_players}

@@ -1,7 +1,8 @@
 //! The sheet of a form.
 ghost use Rattle.std.specs.Prelude.{◌≡◌, ℕ, Some, None, IfOk, IfErr};
 ghost use Rattle.rc_model.specs.Placed.{IsPlaced};
-ghost use Rattle.rc_form.specs.Form.{tree_of, FitsIn};
+ghost use Rattle.rc_model.specs.Tree.{IsOpenAtMost};
+ghost use Rattle.rc_form.specs.Form.{tree_of};
 ghost use Rattle.rc_form.specs.SameForm.{IsOfAtoms};
 ghost use Rattle.rc_ast.specs.Sheet.{sheet_seen};
 ghost use Rattle.rc_sheet_model.specs.Stands.{Stands};
@@ -26,7 +27,7 @@ use std::alloc::Global;
 /// The time is linear in the form but for look-ups among at most 256 names of a kind.
 pub fn sheet_of(alloc: Global, form: &Form) -> Result<Sheet, SheetFail>
     requires placed { (size : ℕ) × IsPlaced size (tree_of form.now) }
-    requires shallow { FitsIn 64 (tree_of form.now) }
+    requires shallow { IsOpenAtMost 64 (tree_of form.now) }
     requires of_atoms { IsOfAtoms (tree_of form.now) }
     ensures read { IfOk result (λ sheet. sheet_at (naming_of (tree_of form.now)) (tree_of form.now) ≡ Some (sheet_seen sheet)) }
     ensures stands { IfOk result (λ sheet. Stands (sheet_seen sheet) (tree_of form.now)) }
@@ -46,7 +47,7 @@ pub fn sheet_of(alloc: Global, form: &Form) -> Result<Sheet, SheetFail>
 /// The sheet of a form without a fault.
 fn sheet_of_faultless(alloc: Global, form: &Form) -> Result<Sheet, SheetFail>
     requires faultless { sheet_fault (tree_of form.now) ≡ None }
-    requires shallow { FitsIn 64 (tree_of form.now) }
+    requires shallow { IsOpenAtMost 64 (tree_of form.now) }
     requires of_atoms { IsOfAtoms (tree_of form.now) }
     ensures read { IfOk result (λ sheet. sheet_at (naming_of (tree_of form.now)) (tree_of form.now) ≡ Some (sheet_seen sheet)) }
     ensures stands { IfOk result (λ sheet. Stands (sheet_seen sheet) (tree_of form.now)) }

@@ -1,9 +1,8 @@
 //! Laws of the limits and the words of a sheet that is read off a form without a fault. No function here does anything.
 ghost use Rattle.std.specs.Prelude.{◌≡◌, ◌≤◌, [], Some};
-ghost use Rattle.rc_model.specs.Tree.{Tree};
+ghost use Rattle.rc_model.specs.Tree.{Tree, IsOpenAtMost};
 ghost use Rattle.rc_sheet_model.specs.Sheet.{Sheet};
 ghost use Rattle.rc_sheet_model.specs.Limits.{most_open};
-ghost use Rattle.rc_sheet_model.specs.Rows.{IsOpenAtMost};
 ghost use Rattle.rc_sheet_model.specs.Naming.{Naming};
 ghost use Rattle.rc_sheet_model.specs.WellFormed.{team_count as team_count_of, HasWords, IsWithinLimits, IsShallow};
 ghost use Rattle.rc_grammar.specs.Faults.{faults};

@@ -1,6 +1,7 @@
 -- What the numbers in a sheet's tree stand for.
-use Rattle.std.specs.Prelude.{◌≡◌, ℕ, ◌==◌, Bool, true, false, List, [], ◌∷◌, ◌++◌, slice_get, slice_index_or, codes, ℤ, Option, Some, option_map}
+use Rattle.std.specs.Prelude.{◌≡◌, ℕ, true, false, List, [], ◌∷◌, ◌++◌, slice_get, slice_index_or, codes, ℤ, Option, Some, option_map}
 use Rattle.rc_model.specs.Tree.{Tree}
+use Rattle.rc_model.specs.Words.{is_variable}
 use Rattle.rc_model.specs.Literal.{integer}
 use Rattle.rc_sheet_model.specs.Sheet.{Names, Class, game_class, player_class, team_class, Sort, player_sort, card_sort, group_sort, LocKind, vloc, iloc, hloc, mem, LocName, NumName, Who, game, current_player, current_team, team_of_current, team_of_var, who_var, Domain, each_player, each_card, each_group, Sheet}
 use Rattle.rc_sheet_model.specs.Rows.{Word}
@@ -51,11 +52,6 @@ kind_word vloc = codes "vloc"
 kind_word iloc = codes "iloc"
 kind_word hloc = codes "hloc"
 kind_word mem = codes "mem"
-
--- an atom that begins with `'`
-abbrev pub is_variable : List ℕ → Bool
-is_variable [] = false
-is_variable (b ∷ bytes) = b == 39
 
 -- the form is the plain word with this number
 abbrev pub Named : List (List ℕ) → ℕ → Tree → Type 0

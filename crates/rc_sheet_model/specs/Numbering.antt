@@ -1,6 +1,7 @@
 -- How names, stages and choices are numbered: by the order in which they are first mentioned.
 use Rattle.std.specs.Prelude.{◌≡◌, ℕ, ◌+◌, ◌<◌, ◌⊎◌, if◌then◌else◌, List, [], ◌∷◌, length, slice_index_or, map, flat_map, bytes_eq}
-use Rattle.std.specs.List.{list_any, range_with_len}
+use Rattle.std.specs.List.{list_any}
+use Rattle.rc_model.specs.Numbers.{below}
 use Rattle.rc_sheet_model.specs.Sheet.{Sheet}
 use Rattle.rc_sheet_model.specs.Mentions.{Mention, attr_of, value_of, map_of, loc_of, num_of, var_of, mentions, stages_in, sites_in}
 
@@ -16,10 +17,6 @@ different words = different_from [] words
 -- the words of one kind that a sheet mentions, in order
 abbrev pub mentioned : Sheet → (Mention → List ℕ) → List (List ℕ) → List (List ℕ)
 mentioned sheet of_kind words = map (λ n. slice_index_or words n []) (flat_map of_kind (mentions sheet))
-
--- the numbers below n, in order
-abbrev pub below : ℕ → List ℕ
-below n = range_with_len 0 n
 
 -- The names of each kind are the different words among all mentions, in the order of their first mention. Stages and
 -- choices are counted in the order of the text.

@@ -3,16 +3,12 @@
 use Prim.Native.String.{String}
 use Rattle.std.specs.Prelude.{ℕ, List, [], ◌∷◌, ◌++◌, map, flat_map, slice_get, slice_index_or, codes, ℤ, pos, Option, None, Some}
 use Rattle.std.specs.Fmt.{signed_decimal}
-use Rattle.rc_model.specs.Tree.{Tree, word, list, Trees, nil, cons, printed}
+use Rattle.rc_model.specs.Tree.{Tree, word, list, printed}
+pub use Rattle.rc_model.specs.Tree.{packed}
 use Rattle.rc_model.specs.Deck.{Groups, no_group, group, Branches, no_branch, branch, Entry}
 use Rattle.rc_sheet_model.specs.Sheet.{Teams, Best, highest, lowest, Class, game_class, player_class, team_class, End, top, bottom, LocName, Who, game, current_player, current_team, team_of_current, team_of_var, who_var, Loc, Num, CardExpr, card_var, top_card, bottom_card, max_card, min_card, CollExpr, group_var, cards_in, filtered, union_of, CollExprs, no_coll, coll, IntExpr, literal, number, size_of, sum_of, worth_of, add, subtract, multiply, Test, eq_int, eq_card, eq_attr, eq_who, ne, less, less_eq, more, more_eq, has_value, and_of, or_of, not_of, all_of, any_of, Tests, no_test, test, Domain, each_player, each_card, each_group, Effect, move, move_all, remember, forget, shuffle, set_to, increase, decrease, when, repeat, for_each, next_is, turn_round, Effects, no_effect, effect, Alt, do_alt, if_alt, any_alt, SheetItem, do_item, stage, choice, SheetItems, no_item, item, DeckLine, Sheet}
 use Rattle.rc_sheet_model.specs.Naming.{Naming, naming_of, kind_word}
 use Rattle.rc_sheet_model.specs.StandsSetup.{numbered}
-
--- these trees as the parts of a list
-abbrev pub packed : List Tree → Trees
-packed [] = nil
-packed (tree ∷ trees) = cons tree (packed trees)
 
 -- an atom, and a list of forms
 abbrev pub atom : List ℕ → Tree

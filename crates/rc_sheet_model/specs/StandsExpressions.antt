@@ -2,9 +2,9 @@
 use Prim.Native.String.{String}
 use Rattle.std.specs.Prelude.{◌≡◌}
 use Rattle.std.specs.Prelude.{Some as Present}
-use Rattle.rc_model.specs.Tree.{Tree, Trees}
+use Rattle.rc_model.specs.Tree.{Tree, Trees, start_of}
 use Rattle.rc_sheet_model.specs.Sheet.{player_sort, card_sort, group_sort, Who, game, current_player, current_team, team_of_current, team_of_var, who_var, Loc, Num, CardExpr, card_var, top_card, bottom_card, max_card, min_card, CollExpr, group_var, cards_in, filtered, union_of, CollExprs, no_coll, coll, IntExpr, literal, number, size_of, sum_of, worth_of, add, subtract, multiply, Test, eq_int, eq_card, eq_attr, eq_who, ne, less, less_eq, more, more_eq, has_value, and_of, or_of, not_of, all_of, any_of, Tests, no_test, test, Domain, each_player, each_card, each_group}
-use Rattle.rc_sheet_model.specs.Rows.{◌▸◌, End, AtLeast, Some, Row, Atom, start}
+use Rattle.rc_sheet_model.specs.Rows.{◌▸◌, End, AtLeast, Some, Row, Atom}
 use Rattle.rc_sheet_model.specs.Naming.{Naming, Scope, bind, sort_of, class_of, Named, Binder, InScope, Literal, KindOf, loc_class, num_class}
 
 -- OWNER
@@ -26,7 +26,7 @@ StandsHolder scope who = StandsOwner scope who
 abbrev pub StandsLoc : Naming → Scope → Loc → Tree → Type 0
 StandsLoc naming scope loc form =
     Row (StandsHolder scope loc.who ▸ KindOf naming loc.name ▸ Named naming.names.locs loc.name ▸ End) form
-    × (loc_class naming loc.name ≡ Present (class_of loc.who)) × (loc.at ≡ start form)
+    × (loc_class naming loc.name ≡ Present (class_of loc.who)) × (loc.at ≡ start_of form)
 
 -- NUM is `(HOLDER sto NAME)`
 abbrev pub StandsNum : Naming → Scope → Num → Tree → Type 0

@@ -3,16 +3,17 @@
 use Rattle.std.specs.Prelude.{◌≡◌, ℕ, ◌+◌, ◌*◌, ◌<◌, ◌≤◌, ◌==◌, nat_eq, nat_le, Bool, true, false, not, ◌||◌, ◌&&◌, List, [], ◌∷◌, ◌++◌, length, slice_get, slice_index_or, map, flat_map, sum_by, count_by, replicate, All, bytes_eq, Option, Some, None, option_map, ⊤}
 use Rattle.std.specs.List.{list_any, list_all}
 use Rattle.rc_model.specs.Token.{is_part}
-use Rattle.rc_model.specs.Tree.{Tree}
+use Rattle.rc_model.specs.Tree.{Tree, IsOpenAtMost}
 use Rattle.rc_model.specs.Deck.{Groups, no_group, group, Branches, no_branch, branch, Entry}
 use Rattle.rc_sheet_model.specs.Sheet.{Teams, Class, game_class, player_class, team_class, Sort, player_sort, card_sort, group_sort, LocKind, vloc, iloc, hloc, mem, Who, game, current_player, current_team, team_of_current, team_of_var, who_var, Loc, Num, CardExpr, card_var, top_card, bottom_card, max_card, min_card, CollExpr, group_var, cards_in, filtered, union_of, CollExprs, no_coll, coll, IntExpr, literal, number, size_of, sum_of, worth_of, add, subtract, multiply, Test, eq_int, eq_card, eq_attr, eq_who, ne, less, less_eq, more, more_eq, has_value, and_of, or_of, not_of, all_of, any_of, Tests, no_test, test, Domain, each_player, each_card, each_group, Effect, move, move_all, remember, forget, shuffle, set_to, increase, decrease, when, repeat, for_each, next_is, turn_round, Effects, no_effect, effect, Alt, do_alt, if_alt, any_alt, SheetItem, do_item, stage, choice, SheetItems, no_item, item, DeckLine, Sheet}
 use Rattle.rc_sheet_model.specs.Lists.{coll_list, test_list, effect_list, item_list}
-use Rattle.rc_sheet_model.specs.Rows.{IsOpenAtMost}
-use Rattle.rc_sheet_model.specs.Naming.{Scope, naming_of, bind, self_scope, sort_of, class_of, is_variable, loc_class, num_class}
+use Rattle.rc_model.specs.Words.{is_variable}
+use Rattle.rc_sheet_model.specs.Naming.{Scope, naming_of, bind, self_scope, sort_of, class_of, loc_class, num_class}
 use Rattle.rc_model.specs.Clamp.{IsWithinClamp}
 use Rattle.rc_sheet_model.specs.Limits.{most_players, most_cards, most_locations, most_numbers, most_attrs, most_values, most_maps, most_stages, most_sites, most_variables, most_repeats, most_open}
 use Rattle.rc_sheet_model.specs.Mentions.{attr_of, value_of, in_setup, stages_in, sites_in}
-use Rattle.rc_sheet_model.specs.Numbering.{below, IsNumbered}
+use Rattle.rc_model.specs.Numbers.{below}
+use Rattle.rc_sheet_model.specs.Numbering.{IsNumbered}
 use Rattle.rc_sheet_model.specs.Stands.{Stands}
 
 -- What is around a place: the variables in scope, how many binders, whether player stages and team stages, and how many
