@@ -8,6 +8,7 @@
 mod effects;
 mod expressions;
 mod items;
+mod laws;
 mod names;
 mod printing;
 mod sheet;
@@ -18,6 +19,7 @@ mod word;
 pub use effects::{Effect, End};
 pub use expressions::{CardExpr, CollExpr, Domain, IntExpr, Loc, Num, Test, Who};
 pub use items::{Alt, SheetItem};
+pub use laws::cards_are_faces;
 pub use names::{Class, LocKind, LocName, Names, NumName, Sort};
 pub use printing::{print_sheet, printed_form_stands};
 pub use sheet::{Best, DeckLine, Sheet, Teams};

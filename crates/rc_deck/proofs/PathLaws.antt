@@ -2,8 +2,8 @@
 use Rattle.std.proofs.Common.{◌≡◌, ℕ, zero, suc, ◌*◌, ◌<◌, List, [], ◌∷◌, ◌++◌, ◌⊎◌, inl, inr, ⊎_elim, length, map, refl, sym, ap, ◌∙◌, subst, arith, append_assoc, length-append}
 use Rattle.std.proofs.lemmas.List.{length-map}
 use Rattle.std.specs.List.{AllZip}
-use Rattle.rc_model.specs.Deck.{Groups, no_group, group, Branches, no_branch, branch, Face, Gives, GivesBranch, IsBefore, AreFaces}
-use Rattle.rc_deck.specs.Product.{joined, faces_of_groups, faces_of_branches, count_of_groups, count_of_branches}
+use Rattle.rc_model.specs.Deck.{Groups, no_group, group, Branches, no_branch, branch, Face, Gives, GivesBranch, IsBefore, AreFaces, face_count, branch_count}
+use Rattle.rc_deck.specs.Product.{joined, faces_of_groups, faces_of_branches}
 use Rattle.rc_deck.proofs.Orders.{In, Contains-from_In, In-from_Contains, In-append_left, In-append_right, In-append_cases, In-map, In-map_source, In-flat_map, In-flat_map_source, Ordered, Ordered-append, Ordered-map, Ordered-weaker, AllPairs-from_Ordered, Ordered-from_AllPairs, Ordered-unique, AllZip-append, AllZip-map, AllZip-map_left, AllZip-flat_map, AllZip-In, AllZip-unique}
 
 -- the same path through the branches where one more branch stands before them
@@ -234,14 +234,14 @@ length-joined (x ∷ xs) ys =
 
 -- there are as many faces as the count says
 mutual
-  length-faces_of_groups : (groups : Groups) → length (faces_of_groups groups) ≡ count_of_groups groups
+  length-faces_of_groups : (groups : Groups) → length (faces_of_groups groups) ≡ face_count groups
   length-faces_of_groups no_group = refl
   length-faces_of_groups (group attr branches rest) =
       length-joined (faces_of_branches attr branches) (faces_of_groups rest)
       ∙ ap (λ n. n * length (faces_of_groups rest)) (length-faces_of_branches attr branches)
-      ∙ ap (λ n. count_of_branches branches * n) (length-faces_of_groups rest)
+      ∙ ap (λ n. branch_count branches * n) (length-faces_of_groups rest)
 
-  length-faces_of_branches : (attr : ℕ) (branches : Branches) → length (faces_of_branches attr branches) ≡ count_of_branches branches
+  length-faces_of_branches : (attr : ℕ) (branches : Branches) → length (faces_of_branches attr branches) ≡ branch_count branches
   length-faces_of_branches attr no_branch = refl
   length-faces_of_branches attr (branch value inner rest) =
       omega (
@@ -253,6 +253,6 @@ mutual
       )
 
 -- a tree has as many faces as its count says
-pub length-AreFaces : (groups : Groups) (faces : List Face) → AreFaces groups faces → length faces ≡ count_of_groups groups
+pub length-AreFaces : (groups : Groups) (faces : List Face) → AreFaces groups faces → length faces ≡ face_count groups
 length-AreFaces groups faces are =
     ap length (AreFaces-unique groups faces (faces_of_groups groups) are (AreFaces-faces_of_groups groups)) ∙ length-faces_of_groups groups

@@ -1,5 +1,5 @@
--- The faces of groups by products of lists, and how many there are.
-use Rattle.std.specs.Prelude.{ℕ, ◌+◌, ◌*◌, List, [], ◌∷◌, ◌++◌, map}
+-- The faces of groups by products of lists.
+use Rattle.std.specs.Prelude.{ℕ, List, [], ◌∷◌, ◌++◌, map}
 use Rattle.std.specs.List.{flat_map}
 use Rattle.rc_model.specs.Deck.{Groups, no_group, group, Branches, no_branch, branch, Face}
 
@@ -21,13 +21,3 @@ abbrev mutual
   faces_of_branches attr no_branch = []
   faces_of_branches attr (branch value inner rest) =
       map (λ below. (attr, value) ∷ below) (faces_of_groups inner) ++ faces_of_branches attr rest
-
--- how many faces there are
-abbrev mutual
-  pub count_of_groups : Groups → ℕ
-  count_of_groups no_group = 1
-  count_of_groups (group attr branches rest) = count_of_branches branches * count_of_groups rest
-
-  pub count_of_branches : Branches → ℕ
-  count_of_branches no_branch = 0
-  count_of_branches (branch value inner rest) = count_of_groups inner + count_of_branches rest

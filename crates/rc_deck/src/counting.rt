@@ -1,7 +1,6 @@
 ghost use Rattle.std.specs.Prelude.{◌≡◌, min, List, length};
-ghost use Rattle.rc_model.specs.Deck.{Face, AreFaces};
+ghost use Rattle.rc_model.specs.Deck.{Face, AreFaces, face_count, branch_count};
 ghost use Rattle.rc_deck.specs.Tree.{groups_of, groups_in, branches_in};
-ghost use Rattle.rc_deck.specs.Product.{count_of_groups, count_of_branches};
 
 use crate::{Branch, DeckTree, Group};
 
@@ -17,7 +16,7 @@ pub fn count_of(tree: &DeckTree, cap: usize) -> usize
 // Each product and each sum stops at the cap.
 #[cycle(counting)]
 fn count_groups(groups: &Vec<Group>, cap: usize) -> usize
-    ensures { result ≡ min cap (count_of_groups (groups_in groups.now.items)) }
+    ensures { result ≡ min cap (face_count (groups_in groups.now.items)) }
 {
     let mut count = cap.min(1);
     for group in groups {
@@ -29,7 +28,7 @@ fn count_groups(groups: &Vec<Group>, cap: usize) -> usize
 
 #[cycle(counting)]
 fn count_branches(branches: &Vec<Branch>, cap: usize) -> usize
-    ensures { result ≡ min cap (count_of_branches (branches_in branches.now.items)) }
+    ensures { result ≡ min cap (branch_count (branches_in branches.now.items)) }
 {
     let mut count = 0usize;
     for branch in branches {

@@ -1,5 +1,5 @@
 -- Deck trees, their faces, and what a face is worth. The names of attributes and values are numbers here.
-use Rattle.std.specs.Prelude.{◌≡◌, ℕ, zero, suc, ◌<◌, ◌⊎◌, ◌&&◌, ◌==◌, Bool, if◌then◌else◌, List, [], ◌∷◌, ◌++◌, AllPairs, Contains, map, fold, find, ℤ, pos, ◌+ℤ◌, Option, option_map}
+use Rattle.std.specs.Prelude.{◌≡◌, ℕ, zero, suc, ◌+◌, ◌*◌, ◌<◌, ◌⊎◌, ◌&&◌, ◌==◌, Bool, if◌then◌else◌, List, [], ◌∷◌, ◌++◌, AllPairs, Contains, map, fold, find, ℤ, pos, ◌+ℤ◌, Option, option_map}
 use Rattle.std.specs.List.{list_any, AllZip}
 use Rattle.rc_model.specs.Clamp.{clamped}
 
@@ -45,6 +45,16 @@ pub record AreFaces (groups : Groups) (faces : List Face) : Type 0 where
   pub ordered : AllPairs IsBefore paths
   pub every : (path : List ℕ) (face : Face) → Gives groups path face → Contains paths path
   pub given : AllZip (Gives groups) paths faces
+
+-- how many faces groups have: the product over the groups, of the sum over their branches
+abbrev mutual
+  pub face_count : Groups → ℕ
+  face_count no_group = 1
+  face_count (group attr branches rest) = branch_count branches * face_count rest
+
+  pub branch_count : Branches → ℕ
+  branch_count no_branch = 0
+  branch_count (branch value inner rest) = face_count inner + branch_count rest
 
 -- the value that a face has for an attribute
 abbrev pub value_at : Face → ℕ → Option ℕ

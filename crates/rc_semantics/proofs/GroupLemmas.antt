@@ -9,7 +9,7 @@ use Rattle.rc_form.specs.declared.form.Form.TheVariants.{Atom as AtomOf, List as
 use Rattle.rc_form.specs.declared.form.Span.{Span}
 use Rattle.rc_semantics.proofs.FormLemmas.{tree_of_atom, tree_of_list}
 use Rattle.rc_semantics.specs.SecondParts.{attributes_of, attributes_below}
-use Rattle.rc_semantics.specs.SecondNames.{face_count, branch_count}
+use Rattle.rc_semantics.specs.SecondNames.{written_faces, written_branches}
 use Rattle.rc_semantics.specs.Groups.{faces_by, branch_by, attributes_in}
 
 -- two forms
@@ -91,7 +91,7 @@ some_attributes first second bytes span items span' from to is is' =
     (tree_of_list second items span' is')
 
 -- the faces of groups
-pub faces_more : (tree : Tree) (groups : Trees) → face_count (cons tree groups) ≡ faces_by tree * face_count groups
+pub faces_more : (tree : Tree) (groups : Trees) → written_faces (cons tree groups) ≡ faces_by tree * written_faces groups
 faces_more (word bytes from to) groups = omega arith
 faces_more (list nil from to) groups = omega arith
 faces_more (list (cons attr nil) from to) groups = omega arith
@@ -126,7 +126,7 @@ once_by_long (a ∷ b ∷ c ∷ forms) from to lt = long_faces (tree_of a) (tree
 -- the faces of a list of two parts, by the second
 abbrev pub branches_by : Tree → ℕ
 branches_by (word bytes from to) = 1
-branches_by (list branches from to) = branch_count branches
+branches_by (list branches from to) = written_branches branches
 
 pair_faces : (first second : Tree) (from to : ℕ) → faces_by (list (cons first (cons second nil)) from to) ≡ branches_by second
 pair_faces first (word bytes start end) from to = refl
@@ -142,7 +142,7 @@ pair_by (a ∷ b ∷ []) second from to some few is = pair_faces (tree_of a) (tr
 pair_by (a ∷ b ∷ c ∷ forms) second from to some few is = absurd (omega (arith, some, few))
 
 -- the faces of branches
-pub branches_more : (branch : Tree) (branches : Trees) → branch_count (cons branch branches)
-    ≡ branch_by branch + branch_count branches
+pub branches_more : (branch : Tree) (branches : Trees) → written_branches (cons branch branches)
+    ≡ branch_by branch + written_branches branches
 branches_more (word value from to) branches = refl
 branches_more (list groups from to) branches = refl

@@ -72,20 +72,20 @@ members_in part = []
 
 -- how many faces a deck's tree has: the product over its groups, of the sum over their branches
 abbrev mutual
-  pub face_count : Trees → ℕ
-  face_count nil = 1
-  face_count (cons (word bytes from to) groups) = face_count groups
-  face_count (cons (list (cons attr (cons (list branches from to) nil)) from' to') groups) =
-      branch_count branches * face_count groups
-  face_count (cons (list parts from to) groups) = face_count groups
+  pub written_faces : Trees → ℕ
+  written_faces nil = 1
+  written_faces (cons (word bytes from to) groups) = written_faces groups
+  written_faces (cons (list (cons attr (cons (list branches from to) nil)) from' to') groups) =
+      written_branches branches * written_faces groups
+  written_faces (cons (list parts from to) groups) = written_faces groups
 
-  pub branch_count : Trees → ℕ
-  branch_count nil = 0
-  branch_count (cons (word bytes from to) branches) = 1 + branch_count branches
-  branch_count (cons (list groups from to) branches) = face_count groups + branch_count branches
+  pub written_branches : Trees → ℕ
+  written_branches nil = 0
+  written_branches (cons (word bytes from to) branches) = 1 + written_branches branches
+  written_branches (cons (list groups from to) branches) = written_faces groups + written_branches branches
 
 abbrev pub faces_of : Tree → ℕ
-faces_of (list groups from to) = face_count groups
+faces_of (list groups from to) = written_faces groups
 faces_of (word bytes from to) = 0
 
 -- how many cards each deck line makes

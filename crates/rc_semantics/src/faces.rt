@@ -24,7 +24,7 @@ pub fn faces_of(deck: Option<&Form>) -> u32
 /// The faces that groups make: a product.
 #[cycle(faces)]
 fn face_count(groups: &[Form]) -> u32
-    ensures { result ≡ min (names.face_count (packed (trees_of groups.now))) 513 }
+    ensures { result ≡ min (names.written_faces (packed (trees_of groups.now))) 513 }
 {
     let mut count = 1;
     for group in groups {
@@ -53,7 +53,7 @@ fn group_faces(group: &Form) -> u32
 /// The faces that branches make: a sum.
 #[cycle(faces)]
 fn branch_count(branches: &[Form]) -> u32
-    ensures { result ≡ min (names.branch_count (packed (trees_of branches.now))) 513 }
+    ensures { result ≡ min (names.written_branches (packed (trees_of branches.now))) 513 }
 {
     let mut count = 0;
     for branch in branches {

@@ -5,20 +5,18 @@ use Rattle.std.proofs.lemmas.List.{append-nil, length-map, map-append}
 use Rattle.std.proofs.lemmas.List.Sums.{sum-map}
 use Rattle.std.proofs.lemmas.Grind.{flat_map-append}
 use Rattle.rc_model.specs.Tree.{Tree, word, list, Trees, nil, cons}
-use Rattle.rc_model.specs.Deck.{no_group, group, no_branch, branch}
+use Rattle.rc_model.specs.Deck.{no_group, group, no_branch, branch, face_count, branch_count}
 use Rattle.rc_model.specs.DeckText.{Names}
 use Rattle.rc_sheet_model.specs.Sheet.{DeckLine, Sheet}
 use Rattle.rc_sheet_model.specs.Limits.{most_cards}
 use Rattle.rc_sheet_model.specs.Naming.{Naming}
-use Rattle.rc_sheet_model.specs.WellFormed.{face_count, branch_count}
 use Rattle.rc_setup.specs.Naming.{number_of}
 use Rattle.rc_setup.specs.Reading.{unless_nil, plain, read_groups, read_group, read_branches, read_branch, is_word, read_deck}
 use Rattle.rc_grammar.specs.Faults.{faults}
 use Rattle.rc_grammar.specs.declared.grammar.Place.TheVariants as place
 use Rattle.rc_grammar.specs.declared.grammar.Rule.TheVariants as rule
 use Rattle.rc_semantics.specs.SecondParts.{Part, atom, form, parts_of}
-use Rattle.rc_semantics.specs.SecondNames.{some_of, faces_of, cards_in}
-use Rattle.rc_semantics.specs.SecondNames.{face_count as written_faces, branch_count as written_branches}
+use Rattle.rc_semantics.specs.SecondNames.{some_of, faces_of, cards_in, written_faces, written_branches}
 use Rattle.rc_semantics.specs.SecondFaults.{card_count, second_faults}
 use Rattle.rc_naming.specs.Naming.{naming_of}
 use Rattle.rc_sheet.specs.ReadNames.{loc_at}

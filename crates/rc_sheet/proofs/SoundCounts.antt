@@ -5,7 +5,7 @@ use Rattle.std.specs.Prelude.{codes, nat_abs, slice_index_or}
 use Rattle.std.specs.List.{AllZip}
 use Rattle.std.proofs.lemmas.Grind.{flat_map-append}
 use Rattle.rc_model.specs.Tree.{Tree, word, list, Trees, nil, cons}
-use Rattle.rc_model.specs.Deck.{Groups, no_group, group, Branches, no_branch, branch, Entry}
+use Rattle.rc_model.specs.Deck.{Groups, no_group, group, Branches, no_branch, branch, Entry, face_count, branch_count}
 use Rattle.rc_sheet_model.specs.Sheet.{Teams, DeckLine, Sheet}
 use Rattle.rc_sheet_model.specs.Rows.{◌▸◌, End, AtLeast, Row, Atom}
 use Rattle.rc_sheet_model.specs.Rows.{Some as Full}
@@ -15,15 +15,13 @@ use Rattle.rc_sheet_model.specs.StandsItems.{StandItems}
 use Rattle.rc_sheet_model.specs.Stands.{StandsScoring, Stands}
 use Rattle.rc_sheet_model.specs.WellFormed.{outside}
 use Rattle.rc_sheet_model.specs.WellFormed.{team_count as team_count_of}
-use Rattle.rc_sheet_model.specs.WellFormed.{face_count as faces_of_groups}
-use Rattle.rc_sheet_model.specs.WellFormed.{branch_count as faces_of_branches}
 use Rattle.rc_grammar.specs.Faults.{count}
 use Rattle.rc_grammar.specs.declared.keyword.Keyword.TheVariants as keyword
 use Rattle.rc_grammar.specs.declared.grammar.Place.TheVariants as place
 use Rattle.rc_grammar.specs.declared.grammar.Rule.TheVariants as rule
 use Rattle.rc_semantics.specs.declared.role.Role.TheVariants.{No as no_role}
 use Rattle.rc_semantics.specs.SecondParts.{Standing, Part, form, parts_at, parts_in, parts_of, part_at, standing_alone}
-use Rattle.rc_semantics.specs.SecondNames.{number_at, players_in, teams_in, teams_by, team_count, face_count, branch_count, faces_of, cards_in}
+use Rattle.rc_semantics.specs.SecondNames.{number_at, players_in, teams_in, teams_by, team_count, faces_of, cards_in, written_faces, written_branches}
 use Rattle.rc_sheet.proofs.Among.{Among}
 use Rattle.rc_sheet.proofs.FineLines.{OfLines, line_gives, behind_silent, all_said, players_of_lines, teams_of_lines, cards_of_lines}
 use Rattle.rc_sheet.proofs.GoodParts.{Each}
@@ -296,19 +294,19 @@ teams_many sheet tree stands =
 mutual
   -- a deck's tree has as many faces as its groups
   groups_count : (naming : Naming) (groups : Groups) (trees : Trees) → StandsGroups naming groups trees
-      → face_count trees ≡ faces_of_groups groups
+      → written_faces trees ≡ face_count groups
   groups_count naming no_group nil stands = refl
   groups_count naming no_group (cons tree trees) stands = absurd stands
   groups_count naming (group attr branches rest) nil stands = absurd stands
   groups_count naming (group attr branches rest) (cons tree trees) stands =
       let later = groups_count naming rest trees stands.1 in
-      group_parts naming attr branches (λ tree. face_count (cons tree trees) ≡ faces_of_groups (group attr branches rest)) tree
+      group_parts naming attr branches (λ tree. written_faces (cons tree trees) ≡ face_count (group attr branches rest)) tree
       stands.0
       (λ bytes f t a b from to first others is inner.
       ap₂ (λ m n. m * n) (branches_count naming branches (cons first others) inner) later)
 
   branches_count : (naming : Naming) (branches : Branches) (trees : Trees) → StandsBranches naming branches trees
-      → branch_count trees ≡ faces_of_branches branches
+      → written_branches trees ≡ branch_count branches
   branches_count naming no_branch nil stands = refl
   branches_count naming no_branch (cons tree trees) stands = absurd stands
   branches_count naming (branch value inner others) nil stands = absurd (no_more_branches naming value inner others stands)
@@ -326,23 +324,23 @@ mutual
 
 -- the cards of a deck line
 cards_of_line : (naming : Naming) (line : DeckLine) (tree : Tree) → StandsDeck naming line tree
-    → cards_of_tree tree ≡ faces_of_groups line.groups ∷ []
+    → cards_of_tree tree ≡ face_count line.groups ∷ []
 cards_of_line naming line tree stands =
     row_words "create" "deck"
     (Row (Atom "game" ▸ KindOf naming line.loc ▸ Named naming.names.locs line.loc ▸ End)
     ▸ Row (Atom "deck" ▸ Full (StandsGroups naming line.groups)) ▸ End)
-    (λ tree. cards_of_tree tree ≡ faces_of_groups line.groups ∷ []) tree stands.0
+    (λ tree. cards_of_tree tree ≡ face_count line.groups ∷ []) tree stands.0
     (λ f t f' t' from to parts more. two_parts
     (Row (Atom "game" ▸ KindOf naming line.loc ▸ Named naming.names.locs line.loc ▸ End))
     (Row (Atom "deck" ▸ Full (StandsGroups naming line.groups)))
     (λ l. cards_of_tree (list (cons (word (codes "create") f t) (cons (word (codes "deck") f' t') l)) from to)
-    ≡ faces_of_groups line.groups ∷ []) parts more
+    ≡ face_count line.groups ∷ []) parts more
     (λ l d here there. behind_word "deck" (Full (StandsGroups naming line.groups))
-    (λ d. faces_of d ∷ [] ≡ faces_of_groups line.groups ∷ []) d there
+    (λ d. faces_of d ∷ [] ≡ face_count line.groups ∷ []) d there
     (λ g u a b groups inner. ap (λ n. n ∷ []) (groups_count naming line.groups groups inner.1))))
 
 decks_count : (naming : Naming) (decks : List DeckLine) (lines : List Tree) → AllZip (StandsDeck naming) decks lines
-    → flat_map cards_of_tree lines ≡ map (λ (line : DeckLine). faces_of_groups line.groups) decks
+    → flat_map cards_of_tree lines ≡ map (λ (line : DeckLine). face_count line.groups) decks
 decks_count naming [] [] pairs = refl
 decks_count naming [] (line ∷ lines) pairs = absurd pairs
 decks_count naming (deck ∷ decks) [] pairs = absurd pairs
@@ -350,10 +348,10 @@ decks_count naming (deck ∷ decks) (line ∷ lines) pairs =
     ap₂ ◌++◌ (cards_of_line naming deck line pairs.0) (decks_count naming decks lines pairs.1)
 
 pub cards_counted : (sheet : Sheet) (tree : Tree) → Stands sheet tree
-    → flat_map cards_in (parts_of tree) ≡ map (λ (line : DeckLine). faces_of_groups line.groups) sheet.decks
+    → flat_map cards_in (parts_of tree) ≡ map (λ (line : DeckLine). face_count line.groups) sheet.decks
 cards_counted sheet tree stands =
     whole_form sheet
-    (λ tree. flat_map cards_in (parts_of tree) ≡ map (λ (line : DeckLine). faces_of_groups line.groups) sheet.decks) tree stands
+    (λ tree. flat_map cards_in (parts_of tree) ≡ map (λ (line : DeckLine). face_count line.groups) sheet.decks) tree stands
     (λ a b c d e f from to lines rest setup items.
     let g : Tree → List ℕ = λ tree. cond (begins_with "create" "deck" tree) (cards_of_tree tree) [] in
     form_gives ℕ cards_in cards_of_lines cards_outer g a b c d e f from to lines rest

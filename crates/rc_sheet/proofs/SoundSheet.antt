@@ -15,7 +15,8 @@ use Rattle.rc_sheet_model.specs.FormMentions.{attr_mentions, value_mentions, map
 use Rattle.rc_sheet_model.specs.StandsSetup.{StandsSetup}
 use Rattle.rc_sheet_model.specs.StandsItems.{StandItems}
 use Rattle.rc_sheet_model.specs.Stands.{StandsScoring, Stands}
-use Rattle.rc_sheet_model.specs.WellFormed.{outside, is_among, face_count, owner_count, AreTeams, IsWellFormed}
+use Rattle.rc_model.specs.Deck.{face_count}
+use Rattle.rc_sheet_model.specs.WellFormed.{outside, is_among, owner_count, AreTeams, IsWellFormed}
 use Rattle.rc_grammar.specs.Faults.{faults}
 use Rattle.rc_grammar.specs.declared.grammar.Place.TheVariants as place
 use Rattle.rc_grammar.specs.declared.grammar.Rule.TheVariants as rule

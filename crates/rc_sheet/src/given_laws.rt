@@ -4,7 +4,8 @@ ghost use Rattle.std.specs.Prelude.{◌≡◌, ◌≤◌, [], length, sum_by, Al
 ghost use Rattle.rc_model.specs.Tree.{Tree};
 ghost use Rattle.rc_sheet_model.specs.Sheet.{Sheet};
 ghost use Rattle.rc_sheet_model.specs.Limits.{most_cards};
-ghost use Rattle.rc_sheet_model.specs.WellFormed.{face_count, AreTeams, IsDeck, IsEntry};
+ghost use Rattle.rc_model.specs.Deck.{face_count};
+ghost use Rattle.rc_sheet_model.specs.WellFormed.{AreTeams, IsDeck, IsEntry};
 ghost use Rattle.rc_grammar.specs.Faults.{faults};
 ghost use Rattle.rc_grammar.specs.declared.grammar.Place.TheVariants as place;
 ghost use Rattle.rc_semantics.specs.SecondFaults.{second_faults};

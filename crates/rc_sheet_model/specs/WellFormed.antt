@@ -1,10 +1,10 @@
 -- Which sheets are well formed: their parts stand where they may, their names are numbered as they are mentioned, and they
 -- keep the limits.
-use Rattle.std.specs.Prelude.{◌≡◌, ℕ, ◌+◌, ◌*◌, ◌<◌, ◌≤◌, ◌==◌, nat_eq, nat_le, Bool, true, false, not, ◌||◌, ◌&&◌, List, [], ◌∷◌, ◌++◌, length, slice_get, slice_index_or, map, flat_map, sum_by, count_by, replicate, All, bytes_eq, Option, Some, None, option_map, ⊤}
+use Rattle.std.specs.Prelude.{◌≡◌, ℕ, ◌+◌, ◌<◌, ◌≤◌, ◌==◌, nat_eq, nat_le, Bool, true, false, not, ◌||◌, ◌&&◌, List, [], ◌∷◌, ◌++◌, length, slice_get, slice_index_or, map, flat_map, sum_by, count_by, replicate, All, bytes_eq, Option, Some, None, option_map, ⊤}
 use Rattle.std.specs.List.{list_any, list_all}
 use Rattle.rc_model.specs.Token.{is_part}
 use Rattle.rc_model.specs.Tree.{Tree, IsOpenAtMost}
-use Rattle.rc_model.specs.Deck.{Groups, no_group, group, Branches, no_branch, branch, Entry}
+use Rattle.rc_model.specs.Deck.{Groups, no_group, group, Branches, no_branch, branch, Entry, face_count}
 use Rattle.rc_sheet_model.specs.Sheet.{Teams, Class, game_class, player_class, team_class, Sort, player_sort, card_sort, group_sort, LocKind, vloc, iloc, hloc, mem, Who, game, current_player, current_team, team_of_current, team_of_var, who_var, Loc, Num, CardExpr, card_var, top_card, bottom_card, max_card, min_card, CollExpr, group_var, cards_in, filtered, union_of, CollExprs, no_coll, coll, IntExpr, literal, number, size_of, sum_of, worth_of, add, subtract, multiply, Test, eq_int, eq_card, eq_attr, eq_who, ne, less, less_eq, more, more_eq, has_value, and_of, or_of, not_of, all_of, any_of, Tests, no_test, test, Domain, each_player, each_card, each_group, Effect, move, move_all, remember, forget, shuffle, set_to, increase, decrease, when, repeat, for_each, next_is, turn_round, Effects, no_effect, effect, Alt, do_alt, if_alt, any_alt, SheetItem, do_item, stage, choice, SheetItems, no_item, item, DeckLine, Sheet}
 use Rattle.rc_sheet_model.specs.Lists.{coll_list, test_list, effect_list, item_list}
 use Rattle.rc_model.specs.Words.{is_variable}
@@ -263,16 +263,6 @@ abbrev mutual
   pub AreBranches : List ℕ → Branches → Type 0
   AreBranches before no_branch = ⊤
   AreBranches before (branch value inner rest) = AreGroups before inner × AreBranches before rest
-
--- how many faces groups have
-abbrev mutual
-  pub face_count : Groups → ℕ
-  face_count no_group = 1
-  face_count (group attr branches rest) = branch_count branches * face_count rest
-
-  pub branch_count : Branches → ℕ
-  branch_count no_branch = 0
-  branch_count (branch value inner rest) = face_count inner + branch_count rest
 
 -- a deck has a group, and its cards begin in a location of the game that holds cards
 abbrev pub IsDeck : Sheet → DeckLine → Type 0

@@ -2,7 +2,7 @@ use Rattle.std.proofs.Common.{◌≡◌, ◌+◌, ◌*◌, ◌∷◌, min, drop,
 use Rattle.std.proofs.lemmas.List.{at_drop_more}
 use Rattle.rc_semantics.proofs.Capped.{one_more}
 use Rattle.rc_form.specs.Form.{tree_of, trees_of, packed}
-use Rattle.rc_semantics.specs.SecondNames.{branch_count, face_count}
+use Rattle.rc_semantics.specs.SecondNames.{written_faces, written_branches}
 use Rattle.rc_semantics.proofs.FormLemmas.{tree_of_atom, tree_of_list}
 use Rattle.rc_semantics.specs.Groups.{faces_by}
 use Rattle.rc_semantics.proofs.GroupLemmas.{list_seen, once_by_short, once_by_long, branches_by, pair_by, faces_more}
@@ -23,7 +23,7 @@ pub group_faces-returns-in-List-branches : goal.group_faces-returns-in-List-bran
 group_faces-returns-in-List-branches t c =
     let two = pair_by _ _ c.in-List.span.from c.in-List.span.to c.in-len2.len_at_least c.in-len2.len_below c.branches-item.is in
     let inner = ap branches_by (tree_of_list _ _ _ c.in-List-branches.is) in
-    let same = ap (λ forms. branch_count (packed (trees_of forms))) c.deref.ensures.value in
+    let same = ap (λ forms. written_branches (packed (trees_of forms))) c.deref.ensures.value in
     c.branch_count.ensures ∙ ap (λ n. min n 513)
     (same ∙ sym (ap faces_by (list_seen _ _ _ _ c.in-List.is c.as_slice.ensures.value) ∙ two ∙ inner))
 
@@ -39,12 +39,12 @@ face_count-loop-group-preserved t c =
     let groups = c.args.groups.now in
     let index = c.loop-group.group-index in
     let group = c.group-item.result in
-    let rest = face_count (packed (trees_of (drop (index + 1) groups))) in
+    let rest = written_faces (packed (trees_of (drop (index + 1) groups))) in
     let made : c.product-count.result ≡ min (c.loop-group.count * min (faces_by (tree_of group)) 513) 513 =
     c.product-count.ensures ∙ ap (λ faces. min (c.loop-group.count * faces) 513) c.group_faces.ensures in
-    let left : face_count (packed (trees_of (drop index groups))) ≡ faces_by (tree_of group) * rest =
-    at_drop_more (λ forms. face_count (packed (trees_of forms))) groups index group c.loop-group-test.true
-    ∙ ap (λ form. face_count (packed (trees_of (form ∷ drop (index + 1) groups)))) (sym c.group-item.is)
+    let left : written_faces (packed (trees_of (drop index groups))) ≡ faces_by (tree_of group) * rest =
+    at_drop_more (λ forms. written_faces (packed (trees_of forms))) groups index group c.loop-group-test.true
+    ∙ ap (λ form. written_faces (packed (trees_of (form ∷ drop (index + 1) groups)))) (sym c.group-item.is)
     ∙ faces_more (tree_of group) (packed (trees_of (drop (index + 1) groups))) in (
       omega (arith, c.product-count.ensures),
       ap (λ n. min (n * rest) 513) made
