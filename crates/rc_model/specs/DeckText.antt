@@ -1,9 +1,8 @@
 -- Which forms stand for a deck tree and for the entries of a point map. Their names are numbered in the order of their first
 -- mention.
-use Rattle.std.specs.Prelude.{◌≡◌, ◌≢◌, ℕ, ◌≤◌, false, not, List, [], ◌∷◌, ◌++◌, length, map, All, AllPairs, slice_get, filter, flat_map, codes, ℤ, Some}
-use Rattle.std.specs.Str.{bytes_eq}
+use Rattle.std.specs.Prelude.{◌≡◌, ◌≢◌, ℕ, ◌≤◌, false, List, [], ◌∷◌, ◌++◌, length, map, All, AllPairs, slice_get, flat_map, codes, ℤ, Some}
 use Rattle.rc_model.specs.Tree.{Tree, word, list, Trees, nil, cons}
-use Rattle.rc_model.specs.Words.{is_variable}
+use Rattle.rc_model.specs.Words.{is_variable, different}
 use Rattle.rc_model.specs.Literal.{integer}
 use Rattle.rc_model.specs.Clamp.{IsWithinClamp}
 use Rattle.rc_model.specs.Deck.{Groups, no_group, group, Branches, no_branch, branch, Face, AreFaces, Entry, points_of}
@@ -181,15 +180,10 @@ abbrev pub value_name : Mention → List (List ℕ)
 value_name (attribute name) = []
 value_name (value name) = name ∷ []
 
--- the different words, each at the place of its first mention among the others
-abbrev pub distinct : List (List ℕ) → List (List ℕ)
-distinct [] = []
-distinct (first ∷ others) = first ∷ filter (λ other. not (bytes_eq first other)) (distinct others)
-
--- the names of all that is mentioned
+-- the names of all that is mentioned, each at the place of its first mention
 abbrev pub names_of : List Mention → Names
 names_of mentions =
-    record { attrs = distinct (flat_map attribute_name mentions); values = distinct (flat_map value_name mentions) }
+    record { attrs = different (flat_map attribute_name mentions); values = different (flat_map value_name mentions) }
 
 -- no attribute stands twice in the face
 abbrev pub HasEachOnce : Face → Type 0

@@ -4,7 +4,7 @@ use Rattle.std.specs.List.{list_any}
 use Rattle.std.proofs.lemmas.Bool.{cases_Bool, cond-true, cond-false}
 use Rattle.std.proofs.lemmas.List.{append-nil, map-append, map-id}
 use Rattle.std.proofs.lemmas.List.Folds.{list_any-append}
-use Rattle.rc_sheet_model.specs.Numbering.{different_from, different}
+use Rattle.rc_model.specs.Words.{different, different_from}
 use Rattle.rc_semantics.specs.SecondNames.{Mention, firsts_from}
 use Rattle.rc_naming.specs.Known.{with_first, with_firsts, with_words, with_mentions}
 

@@ -5,7 +5,7 @@ use Rattle.std.proofs.lemmas.List.{append-nil, length-map}
 use Rattle.rc_model.specs.Tree.{Tree, Trees}
 use Rattle.rc_sheet_model.specs.Sheet.{Names, LocName, NumName}
 use Rattle.rc_model.specs.Numbers.{below}
-use Rattle.rc_sheet_model.specs.Numbering.{different}
+use Rattle.rc_model.specs.Words.{different}
 use Rattle.rc_sheet_model.specs.Naming.{Naming}
 use Rattle.rc_sheet_model.specs.FormMentions.{setup_lines, body, deck_lines, points_lines, all_gathered, names_of, attr_mentions, value_mentions, map_mentions, loc_mentions, num_mentions, var_mentions, all_var_words}
 use Rattle.rc_semantics.specs.SecondNames.{Mention}

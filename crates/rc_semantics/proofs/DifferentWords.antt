@@ -6,13 +6,9 @@ use Rattle.std.proofs.Math.Bool.{or-true, or_comm}
 use Rattle.std.proofs.lemmas.List.Folds.{list_any-append}
 use Rattle.std.proofs.lemmas.List.Sums.{fold-append}
 use Rattle.std.proofs.lemmas.Slice.Eq.{bytes_eq-Decides}
-use Rattle.rc_sheet_model.specs.Numbering.{different_from}
+use Rattle.rc_model.specs.Words.{different_from, with_word}
 use Rattle.rc_semantics.specs.SecondNames.{is_named, different_count}
-use Rattle.rc_semantics.specs.Summary.{with_word, new_words}
-
--- one more word
-abbrev pub add_word : List (List ℕ) → List ℕ → List (List ℕ)
-add_word words word = with_word word words
+use Rattle.rc_semantics.specs.Summary.{new_words}
 
 -- nothing more
 pub or-false : (a : Bool) → (a || false) ≡ a
@@ -36,7 +32,7 @@ named_choice word other words false is =
 
 -- the same of a list with one more
 named_with : (word other : List ℕ) (words : List (List ℕ))
-    → is_named word (with_word other words) ≡ (is_named word words || bytes_eq word other)
+    → is_named word (with_word words other) ≡ (is_named word words || bytes_eq word other)
 named_with word other words = named_choice word other words (is_named other words) refl
 
 -- of three
@@ -46,10 +42,10 @@ or_assoc false b c = refl
 
 -- a word is among different words just where it is among all
 pub named_fold : (word : List ℕ) (words more : List (List ℕ))
-    → is_named word (fold add_word words more) ≡ (is_named word words || is_named word more)
+    → is_named word (fold with_word words more) ≡ (is_named word words || is_named word more)
 named_fold word words [] = sym (or-false (is_named word words))
 named_fold word words (other ∷ more) =
-    named_fold word (with_word other words) more
+    named_fold word (with_word words other) more
     ∙ ap (λ b. b || is_named word more) (named_with word other words)
     ∙ or_assoc (is_named word words) (bytes_eq word other) (is_named word more)
 
@@ -70,11 +66,11 @@ SameWords-more words seen more same word =
 abbrev CountsAll : List (List ℕ) → Type 0
 CountsAll more =
     (words seen : List (List ℕ)) → SameWords words seen
-    → length (fold add_word words more) ≡ length words + length (different_from seen more)
+    → length (fold with_word words more) ≡ length words + length (different_from seen more)
 
 -- a word that is new or not, and then more
 counts_choice : (word : List ℕ) (more words seen : List (List ℕ)) (a b : Bool) → SameWords words seen → a ≡ b → CountsAll more
-    → length (fold add_word (cond a words (words ++ word ∷ [])) more)
+    → length (fold with_word (cond a words (words ++ word ∷ [])) more)
     ≡ length words + length (cond b (different_from seen more) (word ∷ different_from (word ∷ seen) more))
 counts_choice word more words seen true true same equal counts = counts words seen same
 counts_choice word more words seen false false same equal counts =
@@ -90,7 +86,7 @@ counts_fold (word ∷ more) words seen same =
     counts_choice word more words seen (is_named word words) (is_named word seen) same (same word) (counts_fold more)
 
 -- the different words are as many
-pub counts_different : (words : List (List ℕ)) → length (fold add_word [] words) ≡ different_count words
+pub counts_different : (words : List (List ℕ)) → length (fold with_word [] words) ≡ different_count words
 counts_different words = let counts = counts_fold words [] [] (λ word. refl) in omega arith
 
 -- one more word is a new one or none
@@ -101,9 +97,9 @@ length_with word words false = length-append words (word ∷ [])
 
 -- how many there are with one more
 pub counts_one_more : (words : List (List ℕ)) (word : List ℕ)
-    → different_count (words ++ word ∷ []) ≡ different_count words + new_words word (fold add_word [] words)
+    → different_count (words ++ word ∷ []) ≡ different_count words + new_words word (fold with_word [] words)
 counts_one_more words word =
     sym (counts_different (words ++ word ∷ []))
-    ∙ ap length (fold-append add_word [] words (word ∷ []))
-    ∙ length_with word (fold add_word [] words) (is_named word (fold add_word [] words))
-    ∙ ap (λ n. n + new_words word (fold add_word [] words)) (counts_different words)
+    ∙ ap length (fold-append with_word [] words (word ∷ []))
+    ∙ length_with word (fold with_word [] words) (is_named word (fold with_word [] words))
+    ∙ ap (λ n. n + new_words word (fold with_word [] words)) (counts_different words)

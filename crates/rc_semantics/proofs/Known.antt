@@ -9,7 +9,8 @@ use Rattle.rc_semantics.specs.SecondParts.{Role, given_value, Part, atom, form}
 use Rattle.rc_semantics.specs.SecondNames.{some_of, is_named, players_in, player_count, teams_in, teams_by, team_count, cards_in, attributes_in, value_by, values_in, maps_in}
 use Rattle.rc_semantics.specs.Summary.{Whole, nothing_known, with_value, or_number, know, whole_of, players_of, teams_of}
 use Rattle.rc_semantics.proofs.Folds.{know_field}
-use Rattle.rc_semantics.proofs.DifferentWords.{add_word, named_fold}
+use Rattle.rc_model.specs.Words.{with_word}
+use Rattle.rc_semantics.proofs.DifferentWords.{named_fold}
 use Rattle.rc_grammar.specs.declared.grammar.Rule.TheVariants as rule
 
 -- a line of teams tells how many there are
@@ -42,23 +43,23 @@ know_teams known (form at rule.CreatePlayers parts from) = refl
 know_teams known (form at rule parts from) = refl
 
 know_attributes : (known : Whole) (part : Part)
-    → (know known part).attributes ≡ fold add_word known.attributes (attributes_in part)
+    → (know known part).attributes ≡ fold with_word known.attributes (attributes_in part)
 know_attributes known (atom at bytes from) = refl
 know_attributes known (form at rule.CreatePlayers parts from) = refl
 know_attributes known (form at rule parts from) = refl
 
 -- a value that the setup gives
 pub know_value : (role : Role) (bytes : List ℕ) (words : List (List ℕ))
-    → with_value role bytes words ≡ fold add_word words (value_by role bytes)
+    → with_value role bytes words ≡ fold with_word words (value_by role bytes)
 know_value given_value bytes words = refl
 know_value role bytes words = refl
 
-know_values : (known : Whole) (part : Part) → (know known part).values ≡ fold add_word known.values (values_in part)
+know_values : (known : Whole) (part : Part) → (know known part).values ≡ fold with_word known.values (values_in part)
 know_values known (atom at bytes from) = know_value at.role bytes known.values
 know_values known (form at rule.CreatePlayers parts from) = refl
 know_values known (form at rule parts from) = refl
 
-know_maps : (known : Whole) (part : Part) → (know known part).maps ≡ fold add_word known.maps (maps_in part)
+know_maps : (known : Whole) (part : Part) → (know known part).maps ≡ fold with_word known.maps (maps_in part)
 know_maps known (atom at bytes from) = refl
 know_maps known (form at rule.CreatePlayers parts from) = refl
 know_maps known (form at rule parts from) = refl
@@ -114,11 +115,11 @@ Knows-whole all = record {
   players_known = players_of_whole all;
   teams_known = teams_of_whole all;
   attributes_known = λ word.
-      ap (is_named word) (know_field (λ known. known.attributes) add_word attributes_in know_attributes nothing_known all)
+      ap (is_named word) (know_field (λ known. known.attributes) with_word attributes_in know_attributes nothing_known all)
       ∙ named_fold word [] (flat_map attributes_in all);
-  values_known = λ word. ap (is_named word) (know_field (λ known. known.values) add_word values_in know_values nothing_known all)
+  values_known = λ word. ap (is_named word) (know_field (λ known. known.values) with_word values_in know_values nothing_known all)
       ∙ named_fold word [] (flat_map values_in all);
-  maps_known = λ word. ap (is_named word) (know_field (λ known. known.maps) add_word maps_in know_maps nothing_known all)
+  maps_known = λ word. ap (is_named word) (know_field (λ known. known.maps) with_word maps_in know_maps nothing_known all)
       ∙ named_fold word [] (flat_map maps_in all);
   deck_known = know_field (λ known. known.has_deck) hold cards_in know_deck nothing_known all ∙ held_some (flat_map cards_in all);
 }

@@ -11,7 +11,8 @@ use Rattle.rc_semantics.specs.SecondParts.{Role, given_value, Standing, Part, at
 use Rattle.rc_semantics.specs.SecondNames.{player_count, team_count, cards_in, faces_of, attributes_in, value_by, values_in, maps_in, Mention, mention_of, locations_in, numbers_of, first_mention, owned, firsts_from, stages_in, choices_in, different_count}
 use Rattle.rc_semantics.specs.SecondFaults.{passes, card_count, attribute_count, value_count, map_count, stage_count, choice_count, location_count, number_count, atom_counts, counts_of, is_too_deep, is_too_many}
 use Rattle.rc_semantics.specs.Summary.{Whole, Summary, teams_of, owners_of, Owned, new_owned, new_words, goes_over, is_value_over, is_form_over, is_over}
-use Rattle.rc_semantics.proofs.DifferentWords.{or-false, add_word, counts_different, counts_one_more}
+use Rattle.rc_model.specs.Words.{with_word}
+use Rattle.rc_semantics.proofs.DifferentWords.{or-false, counts_different, counts_one_more}
 use Rattle.rc_semantics.proofs.Totals.{goes_over_whole}
 use Rattle.rc_semantics.proofs.Owners.{adds_last}
 use Rattle.rc_semantics.proofs.Known.{Knows}
@@ -20,11 +21,11 @@ use Rattle.rc_grammar.specs.declared.grammar.Rule.{Rule}
 use Rattle.rc_grammar.specs.declared.grammar.Rule.TheVariants as rule
 
 -- one more word passes the limit just where the different words among all do
-words_over : (most : ℕ) (words given : List (List ℕ)) (word : List ℕ) → words ≡ fold add_word [] given
+words_over : (most : ℕ) (words given : List (List ℕ)) (word : List ℕ) → words ≡ fold with_word [] given
     → goes_over most (length words) (new_words word words)
     ≡ (leb (different_count given) most && ltb most (different_count (given ++ word ∷ [])))
 words_over most words given word is =
-    let kept = fold add_word [] given in
+    let kept = fold with_word [] given in
     ap (λ ws. goes_over most (length ws) (new_words word ws)) is
     ∙ ap (λ n. leb n most && ltb most (n + new_words word kept)) (counts_different given)
     ∙ ap (λ m. leb (different_count given) most && ltb most m) (sym (counts_one_more given word))
@@ -46,7 +47,7 @@ module _ (all : List Part) (whole : Whole) (knows : Knows all whole) (earlier : 
 
   -- different words, of which the part gives one
   words_pass : (most : ℕ) (given : Part → List (List ℕ)) (words : List (List ℕ)) (part : Part) (word : List ℕ)
-      → words ≡ fold add_word [] (flat_map given earlier) → flat_map given (part ∷ []) ≡ word ∷ []
+      → words ≡ fold with_word [] (flat_map given earlier) → flat_map given (part ∷ []) ≡ word ∷ []
       → goes_over most (length words) (new_words word words)
       ≡ passes most (λ parts. different_count (flat_map given parts)) earlier part
   words_pass most given words part word is gives =

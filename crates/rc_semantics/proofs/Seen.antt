@@ -9,7 +9,7 @@ use Rattle.rc_semantics.specs.SecondParts.{Part, atom, form}
 use Rattle.rc_semantics.specs.SecondNames.{some_of, players_in, teams_in, cards_in, attributes_in, values_in, maps_in, member_by, members_in, locations_in, numbers_of, first_mention, firsts_from, stages_in, choices_in}
 use Rattle.rc_semantics.specs.Summary.{Whole, Summary, nothing_owned, nothing_seen, counted, owners_of, see, summary_of}
 use Rattle.rc_semantics.proofs.Folds.{see_field}
-use Rattle.rc_semantics.proofs.DifferentWords.{add_word}
+use Rattle.rc_model.specs.Words.{with_word}
 use Rattle.rc_semantics.proofs.Totals.{counted_sum, count_one, counted_each}
 use Rattle.rc_semantics.proofs.Owners.{add_mention, first_fold, counts_owned}
 use Rattle.rc_semantics.proofs.Known.{hold, held_some, know_value}
@@ -58,18 +58,18 @@ module _ (whole : Whole) where
   see_members seen (form at rule.CreateTeams parts from) = refl
   see_members seen (form at rule parts from) = refl
 
-  see_maps : (seen : Summary) (part : Part) → (see whole seen part).maps ≡ fold add_word seen.maps (maps_in part)
+  see_maps : (seen : Summary) (part : Part) → (see whole seen part).maps ≡ fold with_word seen.maps (maps_in part)
   see_maps seen (atom at bytes from) = refl
   see_maps seen (form at rule.PutPoints parts from) = refl
   see_maps seen (form at rule parts from) = refl
 
   see_attributes : (seen : Summary) (part : Part)
-      → (see whole seen part).attributes ≡ fold add_word seen.attributes (attributes_in part)
+      → (see whole seen part).attributes ≡ fold with_word seen.attributes (attributes_in part)
   see_attributes seen (atom at bytes from) = refl
   see_attributes seen (form at rule.Group parts from) = refl
   see_attributes seen (form at rule parts from) = refl
 
-  see_values : (seen : Summary) (part : Part) → (see whole seen part).values ≡ fold add_word seen.values (values_in part)
+  see_values : (seen : Summary) (part : Part) → (see whole seen part).values ≡ fold with_word seen.values (values_in part)
   see_values seen (atom at bytes from) = know_value at.role bytes seen.values
   see_values seen (form at rule.Group parts from) = refl
   see_values seen (form at rule parts from) = refl
@@ -129,9 +129,9 @@ pub record Recalls (whole : Whole) (earlier : List Part) (seen : Summary) : Type
   pub teams_seen : seen.has_teams ≡ some_of (flat_map teams_in earlier)
   pub first_seen : seen.in_first_teams ≡ eqb (length (flat_map teams_in earlier)) 1
   pub members_seen : seen.members ≡ flat_map members_in earlier
-  pub maps_seen : seen.maps ≡ fold add_word [] (flat_map maps_in earlier)
-  pub attributes_seen : seen.attributes ≡ fold add_word [] (flat_map attributes_in earlier)
-  pub values_seen : seen.values ≡ fold add_word [] (flat_map values_in earlier)
+  pub maps_seen : seen.maps ≡ fold with_word [] (flat_map maps_in earlier)
+  pub attributes_seen : seen.attributes ≡ fold with_word [] (flat_map attributes_in earlier)
+  pub values_seen : seen.values ≡ fold with_word [] (flat_map values_in earlier)
   pub locations_seen : (name : List ℕ)
       → first_mention name seen.locations.firsts ≡ first_mention name (flat_map locations_in earlier)
   pub location_total : seen.locations.total
@@ -171,9 +171,9 @@ Recalls-summary whole earlier = record {
   first_seen = ap (λ lines. lines.1) (teams_so_far whole earlier);
   members_seen = see_field whole (λ seen. seen.members) add_member members_in (see_members whole) nothing_seen earlier
       ∙ add_members [] (flat_map members_in earlier);
-  maps_seen = see_field whole (λ seen. seen.maps) add_word maps_in (see_maps whole) nothing_seen earlier;
-  attributes_seen = see_field whole (λ seen. seen.attributes) add_word attributes_in (see_attributes whole) nothing_seen earlier;
-  values_seen = see_field whole (λ seen. seen.values) add_word values_in (see_values whole) nothing_seen earlier;
+  maps_seen = see_field whole (λ seen. seen.maps) with_word maps_in (see_maps whole) nothing_seen earlier;
+  attributes_seen = see_field whole (λ seen. seen.attributes) with_word attributes_in (see_attributes whole) nothing_seen earlier;
+  values_seen = see_field whole (λ seen. seen.values) with_word values_in (see_values whole) nothing_seen earlier;
   locations_seen = λ name. ap (λ o. first_mention name o.firsts) (locations_so_far whole earlier)
       ∙ first_fold whole most_locations name nothing_owned (flat_map locations_in earlier);
   location_total = ap (λ o. o.total) (locations_so_far whole earlier)

@@ -8,7 +8,7 @@ use Rattle.std.proofs.lemmas.List.{take-map, map-append}
 use Rattle.indexmap.specs.IndexSet.{insert_key}
 use Rattle.rc_semantics.specs.Seen.{words_seen}
 use Rattle.rc_semantics.specs.SecondNames.{is_named}
-use Rattle.rc_semantics.specs.Summary.{with_word}
+use Rattle.rc_model.specs.Words.{with_word}
 
 -- the first words
 pub take_words : (n : ℕ) (words : List (Bor (List ℕ))) → take n (words_seen words) ≡ words_seen (take n words)
@@ -32,7 +32,7 @@ words_chosen false word words = map-append (λ other. other.now) words (word ∷
 
 -- a set with one more word
 pub words_inserted : (word : Bor (List ℕ)) (words : List (Bor (List ℕ)))
-    → words_seen (insert_key (λ a b. pointwise nat_eq a.now b.now) words word) ≡ with_word word.now (words_seen words)
+    → words_seen (insert_key (λ a b. pointwise nat_eq a.now b.now) words word) ≡ with_word (words_seen words) word.now
 words_inserted word words =
     words_chosen (list_any (λ other. pointwise nat_eq word.now other.now) words) word words
     ∙ ap (λ known. cond known (words_seen words) (words_seen words ++ word.now ∷ [])) (named_words word.now words)

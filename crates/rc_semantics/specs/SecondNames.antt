@@ -4,7 +4,7 @@ use Rattle.std.specs.List.{list_any}
 use Rattle.rc_model.specs.Literal.{integer}
 use Rattle.rc_model.specs.Tree.{Tree, word, list, Trees, nil, cons}
 use Rattle.rc_sheet_model.specs.Sheet.{Class}
-use Rattle.rc_sheet_model.specs.Numbering.{different}
+use Rattle.rc_model.specs.Words.{different}
 use Rattle.rc_grammar.specs.Faults.{count}
 use Rattle.rc_semantics.specs.Classes.{class_at, owner_count}
 use Rattle.rc_semantics.specs.SecondParts.{Role, given_value, Part, atom, form, part_at, word_in}

@@ -3,6 +3,7 @@
 use Rattle.std.specs.Prelude.{ℕ, ◌+◌, ◌-◌, min, nat_lt, nat_le, Bool, true, false, not, ◌&&◌, ◌||◌, if◌then◌else◌, List, [], ◌∷◌, ◌++◌, length, unwrap_or, Option, Some, None, option_map, is_some, Result, Ok, Err}
 use Rattle.std.specs.List.{list_all}
 use Rattle.rc_model.specs.Tree.{Trees}
+use Rattle.rc_model.specs.Words.{with_word}
 use Rattle.rc_model.specs.Numbers.{below}
 use Rattle.rc_sheet_model.specs.Limits.{most_cards, most_locations, most_numbers, most_attrs, most_values, most_maps, most_stages, most_sites}
 use Rattle.rc_sheet_model.specs.WellFormed.{is_among}
@@ -21,17 +22,13 @@ use Rattle.rc_grammar.specs.declared.fault.SheetFault.{SheetFault}
 
 -- WORDS AND COUNTS
 
--- these different words, and one more
-abbrev pub with_word : List ℕ → List (List ℕ) → List (List ℕ)
-with_word word words = if is_named word words then words else words ++ word ∷ []
-
--- how many words it is more then
+-- how many words more it is with this one
 abbrev pub new_words : List ℕ → List (List ℕ) → ℕ
 new_words word words = if is_named word words then 0 else 1
 
 -- these different words, and one more where it is a value that the setup gives
 abbrev pub with_value : Role → List ℕ → List (List ℕ) → List (List ℕ)
-with_value given_value bytes words = with_word bytes words
+with_value given_value bytes words = with_word words bytes
 with_value role bytes words = words
 
 -- A count and so many more. It stops one above its limit.
@@ -68,9 +65,9 @@ abbrev pub know_form : Whole → Rule → Trees → Whole
 know_form known rule.CreatePlayers parts = record known { players = or_number known.players (number_at (part_at 2 parts)) }
 know_form known rule.CreateTeams parts = record known { teams = or_number known.teams (count parts - 2) }
 know_form known rule.CreateDeck parts = record known { has_deck = true }
-know_form known rule.Group parts = record known { attributes = with_word (word_in 0 parts) known.attributes }
-know_form known rule.Entry parts = record known { attributes = with_word (word_in 0 parts) known.attributes }
-know_form known rule.PutPoints parts = record known { maps = with_word (word_in 2 parts) known.maps }
+know_form known rule.Group parts = record known { attributes = with_word known.attributes (word_in 0 parts) }
+know_form known rule.Entry parts = record known { attributes = with_word known.attributes (word_in 0 parts) }
+know_form known rule.PutPoints parts = record known { maps = with_word known.maps (word_in 2 parts) }
 know_form known rule parts = known
 
 abbrev pub know : Whole → Part → Whole
@@ -164,9 +161,9 @@ see_form whole seen rule.CreatePlayers parts = record seen { has_players = true 
 see_form whole seen rule.CreateTeams parts = record seen { has_teams = true; in_first_teams = not seen.has_teams }
 see_form whole seen rule.CreateDeck parts =
     record seen { cards = counted most_cards seen.cards (faces_of (part_at 3 parts)) }
-see_form whole seen rule.Group parts = record seen { attributes = with_word (word_in 0 parts) seen.attributes }
-see_form whole seen rule.Entry parts = record seen { attributes = with_word (word_in 0 parts) seen.attributes }
-see_form whole seen rule.PutPoints parts = record seen { maps = with_word (word_in 2 parts) seen.maps }
+see_form whole seen rule.Group parts = record seen { attributes = with_word seen.attributes (word_in 0 parts) }
+see_form whole seen rule.Entry parts = record seen { attributes = with_word seen.attributes (word_in 0 parts) }
+see_form whole seen rule.PutPoints parts = record seen { maps = with_word seen.maps (word_in 2 parts) }
 see_form whole seen rule.Location parts =
     record seen { locations = with_mention whole most_locations (mention_of parts) seen.locations }
 see_form whole seen rule.Counter parts =

@@ -4,7 +4,7 @@ ghost use Rattle.rc_form.specs.Form.{tree_of, trees_of, packed};
 ghost use Rattle.rc_semantics.specs.SecondNames.{is_named};
 ghost use Rattle.rc_semantics.specs.SecondParts.{attributes_of, attributes_below, attributes_among};
 ghost use Rattle.rc_semantics.specs.Groups.{attributes_in};
-ghost use Rattle.rc_semantics.specs.Summary.{with_word};
+ghost use Rattle.rc_model.specs.Words.{with_word};
 ghost use Rattle.rc_semantics.specs.Seen.{words_seen};
 
 use crate::fault::SheetFail;
@@ -184,7 +184,7 @@ impl<'a> DifferentNames<'a> {
 
     /// Takes a word, where it is a new one.
     pub fn insert(&mut self, word: &'a [u8]) -> Result<(), SheetFail>
-        ensures after { OnOk result (self.new ≡ with_word word.now self.old) }
+        ensures after { OnOk result (self.new ≡ with_word self.old word.now) }
         ensures memory { OnErr result (result ≡ Err SheetFail.Memory) }
     {
         self.words.insert(word)?;

@@ -1,8 +1,8 @@
 -- Names added one by one are the different ones in the order of the first mention. A name's number is its place.
-use Rattle.std.proofs.Common.{◌≡◌, ◌≢◌, ℕ, ◌+◌, ◌<◌, ◌≤◌, ◌&&◌, ◌||◌, not, Bool, true, false, cond, ltb, List, [], ◌∷◌, ◌++◌, length, get_or, fold, Some, None, ⊎_elim, inl, inr, refl, sym, ap, subst, ◌∙◌, append_assoc, arith}
-use Rattle.std.specs.Prelude.{flat_map, filter, slice_get}
+use Rattle.std.proofs.Common.{◌≡◌, ◌≢◌, ℕ, ◌+◌, ◌<◌, ◌≤◌, ◌||◌, Bool, true, false, cond, ltb, List, [], ◌∷◌, ◌++◌, length, get_or, fold, Some, None, ⊎_elim, inl, inr, refl, sym, ap, subst, ◌∙◌, append_assoc, arith}
+use Rattle.std.specs.Prelude.{flat_map, slice_get}
 use Rattle.std.specs.List.{list_any, position, position_or_len}
-use Rattle.std.specs.Bool.{one_answer}
+use Rattle.std.proofs.Math.Bool.{or_comm}
 use Rattle.std.specs.Str.{bytes_eq}
 use Rattle.std.proofs.lemmas.Bool.{cases_Bool, lt-ltb, cond-true, cond-false}
 use Rattle.std.proofs.lemmas.List.{append-nil}
@@ -12,87 +12,60 @@ use Rattle.std.proofs.lemmas.List.Sums.{position_or_len_is}
 use Rattle.std.proofs.lemmas.Option.{cond_some, slice_get-get_or, slice_get_within, get_or_from_slice_get}
 use Rattle.std.proofs.lemmas.Slice.Eq.{bytes_eq-Decides}
 use Rattle.rc_model.specs.Tree.{Tree, word, list}
-use Rattle.rc_model.specs.DeckText.{Names, Mention, attribute, value, attribute_name, value_name, distinct, names_of, IsName}
-use Rattle.rc_setup.specs.Naming.{with_name, with_mention, with_mentions, number_of, AllDiffer}
+use Rattle.rc_model.specs.Words.{is_variable, with_word, different_from}
+use Rattle.rc_model.specs.DeckText.{Names, Mention, attribute, value, attribute_name, value_name, names_of, IsName}
+use Rattle.rc_setup.specs.Naming.{with_mention, with_mentions, number_of, AllDiffer}
 
--- the name is none of these
-abbrev fresh : List (List ℕ) → List ℕ → Bool
-fresh names name = not (list_any (bytes_eq name) names)
+-- two lists of the same names
+abbrev SameNames : List (List ℕ) → List (List ℕ) → Type 0
+SameNames seen names = (name : List ℕ) → list_any (bytes_eq name) seen ≡ list_any (bytes_eq name) names
 
-bytes_eq-flips : (a b : List ℕ) → bytes_eq a b ≡ bytes_eq b a
-bytes_eq-flips a b =
-    one_answer _ _ (bytes_eq-Decides a b) (λ same. sym ((bytes_eq-Decides b a).0 same), λ same. (bytes_eq-Decides b a).1 (sym same))
+or_false : (a : Bool) → (a || false) ≡ a
+or_false true = refl
+or_false false = refl
 
--- two filters in turn are one
-filter-filter : {X : Type 0} (p q r : X → Bool) → ((x : X) → r x ≡ (q x && p x)) → (xs : List X) → filter p (filter q xs) ≡ filter r xs
-filter-filter p q r both [] = refl
-filter-filter p q r both (x ∷ xs) =
-    elim (cases_Bool (q x)) [
-      | inl passes ↦ rw (both x, passes, filter-filter p q r both xs) refl
-      | inr fails ↦ rw (both x, fails, filter-filter p q r both xs) refl
-    ]
-
--- what isn't among the names differs from each name
-fresh_known : (names : List (List ℕ)) (name other : List ℕ) → list_any (bytes_eq name) names ≡ true →
-    fresh names other ≡ (not (bytes_eq name other) && fresh names other)
-fresh_known names name other known =
-    elim (cases_Bool (bytes_eq name other)) [
-      | inl same ↦
-          let is : name ≡ other = (bytes_eq-Decides name other).0 same in
-          let found : list_any (bytes_eq other) names ≡ true = subst (λ w. list_any (bytes_eq w) names ≡ true) is known in
-          rw (same, found) refl
-      | inr differs ↦ rw differs refl
-    ]
-
--- what isn't among the names and one more is neither
-fresh_new : (names : List (List ℕ)) (name other : List ℕ) →
-    fresh (names ++ name ∷ []) other ≡ (not (bytes_eq name other) && fresh names other)
-fresh_new names name other =
-    let flips : bytes_eq other name ≡ bytes_eq name other = bytes_eq-flips other name in
-    rw (list_any-append (bytes_eq other) names (name ∷ []), flips) (
-    elim (list_any (bytes_eq other) names) as (λ b. not (b || (bytes_eq name other || false)) ≡ (not (bytes_eq name other) && not b)) [
-      | true ↦ elim (bytes_eq name other) as (λ c. false ≡ (not c && false)) [ true ↦ refl | false ↦ refl ]
-      | false ↦ elim (bytes_eq name other) as (λ c. not (c || false) ≡ (not c && true)) [ true ↦ refl | false ↦ refl ]
-    ]
-    )
+-- the same of one more
+SameNames-more : (seen names : List (List ℕ)) (more : List ℕ) → SameNames seen names
+    → SameNames (more ∷ seen) (names ++ more ∷ [])
+SameNames-more seen names more same name =
+    ap (λ b. bytes_eq name more || b) (same name)
+    ∙ or_comm (bytes_eq name more) (list_any (bytes_eq name) names)
+    ∙ ap (λ b. list_any (bytes_eq name) names || b) (sym (or_false (bytes_eq name more)))
+    ∙ sym (list_any-append (bytes_eq name) names (more ∷ []))
 
 -- names added in turn stand behind the others, each once
-added : (mentioned names : List (List ℕ)) → fold with_name names mentioned ≡ names ++ filter (fresh names) (distinct mentioned)
-added [] names = sym (append-nil names)
-added (name ∷ mentioned) names =
+added : (mentioned names seen : List (List ℕ)) → SameNames seen names
+    → fold with_word names mentioned ≡ names ++ different_from seen mentioned
+added [] names seen same = sym (append-nil names)
+added (name ∷ mentioned) names seen same =
     elim (cases_Bool (list_any (bytes_eq name) names)) [
       | inl known ↦
-          let kept : with_name names name ≡ names = cond-true _ _ _ known in
-          rw (kept, known) (
-          added mentioned names ∙ ap (λ rest. names ++ rest)
-          (sym (filter-filter (fresh names) (λ other. not (bytes_eq name other)) (fresh names) (λ other. fresh_known names name other known) (distinct mentioned)))
-          )
+          let kept : with_word names name ≡ names = cond-true _ _ _ known in
+          let passed : different_from seen (name ∷ mentioned) ≡ different_from seen mentioned = cond-true _ _ _ (same name ∙ known) in
+          ap (λ all. fold with_word all mentioned) kept ∙ added mentioned names seen same
+          ∙ ap (λ rest. names ++ rest) (sym passed)
       | inr new ↦
-          let longer : with_name names name ≡ names ++ name ∷ [] = cond-false _ _ _ new in
-          rw (longer, new) (
-          added mentioned (names ++ name ∷ [])
-          ∙ ap (λ rest. (names ++ name ∷ []) ++ rest)
-          (sym (filter-filter (fresh names) (λ other. not (bytes_eq name other)) (fresh (names ++ name ∷ [])) (λ other. fresh_new names name other) (distinct mentioned)))
-          ∙ append_assoc names (name ∷ []) (filter (fresh names) (filter (λ other. not (bytes_eq name other)) (distinct mentioned)))
-          )
+          let longer : with_word names name ≡ names ++ name ∷ [] = cond-false _ _ _ new in
+          let taken : different_from seen (name ∷ mentioned) ≡ name ∷ different_from (name ∷ seen) mentioned =
+          cond-false _ _ _ (same name ∙ new) in
+          ap (λ all. fold with_word all mentioned) longer
+          ∙ added mentioned (names ++ name ∷ []) (name ∷ seen) (SameNames-more seen names name same)
+          ∙ append_assoc names (name ∷ []) (different_from (name ∷ seen) mentioned)
+          ∙ ap (λ rest. names ++ rest) (sym taken)
     ]
 
 -- each kind of name is added by itself
 kinds : (mentions : List Mention) (names : Names) → with_mentions names mentions
-    ≡ record { attrs = fold with_name names.attrs (flat_map attribute_name mentions); values = fold with_name names.values (flat_map value_name mentions) }
+    ≡ record { attrs = fold with_word names.attrs (flat_map attribute_name mentions); values = fold with_word names.values (flat_map value_name mentions) }
 kinds [] names = refl
 kinds (attribute name ∷ mentions) names = kinds mentions (with_mention names (attribute name))
 kinds (value name ∷ mentions) names = kinds mentions (with_mention names (value name))
-
-filter_all : {X : Type 0} (xs : List X) → filter (λ x. true) xs ≡ xs
-filter_all [] = refl
-filter_all (x ∷ xs) = ap (λ rest. x ∷ rest) (filter_all xs)
 
 -- the names of all that is mentioned
 pub with_mentions-none : (mentions : List Mention) → with_mentions (record { attrs = []; values = [] }) mentions ≡ names_of mentions
 with_mentions-none mentions =
     kinds mentions (record { attrs = []; values = [] })
-    ∙ rw (added (flat_map attribute_name mentions) [], added (flat_map value_name mentions) [], filter_all (distinct (flat_map attribute_name mentions)), filter_all (distinct (flat_map value_name mentions))) refl
+    ∙ rw (added (flat_map attribute_name mentions) [] [] (λ name. refl), added (flat_map value_name mentions) [] [] (λ name. refl)) refl
 
 -- what is numbered is the name of that number
 pub number_of-sound : (names : List (List ℕ)) (tree : Tree) (number : ℕ) → number_of names tree ≡ Some number → IsName names number tree

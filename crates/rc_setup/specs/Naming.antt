@@ -1,19 +1,15 @@
 -- Names are numbered as they are mentioned.
-use Rattle.std.specs.Prelude.{◌≡◌, ◌≢◌, ℕ, ◌≤◌, if◌then◌else◌, List, [], ◌∷◌, ◌++◌, length, fold, AllPairs, Option, None}
-use Rattle.std.specs.List.{list_any, position}
+use Rattle.std.specs.Prelude.{◌≡◌, ◌≢◌, ℕ, ◌≤◌, if◌then◌else◌, List, length, fold, AllPairs, Option, None}
+use Rattle.std.specs.List.{position}
 use Rattle.std.specs.Str.{bytes_eq}
 use Rattle.rc_model.specs.Tree.{Tree, word, list}
-use Rattle.rc_model.specs.Words.{is_variable}
+use Rattle.rc_model.specs.Words.{is_variable, with_word}
 use Rattle.rc_model.specs.DeckText.{Names, Mention, attribute, value}
-
--- the names and one more, which goes last where it is new
-abbrev pub with_name : List (List ℕ) → List ℕ → List (List ℕ)
-with_name names name = if list_any (bytes_eq name) names then names else names ++ name ∷ []
 
 -- the names after a mention
 abbrev pub with_mention : Names → Mention → Names
-with_mention names (attribute name) = record { attrs = with_name names.attrs name; values = names.values }
-with_mention names (value name) = record { attrs = names.attrs; values = with_name names.values name }
+with_mention names (attribute name) = record { attrs = with_word names.attrs name; values = names.values }
+with_mention names (value name) = record { attrs = names.attrs; values = with_word names.values name }
 
 -- the names after several mentions
 abbrev pub with_mentions : Names → List Mention → Names

@@ -1,7 +1,8 @@
 //! Names of attributes and values, and their numbers.
 ghost use Rattle.std.specs.Prelude.{◌≡◌, ◌≤◌, [], length, OnOk};
 ghost use Rattle.rc_form.specs.Form.{tree_of};
-ghost use Rattle.rc_setup.specs.Naming.{with_name, number_of, AllDiffer};
+ghost use Rattle.rc_model.specs.Words.{with_word};
+ghost use Rattle.rc_setup.specs.Naming.{number_of, AllDiffer};
 
 use indexmap::IndexSet;
 use rc_deck::Memory;
@@ -55,14 +56,14 @@ impl Names {
 
     /// Gives a number to an attribute that has none.
     pub(crate) fn add_attr(&mut self, name: &Word) -> Result<(), Memory>
-        ensures { OnOk result (self.new ≡ record { attrs = with_name self.old.attrs name.now; values = self.old.values }) }
+        ensures { OnOk result (self.new ≡ record { attrs = with_word self.old.attrs name.now; values = self.old.values }) }
     {
         add(&mut self.attrs, name)
     }
 
     /// Gives a number to a value that has none.
     pub(crate) fn add_value(&mut self, name: &Word) -> Result<(), Memory>
-        ensures { OnOk result (self.new ≡ record { attrs = self.old.attrs; values = with_name self.old.values name.now }) }
+        ensures { OnOk result (self.new ≡ record { attrs = self.old.attrs; values = with_word self.old.values name.now }) }
     {
         add(&mut self.values, name)
     }
@@ -97,7 +98,7 @@ impl Numbers for Names {
 }
 
 fn add(names: &mut IndexSet<Word>, name: &Word) -> Result<(), Memory>
-    ensures { OnOk result (names.new.keys ≡ with_name names.old.keys name.now) }
+    ensures { OnOk result (names.new.keys ≡ with_word names.old.keys name.now) }
 {
     names.insert(*name)?;
     Ok(())

@@ -7,7 +7,7 @@ use Rattle.std.proofs.lemmas.Grind.{flat_map-append}
 use Rattle.rc_model.specs.Tree.{Tree}
 use Rattle.rc_sheet_model.specs.Sheet.{Class, game_class, player_class, team_class}
 use Rattle.rc_sheet_model.specs.Limits.{most_locations, most_numbers}
-use Rattle.rc_sheet_model.specs.Numbering.{different}
+use Rattle.rc_model.specs.Words.{different}
 use Rattle.rc_sheet_model.specs.FormMentions.{names_of}
 use Rattle.rc_grammar.specs.Faults.{faults}
 use Rattle.rc_grammar.specs.declared.grammar.Place.TheVariants as place

@@ -9,7 +9,7 @@ use Rattle.std.proofs.lemmas.Slice.Eq.{bytes_eq-Decides}
 use Rattle.rc_model.specs.Tree.{Tree, word, list, Trees, nil, cons}
 use Rattle.rc_sheet_model.specs.Sheet.{vloc, iloc, hloc, mem, LocName, NumName}
 use Rattle.rc_sheet_model.specs.Naming.{kind_word as kind_bytes}
-use Rattle.rc_sheet_model.specs.Numbering.{different_from, different}
+use Rattle.rc_model.specs.Words.{different, different_from}
 use Rattle.rc_sheet_model.specs.FormMentions.{is_atom, is_kind, word_of, gathered, all_gathered, loc_word, num_word, deck_loc, deck_lines, body, loc_mentions, num_mentions}
 use Rattle.rc_grammar.specs.Faults.{is_kind as is_kind_word}
 use Rattle.rc_semantics.specs.SecondNames.{is_named, Mention, firsts_from}

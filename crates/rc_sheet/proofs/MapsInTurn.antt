@@ -7,7 +7,7 @@ use Rattle.std.proofs.lemmas.List.Folds.{list_any-append}
 use Rattle.std.proofs.lemmas.Grind.{flat_map-append}
 use Rattle.std.proofs.lemmas.Slice.Eq.{bytes_eq-Decides}
 use Rattle.rc_model.specs.Tree.{Tree, list, Trees, nil, cons}
-use Rattle.rc_sheet_model.specs.Numbering.{different_from, different}
+use Rattle.rc_model.specs.Words.{different, different_from}
 use Rattle.rc_sheet_model.specs.StandsSetup.{begins_with, lines_with}
 use Rattle.rc_sheet_model.specs.FormMentions.{all_gathered, map_word, points_map, map_mentions}
 use Rattle.rc_grammar.specs.Faults.{faults, rule_of}

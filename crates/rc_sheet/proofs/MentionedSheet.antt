@@ -6,7 +6,8 @@ use Rattle.rc_model.specs.Tree.{Tree, word, list, Trees, nil, cons}
 use Rattle.rc_sheet_model.specs.Sheet.{Names, Best, highest, lowest, Sheet}
 use Rattle.rc_sheet_model.specs.Mentions.{in_deck, in_map, in_items, in_int, mentions}
 use Rattle.rc_sheet_model.specs.FormMentions.{body, deck_lines, points_lines, points_map, deck_loc, attr_mentions, value_mentions, map_mentions, loc_mentions, num_mentions, var_mentions, AreNames, all_gathered, map_word, loc_word, num_word, all_var_words}
-use Rattle.rc_sheet_model.specs.Numbering.{different, mentioned}
+use Rattle.rc_model.specs.Words.{different}
+use Rattle.rc_sheet_model.specs.Numbering.{mentioned}
 use Rattle.rc_sheet_model.specs.Rows.{◌▸◌, End}
 use Rattle.rc_sheet_model.specs.Naming.{naming_of, self_scope}
 use Rattle.rc_sheet_model.specs.StandsSetup.{StandsSetup, numbered, lines_with}

@@ -7,7 +7,8 @@ use Rattle.rc_model.specs.Tree.{Tree, word, cons}
 use Rattle.rc_sheet_model.specs.Sheet.{Names, LocName, NumName, Sheet}
 use Rattle.rc_sheet_model.specs.Mentions.{Mention, attr_name, value_name, map_name, loc_name, num_name, var_name, in_setup, in_items, in_int, mentions, loc_of, num_of}
 use Rattle.rc_model.specs.Numbers.{below}
-use Rattle.rc_sheet_model.specs.Numbering.{different, IsNumbered}
+use Rattle.rc_model.specs.Words.{different}
+use Rattle.rc_sheet_model.specs.Numbering.{IsNumbered}
 use Rattle.rc_sheet_model.specs.FormMentions.{names_of}
 use Rattle.rc_sheet_model.specs.Rows.{◌▸◌, End, AtLeast, Row, Atom}
 use Rattle.rc_sheet_model.specs.Rows.{Some as Full}

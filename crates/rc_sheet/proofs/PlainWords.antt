@@ -4,8 +4,7 @@ use Rattle.std.specs.List.{list_all, AllByRecursion}
 use Rattle.std.proofs.lemmas.Bool.{both_ways}
 use Rattle.rc_model.specs.Tree.{Tree, word, list, Trees, nil, cons}
 use Rattle.rc_sheet_model.specs.Sheet.{Sheet}
-use Rattle.rc_model.specs.Words.{is_variable}
-use Rattle.rc_sheet_model.specs.Numbering.{different}
+use Rattle.rc_model.specs.Words.{is_variable, different}
 use Rattle.rc_sheet_model.specs.FormMentions.{word_of, var_words, bound_words, all_var_words, var_mentions, attr_mentions, value_mentions, map_mentions, loc_mentions, num_mentions}
 use Rattle.rc_sheet_model.specs.FormMentions.{is_binder as is_binder_head}
 use Rattle.rc_sheet_model.specs.WellFormed.{is_atom, is_plain_word, is_variable_word, HasWords}

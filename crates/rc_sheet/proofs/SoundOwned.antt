@@ -8,7 +8,8 @@ use Rattle.std.proofs.lemmas.Option.{same_Some}
 use Rattle.rc_model.specs.Tree.{Tree}
 use Rattle.rc_sheet_model.specs.Sheet.{Class, LocName, NumName, Sheet}
 use Rattle.rc_sheet_model.specs.Naming.{naming_of, loc_class, num_class}
-use Rattle.rc_sheet_model.specs.Numbering.{different, IsNumbered}
+use Rattle.rc_model.specs.Words.{different}
+use Rattle.rc_sheet_model.specs.Numbering.{IsNumbered}
 use Rattle.rc_sheet_model.specs.Stands.{Stands}
 use Rattle.rc_sheet_model.specs.WellFormed.{owner_count}
 use Rattle.rc_grammar.specs.Faults.{faults}

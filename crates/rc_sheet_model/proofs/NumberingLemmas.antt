@@ -4,7 +4,8 @@ use Rattle.std.specs.List.{list_any, AllPairs}
 use Rattle.std.proofs.lemmas.Bool.{cond-true, cond-false, lt-ltb, le-ltb, or_left, or_right, or_from, false_from_ne_true, cases_lt}
 use Rattle.std.proofs.lemmas.List.{at_drop_more, drop_all}
 use Rattle.std.proofs.lemmas.Slice.Eq.{bytes_eq-Decides}
-use Rattle.rc_sheet_model.specs.Numbering.{different_from, different, Extends}
+use Rattle.rc_model.specs.Words.{different, different_from}
+use Rattle.rc_sheet_model.specs.Numbering.{Extends}
 
 -- there are no fewer names behind mentions than before them
 pub Extends-le : (before : ℕ) (ns : List ℕ) (after : ℕ) → Extends before ns after → before ≤ after

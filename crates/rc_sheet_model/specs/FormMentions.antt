@@ -5,7 +5,7 @@ use Rattle.std.specs.Prelude.{◌≡◌, ℕ, ◌||◌, Bool, false, if◌then�
 use Rattle.rc_model.specs.Tree.{Tree, word, list, Trees, nil, cons}
 use Rattle.rc_sheet_model.specs.Sheet.{Names, Sheet}
 use Rattle.rc_sheet_model.specs.StandsSetup.{lines_with}
-use Rattle.rc_sheet_model.specs.Numbering.{different}
+use Rattle.rc_model.specs.Words.{different}
 
 -- the form is this atom
 abbrev pub is_atom : String → Tree → Bool

@@ -1,18 +1,9 @@
 -- How names, stages and choices are numbered: by the order in which they are first mentioned.
-use Rattle.std.specs.Prelude.{◌≡◌, ℕ, ◌+◌, ◌<◌, ◌⊎◌, if◌then◌else◌, List, [], ◌∷◌, length, slice_index_or, map, flat_map, bytes_eq}
-use Rattle.std.specs.List.{list_any}
+use Rattle.std.specs.Prelude.{◌≡◌, ℕ, ◌+◌, ◌<◌, ◌⊎◌, List, [], ◌∷◌, length, slice_index_or, map, flat_map}
+use Rattle.rc_model.specs.Words.{different}
 use Rattle.rc_model.specs.Numbers.{below}
 use Rattle.rc_sheet_model.specs.Sheet.{Sheet}
 use Rattle.rc_sheet_model.specs.Mentions.{Mention, attr_of, value_of, map_of, loc_of, num_of, var_of, mentions, stages_in, sites_in}
-
--- the different ones among words, but for those that were seen, in the order in which they first stand
-abbrev pub different_from : List (List ℕ) → List (List ℕ) → List (List ℕ)
-different_from seen [] = []
-different_from seen (word ∷ words) =
-    if list_any (bytes_eq word) seen then different_from seen words else word ∷ different_from (word ∷ seen) words
-
-abbrev pub different : List (List ℕ) → List (List ℕ)
-different words = different_from [] words
 
 -- the words of one kind that a sheet mentions, in order
 abbrev pub mentioned : Sheet → (Mention → List ℕ) → List (List ℕ) → List (List ℕ)

@@ -1,6 +1,7 @@
 //! Laws about the definitions of sheets. No function here does anything.
 ghost use Rattle.std.specs.Prelude.{◌≡◌, ◌≢◌, ℕ, List, [], length, map, slice_index_or, AllPairs};
-ghost use Rattle.rc_sheet_model.specs.Numbering.{different, Extends};
+ghost use Rattle.rc_model.specs.Words.{different};
+ghost use Rattle.rc_sheet_model.specs.Numbering.{Extends};
 
 /// Names that differ and are numbered one by one are numbered by their first mention.
 pub fn names_numbered_one_by_one()
