@@ -4,8 +4,8 @@ use Rattle.std.proofs.Common.{◌≡◌, ℕ, true, codes, refl, sym, subst}
 use Rattle.rc_model.specs.Tree.{Tree, list, Trees, cons}
 use Rattle.rc_sheet_model.specs.Sheet.{Sort, card_sort, group_sort, CardExpr, card_var, top_card, bottom_card, max_card, min_card, CollExpr, group_var, cards_in, filtered, union_of, CollExprs, no_coll, coll, IntExpr, literal, number, size_of, sum_of, worth_of, add, subtract, multiply, Test, eq_int, eq_card, eq_attr, eq_who, ne, less, less_eq, more, more_eq, has_value, and_of, or_of, not_of, all_of, any_of, Tests, no_test, test, Domain, each_player, each_card, each_group, Sheet}
 use Rattle.rc_sheet_model.specs.Rows.{◌▸◌, End, Row, Atom}
-use Rattle.rc_sheet_model.specs.Naming.{Naming, naming_of, Scope, bind, sort_of, Named, Binder}
-use Rattle.rc_sheet_model.specs.Printing.{packed, keyword, named, Bound, attr_of, card_form, coll_form, coll_forms, int_form, test_form, test_forms, domain_form}
+use Rattle.rc_sheet_model.specs.Naming.{Naming, Scope, bind, sort_of, Named, Binder, sheet_naming}
+use Rattle.rc_sheet_model.specs.Printing.{packed, keyword, named, Bound, card_form, coll_form, coll_forms, int_form, test_form, test_forms, domain_form, attr_form}
 use Rattle.rc_sheet_model.specs.StandsExpressions.{StandsCard, StandsColl, StandColls, StandsInt, StandsTest, StandTests, StandsRange, StandsDomain}
 use Rattle.rc_sheet_model.specs.WellFormed.{is_atom, HasWords}
 use Rattle.rc_ast.specs.Unplaced.{card_unplaced, coll_unplaced, colls_unplaced, int_unplaced, test_unplaced, tests_unplaced, domain_unplaced}
@@ -19,13 +19,13 @@ same_sort (each_group cards attr) = refl
 
 module _ (sheet : Sheet) (words : HasWords sheet) where
   abbrev naming : Naming
-  naming = naming_of sheet
+  naming = sheet_naming sheet
 
   -- a card's attribute
   attr_copied : {A B : Tree → Type 0} {tree : Tree} → Copies A B tree → (attr : ℕ)
       → Copies (Row (Atom "attr" ▸ A ▸ Named sheet.names.attrs attr ▸ End))
       (Row (Atom "attr" ▸ B ▸ Named sheet.names.attrs attr ▸ End))
-      (attr_of naming tree attr)
+      (attr_form naming tree attr)
   attr_copied card attr = two_copied "attr" refl card (named_copied sheet.names.attrs attr words.attrs)
 
   -- what a variable runs over that is bound in the parts behind it

@@ -3,7 +3,7 @@ use Rattle.std.proofs.Common.{List, [], ◌∷◌, ◌++◌, map, refl}
 use Rattle.rc_model.specs.Tree.{Tree, Trees}
 use Rattle.rc_sheet_model.specs.Sheet.{End as Place, top, bottom, Loc, Effect, move, move_all, remember, forget, shuffle, set_to, increase, decrease, when, repeat, for_each, next_is, turn_round, Effects, no_effect, effect, Alt, do_alt, if_alt, any_alt, Class, game_class, player_class, team_class, SheetItem, do_item, stage, choice, SheetItems, no_item, item, Sheet}
 use Rattle.rc_sheet_model.specs.Rows.{◌▸◌, End, Some}
-use Rattle.rc_sheet_model.specs.Naming.{Naming, naming_of, Scope, bind, sort_of}
+use Rattle.rc_sheet_model.specs.Naming.{Naming, Scope, bind, sort_of, sheet_naming}
 use Rattle.rc_sheet_model.specs.Printing.{packed, Bound, spot_form, effect_form, effect_forms, alt_form, class_form, item_form, item_forms}
 use Rattle.rc_sheet_model.specs.StandsEffects.{StandsSpot, StandsEffect, StandEffects}
 use Rattle.rc_sheet_model.specs.StandsItems.{StandsAlt, StandAlts, StandsClass, StandsItem, StandItems}
@@ -15,7 +15,7 @@ use Rattle.rc_ast.proofs.CopiedExpressions.{ranged_copied, card_copied, coll_cop
 
 module _ (sheet : Sheet) (words : HasWords sheet) where
   abbrev naming : Naming
-  naming = naming_of sheet
+  naming = sheet_naming sheet
 
   spot_copied : {scope : Scope} {bound : Bound} → Fits scope bound → (end : Place) (loc : Loc)
       → Copies (StandsSpot naming scope end loc) (StandsSpot naming scope end (loc_unplaced loc)) (spot_form naming bound end loc)

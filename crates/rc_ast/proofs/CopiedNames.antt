@@ -11,7 +11,7 @@ use Rattle.rc_model.specs.Tree.{Tree, word, list}
 use Rattle.rc_sheet_model.specs.Sheet.{Sort, LocKind, vloc, iloc, hloc, mem, LocName, Who, game, current_player, current_team, team_of_current, team_of_var, who_var, Loc, Num, Sheet, player_sort}
 use Rattle.rc_sheet_model.specs.Rows.{◌▸◌, End, Row, Atom}
 use Rattle.rc_model.specs.Words.{is_variable}
-use Rattle.rc_sheet_model.specs.Naming.{Naming, naming_of, Scope, bind, self_scope, kind_word, Named, Binder, InScope, Literal, KindOf}
+use Rattle.rc_sheet_model.specs.Naming.{Naming, Scope, bind, self_scope, kind_word, Named, Binder, InScope, Literal, KindOf, sheet_naming}
 use Rattle.rc_sheet_model.specs.Printing.{keyword, row, named, number_form, Bound, binding, who_form, kind_bytes, kind_form, loc_form, num_form, one, two, with_map}
 use Rattle.rc_sheet_model.specs.StandsExpressions.{StandsOwner, StandsHolder, StandsLoc, StandsNum, Two, TwoOwners}
 use Rattle.rc_sheet_model.specs.WellFormed.{is_atom, is_plain_word, is_variable_word, HasWords}
@@ -147,7 +147,7 @@ kind_copied naming name = word_copied (λ bytes stands. kind_is (slice_get namin
 
 module _ (sheet : Sheet) (words : HasWords sheet) where
   abbrev naming : Naming
-  naming = naming_of sheet
+  naming = sheet_naming sheet
 
   pub binder_copied : (var : ℕ) → Copies (Binder naming var) (Binder naming var) (named sheet.names.vars var)
   binder_copied var =

@@ -8,7 +8,7 @@ use Rattle.rc_model.specs.Tree.{Tree, word, list, Trees, nil, cons, IsOpenAtMost
 use Rattle.rc_model.specs.Deck.{Groups, no_group, group, Branches, no_branch, branch, Entry}
 use Rattle.rc_sheet_model.specs.Sheet.{Teams, DeckLine, Sheet}
 use Rattle.rc_sheet_model.specs.Rows.{◌▸◌, End, Some, Row, Atom}
-use Rattle.rc_sheet_model.specs.Naming.{Naming, naming_of, Named, KindOf}
+use Rattle.rc_sheet_model.specs.Naming.{Naming, Named, KindOf, sheet_naming}
 use Rattle.rc_sheet_model.specs.Printing.{packed, keyword, row, named, number_form, group_forms, branch_forms, players_form, team_form, teams_forms, deck_form, entry_form, map_form, setup_forms}
 use Rattle.rc_sheet_model.specs.StandsSetup.{StandsPlayers, StandsTeam, StandTeams, StandsTeams, StandsGroups, StandsBranches, StandsDeck, StandValues, StandEntries, StandsMap, begins_with, lines_with, are_lines, team_lines, numbered, StandsSetup}
 use Rattle.rc_sheet_model.specs.WellFormed.{HasWords}
@@ -41,7 +41,7 @@ teams_line_copied teams =
 
 module _ (sheet : Sheet) (words : HasWords sheet) where
   abbrev naming : Naming
-  naming = naming_of sheet
+  naming = sheet_naming sheet
 
   mutual
     groups_copied : (groups : Groups)
@@ -221,7 +221,7 @@ teams_are (Present teams) = refl
 
 module _ (sheet : Sheet) (words : HasWords sheet) where
   abbrev names : Naming
-  names = naming_of sheet
+  names = sheet_naming sheet
 
   abbrev players_lines : List Tree
   players_lines = map players_form (sheet.players ∷ [])

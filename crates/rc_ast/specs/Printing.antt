@@ -1,13 +1,13 @@
 -- What a printer knows of the numbers in a part of a sheet.
 use Rattle.std.specs.Prelude.{ℕ, List, [], map, codes, slice_index_or}
-use Rattle.rc_sheet_model.specs.Naming.{Naming, naming_of}
+use Rattle.rc_sheet_model.specs.Naming.{Naming, sheet_naming}
 use Rattle.rc_ast.specs.declared.sheet.Sheet.{Sheet}
 use Rattle.rc_ast.specs.declared.printing.words.Variable.{Variable}
 use Rattle.rc_ast.specs.declared.printing.words.Variable.TheVariants.{Own, Named}
 use Rattle.rc_ast.specs.Sheet.{sheet_seen}
 
 abbrev pub naming_seen : Sheet → Naming
-naming_seen sheet = naming_of (sheet_seen sheet)
+naming_seen sheet = sheet_naming (sheet_seen sheet)
 
 -- the word of a variable
 abbrev pub variable_word : Sheet → Variable → List ℕ

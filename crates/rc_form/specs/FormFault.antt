@@ -103,6 +103,6 @@ IsSpelledOrFaulty text want =
     ((forms : List Tree) × (rest : ℕ) × Spelled text want forms rest) ⊎ ((kind : FormKind) × (at : ℕ) × IsFormFault text want kind at)
 
 -- what holds of the fault; nothing is said where memory ran out
-abbrev pub IfFault : FormFail → (FormFault → Type 0) → Type 0
-IfFault Memory P = Unit {0}
-IfFault (Fault fault) P = P fault
+abbrev pub IfFormFault : FormFail → (FormFault → Type 0) → Type 0
+IfFormFault Memory P = Unit {0}
+IfFormFault (Fault fault) P = P fault

@@ -2,7 +2,7 @@
 ghost use Rattle.std.specs.Prelude.{◌≡◌, ℕ, ◌≤◌, List, [], length, flat_map, Ok, Err, IfOk, IfErr, All};
 ghost use Rattle.rc_model.specs.Token.{tokens};
 ghost use Rattle.rc_form.specs.Form.{tree_of, trees_of, IsPrintable};
-ghost use Rattle.rc_form.specs.FormFault.{IsFormFault, IsSpelledOrFaulty, IfFault};
+ghost use Rattle.rc_form.specs.FormFault.{IsFormFault, IsSpelledOrFaulty, IfFormFault};
 ghost use Rattle.rc_form.specs.Lexer.{tokens_at};
 ghost use Rattle.rc_form.specs.Read.{read};
 ghost use Rattle.rc_form.specs.Reader.{FaultIs};
@@ -47,8 +47,8 @@ pub fn read_forms(alloc: Global, text: &[u8], want: usize) -> Result<Forms, Form
     ensures all { IfOk result (λ f. f.rest ≡ length text.now
         → tokens text.now ≡ flat_map spelling (trees_of f.list.items)) }
 
-    ensures fault { IfErr result (λ fail. IfFault fail (λ f. IsFormFault text.now want f.kind f.at)) }
-    ensures only_fault { IfErr result (λ fail. IfFault fail (λ f. (kind : FormKind) (at : ℕ)
+    ensures fault { IfErr result (λ fail. IfFormFault fail (λ f. IsFormFault text.now want f.kind f.at)) }
+    ensures only_fault { IfErr result (λ fail. IfFormFault fail (λ f. (kind : FormKind) (at : ℕ)
         → IsFormFault text.now want kind at → (kind ≡ f.kind) × (at ≡ f.at))) }
 
     // A text that spells the wanted lists has no fault.

@@ -8,7 +8,7 @@ use Rattle.rc_model.specs.Clamp.{IsWithinClamp}
 use Rattle.rc_model.specs.Deck.{Groups, no_group, group, Branches, no_branch, branch, Face, AreFaces, Entry, points_of}
 
 -- the words of the attributes and of the values, each at the place that is its number
-pub record Names : Type 0 where
+pub record DeckNames : Type 0 where
   pub attrs : List (List ℕ)
   pub values : List (List ℕ)
 
@@ -27,7 +27,7 @@ pub record IsName (names : List (List ℕ)) (number : ℕ) (tree : Tree) : Type 
   pub numbered : slice_get names number ≡ Some name
 
 -- `(ATTR PARTS)`: the attribute has this number, and the list behind it has parts of this kind
-pub record IsGroup (names : Names) (attr : ℕ) (AreBranches : Trees → Type 0) (tree : Tree) : Type 0 where
+pub record IsGroup (names : DeckNames) (attr : ℕ) (AreBranches : Trees → Type 0) (tree : Tree) : Type 0 where
   pub head : Tree
   pub second : Tree
   pub inner : Trees
@@ -37,7 +37,7 @@ pub record IsGroup (names : Names) (attr : ℕ) (AreBranches : Trees → Type 0)
   pub branches : AreBranches inner
 
 -- `(VALUE PARTS..)`: the value has this number, and parts of this kind stand behind it
-pub record IsBranch (names : Names) (value : ℕ) (AreGroups : Trees → Type 0) (tree : Tree) : Type 0 where
+pub record IsBranch (names : DeckNames) (value : ℕ) (AreGroups : Trees → Type 0) (tree : Tree) : Type 0 where
   pub head : Tree
   pub inner : Trees
   pub listed : IsList tree (cons head inner)
@@ -47,7 +47,7 @@ pub record IsBranch (names : Names) (value : ℕ) (AreGroups : Trees → Type 0)
 -- `(ATTR (BRANCH ..))` stands for a group with some branches. `VALUE` stands for a branch without groups, `(VALUE GROUP ..)` for
 -- one with some.
 abbrev mutual
-  pub GroupsStand : Names → Groups → Trees → Type 0
+  pub GroupsStand : DeckNames → Groups → Trees → Type 0
   GroupsStand names no_group nil = Unit {0}
   GroupsStand names no_group (cons tree trees) = ⊥
   GroupsStand names (group attr branches rest) nil = ⊥
@@ -55,7 +55,7 @@ abbrev mutual
       IsGroup names attr (λ inner. (branches ≢ no_branch) × BranchesStand names branches inner) tree
       × GroupsStand names rest trees
 
-  pub BranchesStand : Names → Branches → Trees → Type 0
+  pub BranchesStand : DeckNames → Branches → Trees → Type 0
   BranchesStand names no_branch nil = Unit {0}
   BranchesStand names no_branch (cons tree trees) = ⊥
   BranchesStand names (branch value inner rest) nil = ⊥
@@ -65,7 +65,7 @@ abbrev mutual
       IsBranch names value (GroupsStand names (group attr branches others)) tree × BranchesStand names rest trees
 
 -- `(deck GROUP ..)`
-pub record DeckStands (names : Names) (groups : Groups) (tree : Tree) : Type 0 where
+pub record DeckStands (names : DeckNames) (groups : Groups) (tree : Tree) : Type 0 where
   pub head : Tree
   pub parts : Trees
   pub listed : IsList tree (cons head parts)
@@ -74,7 +74,7 @@ pub record DeckStands (names : Names) (groups : Groups) (tree : Tree) : Type 0 w
   pub stands : GroupsStand names groups parts
 
 -- these values are written, one behind the other
-abbrev pub ValuesStand : Names → List ℕ → Trees → Type 0
+abbrev pub ValuesStand : DeckNames → List ℕ → Trees → Type 0
 ValuesStand names [] nil = Unit {0}
 ValuesStand names [] (cons tree trees) = ⊥
 ValuesStand names (value ∷ values) nil = ⊥
@@ -88,7 +88,7 @@ pub record IsPoints (points : ℤ) (tree : Tree) : Type 0 where
   pub within : IsWithinClamp points
 
 -- `(ATTR (VALUE ..) n)`
-pub record EntryStands (names : Names) (entry : Entry) (tree : Tree) : Type 0 where
+pub record EntryStands (names : DeckNames) (entry : Entry) (tree : Tree) : Type 0 where
   pub head : Tree
   pub second : Tree
   pub third : Tree
@@ -100,88 +100,88 @@ pub record EntryStands (names : Names) (entry : Entry) (tree : Tree) : Type 0 wh
   pub valued : ValuesStand names entry.values values
   pub points : IsPoints entry.points third
 
-abbrev pub AllEntriesStand : Names → List Entry → Trees → Type 0
+abbrev pub AllEntriesStand : DeckNames → List Entry → Trees → Type 0
 AllEntriesStand names [] nil = Unit {0}
 AllEntriesStand names [] (cons tree trees) = ⊥
 AllEntriesStand names (entry ∷ entries) nil = ⊥
 AllEntriesStand names (entry ∷ entries) (cons tree trees) = EntryStands names entry tree × AllEntriesStand names entries trees
 
 -- `(ENTRY ..)`
-pub record EntriesStand (names : Names) (entries : List Entry) (tree : Tree) : Type 0 where
+pub record EntriesStand (names : DeckNames) (entries : List Entry) (tree : Tree) : Type 0 where
   pub parts : Trees
   pub listed : IsList tree parts
   pub some : entries ≢ []
   pub stand : AllEntriesStand names entries parts
 
 -- a name that is mentioned: an attribute's or a value's
-pub data Mention : Type 0 where
-  attribute : (name : List ℕ) → Mention
-  value : (name : List ℕ) → Mention
+pub data DeckMention : Type 0 where
+  attribute : (name : List ℕ) → DeckMention
+  value : (name : List ℕ) → DeckMention
 
-abbrev pub attribute_mention : Tree → List Mention
+abbrev pub attribute_mention : Tree → List DeckMention
 attribute_mention (word bytes from to) = attribute bytes ∷ []
 attribute_mention (list parts from to) = []
 
-abbrev pub value_mention : Tree → List Mention
+abbrev pub value_mention : Tree → List DeckMention
 value_mention (word bytes from to) = value bytes ∷ []
 value_mention (list parts from to) = []
 
-abbrev pub value_mentions : Trees → List Mention
+abbrev pub value_mentions : Trees → List DeckMention
 value_mentions nil = []
 value_mentions (cons tree trees) = value_mention tree ++ value_mentions trees
 
 -- What is mentioned in groups, in the parts of a group behind its attribute, and in its branches, in the order of the text.
 abbrev mutual
-  pub in_groups : Trees → List Mention
+  pub in_groups : Trees → List DeckMention
   in_groups nil = []
   in_groups (cons (word bytes from to) trees) = in_groups trees
   in_groups (cons (list nil from to) trees) = in_groups trees
   in_groups (cons (list (cons head parts) from to) trees) = attribute_mention head ++ in_parts parts ++ in_groups trees
 
-  pub in_parts : Trees → List Mention
+  pub in_parts : Trees → List DeckMention
   in_parts nil = []
   in_parts (cons (word bytes from to) trees) = in_parts trees
   in_parts (cons (list branches from to) trees) = in_branches branches ++ in_parts trees
 
-  pub in_branches : Trees → List Mention
+  pub in_branches : Trees → List DeckMention
   in_branches nil = []
   in_branches (cons (word bytes from to) trees) = value bytes ∷ in_branches trees
   in_branches (cons (list nil from to) trees) = in_branches trees
   in_branches (cons (list (cons head groups) from to) trees) = value_mention head ++ in_groups groups ++ in_branches trees
 
 -- what is mentioned behind the word `deck`
-abbrev pub in_deck : Tree → List Mention
+abbrev pub in_deck : Tree → List DeckMention
 in_deck (word bytes from to) = []
 in_deck (list nil from to) = []
 in_deck (list (cons head groups) from to) = in_groups groups
 
 -- what is mentioned in an entry
-abbrev pub in_entry : Tree → List Mention
+abbrev pub in_entry : Tree → List DeckMention
 in_entry (list (cons head (cons (list values start end) parts)) from to) = attribute_mention head ++ value_mentions values
 in_entry (list (cons head (cons (word bytes start end) parts)) from to) = []
 in_entry (list (cons head nil) from to) = []
 in_entry (list nil from to) = []
 in_entry (word bytes from to) = []
 
-abbrev pub in_all_entries : Trees → List Mention
+abbrev pub in_all_entries : Trees → List DeckMention
 in_all_entries nil = []
 in_all_entries (cons tree trees) = in_entry tree ++ in_all_entries trees
 
-abbrev pub in_entries : Tree → List Mention
+abbrev pub in_entries : Tree → List DeckMention
 in_entries (word bytes from to) = []
 in_entries (list parts from to) = in_all_entries parts
 
 -- the words of one kind
-abbrev pub attribute_name : Mention → List (List ℕ)
+abbrev pub attribute_name : DeckMention → List (List ℕ)
 attribute_name (attribute name) = name ∷ []
 attribute_name (value name) = []
 
-abbrev pub value_name : Mention → List (List ℕ)
+abbrev pub value_name : DeckMention → List (List ℕ)
 value_name (attribute name) = []
 value_name (value name) = name ∷ []
 
 -- the names of all that is mentioned, each at the place of its first mention
-abbrev pub names_of : List Mention → Names
+abbrev pub names_of : List DeckMention → DeckNames
 names_of mentions =
     record { attrs = different (flat_map attribute_name mentions); values = different (flat_map value_name mentions) }
 

@@ -5,7 +5,7 @@ use Rattle.std.proofs.lemmas.Bool.{cases_Bool, cond-true, cond-false}
 use Rattle.std.proofs.lemmas.List.{append-nil, map-append, map-id}
 use Rattle.std.proofs.lemmas.List.Folds.{list_any-append}
 use Rattle.rc_model.specs.Words.{different, different_from}
-use Rattle.rc_semantics.specs.SecondNames.{Mention, firsts_from}
+use Rattle.rc_semantics.specs.SecondNames.{firsts_from, OwnedMention}
 use Rattle.rc_naming.specs.Known.{with_first, with_firsts, with_words, with_mentions}
 
 pub list_any-map : {X Y : Type 0} (p : Y → Bool) (f : X → Y) (xs : List X) → list_any p (map f xs) ≡ list_any (λ x. p (f x)) xs
@@ -73,7 +73,7 @@ module _ {X : Type 0} (name : X → List ℕ) where
   pub names_added : (xs : List X) → map name (with_firsts name [] xs) ≡ different (map name xs)
   names_added xs = ap (map name) (added [] xs) ∙ different_names [] xs
 
-firsts_are : (seen : List (List ℕ)) (mentions : List Mention) →
+firsts_are : (seen : List (List ℕ)) (mentions : List OwnedMention) →
     firsts (λ mention. mention.name) seen mentions ≡ firsts_from seen mentions
 firsts_are seen [] = refl
 firsts_are seen (mention ∷ mentions) =
@@ -84,7 +84,7 @@ pub words_added : (words : List (List ℕ)) → with_words [] words ≡ differen
 words_added words =
     sym (map-id (with_words [] words)) ∙ names_added (λ bytes. bytes) words ∙ ap different (map-id words)
 
-pub mentions_added : (mentions : List Mention) → with_mentions [] mentions ≡ firsts_from [] mentions
+pub mentions_added : (mentions : List OwnedMention) → with_mentions [] mentions ≡ firsts_from [] mentions
 mentions_added mentions = added (λ mention. mention.name) [] mentions ∙ firsts_are [] mentions
 
 -- what is seen of those that are added

@@ -2,11 +2,11 @@
 use Rattle.std.proofs.Common.{◌≡◌, ℕ, ◌≤◌, Bool, true, false, if◌then◌else◌, List, [], ◌∷◌, ◌++◌, length, map, flat_map, refl, sym, ap, ◌∙◌}
 use Rattle.std.proofs.lemmas.List.{append-nil, map-append}
 use Rattle.rc_model.specs.Tree.{Tree, word, list, Trees, nil, cons}
-use Rattle.rc_sheet_model.specs.FormMentions.{is_atom, is_kind, gathered, all_gathered, word_of, loc_word, num_word, deck_loc, body, deck_lines, loc_mentions, num_mentions}
-use Rattle.rc_semantics.specs.SecondNames.{Mention}
+use Rattle.rc_sheet_model.specs.FormMentions.{is_kind, gathered, all_gathered, word_of, loc_word, num_word, deck_loc, body, deck_lines, loc_mentions, num_mentions, is_text}
+use Rattle.rc_semantics.specs.SecondNames.{OwnedMention}
 use Rattle.rc_naming.specs.Mentions.{mention_by, loc_mention, num_mention, deck_location, all_locations, all_numbers}
 
-abbrev names : List Mention → List (List ℕ)
+abbrev names : List OwnedMention → List (List ℕ)
 names mentions = map (λ mention. mention.name) mentions
 
 -- what is gathered, item by item
@@ -45,7 +45,7 @@ num_words : (parts : Trees) → names (num_mention parts) ≡ num_word parts
 num_words nil = refl
 num_words (cons holder nil) = refl
 num_words (cons holder (cons kind nil)) = refl
-num_words (cons holder (cons kind (cons name nil))) = mentioned holder kind name (is_atom "sto" kind)
+num_words (cons holder (cons kind (cons name nil))) = mentioned holder kind name (is_text "sto" kind)
 num_words (cons holder (cons kind (cons name (cons more rest)))) = refl
 
 deck_words : (line : Tree) → names (deck_location line) ≡ deck_loc line

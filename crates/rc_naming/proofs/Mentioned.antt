@@ -6,30 +6,30 @@ use Rattle.std.proofs.lemmas.Slice.Eq.{bytes_eq-Decides}
 use Rattle.rc_model.specs.Tree.{Tree, word, list, Trees, nil, cons}
 use Rattle.rc_form.specs.declared.form.Form.{Form}
 use Rattle.rc_form.specs.Form.{tree_of, trees_of, packed}
-use Rattle.rc_sheet_model.specs.FormMentions.{is_atom, attr_word, word_of}
+use Rattle.rc_sheet_model.specs.FormMentions.{attr_word, word_of, is_text}
 use Rattle.rc_grammar.specs.Faults.{is_form_word}
 use Rattle.rc_grammar.specs.declared.keyword.Keyword.TheVariants as keyword
 use Rattle.rc_semantics.specs.Classes.{class_at}
 use Rattle.rc_semantics.specs.SecondParts.{bytes_of}
-use Rattle.rc_semantics.specs.SecondNames.{Mention}
+use Rattle.rc_semantics.specs.SecondNames.{OwnedMention}
 use Rattle.rc_naming.specs.Mentions.{mention_by, num_mention}
 
 -- the fixed words of two definitions are the same
-is_word : (tree : Tree) → is_form_word keyword.Is tree ≡ is_atom "is" tree
+is_word : (tree : Tree) → is_form_word keyword.Is tree ≡ is_text "is" tree
 is_word (word bytes from to) = refl
 is_word (list parts from to) = refl
 
-sto_word : (tree : Tree) → is_form_word keyword.Sto tree ≡ is_atom "sto" tree
+sto_word : (tree : Tree) → is_form_word keyword.Sto tree ≡ is_text "sto" tree
 sto_word (word bytes from to) = refl
 sto_word (list parts from to) = refl
 
-sto_bytes : (tree : Tree) → is_atom "sto" tree ≡ true → bytes_of tree ≡ codes "sto"
+sto_bytes : (tree : Tree) → is_text "sto" tree ≡ true → bytes_of tree ≡ codes "sto"
 sto_bytes (word bytes from to) is = (bytes_eq-Decides bytes (codes "sto")).0 is
 sto_bytes (list parts from to) is = absurd cc
 
 attr_at : (forms : List Form) (head attr : Form) → 4 ≤ length forms → length forms < 5 → head ≡ get_or forms 0 head
     → attr ≡ get_or forms 2 attr
-    → attr_word (packed (trees_of forms)) ≡ (if is_atom "is" (tree_of head) then word_of (tree_of attr) else [])
+    → attr_word (packed (trees_of forms)) ≡ (if is_text "is" (tree_of head) then word_of (tree_of attr) else [])
 attr_at [] head attr least most is-head is-attr = absurd (omega arith)
 attr_at (a ∷ []) head attr least most is-head is-attr = absurd (omega arith)
 attr_at (a ∷ b ∷ []) head attr least most is-head is-attr = absurd (omega arith)
@@ -52,7 +52,7 @@ attr_four-none forms head attr least most is-head is-attr is =
 num_at : (forms : List Form) (holder kind name : Form) → 3 ≤ length forms → length forms < 4 → holder ≡ get_or forms 0 holder
     → kind ≡ get_or forms 1 kind → name ≡ get_or forms 2 name
     → num_mention (packed (trees_of forms))
-    ≡ (if is_atom "sto" (tree_of kind) then mention_by (tree_of holder) (tree_of kind) (tree_of name) else [])
+    ≡ (if is_text "sto" (tree_of kind) then mention_by (tree_of holder) (tree_of kind) (tree_of name) else [])
 num_at [] holder kind name least most is-holder is-kind is-name = absurd (omega arith)
 num_at (a ∷ []) holder kind name least most is-holder is-kind is-name = absurd (omega arith)
 num_at (a ∷ b ∷ []) holder kind name least most is-holder is-kind is-name = absurd (omega arith)
@@ -72,7 +72,7 @@ pub num_three : (forms : List Form) (holder kind name : Form) (bytes : List ℕ)
     → true ≡ is_form_word keyword.Sto (tree_of kind) → bytes ∷ [] ≡ word_of (tree_of name)
     → num_mention (packed (trees_of forms)) ≡ record { name = bytes; kind = codes "sto"; class = class_at (tree_of holder) } ∷ []
 num_three forms holder kind name bytes least most is-holder is-kind is-name sto is =
-    let told : is_atom "sto" (tree_of kind) ≡ true = sym (sto_word (tree_of kind)) ∙ sym sto in
+    let told : is_text "sto" (tree_of kind) ≡ true = sym (sto_word (tree_of kind)) ∙ sym sto in
     num_at forms holder kind name least most is-holder is-kind is-name
     ∙ cond-true _ _ _ told
     ∙ mention_word (tree_of holder) (tree_of kind) (tree_of name) bytes is

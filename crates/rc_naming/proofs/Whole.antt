@@ -8,7 +8,7 @@ use Rattle.rc_model.specs.Numbers.{below}
 use Rattle.rc_model.specs.Words.{different}
 use Rattle.rc_sheet_model.specs.Naming.{Naming}
 use Rattle.rc_sheet_model.specs.FormMentions.{setup_lines, body, deck_lines, points_lines, all_gathered, names_of, attr_mentions, value_mentions, map_mentions, loc_mentions, num_mentions, var_mentions, all_var_words}
-use Rattle.rc_semantics.specs.SecondNames.{Mention}
+use Rattle.rc_semantics.specs.SecondNames.{OwnedMention}
 use Rattle.rc_naming.specs.Mentions.{Mentions, loc_mention, deck_location, all_locations, all_numbers, mentions_of}
 use Rattle.rc_naming.specs.Naming.{naming_of, loc_names, num_names, firsts}
 use Rattle.rc_naming.specs.Known.{with_all, with_words, with_mentions, none, joined, decks_in, all_points_in, body_in, naming_by}
@@ -104,18 +104,18 @@ pub nums_in_order : (form : Tree) → map (λ mention. mention.name) (firsts (al
 nums_in_order form = ap (map (λ mention. mention.name)) (sym (mentions_added (all_numbers form))) ∙ nums_known form
 
 -- they are numbered one by one
-loc_numbers_from : (number : ℕ) (mentions : List Mention) →
+loc_numbers_from : (number : ℕ) (mentions : List OwnedMention) →
     map (λ loc. loc.name) (loc_names number mentions) ≡ range_with_len number (length mentions)
 loc_numbers_from number [] = refl
 loc_numbers_from number (mention ∷ mentions) = ap (λ rest. number ∷ rest) (loc_numbers_from (number + 1) mentions)
 
-num_numbers_from : (number : ℕ) (mentions : List Mention) →
+num_numbers_from : (number : ℕ) (mentions : List OwnedMention) →
     map (λ num. num.name) (num_names number mentions) ≡ range_with_len number (length mentions)
 num_numbers_from number [] = refl
 num_numbers_from number (mention ∷ mentions) = ap (λ rest. number ∷ rest) (num_numbers_from (number + 1) mentions)
 
 -- as many as mentions
-as_many : (mentions : List Mention) (words : List (List ℕ)) → map (λ mention. mention.name) mentions ≡ words
+as_many : (mentions : List OwnedMention) (words : List (List ℕ)) → map (λ mention. mention.name) mentions ≡ words
     → length mentions ≡ length words
 as_many mentions words are = sym (length-map mentions (λ mention. mention.name)) ∙ ap (λ all. length all) are
 

@@ -7,7 +7,7 @@ use Rattle.rc_sheet_model.specs.StandsSetup.{begins_with, lines_with}
 use Rattle.rc_sheet_model.specs.FormMentions.{gathered, all_gathered, attr_word, value_word, map_word, group_attr_words, group_value_words, branch_attr_words, branch_value_words, deck_groups, points_map, points_entries, entry_attr_words, entry_value_words, words_of, all_var_words}
 use Rattle.rc_ast.specs.Names.{kind_seen, class_seen}
 use Rattle.rc_ast.specs.declared.names.Class.{Class}
-use Rattle.rc_semantics.specs.SecondNames.{Mention}
+use Rattle.rc_semantics.specs.SecondNames.{OwnedMention}
 use Rattle.rc_naming.specs.Mentions.{Mentions, loc_mention, num_mention, deck_location}
 use Rattle.rc_naming.specs.Naming.{loc_names, num_names}
 use Rattle.rc_grammar.specs.Faults.{is_form_word}
@@ -28,7 +28,7 @@ with_firsts name known xs = fold (with_first name) known xs
 abbrev pub with_words : List (List ℕ) → List (List ℕ) → List (List ℕ)
 with_words known words = with_firsts (λ bytes. bytes) known words
 
-abbrev pub with_mentions : List Mention → List Mention → List Mention
+abbrev pub with_mentions : List OwnedMention → List OwnedMention → List OwnedMention
 with_mentions known mentions = with_firsts (λ mention. mention.name) known mentions
 
 -- what is known after mentions of each kind
@@ -90,10 +90,10 @@ abbrev pub maps_alone : List (List ℕ) → Mentions
 maps_alone words = record none { maps = words }
 
 -- locations alone, and stored numbers alone
-abbrev pub locs_alone : List Mention → Mentions
+abbrev pub locs_alone : List OwnedMention → Mentions
 locs_alone mentions = record none { locs = mentions }
 
-abbrev pub nums_alone : List Mention → Mentions
+abbrev pub nums_alone : List OwnedMention → Mentions
 nums_alone mentions = record none { nums = mentions }
 
 -- attributes and values alone
@@ -205,11 +205,11 @@ naming_by known =
     }
 
 -- what is known, as it is stored
-abbrev pub loc_seen : List ℕ × Located → Mention
+abbrev pub loc_seen : List ℕ × Located → OwnedMention
 loc_seen entry =
     record { name = entry.0; kind = kind_word (kind_seen entry.1.kind); class = class_seen entry.1.class }
 
-abbrev pub num_seen : List ℕ × Class → Mention
+abbrev pub num_seen : List ℕ × Class → OwnedMention
 num_seen entry = record { name = entry.0; kind = codes "sto"; class = class_seen entry.1 }
 
 abbrev pub known_seen : Fields → Mentions

@@ -6,7 +6,7 @@ use Rattle.rc_sheet_model.specs.Sheet.{LocKind, vloc, iloc, hloc, mem, LocName, 
 use Rattle.rc_sheet_model.specs.Naming.{Naming}
 use Rattle.rc_sheet_model.specs.FormMentions.{names_of}
 use Rattle.rc_ast.specs.Names.{names_seen, loc_name_seen, num_name_seen}
-use Rattle.rc_semantics.specs.SecondNames.{Mention, firsts_from}
+use Rattle.rc_semantics.specs.SecondNames.{firsts_from, OwnedMention}
 use Rattle.rc_naming.specs.Mentions.{all_locations, all_numbers}
 use Rattle.rc_naming.specs.declared.numbering.Naming.{Naming as CodeNaming}
 
@@ -19,16 +19,16 @@ kind_by bytes =
     else mem
 
 -- the first mention of each name, in order
-abbrev pub firsts : List Mention → List Mention
+abbrev pub firsts : List OwnedMention → List OwnedMention
 firsts mentions = firsts_from [] mentions
 
 -- what the first mentions say, numbered from here on
-abbrev pub loc_names : ℕ → List Mention → List LocName
+abbrev pub loc_names : ℕ → List OwnedMention → List LocName
 loc_names number [] = []
 loc_names number (mention ∷ mentions) =
     record { name = number; kind = kind_by mention.kind; class = mention.class } ∷ loc_names (number + 1) mentions
 
-abbrev pub num_names : ℕ → List Mention → List NumName
+abbrev pub num_names : ℕ → List OwnedMention → List NumName
 num_names number [] = []
 num_names number (mention ∷ mentions) =
     record { name = number; class = mention.class } ∷ num_names (number + 1) mentions

@@ -11,7 +11,7 @@ use Rattle.rc_semantics.specs.SecondParts.{no_role, parts_at, parts_of}
 use Rattle.rc_semantics.specs.SecondFaults.{second_faults}
 use Rattle.rc_semantics.specs.Summary.{Whole, whole_of, Summary, nothing_seen, check_all}
 use Rattle.rc_semantics.specs.SecondWalk.{check_form}
-use Rattle.rc_semantics.specs.Checks.{IfFault, Checks}
+use Rattle.rc_semantics.specs.Checks.{Checks, IfSheetFault}
 use Rattle.rc_semantics.proofs.SecondLaw.{finds_first}
 
 -- the walk from the start is that of the form
@@ -36,7 +36,7 @@ answered_fine tree new (Err fail) checks = tt
 
 -- and one with a fault
 pub answered_found : (tree : Tree) (new : Summary) (result : Result (Unit {0}) SheetFail) → Checks (check_form tree) result new
-    → IfErr result (λ fail. IfFault fail (λ fault. first (second_faults tree) ≡ Some fault))
+    → IfErr result (λ fail. IfSheetFault fail (λ fault. first (second_faults tree) ≡ Some fault))
 answered_found tree new (Ok u) checks = tt
 answered_found tree new (Err fails.Memory) checks = tt
 answered_found tree new (Err (fails.Fault fault)) checks = finds_first tree ∙ ap fault_of checks

@@ -10,7 +10,7 @@ use Rattle.rc_grammar.specs.declared.fault.SheetKind.{SheetKind}
 use Rattle.rc_semantics.specs.declared.fault.SheetFail.{SheetFail}
 use Rattle.rc_semantics.specs.declared.fault.SheetFail.TheVariants as fails
 use Rattle.rc_semantics.proofs.Walks.{check_all-fine, check_all-faulty}
-use Rattle.rc_semantics.specs.Checks.{IfFault, Checks}
+use Rattle.rc_semantics.specs.Checks.{Checks, IfSheetFault}
 use Rattle.rc_semantics.specs.SecondParts.{Standing, standing_in, Part, offset_of, parts_at, parts_in}
 use Rattle.rc_semantics.specs.Summary.{Whole, Summary, fault_by, kind_by, or_on, check_all}
 
@@ -19,9 +19,9 @@ pub faulty : (whole : Whole) (seen : Summary) (part : Part) (kind : SheetKind) (
     (fail : SheetFail)
     → kind_by whole seen part ≡ Some kind
     → fail ≡ fails.Fault (record { kind = kind; at = offset_of part })
-    → IfFault fail (λ fault. or_on (fault_by whole seen part) next ≡ Err fault)
+    → IfSheetFault fail (λ fault. or_on (fault_by whole seen part) next ≡ Err fault)
 faulty whole seen part kind next fail is failed =
-    subst (λ fail. IfFault fail (λ fault. or_on (fault_by whole seen part) next ≡ Err fault)) (sym failed)
+    subst (λ fail. IfSheetFault fail (λ fault. or_on (fault_by whole seen part) next ≡ Err fault)) (sym failed)
     (ap (λ kind. or_on (option_map (λ kind. record { kind = kind; at = offset_of part }) kind) next) is)
 
 -- a part without fault
@@ -39,8 +39,8 @@ took checked seen new (Err (fails.Fault fault)) is same memory = absurd cc
 
 -- a fault of these parts is one of these and more
 pub before_more : (whole : Whole) (seen : Summary) (parts more : List Part) (fail : SheetFail)
-    → IfFault fail (λ fault. check_all whole seen parts ≡ Err fault)
-    → IfFault fail (λ fault. check_all whole seen (parts ++ more) ≡ Err fault)
+    → IfSheetFault fail (λ fault. check_all whole seen parts ≡ Err fault)
+    → IfSheetFault fail (λ fault. check_all whole seen (parts ++ more) ≡ Err fault)
 before_more whole seen parts more fails.Memory is = tt
 before_more whole seen parts more (fails.Fault fault) is = check_all-faulty whole seen parts more fault is
 
@@ -74,21 +74,21 @@ module _ (at : Standing) (rule : Rule) (all : Trees) (index : ℕ) (forms : List
       ∙ check_all-fine whole seen seen' (parts_at (standing_in at rule all index) (tree_of part)) later fine)
 
   pub stop_here : (whole : Whole) (seen : Summary) (fail : SheetFail)
-      → IfFault fail (λ fault. check_all whole seen (parts_at (standing_in at rule all index) (tree_of part)) ≡ Err fault)
-      → IfFault fail (λ fault. check_all whole seen left ≡ Err fault)
+      → IfSheetFault fail (λ fault. check_all whole seen (parts_at (standing_in at rule all index) (tree_of part)) ≡ Err fault)
+      → IfSheetFault fail (λ fault. check_all whole seen left ≡ Err fault)
   stop_here whole seen fail is =
-      subst (λ parts. IfFault fail (λ fault. check_all whole seen parts ≡ Err fault)) (sym left_at)
+      subst (λ parts. IfSheetFault fail (λ fault. check_all whole seen parts ≡ Err fault)) (sym left_at)
       (before_more whole seen (parts_at (standing_in at rule all index) (tree_of part)) later fail is)
 
 -- the same fault of what is checked alike
 pub fault_alike : (checked other : Result Summary SheetFault) (fail : SheetFail) → checked ≡ other
-    → IfFault fail (λ fault. checked ≡ Err fault) → IfFault fail (λ fault. other ≡ Err fault)
-fault_alike checked other fail same is = subst (λ result. IfFault fail (λ fault. result ≡ Err fault)) same is
+    → IfSheetFault fail (λ fault. checked ≡ Err fault) → IfSheetFault fail (λ fault. other ≡ Err fault)
+fault_alike checked other fail same is = subst (λ result. IfSheetFault fail (λ fault. result ≡ Err fault)) same is
 
 -- what an answer says of what is checked
 pub told_fault : (checked : Result Summary SheetFault) (new : Summary) (result : Result (Unit {0}) SheetFail) (fail : SheetFail)
     → result ≡ Err fail
-    → Checks checked result new → IfFault fail (λ fault. checked ≡ Err fault)
+    → Checks checked result new → IfSheetFault fail (λ fault. checked ≡ Err fault)
 told_fault checked new result fail is checks = subst (λ answer. Checks checked answer new) is checks
 
 pub told_fine : (checked : Result Summary SheetFault) (new : Summary) (result : Result (Unit {0}) SheetFail) (u : Unit {0})

@@ -8,7 +8,7 @@ use Rattle.rc_model.specs.Tree.{Trees}
 use Rattle.rc_sheet_model.specs.Limits.{most_cards, most_locations, most_numbers, most_attrs, most_values, most_maps, most_stages, most_sites}
 use Rattle.rc_semantics.specs.Classes.{owner_count}
 use Rattle.rc_semantics.specs.SecondParts.{Role, given_value, Standing, Part, atom, form, part_at, word_in}
-use Rattle.rc_semantics.specs.SecondNames.{player_count, team_count, cards_in, faces_of, attributes_in, value_by, values_in, maps_in, Mention, mention_of, locations_in, numbers_of, first_mention, owned, firsts_from, stages_in, choices_in, different_count}
+use Rattle.rc_semantics.specs.SecondNames.{player_count, team_count, cards_in, faces_of, attributes_in, value_by, values_in, maps_in, mention_of, locations_in, numbers_of, first_mention, owned, firsts_from, stages_in, choices_in, different_count, OwnedMention}
 use Rattle.rc_semantics.specs.SecondFaults.{passes, card_count, attribute_count, value_count, map_count, stage_count, choice_count, location_count, number_count, atom_counts, counts_of, is_too_deep, is_too_many}
 use Rattle.rc_semantics.specs.Summary.{Whole, Summary, teams_of, owners_of, Owned, new_owned, new_words, goes_over, is_value_over, is_form_over, is_over}
 use Rattle.rc_model.specs.Words.{with_word}
@@ -81,10 +81,10 @@ module _ (all : List Part) (whole : Whole) (knows : Knows all whole) (earlier : 
       ∙ length_last (flat_map given earlier) one)
 
   -- locations, or numbers, of all owners
-  abbrev count_in : (Part → List Mention) → List Part → ℕ
+  abbrev count_in : (Part → List OwnedMention) → List Part → ℕ
   count_in given parts = owned (player_count all) (team_count all) (flat_map given parts)
 
-  owned_so_far : (given : Part → List Mention) (most : ℕ) (total : ℕ)
+  owned_so_far : (given : Part → List OwnedMention) (most : ℕ) (total : ℕ)
       → total ≡ min (sum_by (owners_of whole) (firsts_from [] (flat_map given earlier))) (most + 1)
       → total ≡ min (count_in given earlier) (most + 1)
   owned_so_far given most total is =
@@ -93,17 +93,17 @@ module _ (all : List Part) (whole : Whole) (knows : Knows all whole) (earlier : 
       ∙ ap (λ n. min (owned (player_count all) n (flat_map given earlier)) (most + 1)) knows.teams_known
 
   -- how many owners there are of a mention's class
-  owners_known : (mention : Mention) → owners_of whole mention ≡ owner_count (player_count all) (team_count all) mention.class
+  owners_known : (mention : OwnedMention) → owners_of whole mention ≡ owner_count (player_count all) (team_count all) mention.class
   owners_known mention =
       ap (λ n. owner_count n (teams_of whole) mention.class) knows.players_known
       ∙ ap (λ n. owner_count (player_count all) n mention.class) knows.teams_known
 
   -- the first mention of each name is that of the earlier parts
-  abbrev FirstsOf : Owned → (Part → List Mention) → Type 0
+  abbrev FirstsOf : Owned → (Part → List OwnedMention) → Type 0
   FirstsOf owned given = (name : List ℕ) → first_mention name owned.firsts ≡ first_mention name (flat_map given earlier)
 
   -- a part that mentions one more
-  owned_last : (given : Part → List Mention) (owned : Owned) (part : Part) (mention : Mention) → FirstsOf owned given
+  owned_last : (given : Part → List OwnedMention) (owned : Owned) (part : Part) (mention : OwnedMention) → FirstsOf owned given
       → flat_map given (part ∷ []) ≡ mention ∷ []
       → count_in given (earlier ++ part ∷ []) ≡ count_in given earlier + new_owned whole mention owned
   owned_last given owned' part mention firsts gives =
@@ -115,7 +115,7 @@ module _ (all : List Part) (whole : Whole) (knows : Knows all whole) (earlier : 
       ∙ ap (λ found. count_in given earlier + cond (is_some found) 0 (owners_of whole mention)) (sym (firsts mention.name))
 
   -- so the limit is passed where that of all mentions is
-  owned_pass : (most : ℕ) (given : Part → List Mention) (owned : Owned) (part : Part) (mention : Mention) → FirstsOf owned given
+  owned_pass : (most : ℕ) (given : Part → List OwnedMention) (owned : Owned) (part : Part) (mention : OwnedMention) → FirstsOf owned given
       → owned.total ≡ min (sum_by (owners_of whole) (firsts_from [] (flat_map given earlier))) (most + 1)
       → flat_map given (part ∷ []) ≡ mention ∷ []
       → goes_over most owned.total (new_owned whole mention owned) ≡ passes most (count_in given) earlier part

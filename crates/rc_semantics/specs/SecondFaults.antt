@@ -11,7 +11,7 @@ use Rattle.rc_sheet_model.specs.WellFormed.{Around, is_among}
 use Rattle.rc_grammar.specs.Faults.{is_word, is_variable, rule_of, faults, first}
 use Rattle.rc_semantics.specs.Classes.{same_sort, same_class, class_at}
 use Rattle.rc_semantics.specs.SecondParts.{Role, used_attribute, used_value, used_map, given_value, deck_location, card_location, reference_location, second_side, Standing, Part, atom, form, parts_of, offset_of, is_binder, part_at, word_in}
-use Rattle.rc_semantics.specs.SecondNames.{some_of, is_named, number_by, players_in, player_count, teams_in, team_count, team_players, members_in, cards_in, attributes_in, values_in, maps_in, Mention, mention_of, locations_in, numbers_of, first_mention, owned, stages_in, choices_in, different_count}
+use Rattle.rc_semantics.specs.SecondNames.{some_of, is_named, number_by, players_in, player_count, teams_in, team_count, team_players, members_in, cards_in, attributes_in, values_in, maps_in, mention_of, locations_in, numbers_of, first_mention, owned, stages_in, choices_in, different_count, OwnedMention}
 pub use Rattle.rc_semantics.specs.declared.role.SideSort.{SideSort}
 pub use Rattle.rc_semantics.specs.declared.role.SideSort.TheVariants.{Number as number_side, Card as card_side, Value as value_side, Player as player_side, Team as team_side}
 use Rattle.rc_grammar.specs.declared.keyword.Keyword.TheVariants as keyword
@@ -164,11 +164,11 @@ is_other_side at second_side =
 is_other_side at role = false
 
 -- the name of a mention stood earlier with another kind or class
-abbrev pub differs_from : Mention → Option Mention → Bool
+abbrev pub differs_from : OwnedMention → Option OwnedMention → Bool
 differs_from mention None = false
 differs_from mention (Some first) = not (bytes_eq mention.kind first.kind && same_class mention.class first.class)
 
-abbrev pub is_other_mention : List Mention → Mention → Bool
+abbrev pub is_other_mention : List OwnedMention → OwnedMention → Bool
 is_other_mention earlier mention = differs_from mention (first_mention mention.name earlier)
 
 abbrev pub is_game : Class → Bool
@@ -176,7 +176,7 @@ is_game game_class = true
 is_game class = false
 
 -- a location that its place doesn't take: a deck's is the game's, and cards and references have locations of their own
-abbrev pub is_misplaced : Role → Mention → Bool
+abbrev pub is_misplaced : Role → OwnedMention → Bool
 is_misplaced deck_location mention = not (is_game mention.class) || is_word keyword.Mem mention.kind
 is_misplaced card_location mention = is_word keyword.Mem mention.kind
 is_misplaced reference_location mention = not (is_word keyword.Mem mention.kind)

@@ -113,28 +113,28 @@ maps_in part = []
 
 -- A mention of a location or of a stored number: its name, the word of its kind (`sto` with a number), and the class of its
 -- owner as it is written.
-pub record Mention : Type 0 where
+pub record OwnedMention : Type 0 where
   pub name : List ℕ
   pub kind : List ℕ
   pub class : Class
 
-abbrev pub mention_of : Trees → Mention
+abbrev pub mention_of : Trees → OwnedMention
 mention_of parts = record { name = word_in 2 parts; kind = word_in 1 parts; class = class_at (part_at 0 parts) }
 
-abbrev pub locations_in : Part → List Mention
+abbrev pub locations_in : Part → List OwnedMention
 locations_in (form at rule.Location parts from) = mention_of parts ∷ []
 locations_in part = []
 
-abbrev pub numbers_of : Part → List Mention
+abbrev pub numbers_of : Part → List OwnedMention
 numbers_of (form at rule.Counter parts from) = mention_of parts ∷ []
 numbers_of part = []
 
 -- the first mention of a name
-abbrev pub first_mention : List ℕ → List Mention → Option Mention
+abbrev pub first_mention : List ℕ → List OwnedMention → Option OwnedMention
 first_mention name mentions = find (λ mention. bytes_eq name mention.name) mentions
 
 -- the mentions of names that these words don't have, the first of each name alone
-abbrev pub firsts_from : List (List ℕ) → List Mention → List Mention
+abbrev pub firsts_from : List (List ℕ) → List OwnedMention → List OwnedMention
 firsts_from seen [] = []
 firsts_from seen (mention ∷ mentions) =
     if is_named mention.name seen then firsts_from seen mentions
@@ -142,7 +142,7 @@ firsts_from seen (mention ∷ mentions) =
 
 -- How many there are in all of the owners of these names: each name has one location, or one number, for each owner of its
 -- class.
-abbrev pub owned : ℕ → ℕ → List Mention → ℕ
+abbrev pub owned : ℕ → ℕ → List OwnedMention → ℕ
 owned players teams mentions = sum_by (λ mention. owner_count players teams mention.class) (firsts_from [] mentions)
 
 -- stages and choices

@@ -8,7 +8,7 @@ use Rattle.rc_sheet_model.specs.Naming.{Variable as PureVariable}
 use Rattle.rc_sheet_model.specs.WellFormed.{Around as PureAround}
 use Rattle.rc_form.specs.Form.{tree_of, trees_of, packed}
 use Rattle.rc_form.specs.declared.form.Form.{Form}
-use Rattle.rc_semantics.specs.SecondNames.{Mention as PureMention}
+use Rattle.rc_semantics.specs.SecondNames.{OwnedMention}
 use Rattle.rc_semantics.specs.SecondParts.{Standing as PureStanding}
 use Rattle.rc_semantics.specs.declared.around.Sort.{Sort}
 use Rattle.rc_semantics.specs.declared.around.Sort.TheVariants.{Player as PlayerSort, Card as CardSort, Group as GroupSort}
@@ -42,7 +42,7 @@ class_seen TeamClass = team_class
 abbrev pub variable_seen : Variable → PureVariable
 variable_seen variable = record { word = variable.word.now; sort = sort_seen variable.sort }
 
-abbrev pub mention_seen : Mention → PureMention
+abbrev pub mention_seen : Mention → OwnedMention
 mention_seen mention = record { name = mention.name.now; kind = mention.kind.now; class = class_seen mention.class }
 
 -- what is around the part of a form at this index, where this is around the form

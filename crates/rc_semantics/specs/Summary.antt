@@ -10,7 +10,7 @@ use Rattle.rc_sheet_model.specs.WellFormed.{is_among}
 use Rattle.rc_grammar.specs.Faults.{count}
 use Rattle.rc_semantics.specs.Classes.{class_at, owner_count}
 use Rattle.rc_semantics.specs.SecondParts.{Role, used_attribute, used_value, used_map, given_value, Standing, Part, atom, form, offset_of, is_binder, part_at, word_in}
-use Rattle.rc_semantics.specs.SecondNames.{is_named, number_by, number_at, team_players, member_by, faces_of, Mention, mention_of, first_mention}
+use Rattle.rc_semantics.specs.SecondNames.{is_named, number_by, number_at, team_players, member_by, faces_of, mention_of, first_mention, OwnedMention}
 use Rattle.rc_semantics.specs.SecondFaults.{is_bound, is_unbound, is_in_stage, is_misused, is_other_side, is_other_mention, is_misplaced, is_too_deep}
 use Rattle.rc_grammar.specs.declared.grammar.Place.{Place}
 use Rattle.rc_grammar.specs.declared.grammar.Place.TheVariants as place
@@ -93,7 +93,7 @@ teams_of whole = unwrap_or whole.teams (players_of whole)
 -- The locations, or the numbers, so far: the first mention of each name, and how many there are of all owners, as far as one
 -- above the limit.
 pub record Owned : Type 0 where
-  pub firsts : List Mention
+  pub firsts : List OwnedMention
   pub total : ℕ
 
 -- Whether a line of players stood, and a line of teams; whether just one line of teams did; the players in teams; the different
@@ -134,19 +134,19 @@ nothing_seen =
     }
 
 -- the name of a mention stood earlier
-abbrev pub is_mentioned : Mention → Owned → Bool
+abbrev pub is_mentioned : OwnedMention → Owned → Bool
 is_mentioned mention owned = is_some (first_mention mention.name owned.firsts)
 
 -- how many owners there are of a mention's class
-abbrev pub owners_of : Whole → Mention → ℕ
+abbrev pub owners_of : Whole → OwnedMention → ℕ
 owners_of whole mention = owner_count (players_of whole) (teams_of whole) mention.class
 
 -- how many locations, or numbers, a mention makes
-abbrev pub new_owned : Whole → Mention → Owned → ℕ
+abbrev pub new_owned : Whole → OwnedMention → Owned → ℕ
 new_owned whole mention owned = if is_mentioned mention owned then 0 else owners_of whole mention
 
 -- what there is behind a mention
-abbrev pub with_mention : Whole → ℕ → Mention → Owned → Owned
+abbrev pub with_mention : Whole → ℕ → OwnedMention → Owned → Owned
 with_mention whole most mention owned =
     if is_mentioned mention owned then owned
     else record { firsts = owned.firsts ++ mention ∷ []; total = counted most owned.total (owners_of whole mention) }

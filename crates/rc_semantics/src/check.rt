@@ -2,7 +2,7 @@
 ghost use Rattle.std.specs.Prelude.{◌≡◌, [], Some, IfOk, IfErr};
 ghost use Rattle.rc_form.specs.Form.{tree_of};
 ghost use Rattle.rc_grammar.specs.Faults.{faults, first};
-ghost use Rattle.rc_semantics.specs.Checks.{IfFault};
+ghost use Rattle.rc_semantics.specs.Checks.{IfSheetFault};
 ghost use Rattle.rc_semantics.specs.SecondFaults.{second_faults};
 
 use crate::around::Around;
@@ -24,7 +24,7 @@ use std::alloc::Global;
 pub fn check_semantics(alloc: Global, form: &Form) -> Result<(), SheetFail>
     requires shaped { faults Place.Sheet (tree_of form.now) ≡ [] }
     ensures fine { IfOk result (λ _. second_faults (tree_of form.now) ≡ []) }
-    ensures found { IfErr result (λ fail. IfFault fail (λ fault. first (second_faults (tree_of form.now)) ≡ Some fault)) }
+    ensures found { IfErr result (λ fail. IfSheetFault fail (λ fault. first (second_faults (tree_of form.now)) ≡ Some fault)) }
 {
     let whole = Whole::of(alloc, form)?;
     let around = Around::outside(alloc);

@@ -2,7 +2,7 @@
 use Rattle.std.proofs.Common.{◌≡◌, ℕ, List, [], ◌∷◌, ◌++◌, map, refl, ap, ◌∙◌, append_assoc}
 use Rattle.std.proofs.lemmas.List.{append-nil, map-append}
 use Rattle.rc_model.specs.Deck.{Groups, no_group, group, Branches, no_branch, branch, Entry}
-use Rattle.rc_model.specs.DeckText.{Names}
+use Rattle.rc_model.specs.DeckText.{DeckNames}
 use Rattle.rc_deck.specs.declared.tree.Group.{Group as DeckGroup}
 use Rattle.rc_deck.specs.declared.tree.Branch.{Branch as DeckBranch}
 use Rattle.rc_deck.specs.declared.scoring.PointEntry.{PointEntry}
@@ -33,7 +33,7 @@ onto_groups-push : (gs : List DeckGroup) (g : DeckGroup) (rest : Groups) → ont
 onto_groups-push [] g rest = refl
 onto_groups-push (first ∷ gs) g rest = ap (with_group (seen_group first)) (onto_groups-push gs g rest)
 
-pub reads_groups : (names : Names) → Reads (read_group names) (read_groups names) with_group seen_group onto_groups
+pub reads_groups : (names : DeckNames) → Reads (read_group names) (read_groups names) with_group seen_group onto_groups
 reads_groups names = record {
   splits = λ tree trees. refl;
   pushes = onto_groups-push;
@@ -60,7 +60,7 @@ onto_branches-push : (bs : List DeckBranch) (b : DeckBranch) (rest : Branches) �
 onto_branches-push [] b rest = refl
 onto_branches-push (first ∷ bs) b rest = ap (with_branch (seen_branch first)) (onto_branches-push bs b rest)
 
-pub reads_branches : (names : Names) → Reads (read_branch names) (read_branches names) with_branch seen_branch onto_branches
+pub reads_branches : (names : DeckNames) → Reads (read_branch names) (read_branches names) with_branch seen_branch onto_branches
 reads_branches names = record {
   splits = λ tree trees. refl;
   pushes = onto_branches-push;
@@ -69,7 +69,7 @@ reads_branches names = record {
 abbrev pub onto_entries : List PointEntry → List Entry → List Entry
 onto_entries entries rest = map entry_of entries ++ rest
 
-pub reads_entries : (names : Names) → Reads (read_entry names) (read_all_entries names) ◌∷◌ entry_of onto_entries
+pub reads_entries : (names : DeckNames) → Reads (read_entry names) (read_all_entries names) ◌∷◌ entry_of onto_entries
 reads_entries names = record {
   splits = λ tree trees. refl;
   pushes = λ read next rest. ap (λ front. front ++ rest) (map-append entry_of read (next ∷ [])) ∙ append_assoc (map entry_of read) (entry_of next ∷ []) rest;
@@ -81,7 +81,7 @@ same_number value = value
 abbrev pub onto_values : List ℕ → List ℕ → List ℕ
 onto_values values rest = values ++ rest
 
-pub reads_values : (names : Names) → Reads (number_of names.values) (read_values names) ◌∷◌ same_number onto_values
+pub reads_values : (names : DeckNames) → Reads (number_of names.values) (read_values names) ◌∷◌ same_number onto_values
 reads_values names = record {
   splits = λ tree trees. refl;
   pushes = λ read next rest. append_assoc read (next ∷ []) rest;

@@ -7,21 +7,21 @@ use Rattle.std.proofs.lemmas.Option.{same_Some, cond_some}
 use Rattle.std.proofs.lemmas.Slice.Eq.{bytes_eq-Decides}
 use Rattle.rc_model.specs.Tree.{Tree, word, list, Trees, nil, cons}
 use Rattle.rc_model.specs.Deck.{Groups, no_group, group, Branches, no_branch, branch}
-use Rattle.rc_model.specs.DeckText.{Names, IsWord, IsList, IsName, IsGroup, IsBranch, GroupsStand, BranchesStand, DeckStands}
+use Rattle.rc_model.specs.DeckText.{IsWord, IsList, IsName, IsGroup, IsBranch, GroupsStand, BranchesStand, DeckStands, DeckNames}
 use Rattle.rc_setup.specs.Naming.{number_of, AllDiffer}
 use Rattle.rc_setup.specs.Reading.{both, unless_nil, plain, Group, Branch, read_groups, read_group, read_group_parts, read_branch_list, read_branches, read_branch, read_branch_parts, read_deck, read_deck_parts, is_word}
 use Rattle.rc_setup.proofs.NamingLaws.{number_of-sound, number_of-complete}
 use Rattle.rc_setup.proofs.OptionLemmas.{both_some, both_of, unless_nil_found, unless_nil_of}
 
 -- what is read of some branches is some, and so with groups
-branches_some : (names : Names) (inner : Trees) (branches : Branches) → unless_nil inner (read_branches names inner) ≡ Some branches → branches ≢ no_branch
+branches_some : (names : DeckNames) (inner : Trees) (branches : Branches) → unless_nil inner (read_branches names inner) ≡ Some branches → branches ≢ no_branch
 branches_some names nil branches e none = absurd cc
 branches_some names (cons tree trees) branches e none =
     let b = both_some (λ first rest. branch first.0 first.1 rest) (read_branch names tree) (read_branches names trees) branches e in
     let clash : branch b.0.0 b.0.1 b.1 ≡ no_branch = b.4 ∙ none in
     absurd cc
 
-groups_some : (names : Names) (inner : Trees) (groups : Groups) → unless_nil inner (read_groups names inner) ≡ Some groups → groups ≢ no_group
+groups_some : (names : DeckNames) (inner : Trees) (groups : Groups) → unless_nil inner (read_groups names inner) ≡ Some groups → groups ≢ no_group
 groups_some names nil groups e none = absurd cc
 groups_some names (cons tree trees) groups e none =
     let b = both_some (λ first rest. group first.0 first.1 rest) (read_group names tree) (read_groups names trees) groups e in
@@ -29,7 +29,7 @@ groups_some names (cons tree trees) groups e none =
     absurd cc
 
 -- a value alone stands for a branch without groups
-plain_stands : (names : Names) (found : Branch) (rest : Branches) (tree : Tree) (trees : Trees) → option_map plain (number_of names.values tree) ≡ Some found →
+plain_stands : (names : DeckNames) (found : Branch) (rest : Branches) (tree : Tree) (trees : Trees) → option_map plain (number_of names.values tree) ≡ Some found →
     BranchesStand names rest trees → BranchesStand names (branch found.0 found.1 rest) (cons tree trees)
 plain_stands names found rest tree trees e stands = go (number_of names.values tree) refl e
   where
@@ -40,19 +40,19 @@ plain_stands names found rest tree trees e stands = go (number_of names.values t
         subst (λ b. BranchesStand names (branch b.0 b.1 rest) (cons tree trees)) same (number_of-sound names.values tree number is, stands)
 
 -- a list stands for a branch with groups
-deep_stands : (names : Names) (value : ℕ) (inner : Groups) (rest : Branches) (tree : Tree) (trees : Trees) → inner ≢ no_group →
+deep_stands : (names : DeckNames) (value : ℕ) (inner : Groups) (rest : Branches) (tree : Tree) (trees : Trees) → inner ≢ no_group →
     IsBranch names value (GroupsStand names inner) tree → BranchesStand names rest trees → BranchesStand names (branch value inner rest) (cons tree trees)
 deep_stands names value no_group rest tree trees some here stands = absurd (some refl)
 deep_stands names value (group attr branches others) rest tree trees some here stands = (here, stands)
 
 mutual
-  groups_sound : (names : Names) (groups : Groups) (trees : Trees) → read_groups names trees ≡ Some groups → GroupsStand names groups trees
+  groups_sound : (names : DeckNames) (groups : Groups) (trees : Trees) → read_groups names trees ≡ Some groups → GroupsStand names groups trees
   groups_sound names groups nil e = subst (λ gs. GroupsStand names gs nil) (same_Some no_group groups e) tt
   groups_sound names groups (cons tree trees) e =
       let b = both_some (λ first rest. group first.0 first.1 rest) (read_group names tree) (read_groups names trees) groups e in
       subst (λ gs. GroupsStand names gs (cons tree trees)) b.4 (group_sound names b.0 tree b.2, groups_sound names b.1 trees b.3)
 
-  group_sound : (names : Names) (found : Group) (tree : Tree) → read_group names tree ≡ Some found →
+  group_sound : (names : DeckNames) (found : Group) (tree : Tree) → read_group names tree ≡ Some found →
       IsGroup names found.0 (λ inner. (found.1 ≢ no_branch) × BranchesStand names found.1 inner) tree
   group_sound names found (word bytes from to) e = absurd cc
   group_sound names found (list nil from to) e = absurd cc
@@ -77,13 +77,13 @@ mutual
       )
   group_sound names found (list (cons head (cons second (cons third others))) from to) e = absurd cc
 
-  branches_sound : (names : Names) (branches : Branches) (trees : Trees) → read_branches names trees ≡ Some branches → BranchesStand names branches trees
+  branches_sound : (names : DeckNames) (branches : Branches) (trees : Trees) → read_branches names trees ≡ Some branches → BranchesStand names branches trees
   branches_sound names branches nil e = subst (λ bs. BranchesStand names bs nil) (same_Some no_branch branches e) tt
   branches_sound names branches (cons tree trees) e =
       let b = both_some (λ first rest. branch first.0 first.1 rest) (read_branch names tree) (read_branches names trees) branches e in
       subst (λ bs. BranchesStand names bs (cons tree trees)) b.4 (branch_sound names b.0 b.1 tree trees b.2 (branches_sound names b.1 trees b.3))
 
-  branch_sound : (names : Names) (found : Branch) (rest : Branches) (tree : Tree) (trees : Trees) → read_branch names tree ≡ Some found →
+  branch_sound : (names : DeckNames) (found : Branch) (rest : Branches) (tree : Tree) (trees : Trees) → read_branch names tree ≡ Some found →
       BranchesStand names rest trees → BranchesStand names (branch found.0 found.1 rest) (cons tree trees)
   branch_sound names found rest (word bytes from to) trees e stands = plain_stands names found rest (word bytes from to) trees e stands
   branch_sound names found rest (list nil from to) trees e stands = absurd cc
@@ -103,11 +103,11 @@ mutual
       )
 
 -- the names of both kinds differ
-abbrev pub BothDiffer : Names → Type 0
+abbrev pub BothDiffer : DeckNames → Type 0
 BothDiffer names = AllDiffer names.attrs × AllDiffer names.values
 
 mutual
-  groups_complete : (names : Names) → BothDiffer names → (groups : Groups) (trees : Trees) → GroupsStand names groups trees → read_groups names trees ≡ Some groups
+  groups_complete : (names : DeckNames) → BothDiffer names → (groups : Groups) (trees : Trees) → GroupsStand names groups trees → read_groups names trees ≡ Some groups
   groups_complete names differ no_group nil stand = refl
   groups_complete names differ no_group (cons tree trees) stand = absurd stand
   groups_complete names differ (group attr branches rest) nil stand = absurd stand
@@ -120,7 +120,7 @@ mutual
       ap (read_group names) here.listed.2 ∙ both_of (λ attr branches. (attr, branches)) _ _ attr branches (number_of-complete names.attrs here.head attr differ.0 here.attribute) second in
       both_of (λ first rest. group first.0 first.1 rest) (read_group names tree) (read_groups names trees) (attr, branches) rest first (groups_complete names differ rest trees stand.1)
 
-  branches_complete : (names : Names) → BothDiffer names → (branches : Branches) (trees : Trees) → BranchesStand names branches trees → read_branches names trees ≡ Some branches
+  branches_complete : (names : DeckNames) → BothDiffer names → (branches : Branches) (trees : Trees) → BranchesStand names branches trees → read_branches names trees ≡ Some branches
   branches_complete names differ no_branch nil stand = refl
   branches_complete names differ no_branch (cons tree trees) stand = absurd stand
   branches_complete names differ (branch value inner rest) nil stand = absurd stand
@@ -144,7 +144,7 @@ is_word-IsWord : (bytes : List ℕ) (tree : Tree) → is_word bytes tree ≡ tru
 is_word-IsWord bytes (word bytes' from to) e = (from, to, ap (λ b. word b from to) ((bytes_eq-Decides bytes' bytes).0 e))
 is_word-IsWord bytes (list parts from to) e = absurd cc
 
-pub deck_sound : (names : Names) (groups : Groups) (tree : Tree) → read_deck names tree ≡ Some groups → DeckStands names groups tree
+pub deck_sound : (names : DeckNames) (groups : Groups) (tree : Tree) → read_deck names tree ≡ Some groups → DeckStands names groups tree
 deck_sound names groups (word bytes from to) e = absurd cc
 deck_sound names groups (list nil from to) e = absurd cc
 deck_sound names groups (list (cons head parts) from to) e =
@@ -162,7 +162,7 @@ deck_sound names groups (list (cons head parts) from to) e =
     named true found groups e = (refl, e)
     named false found groups e = absurd cc
 
-pub deck_complete : (names : Names) → BothDiffer names → (groups : Groups) (tree : Tree) → DeckStands names groups tree → read_deck names tree ≡ Some groups
+pub deck_complete : (names : DeckNames) → BothDiffer names → (groups : Groups) (tree : Tree) → DeckStands names groups tree → read_deck names tree ≡ Some groups
 deck_complete names differ groups tree stands =
     let parts = stands.parts in
     let found : read_groups names parts ≡ Some groups = groups_complete names differ groups parts stands.stands in

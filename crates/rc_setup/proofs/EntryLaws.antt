@@ -10,27 +10,27 @@ use Rattle.rc_model.specs.Tree.{Tree, word, list, Trees, nil, cons}
 use Rattle.rc_model.specs.Literal.{integer}
 use Rattle.rc_model.specs.Clamp.{IsWithinClamp, is_within_clamp}
 use Rattle.rc_model.specs.Deck.{Entry}
-use Rattle.rc_model.specs.DeckText.{Names, IsList, ValuesStand, IsPoints, EntryStands, AllEntriesStand, EntriesStand}
+use Rattle.rc_model.specs.DeckText.{IsList, ValuesStand, IsPoints, EntryStands, AllEntriesStand, EntriesStand, DeckNames}
 use Rattle.rc_setup.specs.Naming.{number_of}
 use Rattle.rc_setup.specs.Reading.{both, unless_nil, unclamped, entry_with, read_values, read_value_list, read_points, read_entry, read_entry_parts, read_all_entries, read_entries}
 use Rattle.rc_setup.proofs.NamingLaws.{number_of-sound, number_of-complete}
 use Rattle.rc_setup.proofs.OptionLemmas.{both_some, both_of, unless_nil_found, unless_nil_of}
 use Rattle.rc_setup.proofs.DeckLaws.{BothDiffer}
 
-values_sound : (names : Names) (values : List ℕ) (trees : Trees) → read_values names trees ≡ Some values → ValuesStand names values trees
+values_sound : (names : DeckNames) (values : List ℕ) (trees : Trees) → read_values names trees ≡ Some values → ValuesStand names values trees
 values_sound names values nil e = subst (λ vs. ValuesStand names vs nil) (same_Some [] values e) tt
 values_sound names values (cons tree trees) e =
     let b = both_some ◌∷◌ (number_of names.values tree) (read_values names trees) values e in
     subst (λ vs. ValuesStand names vs (cons tree trees)) b.4 (number_of-sound names.values tree b.0 b.2, values_sound names b.1 trees b.3)
 
-values_some : (names : Names) (inner : Trees) (values : List ℕ) → unless_nil inner (read_values names inner) ≡ Some values → values ≢ []
+values_some : (names : DeckNames) (inner : Trees) (values : List ℕ) → unless_nil inner (read_values names inner) ≡ Some values → values ≢ []
 values_some names nil values e none = absurd cc
 values_some names (cons tree trees) values e none =
     let b = both_some ◌∷◌ (number_of names.values tree) (read_values names trees) values e in
     let clash : b.0 ∷ b.1 ≡ [] = b.4 ∙ none in
     absurd cc
 
-values_complete : (names : Names) → BothDiffer names → (values : List ℕ) (trees : Trees) → ValuesStand names values trees → read_values names trees ≡ Some values
+values_complete : (names : DeckNames) → BothDiffer names → (values : List ℕ) (trees : Trees) → ValuesStand names values trees → read_values names trees ≡ Some values
 values_complete names differ [] nil stand = refl
 values_complete names differ [] (cons tree trees) stand = absurd stand
 values_complete names differ (value ∷ values) nil stand = absurd stand
@@ -73,7 +73,7 @@ points_complete points tree is =
     let within : is_within_clamp points ≡ true = and_from _ _ (truth _ is.within.0.le) (truth _ is.within.1.le) in
     ap read_points is.written.2 ∙ ap (option_and_then unclamped) is.spelled ∙ cond-true _ _ _ within
 
-entry_sound : (names : Names) (entry : Entry) (tree : Tree) → read_entry names tree ≡ Some entry → EntryStands names entry tree
+entry_sound : (names : DeckNames) (entry : Entry) (tree : Tree) → read_entry names tree ≡ Some entry → EntryStands names entry tree
 entry_sound names entry (word bytes from to) e = absurd cc
 entry_sound names entry (list nil from to) e = absurd cc
 entry_sound names entry (list (cons head nil) from to) e = absurd cc
@@ -103,7 +103,7 @@ entry_sound names entry (list (cons head (cons (list inner start end) (cons thir
     )
 entry_sound names entry (list (cons head (cons second (cons third (cons fourth others)))) from to) e = absurd cc
 
-entry_complete : (names : Names) → BothDiffer names → (entry : Entry) (tree : Tree) → EntryStands names entry tree → read_entry names tree ≡ Some entry
+entry_complete : (names : DeckNames) → BothDiffer names → (entry : Entry) (tree : Tree) → EntryStands names entry tree → read_entry names tree ≡ Some entry
 entry_complete names differ entry tree stands =
     let found : read_values names stands.values ≡ Some entry.values = values_complete names differ entry.values stands.values stands.valued in
     let full : stands.values ≢ nil = λ none. stands.some (same_Some _ _ (sym found ∙ ap (read_values names) none)) in
@@ -113,27 +113,27 @@ entry_complete names differ entry tree stands =
     ∙ both_of entry_with _ _ entry.attr (entry.values, entry.points) (number_of-complete names.attrs stands.head entry.attr differ.0 stands.attr)
     (both_of (λ values points. (values, points)) _ _ entry.values entry.points second third)
 
-all_sound : (names : Names) (entries : List Entry) (trees : Trees) → read_all_entries names trees ≡ Some entries → AllEntriesStand names entries trees
+all_sound : (names : DeckNames) (entries : List Entry) (trees : Trees) → read_all_entries names trees ≡ Some entries → AllEntriesStand names entries trees
 all_sound names entries nil e = subst (λ es. AllEntriesStand names es nil) (same_Some [] entries e) tt
 all_sound names entries (cons tree trees) e =
     let b = both_some ◌∷◌ (read_entry names tree) (read_all_entries names trees) entries e in
     subst (λ es. AllEntriesStand names es (cons tree trees)) b.4 (entry_sound names b.0 tree b.2, all_sound names b.1 trees b.3)
 
-entries_some : (names : Names) (inner : Trees) (entries : List Entry) → unless_nil inner (read_all_entries names inner) ≡ Some entries → entries ≢ []
+entries_some : (names : DeckNames) (inner : Trees) (entries : List Entry) → unless_nil inner (read_all_entries names inner) ≡ Some entries → entries ≢ []
 entries_some names nil entries e none = absurd cc
 entries_some names (cons tree trees) entries e none =
     let b = both_some ◌∷◌ (read_entry names tree) (read_all_entries names trees) entries e in
     let clash : b.0 ∷ b.1 ≡ [] = b.4 ∙ none in
     absurd cc
 
-all_complete : (names : Names) → BothDiffer names → (entries : List Entry) (trees : Trees) → AllEntriesStand names entries trees → read_all_entries names trees ≡ Some entries
+all_complete : (names : DeckNames) → BothDiffer names → (entries : List Entry) (trees : Trees) → AllEntriesStand names entries trees → read_all_entries names trees ≡ Some entries
 all_complete names differ [] nil stand = refl
 all_complete names differ [] (cons tree trees) stand = absurd stand
 all_complete names differ (entry ∷ entries) nil stand = absurd stand
 all_complete names differ (entry ∷ entries) (cons tree trees) stand =
     both_of ◌∷◌ (read_entry names tree) (read_all_entries names trees) entry entries (entry_complete names differ entry tree stand.0) (all_complete names differ entries trees stand.1)
 
-pub entries_sound : (names : Names) (entries : List Entry) (tree : Tree) → read_entries names tree ≡ Some entries → EntriesStand names entries tree
+pub entries_sound : (names : DeckNames) (entries : List Entry) (tree : Tree) → read_entries names tree ≡ Some entries → EntriesStand names entries tree
 entries_sound names entries (word bytes from to) e = absurd cc
 entries_sound names entries (list parts from to) e =
     record {
@@ -143,7 +143,7 @@ entries_sound names entries (list parts from to) e =
       stand = all_sound names entries parts (unless_nil_found parts (read_all_entries names parts) entries e);
     }
 
-pub entries_complete : (names : Names) → BothDiffer names → (entries : List Entry) (tree : Tree) → EntriesStand names entries tree → read_entries names tree ≡ Some entries
+pub entries_complete : (names : DeckNames) → BothDiffer names → (entries : List Entry) (tree : Tree) → EntriesStand names entries tree → read_entries names tree ≡ Some entries
 entries_complete names differ entries tree stands =
     let parts = stands.parts in
     let found : read_all_entries names parts ≡ Some entries = all_complete names differ entries parts stands.stand in

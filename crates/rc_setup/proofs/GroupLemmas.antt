@@ -3,7 +3,7 @@ use Rattle.std.proofs.Common.{◌≡◌, ℕ, zero, suc, ◌<◌, List, [], ◌�
 use Rattle.std.specs.Prelude.{codes}
 use Rattle.std.proofs.lemmas.Bool.{cond-true}
 use Rattle.std.specs.Global.{Global}
-use Rattle.rc_model.specs.DeckText.{Names}
+use Rattle.rc_model.specs.DeckText.{DeckNames}
 use Rattle.rc_form.specs.declared.form.Form.{Form}
 use Rattle.rc_form.specs.declared.form.Span.{Span}
 use Rattle.rc_form.specs.declared.form.Form.TheVariants.{List as ListOf}
@@ -19,7 +19,7 @@ get_or-any [] i d e lt = absurd (omega arith)
 get_or-any (x ∷ xs) zero d e lt = refl
 get_or-any (x ∷ xs) (suc i) d e lt = get_or-any xs i d e (omega arith)
 
-pub read_group_with : (names : Names) (form : Form) (items : Vec Form Global) (span : Span) (head second : Form) →
+pub read_group_with : (names : DeckNames) (form : Form) (items : Vec Form Global) (span : Span) (head second : Form) →
     form ≡ ListOf items span → length items.items ≡ 2 → head ≡ get_or items.items 0 head → second ≡ get_or items.items 1 second →
     read_group names (tree_of form) ≡ both (λ attr branches. (attr, branches)) (number_of names.attrs (tree_of head)) (read_branch_list names (tree_of second))
 read_group_with names form items span head second is long is-head is-second =
@@ -27,7 +27,7 @@ read_group_with names form items span head second is long is-head is-second =
     ∙ ap (λ forms. read_group_parts names (packed (trees_of forms))) (two items.items head second long is-head is-second)
 
 -- where only the first part is looked at
-pub read_group_of : (names : Names) (form : Form) (items : Vec Form Global) (span : Span) (head : Form) →
+pub read_group_of : (names : DeckNames) (form : Form) (items : Vec Form Global) (span : Span) (head : Form) →
     form ≡ ListOf items span → length items.items ≡ 2 → head ≡ get_or items.items 0 head →
     (second : Form)
     × (read_group names (tree_of form) ≡ both (λ attr branches. (attr, branches)) (number_of names.attrs (tree_of head)) (read_branch_list names (tree_of second)))
@@ -36,7 +36,7 @@ read_group_of names form items span head is long is-head =
     let is-second : second ≡ get_or items.items 1 second = get_or-any items.items 1 head second (omega arith) in
     (second, read_group_with names form items span head second is long is-head is-second)
 
-pub read_branch_list_of : (names : Names) (form : Form) (items : Vec Form Global) (span : Span) (parts : List Form) →
+pub read_branch_list_of : (names : DeckNames) (form : Form) (items : Vec Form Global) (span : Span) (parts : List Form) →
     form ≡ ListOf items span → parts ≡ items.items → (length parts ≡ 0 → ⊥) →
     read_branch_list names (tree_of form) ≡ read_branches names (packed (trees_of parts))
 read_branch_list_of names form items span parts is same some =
@@ -44,7 +44,7 @@ read_branch_list_of names form items span parts is same some =
     ∙ ap (λ forms. unless_nil (packed (trees_of forms)) (read_branches names (packed (trees_of forms)))) (sym same)
     ∙ unless_nil_some parts (read_branches names (packed (trees_of parts))) some
 
-pub read_branch_of : (names : Names) (form : Form) (items : Vec Form Global) (span : Span) (parts : List Form) (head : Form) (below : List Form) →
+pub read_branch_of : (names : DeckNames) (form : Form) (items : Vec Form Global) (span : Span) (parts : List Form) (head : Form) (below : List Form) →
     form ≡ ListOf items span → parts ≡ items.items → parts ≡ head ∷ below → (length below ≡ 0 → ⊥) →
     read_branch names (tree_of form) ≡ both (λ number inner. (number, inner)) (number_of names.values (tree_of head)) (read_groups names (packed (trees_of below)))
 read_branch_of names form items span parts head below is same cut some =
@@ -52,7 +52,7 @@ read_branch_of names form items span parts head below is same cut some =
     ∙ ap (λ forms. read_branch_parts names (packed (trees_of forms))) (sym same ∙ cut)
     ∙ ap (both (λ number inner. (number, inner)) (number_of names.values (tree_of head))) (unless_nil_some below (read_groups names (packed (trees_of below))) some)
 
-pub read_deck_of : (names : Names) (form : Form) (items : Vec Form Global) (span : Span) (parts : List Form) (head : Form) (below : List Form) →
+pub read_deck_of : (names : DeckNames) (form : Form) (items : Vec Form Global) (span : Span) (parts : List Form) (head : Form) (below : List Form) →
     form ≡ ListOf items span → parts ≡ items.items → parts ≡ head ∷ below → is_word (codes "deck") (tree_of head) ≡ true → (length below ≡ 0 → ⊥) →
     read_deck names (tree_of form) ≡ read_groups names (packed (trees_of below))
 read_deck_of names form items span parts head below is same cut word some =
@@ -61,7 +61,7 @@ read_deck_of names form items span parts head below is same cut word some =
     ∙ cond-true _ _ _ word
     ∙ unless_nil_some below (read_groups names (packed (trees_of below))) some
 
-pub read_entry_of : (names : Names) (form : Form) (items : Vec Form Global) (span : Span) (head second third : Form) →
+pub read_entry_of : (names : DeckNames) (form : Form) (items : Vec Form Global) (span : Span) (head second third : Form) →
     form ≡ ListOf items span → length items.items ≡ 3 → head ≡ get_or items.items 0 head → second ≡ get_or items.items 1 second → third ≡ get_or items.items 2 third →
     read_entry names (tree_of form)
     ≡ both entry_with (number_of names.attrs (tree_of head)) (both (λ values points. (values, points)) (read_value_list names (tree_of second)) (read_points (tree_of third)))
@@ -69,7 +69,7 @@ read_entry_of names form items span head second third is long is-head is-second 
     ap (read_entry names) (tree_of_list form items span is)
     ∙ ap (λ forms. read_entry_parts names (packed (trees_of forms))) (three items.items head second third long is-head is-second is-third)
 
-pub read_entries_of : (names : Names) (form : Form) (items : Vec Form Global) (span : Span) (parts : List Form) →
+pub read_entries_of : (names : DeckNames) (form : Form) (items : Vec Form Global) (span : Span) (parts : List Form) →
     form ≡ ListOf items span → parts ≡ items.items → (length parts ≡ 0 → ⊥) →
     read_entries names (tree_of form) ≡ read_all_entries names (packed (trees_of parts))
 read_entries_of names form items span parts is same some =

@@ -3,13 +3,13 @@ use Rattle.std.proofs.Common.{◌≡◌, ℕ, ◌+◌, ◌<◌, List, [], ◌∷
 use Rattle.std.proofs.lemmas.List.{append-nil, at_drop_more}
 use Rattle.std.proofs.lemmas.List.Sums.{fold-append}
 use Rattle.rc_model.specs.Tree.{Tree, word, list, Trees, nil, cons}
-use Rattle.rc_model.specs.DeckText.{Names, Mention, in_groups, in_parts, in_branches, attribute_mention, value_mention}
+use Rattle.rc_model.specs.DeckText.{in_groups, in_parts, in_branches, attribute_mention, value_mention, DeckMention, DeckNames}
 use Rattle.rc_form.specs.declared.form.Form.{Form}
 use Rattle.rc_form.specs.Form.{tree_of, trees_of, packed}
 use Rattle.rc_setup.specs.Naming.{with_mention, with_mentions}
 
 -- a form's mentions stand before those of the forms behind it
-abbrev pub Splits : (Trees → List Mention) → (Tree → List Mention) → Type 0
+abbrev pub Splits : (Trees → List DeckMention) → (Tree → List DeckMention) → Type 0
 Splits all one = (tree : Tree) (trees : Trees) → all (cons tree trees) ≡ one tree ++ all trees
 
 pub in_groups-splits : Splits in_groups (λ tree. in_groups (cons tree nil))
@@ -27,7 +27,7 @@ in_branches-splits (list nil from to) trees = refl
 in_branches-splits (list (cons head groups) from to) trees = ap (λ here. here ++ in_branches trees) (sym (append-nil (value_mention head ++ in_groups groups)))
 
 -- what is added form by form
-pub mentions_step : (all : Trees → List Mention) (one : Tree → List Mention) → Splits all one → (names new : Names) (forms : List Form) (i : ℕ) (form : Form) →
+pub mentions_step : (all : Trees → List DeckMention) (one : Tree → List DeckMention) → Splits all one → (names new : DeckNames) (forms : List Form) (i : ℕ) (form : Form) →
     i < length forms → form ≡ get_or forms i form → new ≡ with_mentions names (one (tree_of form)) →
     with_mentions new (all (packed (trees_of (drop (i + 1) forms)))) ≡ with_mentions names (all (packed (trees_of (drop i forms))))
 mentions_step all one splits names new forms i form lt is added =

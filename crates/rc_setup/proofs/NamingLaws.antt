@@ -1,4 +1,4 @@
--- Names added one by one are the different ones in the order of the first mention. A name's number is its place.
+-- DeckNames added one by one are the different ones in the order of the first mention. A name's number is its place.
 use Rattle.std.proofs.Common.{◌≡◌, ◌≢◌, ℕ, ◌+◌, ◌<◌, ◌≤◌, ◌||◌, Bool, true, false, cond, ltb, List, [], ◌∷◌, ◌++◌, length, get_or, fold, Some, None, ⊎_elim, inl, inr, refl, sym, ap, subst, ◌∙◌, append_assoc, arith}
 use Rattle.std.specs.Prelude.{flat_map, slice_get}
 use Rattle.std.specs.List.{list_any, position, position_or_len}
@@ -13,7 +13,7 @@ use Rattle.std.proofs.lemmas.Option.{cond_some, slice_get-get_or, slice_get_with
 use Rattle.std.proofs.lemmas.Slice.Eq.{bytes_eq-Decides}
 use Rattle.rc_model.specs.Tree.{Tree, word, list}
 use Rattle.rc_model.specs.Words.{is_variable, with_word, different_from}
-use Rattle.rc_model.specs.DeckText.{Names, Mention, attribute, value, attribute_name, value_name, names_of, IsName}
+use Rattle.rc_model.specs.DeckText.{attribute, value, attribute_name, value_name, names_of, IsName, DeckMention, DeckNames}
 use Rattle.rc_setup.specs.Naming.{with_mention, with_mentions, number_of, AllDiffer}
 
 -- two lists of the same names
@@ -55,14 +55,14 @@ added (name ∷ mentioned) names seen same =
     ]
 
 -- each kind of name is added by itself
-kinds : (mentions : List Mention) (names : Names) → with_mentions names mentions
+kinds : (mentions : List DeckMention) (names : DeckNames) → with_mentions names mentions
     ≡ record { attrs = fold with_word names.attrs (flat_map attribute_name mentions); values = fold with_word names.values (flat_map value_name mentions) }
 kinds [] names = refl
 kinds (attribute name ∷ mentions) names = kinds mentions (with_mention names (attribute name))
 kinds (value name ∷ mentions) names = kinds mentions (with_mention names (value name))
 
 -- the names of all that is mentioned
-pub with_mentions-none : (mentions : List Mention) → with_mentions (record { attrs = []; values = [] }) mentions ≡ names_of mentions
+pub with_mentions-none : (mentions : List DeckMention) → with_mentions (record { attrs = []; values = [] }) mentions ≡ names_of mentions
 with_mentions-none mentions =
     kinds mentions (record { attrs = []; values = [] })
     ∙ rw (added (flat_map attribute_name mentions) [] [] (λ name. refl), added (flat_map value_name mentions) [] [] (λ name. refl)) refl

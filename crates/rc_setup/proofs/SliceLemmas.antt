@@ -2,7 +2,7 @@
 use Rattle.std.proofs.Common.{◌≡◌, ℕ, ◌<◌, ◌≤◌, List, [], ◌∷◌, length, get_or, Result, Ok, Err, OnOk, Some, None, Option, refl, sym, ap, ◌∙◌, arith}
 use Rattle.rc_model.specs.Tree.{Tree, word, list, Trees, nil, cons, count}
 use Rattle.rc_model.specs.Deck.{Entry}
-use Rattle.rc_model.specs.DeckText.{Names, in_entry}
+use Rattle.rc_model.specs.DeckText.{in_entry, DeckNames}
 use Rattle.rc_form.specs.declared.form.Form.{Form}
 use Rattle.rc_form.specs.Form.{tree_of, trees_of, packed}
 use Rattle.rc_setup.specs.Reading.{Group, read_group_parts, read_entry_parts, unless_nil}
@@ -33,13 +33,13 @@ in_entry_short (form ∷ []) from to short = refl
 in_entry_short (form ∷ other ∷ forms) from to short = absurd (omega arith)
 
 -- a group has two parts, and an entry three
-pub read_group_other : (names : Names) (forms : List Form) → (length forms ≡ 2 → ⊥) → read_group_parts names (packed (trees_of forms)) ≡ None
+pub read_group_other : (names : DeckNames) (forms : List Form) → (length forms ≡ 2 → ⊥) → read_group_parts names (packed (trees_of forms)) ≡ None
 read_group_other names [] other = refl
 read_group_other names (a ∷ []) other = refl
 read_group_other names (a ∷ b ∷ []) other = absurd (other refl)
 read_group_other names (a ∷ b ∷ c ∷ forms) other = refl
 
-pub read_entry_other : (names : Names) (forms : List Form) → (length forms ≡ 3 → ⊥) → read_entry_parts names (packed (trees_of forms)) ≡ None
+pub read_entry_other : (names : DeckNames) (forms : List Form) → (length forms ≡ 3 → ⊥) → read_entry_parts names (packed (trees_of forms)) ≡ None
 read_entry_other names [] other = refl
 read_entry_other names (a ∷ []) other = refl
 read_entry_other names (a ∷ b ∷ []) other = refl

@@ -12,10 +12,10 @@ use std::marker::Model;
 
 /// What gives numbers to the attributes and the values that forms name.
 pub trait Numbers {
-    ghost use Rattle.rc_model.specs.DeckText.{Names as Words};
+    ghost use Rattle.rc_model.specs.DeckText.{DeckNames};
     ghost use Rattle.rc_setup.specs.Naming.{AreFew};
 
-    ghost words: { Self → Words };
+    ghost words: { Self → DeckNames };
 
     /// The number of the attribute that a form is.
     fn attr_number(&self, form: &Form) -> Option<u16>
@@ -36,9 +36,9 @@ pub struct Names {
 }
 
 impl Model for Names {
-    ghost use Rattle.rc_model.specs.DeckText.{Names as Words};
+    ghost use Rattle.rc_model.specs.DeckText.{DeckNames};
 
-    ghost Value = { Words };
+    ghost Value = { DeckNames };
 
     ghost view = { λ n. record { attrs = n.attrs.keys; values = n.values.keys } };
 }

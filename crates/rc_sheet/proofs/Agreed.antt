@@ -6,7 +6,7 @@ use Rattle.std.proofs.lemmas.Grind.{flat_map-append}
 use Rattle.std.proofs.lemmas.Slice.Eq.{bytes_eq-Decides}
 use Rattle.rc_semantics.specs.Classes.{same_class}
 use Rattle.rc_semantics.specs.SecondParts.{Part}
-use Rattle.rc_semantics.specs.SecondNames.{Mention, first_mention}
+use Rattle.rc_semantics.specs.SecondNames.{first_mention, OwnedMention}
 use Rattle.rc_semantics.specs.SecondFaults.{differs_from, is_other_mention, faults_of, faults_behind}
 use Rattle.rc_sheet.proofs.Among.{Among, among_either}
 use Rattle.rc_sheet.proofs.Shapes.{none_in_both}
@@ -14,25 +14,25 @@ use Rattle.rc_sheet.proofs.Faultless.{IsFaultless, faultless}
 use Rattle.rc_sheet.proofs.ReadsNames.{class_same, classes_same}
 
 -- each mention says what the first of its name does
-abbrev pub Agree : List Mention → Type 0
-Agree mentions = (mention : Mention) → Among mention mentions → is_other_mention mentions mention ≡ false
+abbrev pub Agree : List OwnedMention → Type 0
+Agree mentions = (mention : OwnedMention) → Among mention mentions → is_other_mention mentions mention ≡ false
 
 same_bytes_itself : (bytes : List ℕ) → bytes_eq bytes bytes ≡ true
 same_bytes_itself bytes = (bytes_eq-Decides bytes bytes).1 refl
 
 -- a mention says what it says
-differs_not : (mention : Mention) → differs_from mention (Some mention) ≡ false
+differs_not : (mention : OwnedMention) → differs_from mention (Some mention) ≡ false
 differs_not mention =
     ap not (ap (λ b. b && same_class mention.class mention.class)
     (same_bytes_itself mention.kind) ∙ class_same mention.class)
 
 -- the one, or else the last
-abbrev or_last : Option Mention → Option Mention → Option Mention
+abbrev or_last : Option OwnedMention → Option OwnedMention → Option OwnedMention
 or_last None last = last
 or_last (Some mention) last = Some mention
 
 -- the first of a name, where one more mention stands last
-first_more : (name : List ℕ) (mentions : List Mention) (last : Mention) (o : Option Mention) → first_mention name mentions ≡ o
+first_more : (name : List ℕ) (mentions : List OwnedMention) (last : OwnedMention) (o : Option OwnedMention) → first_mention name mentions ≡ o
     → first_mention name (mentions ++ last ∷ []) ≡ or_last o (cond (bytes_eq name last.name) (Some last) None)
 first_more name [] last o is = ap (λ o. or_last o (cond (bytes_eq name last.name) (Some last) None)) is
 first_more name (mention ∷ mentions) last o is = by (bytes_eq name mention.name) is (first_more name mentions last o)
@@ -46,7 +46,7 @@ first_more name (mention ∷ mentions) last o is = by (bytes_eq name mention.nam
     by false is others = others is
 
 -- a name that is mentioned has a first mention
-has_first : (mention : Mention) (mentions : List Mention) → Among mention mentions
+has_first : (mention : OwnedMention) (mentions : List OwnedMention) → Among mention mentions
     → first_mention mention.name mentions ≡ None → ⊥
 has_first mention [] is none = is
 has_first mention (other ∷ mentions) (inl is) none =
@@ -64,7 +64,7 @@ has_first mention (other ∷ mentions) (inr is) none =
     by false none others = others none
 
 -- of one more mention that says what the first of its name does
-agree_more : (mentions : List Mention) (last : Mention) → Agree mentions → is_other_mention mentions last ≡ false
+agree_more : (mentions : List OwnedMention) (last : OwnedMention) → Agree mentions → is_other_mention mentions last ≡ false
     → Agree (mentions ++ last ∷ [])
 agree_more mentions last agree fits mention is =
     ⊎_elim
@@ -75,7 +75,7 @@ agree_more mentions last agree fits mention is =
     (λ none. absurd none) new)
     (among_either mention mentions (last ∷ []) is)
   where
-    by_old : (mention : Mention) (o : Option Mention) → first_mention mention.name mentions ≡ o
+    by_old : (mention : OwnedMention) (o : Option OwnedMention) → first_mention mention.name mentions ≡ o
         → differs_from mention (first_mention mention.name mentions) ≡ false
         → (first_mention mention.name mentions ≡ None → ⊥)
         → differs_from mention (first_mention mention.name (mentions ++ last ∷ [])) ≡ false
@@ -84,7 +84,7 @@ agree_more mentions last agree fits mention is =
         ap (differs_from mention) (first_more mention.name mentions last (Some first) is)
         ∙ sym (ap (differs_from mention) is) ∙ old
 
-    by_new : (o : Option Mention) → first_mention last.name mentions ≡ o
+    by_new : (o : Option OwnedMention) → first_mention last.name mentions ≡ o
         → differs_from last (first_mention last.name mentions) ≡ false
         → differs_from last (first_mention last.name (mentions ++ last ∷ [])) ≡ false
     by_new None is fits =
@@ -96,12 +96,12 @@ agree_more mentions last agree fits mention is =
         ∙ sym (ap (differs_from last) is) ∙ fits
 
 -- where each part gives one mention at most, which says what the first of its name before it does
-abbrev pub Fits : (Part → List Mention) → List Part → Part → Type 0
+abbrev pub Fits : (Part → List OwnedMention) → List Part → Part → Type 0
 Fits given earlier part =
-    (given part ≡ []) ⊎ ((mention : Mention) × (given part ≡ mention ∷ []) × (is_other_mention
+    (given part ≡ []) ⊎ ((mention : OwnedMention) × (given part ≡ mention ∷ []) × (is_other_mention
     (flat_map given earlier) mention ≡ false))
 
-agree_part : (given : Part → List Mention) (earlier : List Part) (part : Part) → Fits given earlier part
+agree_part : (given : Part → List OwnedMention) (earlier : List Part) (part : Part) → Fits given earlier part
     → Agree (flat_map given earlier) → Agree (flat_map given (earlier ++ part ∷ []))
 agree_part given earlier part (inl none) agree =
     subst Agree
@@ -112,7 +112,7 @@ agree_part given earlier part (inr one) agree =
     (agree_more (flat_map given earlier) one.0 agree one.2)
 
 -- all parts' mentions agree
-pub all_agree : (given : Part → List Mention) (all earlier parts : List Part)
+pub all_agree : (given : Part → List OwnedMention) (all earlier parts : List Part)
     → ((before : List Part) (part : Part) → IsFaultless all before part → Fits given before part)
     → faults_behind all earlier parts ≡ [] → Agree (flat_map given earlier) → Agree (flat_map given (earlier ++ parts))
 all_agree given all earlier [] fits none agree = subst (λ l. Agree (flat_map given l)) (sym (append-nil earlier)) agree
@@ -123,7 +123,7 @@ all_agree given all earlier (part ∷ parts) fits none agree =
     (agree_part given earlier part (fits earlier part (faultless all earlier part both.0)) agree))
 
 -- what two mentions of one name say
-says_the_first : (mention : Mention) (o : Option Mention) (first : Mention) → o ≡ Some first → differs_from mention o ≡ false
+says_the_first : (mention : OwnedMention) (o : Option OwnedMention) (first : OwnedMention) → o ≡ Some first → differs_from mention o ≡ false
     → (mention.kind ≡ first.kind) × (mention.class ≡ first.class)
 says_the_first mention o first is same =
     let equal = not-false (bytes_eq mention.kind first.kind && same_class mention.class first.class)
@@ -131,12 +131,12 @@ says_the_first mention o first is same =
     let both = and_parts (bytes_eq mention.kind first.kind) (same_class mention.class first.class) equal in
     ((bytes_eq-Decides mention.kind first.kind).0 both.0, classes_same mention.class first.class both.1)
 
-pub agree_two : (mentions : List Mention) → Agree mentions → (one other : Mention) → Among one mentions → Among other mentions
+pub agree_two : (mentions : List OwnedMention) → Agree mentions → (one other : OwnedMention) → Among one mentions → Among other mentions
     → one.name ≡ other.name → (one.kind ≡ other.kind) × (one.class ≡ other.class)
 agree_two mentions agree one other first second same =
     by (first_mention one.name mentions) refl (has_first one mentions first)
   where
-    by : (o : Option Mention) → first_mention one.name mentions ≡ o → (first_mention one.name mentions ≡ None → ⊥)
+    by : (o : Option OwnedMention) → first_mention one.name mentions ≡ o → (first_mention one.name mentions ≡ None → ⊥)
         → (one.kind ≡ other.kind) × (one.class ≡ other.class)
     by None is some = absurd (some is)
     by (Some the_first) is some =

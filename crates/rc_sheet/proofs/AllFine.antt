@@ -15,7 +15,7 @@ use Rattle.rc_semantics.specs.Classes.{class_at}
 use Rattle.rc_semantics.specs.declared.role.Role.{Role}
 use Rattle.rc_semantics.specs.declared.role.Role.TheVariants.{UsedAttribute as used_attribute, UsedValue as used_value, UsedMap as used_map, GivenValue as given_value}
 use Rattle.rc_semantics.specs.SecondParts.{Standing, Part, atom, form, parts_of, part_at, word_in}
-use Rattle.rc_semantics.specs.SecondNames.{is_named, attributes_in, value_by, values_in, maps_in, Mention, mention_of, locations_in, numbers_of}
+use Rattle.rc_semantics.specs.SecondNames.{is_named, attributes_in, value_by, values_in, maps_in, mention_of, locations_in, numbers_of, OwnedMention}
 use Rattle.rc_semantics.specs.SecondFaults.{is_bound, is_unbound, is_unnamed, is_no_player, is_in_stage, is_misused, is_other_side, is_other_mention, is_misplaced, is_wrong_form, is_twice, is_unknown, is_too_deep, second_faults}
 use Rattle.rc_naming.specs.Naming.{naming_of}
 use Rattle.rc_sheet.proofs.Fine.{Given, given_of, HasNumber, IsFineAtom, IsLocMention, IsNumMention, IsFineBinder, IsFineRule, IsFineForm, IsFine}
@@ -70,12 +70,12 @@ module _ (tree : Tree) (shaped : faults place.Sheet tree ≡ []) (sound : second
       (λ mention is. absurd is)
 
   -- mentions of the parts are found
-  loc_known : (mention : Mention) → Among mention (flat_map locations_in all) → IsLocMention naming mention
+  loc_known : (mention : OwnedMention) → Among mention (flat_map locations_in all) → IsLocMention naming mention
   loc_known mention is =
       loc_mention_found tree (flat_map locations_in all) locations_agree gives.no_more_locations mention
       (gives.locations mention is)
 
-  num_known : (mention : Mention) → Among mention (flat_map numbers_of all) → IsNumMention naming mention
+  num_known : (mention : OwnedMention) → Among mention (flat_map numbers_of all) → IsNumMention naming mention
   num_known mention is =
       num_mention_found tree (flat_map numbers_of all) numbers_agree (λ x one. subst (Among x) (sym gives.numbers) one) mention
       (subst (Among mention) gives.numbers is)

@@ -14,7 +14,7 @@ use Rattle.rc_grammar.specs.declared.grammar.Place.TheVariants as place
 use Rattle.rc_grammar.specs.declared.grammar.Rule.TheVariants as rule
 use Rattle.rc_semantics.specs.Classes.{owner_count}
 use Rattle.rc_semantics.specs.SecondParts.{Part, atom, form, parts_of}
-use Rattle.rc_semantics.specs.SecondNames.{player_count, team_count, Mention, locations_in, numbers_of, firsts_from, owned}
+use Rattle.rc_semantics.specs.SecondNames.{player_count, team_count, locations_in, numbers_of, firsts_from, owned, OwnedMention}
 use Rattle.rc_semantics.specs.SecondFaults.{location_count, number_count, second_faults}
 use Rattle.rc_naming.specs.Mentions.{all_locations}
 use Rattle.rc_sheet.proofs.Among.{Among, Within, among_map, map_among}
@@ -24,7 +24,7 @@ use Rattle.rc_sheet.proofs.FewNames.{no_more_different}
 use Rattle.rc_sheet.proofs.FineCounts.{IsWatched, stays_within, watched_part}
 
 -- a part that mentions nothing adds nothing
-keeps_owned : (f : Part → List Mention) (players teams most : ℕ) (earlier : List Part) (part : Part) → f part ≡ []
+keeps_owned : (f : Part → List OwnedMention) (players teams most : ℕ) (earlier : List Part) (part : Part) → f part ≡ []
     → owned players teams (flat_map f earlier) ≤ most → owned players teams (flat_map f (earlier ++ part ∷ [])) ≤ most
 keeps_owned f players teams most earlier part none le =
     subst (λ l. owned players teams l ≤ most)
@@ -53,7 +53,7 @@ some_owner players teams game_class some many = omega arith
 some_owner players teams player_class some many = some
 some_owner players teams team_class some many = many
 
-no_more_names : (players teams : ℕ) (mentions : List Mention) → 1 ≤ players → 1 ≤ teams
+no_more_names : (players teams : ℕ) (mentions : List OwnedMention) → 1 ≤ players → 1 ≤ teams
     → length mentions ≤ sum_by (λ mention. owner_count players teams mention.class) mentions
 no_more_names players teams [] some many = omega arith
 no_more_names players teams (mention ∷ mentions) some many =
@@ -63,7 +63,7 @@ no_more_names players teams (mention ∷ mentions) some many =
     omega (arith, here, later, sum)
 
 -- there are no more names than owned ones
-names_owned : (players teams : ℕ) (mentions : List Mention) → 1 ≤ players → 1 ≤ teams
+names_owned : (players teams : ℕ) (mentions : List OwnedMention) → 1 ≤ players → 1 ≤ teams
     → length (different (map name_of mentions)) ≤ owned players teams mentions
 names_owned players teams mentions some many =
     let same = ap length (names_different [] mentions) ∙ length-map (firsts_from [] mentions) name_of in
@@ -71,7 +71,7 @@ names_owned players teams mentions some many =
     omega (arith, same, least)
 
 -- what is within is so by its names too
-names_within : (mentions others : List Mention) → Within mentions others → Within (map name_of mentions) (map name_of others)
+names_within : (mentions others : List OwnedMention) → Within mentions others → Within (map name_of mentions) (map name_of others)
 names_within mentions others within x is =
     let found = map_among name_of x mentions is in
     subst (λ w. Among w (map name_of others)) (sym found.2) (among_map name_of found.0 others (within found.0 found.1))

@@ -7,7 +7,7 @@ use Rattle.rc_sheet_model.specs.Naming.{Naming}
 use Rattle.rc_sheet_model.specs.Naming.{kind_word as kind_bytes}
 use Rattle.rc_semantics.specs.Classes.{class_at}
 use Rattle.rc_semantics.specs.SecondParts.{Standing, Part, atom, form, part_at, word_in, parts_of}
-use Rattle.rc_semantics.specs.SecondNames.{is_named, attributes_in, values_in, maps_in, Mention, mention_of}
+use Rattle.rc_semantics.specs.SecondNames.{is_named, attributes_in, values_in, maps_in, mention_of, OwnedMention}
 use Rattle.rc_semantics.specs.SecondFaults.{is_bound, is_unbound, is_in_stage, is_misused, is_other_side, is_misplaced}
 use Rattle.rc_semantics.specs.declared.role.Role.{Role}
 use Rattle.rc_semantics.specs.declared.role.Role.TheVariants.{UsedAttribute as used_attribute, UsedValue as used_value, UsedMap as used_map, GivenValue as given_value}
@@ -48,7 +48,7 @@ pub record IsFineAtom (given : Given) (naming : Naming) (at : Standing) (bytes :
   pub numbered : HasNumber given naming at.role bytes
 
 -- the locations of the mentioned name have a number, and are of the mentioned kind and class
-pub record IsLocMention (naming : Naming) (mention : Mention) : Type 0 where
+pub record IsLocMention (naming : Naming) (mention : OwnedMention) : Type 0 where
   pub number : ℕ
   pub numbered : position (bytes_eq mention.name) naming.names.locs ≡ Some number
   pub loc : LocName
@@ -57,7 +57,7 @@ pub record IsLocMention (naming : Naming) (mention : Mention) : Type 0 where
   pub same_class : loc.class ≡ mention.class
 
 -- the same of stored numbers, which have no kind
-pub record IsNumMention (naming : Naming) (mention : Mention) : Type 0 where
+pub record IsNumMention (naming : Naming) (mention : OwnedMention) : Type 0 where
   pub number : ℕ
   pub numbered : position (bytes_eq mention.name) naming.names.nums ≡ Some number
   pub num : NumName

@@ -8,7 +8,7 @@ use Rattle.rc_sheet_model.specs.Lists.{item_list}
 use Rattle.rc_sheet_model.specs.Limits.{most_stages, most_sites}
 use Rattle.rc_sheet_model.specs.Mentions.{sites_in}
 use Rattle.rc_sheet_model.specs.Mentions.{stages_in as stages_in_tree}
-use Rattle.rc_sheet_model.specs.Naming.{Naming, naming_of}
+use Rattle.rc_sheet_model.specs.Naming.{Naming, sheet_naming}
 use Rattle.rc_sheet_model.specs.WellFormed.{outside, scored, IsInt, AreItems}
 use Rattle.rc_semantics.specs.SecondParts.{Standing, standing_in, standing_alone, Part, form, parts_at, parts_in, with_form, parts_of}
 use Rattle.rc_semantics.specs.SecondNames.{stages_in, choices_in}
@@ -184,16 +184,16 @@ module _ (given : Given) (naming : Naming) where
 module _ (sheet : Sheet) (given : Given) (gives : Gives sheet given) where
   -- `(scoring BEST INT)`
   pub score_finds : (at : Standing) (tree : Tree) → at.place ≡ place.Scoring → Good sheet given at tree
-      → Finds (score_at (naming_of sheet) tree) (λ p. IsInt sheet scored p.1)
+      → Finds (score_at (sheet_naming sheet) tree) (λ p. IsInt sheet scored p.1)
   score_finds at (word bytes from to) here good =
       absurd (refused (subst (λ p. atom_faults p bytes from ≡ []) here good.shaped))
     where
       refused : atom_faults place.Scoring bytes from ≡ [] → ⊥
       refused is = cc
   score_finds at (list parts from to) here good =
-      list_says given (naming_of sheet) (λ tree. Unit {0}) (score_rule (naming_of sheet)) place.Scoring at parts from to
+      list_says given (sheet_naming sheet) (λ tree. Unit {0}) (score_rule (sheet_naming sheet)) place.Scoring at parts from to
       here (each_by_parts (λ bytes from to. tt) (λ parts from to each. tt) parts) good
-      (with_three given (naming_of sheet) (λ tree. Unit {0}) (λ n. refl)
+      (with_three given (sheet_naming sheet) (λ tree. Unit {0}) (λ n. refl)
       (λ head best value each form. implies _
       (finds_both _ _ (best_is_found _ best refl form.good.1.0) ((reads sheet given gives value).int _ refl form.good.1.1.0))
       (λ p is. is.1))
@@ -205,7 +205,7 @@ module _ (sheet : Sheet) (given : Given) (gives : Gives sheet given) where
           best_finds bytes from to (passes_test (is_word keyword.Max bytes || is_word keyword.Min bytes) Shape from
           (subst (λ p. atom_faults p bytes from ≡ []) here good.shaped))
       best_is_found at (list parts from to) here good =
-          absurd (no_list given (naming_of sheet) place.Best at parts from to here good refl)
+          absurd (no_list given (sheet_naming sheet) place.Best at parts from to here good refl)
 
   -- each of these trees is read at the place of an item
   each_plays : (trees : Trees) → Each (Plays sheet given gives) trees
@@ -222,9 +222,9 @@ module _ (sheet : Sheet) (given : Given) (gives : Gives sheet given) where
       AreItems sheet outside body.0 × (1 ≤ length (item_list body.0)) × IsInt sheet scored body.1.1 × HasFew body.0
 
   -- the items
-  items_of_body : (all rest : Trees) (parts : List Part) → IsBody given (naming_of sheet) standing_alone all rest parts
+  items_of_body : (all rest : Trees) (parts : List Part) → IsBody given (sheet_naming sheet) standing_alone all rest parts
       → HasRoom none_begun parts
-      → Finds (option_map (λ p. p.0) (items_at (naming_of sheet) none_begun (but_last rest)))
+      → Finds (option_map (λ p. p.0) (items_at (sheet_naming sheet) none_begun (but_last rest)))
       (λ items. AreItems sheet outside items × (length (item_list items) ≡ count (but_last rest)) × HasFew items)
   items_of_body all rest parts body room =
       let stages = body.stages in
@@ -236,7 +236,7 @@ module _ (sheet : Sheet) (given : Given) (gives : Gives sheet given) where
       (items_find sheet given gives (item_part standing_alone all) (but_last rest) refl refl
       (each_plays (but_last rest)) body.items
       none_begun (record { stages = omega (arith, stages, few); sites = omega (arith, sites, few') }))
-      (items_count (naming_of sheet) none_begun (but_last rest)))
+      (items_count (sheet_naming sheet) none_begun (but_last rest)))
       (λ p are.
       let begun = are.0.2.stages in
       let begun' = are.0.2.sites in
@@ -245,17 +245,17 @@ module _ (sheet : Sheet) (given : Given) (gives : Gives sheet given) where
       (are.0.0, are.0.1, (omega (arith, stages, few, begun, counted), omega (arith, sites, few', begun', counted'))))
 
   -- the score
-  score_of_body : (all rest : Trees) (parts : List Part) → IsBody given (naming_of sheet) standing_alone all rest parts
-      → Finds (last_of rest >>= score_at (naming_of sheet)) (λ p. IsInt sheet scored p.1)
+  score_of_body : (all rest : Trees) (parts : List Part) → IsBody given (sheet_naming sheet) standing_alone all rest parts
+      → Finds (last_of rest >>= score_at (sheet_naming sheet)) (λ p. IsInt sheet scored p.1)
   score_of_body all rest parts body =
-      follows_this (last_of rest) body.scoring (score_at (naming_of sheet))
+      follows_this (last_of rest) body.scoring (score_at (sheet_naming sheet))
       (finds_if (last_of rest) body.scoring body.is_last refl)
       (score_finds (last_part standing_alone all) body.scoring refl body.scores)
 
   -- both
   pub body_finds : (all rest : Trees) (parts : List Part) → 2 ≤ count rest
-      → IsBody given (naming_of sheet) standing_alone all rest parts
-      → HasRoom none_begun parts → Finds (body_at (naming_of sheet) rest) BodyAt
+      → IsBody given (sheet_naming sheet) standing_alone all rest parts
+      → HasRoom none_begun parts → Finds (body_at (sheet_naming sheet) rest) BodyAt
   body_finds all rest parts some body room =
       let less = count_but_last rest (omega (arith, some)) in
       follows_this (ensure (nat_le 2 (count rest))) tt _ (ensures_so _ (le-leb 2 (count rest) some) refl)
@@ -263,7 +263,7 @@ module _ (sheet : Sheet) (given : Given) (gives : Gives sheet given) where
       (λ p are. let long = are.0.1 in (are.0.0, omega (arith, some, less, long), are.1, are.0.2)))
 
   -- its items and its score are read, and are well formed
-  pub game_body_finds : (tree : Tree) (game : IsGame given (naming_of sheet) tree)
-      → Finds (body_at (naming_of sheet) game.rest) BodyAt
+  pub game_body_finds : (tree : Tree) (game : IsGame given (sheet_naming sheet) tree)
+      → Finds (body_at (sheet_naming sheet) game.rest) BodyAt
   game_body_finds tree game =
       body_finds (cons game.head (cons game.setup game.rest)) game.rest game.parts game.some game.body game.room

@@ -6,7 +6,7 @@ use Rattle.std.proofs.lemmas.List.Sums.{sum-map}
 use Rattle.std.proofs.lemmas.Grind.{flat_map-append}
 use Rattle.rc_model.specs.Tree.{Tree, word, list, Trees, nil, cons}
 use Rattle.rc_model.specs.Deck.{no_group, group, no_branch, branch, face_count, branch_count}
-use Rattle.rc_model.specs.DeckText.{Names}
+use Rattle.rc_model.specs.DeckText.{DeckNames}
 use Rattle.rc_sheet_model.specs.Sheet.{DeckLine, Sheet}
 use Rattle.rc_sheet_model.specs.Limits.{most_cards}
 use Rattle.rc_sheet_model.specs.Naming.{Naming}
@@ -45,7 +45,7 @@ unless_none nil found means = nothing
 unless_none (cons tree trees) found means = means
 
 mutual
-  faces_read : (names : Names) (trees : Trees)
+  faces_read : (names : DeckNames) (trees : Trees)
       → Means (read_groups names trees) (λ groups. face_count groups ≡ written_faces trees)
   faces_read names nil = something no_group refl
   faces_read names (cons tree trees) =
@@ -54,7 +54,7 @@ mutual
       (λ first rest one more. ap (λ n. branch_count first.1 * n) more ∙ one)
 
   -- a group before others
-  group_read : (names : Names) (tree : Tree) (rest : Trees)
+  group_read : (names : DeckNames) (tree : Tree) (rest : Trees)
       → Means (read_group names tree) (λ found. branch_count found.1 * written_faces rest ≡ written_faces (cons tree rest))
   group_read names (word bytes from to) rest = nothing
   group_read names (list nil from to) rest = nothing
@@ -68,7 +68,7 @@ mutual
       (λ attr branches u same. ap (λ n. n * written_faces rest) same)
   group_read names (list (cons head (cons second (cons third others))) from to) rest = nothing
 
-  branches_read : (names : Names) (trees : Trees)
+  branches_read : (names : DeckNames) (trees : Trees)
       → Means (read_branches names trees) (λ branches. branch_count branches ≡ written_branches trees)
   branches_read names nil = something no_branch refl
   branches_read names (cons tree trees) =
@@ -77,7 +77,7 @@ mutual
       (λ first rest one more. ap (λ n. face_count first.1 + n) more ∙ one)
 
   -- a branch before others
-  branch_read : (names : Names) (tree : Tree) (rest : Trees)
+  branch_read : (names : DeckNames) (tree : Tree) (rest : Trees)
       → Means (read_branch names tree) (λ found. face_count found.1 + written_branches rest ≡ written_branches (cons tree rest))
   branch_read names (word bytes from to) rest =
       mapped (number_of names.values (word bytes from to)) plain (anything _) (λ value u. refl)
@@ -88,7 +88,7 @@ mutual
       (λ number inner alone same. ap (λ n. n + written_branches rest) (same ∙ sym alone))
 
 -- a deck
-deck_read : (names : Names) (tree : Tree) → Means (read_deck names tree) (λ groups. face_count groups ≡ faces_of tree)
+deck_read : (names : DeckNames) (tree : Tree) → Means (read_deck names tree) (λ groups. face_count groups ≡ faces_of tree)
 deck_read names (word bytes from to) = nothing
 deck_read names (list nil from to) = nothing
 deck_read names (list (cons (list parts a b) groups) from to) = nothing

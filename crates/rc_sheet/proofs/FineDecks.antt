@@ -26,7 +26,7 @@ use Rattle.rc_semantics.specs.declared.role.Role.TheVariants.{DeckLocation as de
 use Rattle.rc_semantics.specs.SecondParts.{Standing, standing_in, word_in, part_at, front, attributes_of, attributes_below, attributes_among, inner_attributes}
 use Rattle.rc_semantics.specs.SecondNames.{is_named, mention_of}
 use Rattle.rc_semantics.specs.SecondFaults.{is_game, is_misplaced, second_faults}
-use Rattle.rc_model.specs.DeckText.{Names}
+use Rattle.rc_model.specs.DeckText.{DeckNames}
 use Rattle.rc_setup.specs.Naming.{number_of}
 use Rattle.rc_setup.specs.Reading.{unless_nil, plain, read_groups, read_group, read_branch_list, read_branches, read_branch, read_deck}
 use Rattle.rc_setup.specs.Reading.{both as both_read}
@@ -34,7 +34,7 @@ use Rattle.rc_setup.specs.Reading.{is_word as is_read_word}
 use Rattle.rc_naming.specs.Naming.{naming_of}
 use Rattle.rc_sheet.specs.ReadNames.{loc_at}
 use Rattle.rc_sheet.specs.ReadSetup.{Setup, face_words, home_of, deck_at}
-use Rattle.rc_sheet.specs.ReadSheet.{setup_form_at, sheet_of, sheet_at}
+use Rattle.rc_sheet.specs.ReadSheet.{setup_form_at, sheet_at, sheet_with}
 use Rattle.rc_sheet.proofs.Means.{Means, nothing, something, means_if, means_so, weaker, mapped, behind, either, place_passes, anything}
 use Rattle.rc_sheet.proofs.ReadsNames.{loc_means}
 use Rattle.rc_sheet.proofs.Bodies.{standing_at}
@@ -211,7 +211,7 @@ abbrev HasBranch : Branches → Type 0
 HasBranch no_branch = ⊥
 HasBranch (branch value inner others) = Unit {0}
 
-some_branch : (names : Names) (trees : Trees) → Means (unless_nil trees (read_branches names trees)) HasBranch
+some_branch : (names : DeckNames) (trees : Trees) → Means (unless_nil trees (read_branches names trees)) HasBranch
 some_branch names nil = nothing
 some_branch names (cons tree rest) =
     made_of (λ first rest. branch first.0 first.1 rest) (read_branch names tree) (read_branches names rest) (anything _)
@@ -224,7 +224,7 @@ one_group before attr no_branch fresh are some = absurd some
 one_group before attr (branch value inner others) fresh are some = (fresh, are.0, are.1)
 
 -- there is a group
-some_group : (names : Names) (tree : Tree) (rest : Trees)
+some_group : (names : DeckNames) (tree : Tree) (rest : Trees)
     → Means (read_groups names (cons tree rest)) (λ groups. 1 ≤ length (group_attrs groups))
 some_group names tree rest =
     made_of (λ first rest. group first.0 first.1 rest) (read_group names tree) (read_groups names rest) (anything _) (anything _)
@@ -411,7 +411,7 @@ module _ (given : Given) (naming : Naming) where
 
 -- decks of any sheet with this naming are decks of one
 decks_of : (given : Given) (naming : Naming) (s : Setup) (body : SheetItems × (Best × IntExpr)) (decks : List DeckLine)
-    → AllByRecursion (IsDeckOf given naming) decks → AllByRecursion (IsDeck (sheet_of naming s body)) decks
+    → AllByRecursion (IsDeckOf given naming) decks → AllByRecursion (IsDeck (sheet_with naming s body)) decks
 decks_of given naming s body [] all = tt
 decks_of given naming s body (deck ∷ decks) all =
     let is = all.0 in ((is.0, is.1, is.2.0, is.2.1), decks_of given naming s body decks all.1)
@@ -419,7 +419,7 @@ decks_of given naming s body (deck ∷ decks) all =
 -- THE LAW: the decks of the setup that is read are decks of any sheet with its form's naming.
 pub decks_are_fine : (tree : Tree) → faults place.Sheet tree ≡ [] → second_faults tree ≡ []
     → Means (setup_form_at (naming_of tree) (setup_in tree))
-    (λ s. (body : SheetItems × (Best × IntExpr)) → AllByRecursion (IsDeck (sheet_of (naming_of tree) s body)) s.decks)
+    (λ s. (body : SheetItems × (Best × IntExpr)) → AllByRecursion (IsDeck (sheet_with (naming_of tree) s body)) s.decks)
 decks_are_fine tree shaped sound =
     weaker _
     (setup_keeps (λ said seen. AllByRecursion (IsDeckOf (given_of tree) (naming_of tree)) said.decks) tree shaped sound (
@@ -446,4 +446,4 @@ pub decks_are_decks : (tree : Tree) (sheet : Sheet) → faults place.Sheet tree 
 decks_are_decks tree sheet shaped sound is =
     by_setup (λ sheet. All (IsDeck sheet) sheet.decks) (naming_of tree) tree sheet is
     (weaker _ (decks_are_fine tree shaped sound)
-    (λ s are body. All-from_recursion (IsDeck (sheet_of (naming_of tree) s body)) s.decks (are body)))
+    (λ s are body. All-from_recursion (IsDeck (sheet_with (naming_of tree) s body)) s.decks (are body)))

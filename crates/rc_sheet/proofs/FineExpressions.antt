@@ -8,7 +8,7 @@ use Rattle.rc_model.specs.Tree.{Tree, word, list, Trees, nil, cons}
 use Rattle.rc_sheet_model.specs.Sheet.{Class, game_class, player_class, team_class, Sort, player_sort, card_sort, group_sort, Who, game, who_var, CardExpr, card_var, top_card, bottom_card, max_card, min_card, group_var, cards_in, union_of, no_coll, coll, IntExpr, literal, number, size_of, sum_of, worth_of, add, subtract, multiply, Test, eq_int, eq_card, eq_attr, eq_who, ne, less, less_eq, more, more_eq, and_of, or_of, not_of, no_test, test, Domain, each_player, each_card, Sheet}
 use Rattle.rc_sheet_model.specs.Lists.{coll_list, test_list}
 use Rattle.rc_model.specs.Clamp.{IsWithinClamp, largest_number}
-use Rattle.rc_sheet_model.specs.Naming.{naming_of, Scope, sort_of, class_of}
+use Rattle.rc_sheet_model.specs.Naming.{Scope, sort_of, class_of, sheet_naming}
 use Rattle.rc_sheet_model.specs.WellFormed.{Around, is_equality, IsAttr, HasSort, IsOwner, IsCard, IsColl, AreColls, IsInt, IsTest, AreTests, IsRange}
 use Rattle.rc_semantics.specs.Classes.{same_sort, same_class}
 use Rattle.rc_semantics.specs.SecondParts.{Standing, standing_in, sort_by_form, sort_over, bytes_of}
@@ -119,65 +119,65 @@ module _ (sheet : Sheet) (given : Given) where
   -- a tree at each place of an expression
   pub record Reads (tree : Tree) : Type 0 where
     pub card : (at : Standing) → at.place ≡ place.Card → Good sheet given at tree
-        → Finds (card_at (naming_of sheet) at.around.scope tree) (IsCard sheet at.around)
+        → Finds (card_at (sheet_naming sheet) at.around.scope tree) (IsCard sheet at.around)
     pub coll : (at : Standing) → at.place ≡ place.Collection → Good sheet given at tree
-        → Finds (coll_at (naming_of sheet) at.around.scope tree) (IsColl sheet at.around)
+        → Finds (coll_at (sheet_naming sheet) at.around.scope tree) (IsColl sheet at.around)
     pub range : (at : Standing) → at.place ≡ place.Members → Good sheet given at tree
-        → Finds (range_at (naming_of sheet) at.around.scope tree) (RangeAt at.around tree)
+        → Finds (range_at (sheet_naming sheet) at.around.scope tree) (RangeAt at.around tree)
     pub int : (at : Standing) → at.place ≡ place.Integer → Good sheet given at tree
-        → Finds (int_at (naming_of sheet) at.around.scope tree) (IsInt sheet at.around)
+        → Finds (int_at (sheet_naming sheet) at.around.scope tree) (IsInt sheet at.around)
     pub side : (at : Standing) → at.place ≡ place.Side → Good sheet given at tree
-        → Finds (side_at (naming_of sheet) at.around.scope tree) (SideAt at.around (side_of at.around.scope tree))
+        → Finds (side_at (sheet_naming sheet) at.around.scope tree) (SideAt at.around (side_of at.around.scope tree))
     pub test : (at : Standing) → at.place ≡ place.Test → Good sheet given at tree
-        → Finds (test_at (naming_of sheet) at.around.scope tree) (IsTest sheet at.around)
+        → Finds (test_at (sheet_naming sheet) at.around.scope tree) (IsTest sheet at.around)
 
   -- a form of this rule says what is P
   abbrev SaysCard : Standing → Rule → Trees → Type 0
   SaysCard at rule parts =
-      Says given (naming_of sheet) Reads at rule (card_rule (naming_of sheet) at.around.scope) (IsCard sheet at.around) parts
+      Says given (sheet_naming sheet) Reads at rule (card_rule (sheet_naming sheet) at.around.scope) (IsCard sheet at.around) parts
 
   -- a list of cards
   abbrev SaysColl : Standing → ℕ → Rule → Trees → Type 0
   SaysColl at from rule parts =
-      Says given (naming_of sheet) Reads at rule (coll_rule (naming_of sheet) at.around.scope from) (IsColl sheet at.around) parts
+      Says given (sheet_naming sheet) Reads at rule (coll_rule (sheet_naming sheet) at.around.scope from) (IsColl sheet at.around) parts
 
   -- a number
   abbrev SaysInt : Standing → Rule → Trees → Type 0
   SaysInt at rule parts =
-      Says given (naming_of sheet) Reads at rule (int_rule (naming_of sheet) at.around.scope) (IsInt sheet at.around) parts
+      Says given (sheet_naming sheet) Reads at rule (int_rule (sheet_naming sheet) at.around.scope) (IsInt sheet at.around) parts
 
   -- a test
   abbrev SaysTest : Standing → Rule → Trees → Type 0
   SaysTest at rule parts =
-      Says given (naming_of sheet) Reads at rule (test_rule (naming_of sheet) at.around.scope) (IsTest sheet at.around) parts
+      Says given (sheet_naming sheet) Reads at rule (test_rule (sheet_naming sheet) at.around.scope) (IsTest sheet at.around) parts
 
   -- a test, in what is around it
   abbrev TestIn : Tree → Around → Type 0
-  TestIn t around = Finds (test_at (naming_of sheet) around.scope t) (IsTest sheet around)
+  TestIn t around = Finds (test_at (sheet_naming sheet) around.scope t) (IsTest sheet around)
 
   -- CARD: `(top COLL)`
   top_says : (at : Standing) (parts : Trees) → SaysCard at rule.TopCard parts
   top_says at parts =
-      with_two given (naming_of sheet) Reads (λ n. refl)
+      with_two given (sheet_naming sheet) Reads (λ n. refl)
       (λ head cards each form. makes _ top_card (each.1.0.coll _ refl form.good.1.0) (λ c is. is))
 
   -- `(bottom COLL)`
   bottom_says : (at : Standing) (parts : Trees) → SaysCard at rule.BottomCard parts
   bottom_says at parts =
-      with_two given (naming_of sheet) Reads (λ n. refl)
+      with_two given (sheet_naming sheet) Reads (λ n. refl)
       (λ head cards each form. makes _ bottom_card (each.1.0.coll _ refl form.good.1.0) (λ c is. is))
 
   -- `(max COLL using MAP)`
   max_says : Gives sheet given → (at : Standing) (parts : Trees) → SaysCard at rule.MaxCard parts
   max_says gives at parts =
-      with_four given (naming_of sheet) Reads (λ n. refl)
+      with_four given (sheet_naming sheet) Reads (λ n. refl)
       (λ head cards using map each form. joins _ _ max_card (each.1.0.coll _ refl form.good.1.0)
       (map_finds sheet given gives _ _ using map refl form.good.1.1.0 refl refl form.good.1.1.1.0) (λ c n is used. (is, used)))
 
   -- `(min COLL using MAP)`
   min_says : Gives sheet given → (at : Standing) (parts : Trees) → SaysCard at rule.MinCard parts
   min_says gives at parts =
-      with_four given (naming_of sheet) Reads (λ n. refl)
+      with_four given (sheet_naming sheet) Reads (λ n. refl)
       (λ head cards using map each form. joins _ _ min_card (each.1.0.coll _ refl form.good.1.0)
       (map_finds sheet given gives _ _ using map refl form.good.1.1.0 refl refl form.good.1.1.1.0) (λ c n is used. (is, used)))
 
@@ -188,7 +188,7 @@ module _ (sheet : Sheet) (given : Given) where
       let variable = word_is_variable sheet given at place.Collection bytes from to here refl good in
       ap (λ b. cond b player_sort card_sort) (no_keyword bytes variable).1
   coll_sort at (list parts from to) here good =
-      let found = good_form given (naming_of sheet) at parts from to good in
+      let found = good_form given (sheet_naming sheet) at parts from to good in
       no_groups parts found.0 (ap (λ p. rule_of p parts) (sym here) ∙ found.1.told)
 
   -- COLL: `(HOLDER KIND NAME)`
@@ -199,7 +199,7 @@ module _ (sheet : Sheet) (given : Given) where
   -- `(filter COLL 'V BOOL)`
   pub filter_says : (at : Standing) (from : ℕ) (parts : Trees) → SaysColl at from rule.Filter parts
   filter_says at from parts =
-      with_four given (naming_of sheet) Reads (λ n. refl)
+      with_four given (sheet_naming sheet) Reads (λ n. refl)
       (λ head cards variable t each form. follows _ _ (each.1.0.coll _ refl form.good.1.0)
       (λ c is. follows _ _ (binder_finds sheet given at _ _ variable form.fine.fits refl refl form.good.1.1.0)
       (λ bound binds. makes _ _
@@ -210,7 +210,7 @@ module _ (sheet : Sheet) (given : Given) where
   -- lists of cards, one after the other
   colls_find : (at : Standing) (parts : Trees) → at.place ≡ place.Collection → Each Reads parts
       → Each (Good sheet given at) parts
-      → Finds (colls_at (naming_of sheet) at.around.scope parts)
+      → Finds (colls_at (sheet_naming sheet) at.around.scope parts)
       (λ cs. AreColls sheet at.around cs × (length (coll_list cs) ≡ count parts))
   colls_find at nil here each good = finds no_coll (tt, refl)
   colls_find at (cons part parts) here each good =
@@ -227,9 +227,9 @@ module _ (sheet : Sheet) (given : Given) where
   -- `(union COLL COLL+)`
   pub union_says : (at : Standing) (from : ℕ) (parts : Trees) → SaysColl at from rule.Union parts
   union_says at from parts =
-      behind_two given (naming_of sheet) Reads (λ n. refl)
+      behind_two given (sheet_naming sheet) Reads (λ n. refl)
       (λ head first rest some each form.
-      let alike = rest_good given (naming_of sheet) Reads at rule.Union (cons head (cons first rest)) _ 1 (cons first rest)
+      let alike = rest_good given (sheet_naming sheet) Reads at rule.Union (cons head (cons first rest)) _ 1 (cons first rest)
       (union_parts at (cons head (cons first rest))) form.good.1 in
       makes _ union_of (colls_find _ (cons first rest) refl each.1 alike)
       (λ cs are. let long = are.1 in (omega (arith, some, long), are.0)))
@@ -237,7 +237,7 @@ module _ (sheet : Sheet) (given : Given) where
   -- a list of cards
   coll_word_finds : (at : Standing) (bytes : List ℕ) (from to : ℕ) → is_variable bytes ≡ true
       → sorts_at at.place ≡ group_sort ∷ [] → Good sheet given at (word bytes from to)
-      → Finds (coll_at (naming_of sheet) at.around.scope (word bytes from to)) (IsColl sheet at.around)
+      → Finds (coll_at (sheet_naming sheet) at.around.scope (word bytes from to)) (IsColl sheet at.around)
   coll_word_finds at bytes from to is sorts good =
       makes (variable_in at.around.scope group_sort bytes) group_var
       (variable_finds sheet given at group_sort bytes is sorts good.fine.0) (λ var has. has)
@@ -245,9 +245,9 @@ module _ (sheet : Sheet) (given : Given) where
   -- as a list, also where a range may stand
   coll_list_finds : (at : Standing) (parts : Trees) (from to : ℕ) → rule_of at.place parts ≡ rule_of place.Collection parts
       → Each Reads parts → Good sheet given at (list parts from to)
-      → Finds (coll_at (naming_of sheet) at.around.scope (list parts from to)) (IsColl sheet at.around)
+      → Finds (coll_at (sheet_naming sheet) at.around.scope (list parts from to)) (IsColl sheet at.around)
   coll_list_finds at parts from to same each good =
-      list_says_by given (naming_of sheet) Reads (coll_rule (naming_of sheet) at.around.scope from) place.Collection at parts
+      list_says_by given (sheet_naming sheet) Reads (coll_rule (sheet_naming sheet) at.around.scope from) place.Collection at parts
       from to same each good
       (location_says at from parts ▹ filter_says at from parts ▹ union_says at from parts ▹ tt)
 
@@ -255,7 +255,7 @@ module _ (sheet : Sheet) (given : Given) where
   pub range_word_finds : (at : Standing) (bytes : List ℕ) (from to : ℕ)
       → (is_word keyword.Player bytes || is_variable bytes) ≡ true
       → sorts_at at.place ≡ group_sort ∷ [] → Good sheet given at (word bytes from to)
-      → Finds (range_at (naming_of sheet) at.around.scope (word bytes from to)) (RangeAt at.around (word bytes from to))
+      → Finds (range_at (sheet_naming sheet) at.around.scope (word bytes from to)) (RangeAt at.around (word bytes from to))
   range_word_finds at bytes from to taken sorts good =
       whether (is_word keyword.Player bytes) (Some each_player) _
       (λ is. finds each_player (tt, ap (λ b. cond b player_sort card_sort) is))
@@ -271,10 +271,10 @@ module _ (sheet : Sheet) (given : Given) where
   -- as a list
   range_list_finds : (at : Standing) (parts : Trees) (from to : ℕ) → at.place ≡ place.Members
       → Each Reads parts → Good sheet given at (list parts from to)
-      → Finds (range_at (naming_of sheet) at.around.scope (list parts from to)) (RangeAt at.around (list parts from to))
+      → Finds (range_at (sheet_naming sheet) at.around.scope (list parts from to)) (RangeAt at.around (list parts from to))
   range_list_finds at parts from to here each good =
       let same = ap (λ p. rule_of p parts) here ∙ same_ranges parts in
-      let found = good_form given (naming_of sheet) at parts from to good in
+      let found = good_form given (sheet_naming sheet) at parts from to good in
       makes _ each_card (coll_list_finds at parts from to same each good)
       (λ c is. (is, no_groups parts found.0 (sym same ∙ found.1.told)))
 
@@ -286,54 +286,54 @@ module _ (sheet : Sheet) (given : Given) where
   -- `(size COLL)`
   size_says : (at : Standing) (parts : Trees) → SaysInt at rule.Size parts
   size_says at parts =
-      with_two given (naming_of sheet) Reads (λ n. refl)
+      with_two given (sheet_naming sheet) Reads (λ n. refl)
       (λ head cards each form. makes _ size_of (each.1.0.coll _ refl form.good.1.0) (λ c is. is))
 
   -- `(sum COLL using MAP)`
   sum_says : Gives sheet given → (at : Standing) (parts : Trees) → SaysInt at rule.Sum parts
   sum_says gives at parts =
-      with_four given (naming_of sheet) Reads (λ n. refl)
+      with_four given (sheet_naming sheet) Reads (λ n. refl)
       (λ head cards using map each form. joins _ _ sum_of (each.1.0.coll _ refl form.good.1.0)
       (map_finds sheet given gives _ _ using map refl form.good.1.1.0 refl refl form.good.1.1.1.0) (λ c n is used. (is, used)))
 
   -- `(points CARD using MAP)`
   points_says : Gives sheet given → (at : Standing) (parts : Trees) → SaysInt at rule.PointsOf parts
   points_says gives at parts =
-      with_four given (naming_of sheet) Reads (λ n. refl)
+      with_four given (sheet_naming sheet) Reads (λ n. refl)
       (λ head card using map each form. joins _ _ worth_of (each.1.0.card _ refl form.good.1.0)
       (map_finds sheet given gives _ _ using map refl form.good.1.1.0 refl refl form.good.1.1.1.0) (λ c n is used. (is, used)))
 
   -- `(+ INT INT)`
   plus_says : (at : Standing) (parts : Trees) → SaysInt at rule.Plus parts
   plus_says at parts =
-      with_three given (naming_of sheet) Reads (λ n. refl)
+      with_three given (sheet_naming sheet) Reads (λ n. refl)
       (λ head a b each form. joins _ _ add (each.1.0.int _ refl form.good.1.0) (each.1.1.0.int _ refl form.good.1.1.0)
       (λ a b is is'. (is, is')))
 
   -- `(- INT INT)`
   minus_says : (at : Standing) (parts : Trees) → SaysInt at rule.Minus parts
   minus_says at parts =
-      with_three given (naming_of sheet) Reads (λ n. refl)
+      with_three given (sheet_naming sheet) Reads (λ n. refl)
       (λ head a b each form. joins _ _ subtract (each.1.0.int _ refl form.good.1.0) (each.1.1.0.int _ refl form.good.1.1.0)
       (λ a b is is'. (is, is')))
 
   -- `(* INT INT)`
   times_says : (at : Standing) (parts : Trees) → SaysInt at rule.Times parts
   times_says at parts =
-      with_three given (naming_of sheet) Reads (λ n. refl)
+      with_three given (sheet_naming sheet) Reads (λ n. refl)
       (λ head a b each form. joins _ _ multiply (each.1.0.int _ refl form.good.1.0) (each.1.1.0.int _ refl form.good.1.1.0)
       (λ a b is is'. (is, is')))
 
   -- SIDE: what a list says as a side
   abbrev side_read : Scope → Rule → Trees → Option Side
   side_read scope rule parts =
-      side_by rule (int_rule (naming_of sheet) scope rule parts) (card_rule (naming_of sheet) scope rule parts)
-      (value_parts (naming_of sheet) scope parts) (owner_rule scope rule parts)
+      side_by rule (int_rule (sheet_naming sheet) scope rule parts) (card_rule (sheet_naming sheet) scope rule parts)
+      (value_parts (sheet_naming sheet) scope parts) (owner_rule scope rule parts)
 
   -- a side of the sort that its form tells
   abbrev SaysSide : Standing → Rule → Trees → Type 0
   SaysSide at rule parts =
-      Says given (naming_of sheet) Reads at rule (side_read at.around.scope)
+      Says given (sheet_naming sheet) Reads at rule (side_read at.around.scope)
       (SideAt at.around (side_of_form (rule_of place.Side parts))) parts
 
   -- its sort is the one that its form tells
@@ -385,11 +385,11 @@ module _ (sheet : Sheet) (given : Given) where
 
   -- a card's value
   values_say : Gives sheet given → (at : Standing) (parts : Trees)
-      → Says given (naming_of sheet) Reads at rule.AttributeOf
-      (λ found parts. value_parts (naming_of sheet) at.around.scope parts)
+      → Says given (sheet_naming sheet) Reads at rule.AttributeOf
+      (λ found parts. value_parts (sheet_naming sheet) at.around.scope parts)
       (λ p. IsCard sheet at.around p.0 × IsAttr sheet p.1) parts
   values_say gives at parts =
-      with_three given (naming_of sheet) Reads (λ n. refl)
+      with_three given (sheet_naming sheet) Reads (λ n. refl)
       (λ head card attr each form. finds_both _ _ (each.1.0.card _ refl form.good.1.0)
       (attr_finds sheet given gives _ attr refl refl form.good.1.1.0))
 
@@ -449,10 +449,10 @@ module _ (sheet : Sheet) (given : Given) where
   -- a list as a side
   side_list_finds : Gives sheet given → (at : Standing) (parts : Trees) (from to : ℕ) → at.place ≡ place.Side
       → Each Reads parts → Good sheet given at (list parts from to)
-      → Finds (side_at (naming_of sheet) at.around.scope (list parts from to))
+      → Finds (side_at (sheet_naming sheet) at.around.scope (list parts from to))
       (SideAt at.around (side_of at.around.scope (list parts from to)))
   side_list_finds gives at parts from to here each good =
-      list_says given (naming_of sheet) Reads (side_read at.around.scope) place.Side at parts from to here each good
+      list_says given (sheet_naming sheet) Reads (side_read at.around.scope) place.Side at parts from to here each good
       (int_side at rule.Counter parts here (λ v c p w. refl) refl (counter_says at parts)
       ▹ int_side at rule.Size parts here (λ v c p w. refl) refl (size_says at parts)
       ▹ int_side at rule.Sum parts here (λ v c p w. refl) refl (sum_says gives at parts)
@@ -507,10 +507,10 @@ module _ (sheet : Sheet) (given : Given) where
 
   -- what two sides say that don't differ
   compares : (around : Around) (a b : Tree)
-      → Finds (side_at (naming_of sheet) around.scope a) (SideAt around (side_of around.scope a))
-      → Finds (side_at (naming_of sheet) around.scope b) (SideAt around (side_of around.scope b))
+      → Finds (side_at (sheet_naming sheet) around.scope a) (SideAt around (side_of around.scope a))
+      → Finds (side_at (sheet_naming sheet) around.scope b) (SideAt around (side_of around.scope b))
       → differ (side_of around.scope a) (side_of around.scope b) ≡ false
-      → Finds (both (side_at (naming_of sheet) around.scope a) (side_at (naming_of sheet) around.scope b)
+      → Finds (both (side_at (sheet_naming sheet) around.scope a) (side_at (sheet_naming sheet) around.scope b)
       >>= λ p. equal_test p.0 p.1) (IsEquation around)
   compares around a b first second fits =
       follows _ (λ p. equal_test p.0 p.1) (finds_both _ _ first second)
@@ -521,12 +521,12 @@ module _ (sheet : Sheet) (given : Given) where
   sides_fit : (at : Standing) (tree : Tree) → Good sheet given at tree → is_other_side at at.role ≡ false
   sides_fit at (word bytes from to) good = good.fine.0.sides_fit
   sides_fit at (list parts from to) good =
-      (good_form given (naming_of sheet) at parts from to good).1.fine.sides_fit
+      (good_form given (sheet_naming sheet) at parts from to good).1.fine.sides_fit
 
   -- `(= SIDE SIDE)`
   equal_says : (at : Standing) (parts : Trees) → SaysTest at rule.Equal parts
   equal_says at parts =
-      with_three given (naming_of sheet) Reads (λ n. refl)
+      with_three given (sheet_naming sheet) Reads (λ n. refl)
       (λ head a b each form. implies _
       (compares at.around a b (each.1.0.side _ refl form.good.1.0) (each.1.1.0.side _ refl form.good.1.1.0)
       (sides_fit _ b form.good.1.1.0))
@@ -535,7 +535,7 @@ module _ (sheet : Sheet) (given : Given) where
   -- `(!= SIDE SIDE)`
   unequal_says : (at : Standing) (parts : Trees) → SaysTest at rule.NotEqual parts
   unequal_says at parts =
-      with_three given (naming_of sheet) Reads (λ n. refl)
+      with_three given (sheet_naming sheet) Reads (λ n. refl)
       (λ head a b each form. makes _ ne
       (compares at.around a b (each.1.0.side _ refl form.good.1.0) (each.1.1.0.side _ refl form.good.1.1.0)
       (sides_fit _ b form.good.1.1.0))
@@ -544,35 +544,35 @@ module _ (sheet : Sheet) (given : Given) where
   -- `(< INT INT)`
   less_says : (at : Standing) (parts : Trees) → SaysTest at rule.Less parts
   less_says at parts =
-      with_three given (naming_of sheet) Reads (λ n. refl)
+      with_three given (sheet_naming sheet) Reads (λ n. refl)
       (λ head a b each form. joins _ _ less (each.1.0.int _ refl form.good.1.0) (each.1.1.0.int _ refl form.good.1.1.0)
       (λ a b is is'. (is, is')))
 
   -- `(<= INT INT)`
   less_eq_says : (at : Standing) (parts : Trees) → SaysTest at rule.LessOrEqual parts
   less_eq_says at parts =
-      with_three given (naming_of sheet) Reads (λ n. refl)
+      with_three given (sheet_naming sheet) Reads (λ n. refl)
       (λ head a b each form. joins _ _ less_eq (each.1.0.int _ refl form.good.1.0) (each.1.1.0.int _ refl form.good.1.1.0)
       (λ a b is is'. (is, is')))
 
   -- `(> INT INT)`
   more_says : (at : Standing) (parts : Trees) → SaysTest at rule.More parts
   more_says at parts =
-      with_three given (naming_of sheet) Reads (λ n. refl)
+      with_three given (sheet_naming sheet) Reads (λ n. refl)
       (λ head a b each form. joins _ _ more (each.1.0.int _ refl form.good.1.0) (each.1.1.0.int _ refl form.good.1.1.0)
       (λ a b is is'. (is, is')))
 
   -- `(>= INT INT)`
   more_eq_says : (at : Standing) (parts : Trees) → SaysTest at rule.MoreOrEqual parts
   more_eq_says at parts =
-      with_three given (naming_of sheet) Reads (λ n. refl)
+      with_three given (sheet_naming sheet) Reads (λ n. refl)
       (λ head a b each form. joins _ _ more_eq (each.1.0.int _ refl form.good.1.0) (each.1.1.0.int _ refl form.good.1.1.0)
       (λ a b is is'. (is, is')))
 
   -- `(is CARD ATTR VALUE)`
   is_says : Gives sheet given → (at : Standing) (parts : Trees) → SaysTest at rule.Is parts
   is_says gives at parts =
-      with_four given (naming_of sheet) Reads (λ n. refl)
+      with_four given (sheet_naming sheet) Reads (λ n. refl)
       (λ head card attr value each form. follows _ _ (each.1.0.card _ refl form.good.1.0)
       (λ c is. follows _ _ (attr_finds sheet given gives _ attr refl refl form.good.1.1.0)
       (λ n named. makes _ _ (value_finds sheet given gives _ value refl refl form.good.1.1.1.0)
@@ -581,7 +581,7 @@ module _ (sheet : Sheet) (given : Given) where
   -- tests, one after the other
   tests_find : (at : Standing) (parts : Trees) → at.place ≡ place.Test → Each Reads parts
       → Each (Good sheet given at) parts
-      → Finds (tests_at (naming_of sheet) at.around.scope parts)
+      → Finds (tests_at (sheet_naming sheet) at.around.scope parts)
       (λ ts. AreTests sheet at.around ts × (length (test_list ts) ≡ count parts))
   tests_find at nil here each good = finds no_test (tt, refl)
   tests_find at (cons part parts) here each good =
@@ -591,9 +591,9 @@ module _ (sheet : Sheet) (given : Given) where
   -- `(and BOOL+)`
   and_says : (at : Standing) (parts : Trees) → SaysTest at rule.And parts
   and_says at parts =
-      behind_one given (naming_of sheet) Reads (λ n. refl)
+      behind_one given (sheet_naming sheet) Reads (λ n. refl)
       (λ head rest some each form.
-      let alike = rest_good given (naming_of sheet) Reads at rule.And (cons head rest)
+      let alike = rest_good given (sheet_naming sheet) Reads at rule.And (cons head rest)
       (plain_part at place.Test (cons head rest)) 1 rest
       (from_one _ (λ j. refl)) form.good.1 in
       makes _ and_of (tests_find _ rest refl each.1 alike) (λ ts are. let long = are.1 in (omega (arith, some, long), are.0)))
@@ -601,9 +601,9 @@ module _ (sheet : Sheet) (given : Given) where
   -- `(or BOOL+)`
   or_says : (at : Standing) (parts : Trees) → SaysTest at rule.Or parts
   or_says at parts =
-      behind_one given (naming_of sheet) Reads (λ n. refl)
+      behind_one given (sheet_naming sheet) Reads (λ n. refl)
       (λ head rest some each form.
-      let alike = rest_good given (naming_of sheet) Reads at rule.Or (cons head rest)
+      let alike = rest_good given (sheet_naming sheet) Reads at rule.Or (cons head rest)
       (plain_part at place.Test (cons head rest)) 1 rest
       (from_one _ (λ j. refl)) form.good.1 in
       makes _ or_of (tests_find _ rest refl each.1 alike) (λ ts are. let long = are.1 in (omega (arith, some, long), are.0)))
@@ -611,13 +611,13 @@ module _ (sheet : Sheet) (given : Given) where
   -- `(not BOOL)`
   not_says : (at : Standing) (parts : Trees) → SaysTest at rule.Not parts
   not_says at parts =
-      with_two given (naming_of sheet) Reads (λ n. refl)
+      with_two given (sheet_naming sheet) Reads (λ n. refl)
       (λ head t each form. makes _ not_of (each.1.0.test _ refl form.good.1.0) (λ t is. is))
 
   -- `(all RANGE 'V BOOL)`
   all_says : (at : Standing) (parts : Trees) → SaysTest at rule.ForAll parts
   all_says at parts =
-      with_four given (naming_of sheet) Reads (λ n. refl)
+      with_four given (sheet_naming sheet) Reads (λ n. refl)
       (λ head range variable t each form. follows _ _ (each.1.0.range _ refl form.good.1.0)
       (λ domain is. follows _ _ (binder_finds sheet given at _ _ variable form.fine.fits refl refl form.good.1.1.0)
       (λ bound binds. makes _ _
@@ -628,7 +628,7 @@ module _ (sheet : Sheet) (given : Given) where
   -- `(any RANGE 'V BOOL)`
   any_says : (at : Standing) (parts : Trees) → SaysTest at rule.ForAny parts
   any_says at parts =
-      with_four given (naming_of sheet) Reads (λ n. refl)
+      with_four given (sheet_naming sheet) Reads (λ n. refl)
       (λ head range variable t each form. follows _ _ (each.1.0.range _ refl form.good.1.0)
       (λ domain is. follows _ _ (binder_finds sheet given at _ _ variable form.fine.fits refl refl form.good.1.1.0)
       (λ bound binds. makes _ _
@@ -639,9 +639,9 @@ module _ (sheet : Sheet) (given : Given) where
   -- a test, by its forms
   test_list_finds : Gives sheet given → (at : Standing) (parts : Trees) (from to : ℕ) → at.place ≡ place.Test
       → Each Reads parts → Good sheet given at (list parts from to)
-      → Finds (test_at (naming_of sheet) at.around.scope (list parts from to)) (IsTest sheet at.around)
+      → Finds (test_at (sheet_naming sheet) at.around.scope (list parts from to)) (IsTest sheet at.around)
   test_list_finds gives at parts from to here each good =
-      list_says given (naming_of sheet) Reads (test_rule (naming_of sheet) at.around.scope) place.Test at parts from to here
+      list_says given (sheet_naming sheet) Reads (test_rule (sheet_naming sheet) at.around.scope) place.Test at parts from to here
       each good
       (equal_says at parts ▹ unequal_says at parts ▹ less_says at parts ▹ less_eq_says at parts ▹ more_says at parts
       ▹ more_eq_says at parts ▹ is_says gives at parts ▹ and_says at parts ▹ or_says at parts ▹ not_says at parts
@@ -682,13 +682,13 @@ module _ (sheet : Sheet) (given : Given) where
   lists_read gives parts from to each =
       record {
         card = λ at here good.
-            list_says given (naming_of sheet) Reads (card_rule (naming_of sheet) at.around.scope) place.Card at parts from to here
+            list_says given (sheet_naming sheet) Reads (card_rule (sheet_naming sheet) at.around.scope) place.Card at parts from to here
             each good
             (top_says at parts ▹ bottom_says at parts ▹ max_says gives at parts ▹ min_says gives at parts ▹ tt);
         coll = λ at here good. coll_list_finds at parts from to (ap (λ p. rule_of p parts) here) each good;
         range = λ at here good. range_list_finds at parts from to here each good;
         int = λ at here good.
-            list_says given (naming_of sheet) Reads (int_rule (naming_of sheet) at.around.scope) place.Integer at parts from to
+            list_says given (sheet_naming sheet) Reads (int_rule (sheet_naming sheet) at.around.scope) place.Integer at parts from to
             here each good
             (counter_says at parts ▹ size_says at parts ▹ sum_says gives at parts ▹ points_says gives at parts
             ▹ plus_says at parts ▹ minus_says at parts ▹ times_says at parts ▹ tt);

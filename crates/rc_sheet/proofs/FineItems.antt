@@ -5,7 +5,7 @@ use Rattle.rc_model.specs.Tree.{Tree, word, list, Trees, nil, cons}
 use Rattle.rc_sheet_model.specs.Sheet.{Class, player_class, team_class, Test, SheetItem, do_item, stage, choice, SheetItems, no_item, Sheet}
 use Rattle.rc_sheet_model.specs.Lists.{item_list}
 use Rattle.rc_sheet_model.specs.Limits.{most_stages, most_sites}
-use Rattle.rc_sheet_model.specs.Naming.{naming_of}
+use Rattle.rc_sheet_model.specs.Naming.{sheet_naming}
 use Rattle.rc_sheet_model.specs.WellFormed.{Around, in_stage, IsTest, IsItem, AreItems}
 use Rattle.rc_semantics.specs.SecondParts.{Standing, standing_in, Part, form, parts_at, parts_in, with_form}
 use Rattle.rc_semantics.specs.SecondNames.{stages_in, choices_in}
@@ -106,18 +106,18 @@ inner_counts f at found all head class end rest alike same =
 module _ (sheet : Sheet) (given : Given) (gives : Gives sheet given) where
   -- `(end BOOL)`
   pub end_finds : (at : Standing) (tree : Tree) → at.place ≡ place.End → at.around.scope ≡ [] → Good sheet given at tree
-      → Finds (end_at (naming_of sheet) tree) (IsTest sheet at.around)
+      → Finds (end_at (sheet_naming sheet) tree) (IsTest sheet at.around)
   end_finds at (word bytes from to) here free good =
       absurd (refused (subst (λ p. atom_faults p bytes from ≡ []) here good.shaped))
     where
       refused : atom_faults place.End bytes from ≡ [] → ⊥
       refused is = cc
   end_finds at (list parts from to) here free good =
-      list_says given (naming_of sheet) (λ tree. Unit {0}) (end_rule (naming_of sheet)) place.End at parts from to
+      list_says given (sheet_naming sheet) (λ tree. Unit {0}) (end_rule (sheet_naming sheet)) place.End at parts from to
       here (each_by_parts (λ bytes from to. tt) (λ parts from to each. tt) parts) good
-      (with_two given (naming_of sheet) (λ tree. Unit {0}) (λ n. refl)
+      (with_two given (sheet_naming sheet) (λ tree. Unit {0}) (λ n. refl)
       (λ head t each form.
-      subst (λ scope. Finds (test_at (naming_of sheet) scope t) (IsTest sheet at.around)) free
+      subst (λ scope. Finds (test_at (sheet_naming sheet) scope t) (IsTest sheet at.around)) free
       ((reads sheet given gives t).test _ refl form.good.1.0))
       ▹ tt)
 
@@ -134,12 +134,12 @@ module _ (sheet : Sheet) (given : Given) (gives : Gives sheet given) where
   pub record Plays (tree : Tree) : Type 0 where
     pub item : (at : Standing) → at.place ≡ place.Item → at.around.scope ≡ [] → Good sheet given at tree
         → (begun : Begun) → HasRoom begun (parts_at (Some at) tree)
-        → Finds (item_at (naming_of sheet) begun tree) (ItemAt at.around begun (parts_at (Some at) tree))
+        → Finds (item_at (sheet_naming sheet) begun tree) (ItemAt at.around begun (parts_at (Some at) tree))
 
   -- items, one after the other
   pub items_find : (at : Standing) (trees : Trees) → at.place ≡ place.Item → at.around.scope ≡ [] → Each Plays trees
       → Each (Good sheet given at) trees → (begun : Begun) → HasRoom begun (parts_alike at trees)
-      → Finds (items_at (naming_of sheet) begun trees) (ItemsAt at.around begun (parts_alike at trees) (count trees))
+      → Finds (items_at (sheet_naming sheet) begun trees) (ItemsAt at.around begun (parts_alike at trees) (count trees))
   items_find at nil here free each good begun room = finds (no_item, begun) (tt, refl, nothing_begins begun [])
   items_find at (cons tree trees) here free each good begun room =
       let first = parts_at (Some at) tree in
@@ -166,7 +166,7 @@ module _ (sheet : Sheet) (given : Given) (gives : Gives sheet given) where
   ItemOf at from begun found parts =
       Each Plays parts → GoodForm sheet given at found parts
       → HasRoom begun (form at found parts from ∷ parts_in at found parts 0 parts)
-      → Finds (item_rule (naming_of sheet) begun found parts)
+      → Finds (item_rule (sheet_naming sheet) begun found parts)
       (ItemAt at.around begun (form at found parts from ∷ parts_in at found parts 0 parts))
 
   -- `(do EFFECT+)`
@@ -176,10 +176,10 @@ module _ (sheet : Sheet) (given : Given) (gives : Gives sheet given) where
       one_and_more (ItemOf at from begun rule.Do) parts good.fit
       (λ head rest some each good room.
       let all = cons head rest in
-      let alike = rest_good given (naming_of sheet) Plays at rule.Do all (plain_part at place.Effect all) 1 rest
+      let alike = rest_good given (sheet_naming sheet) Plays at rule.Do all (plain_part at place.Effect all) 1 rest
       (from_one _ (λ j. refl)) good.good.1 in
       makes _ (λ effects. (do_item effects, begun))
-      (subst (λ scope. Finds (effects_at (naming_of sheet) scope rest) (AreEffectsOf sheet given gives rest at.around)) free
+      (subst (λ scope. Finds (effects_at (sheet_naming sheet) scope rest) (AreEffectsOf sheet given gives rest at.around)) free
       (effects_find sheet given gives _ rest refl (each_acts sheet given gives rest) alike))
       (λ es are. let long = are.1 in ((omega (arith, some, long), are.0), nothing_begins begun _)))
       each good room
@@ -215,7 +215,7 @@ module _ (sheet : Sheet) (given : Given) (gives : Gives sheet given) where
       let all = cons head (cons class (cons end rest)) in
       let alike = record (plain_part at place.Item all) { around = in_stage player_class at.around } in
       let same : (i : ℕ) → 3 ≤ i → standing_in at rule.PlayerStage all i ≡ Some alike = from_three _ (λ j. refl) in
-      let stands = rest_good given (naming_of sheet) Plays at rule.PlayerStage all alike 3 rest same good.good.1.1.1 in
+      let stands = rest_good given (sheet_naming sheet) Plays at rule.PlayerStage all alike 3 rest same good.good.1.1.1 in
       let stages = inner_counts stages_in at rule.PlayerStage all head class end rest alike same in
       let sites = inner_counts choices_in at rule.PlayerStage all head class end rest alike same in
       stage_finds begun at.around player_class _ (parts_alike alike rest) (count rest) _ _ (λ t body a b c. (a, b, c)) room some
@@ -232,7 +232,7 @@ module _ (sheet : Sheet) (given : Given) (gives : Gives sheet given) where
       let all = cons head (cons class (cons end rest)) in
       let alike = record (plain_part at place.Item all) { around = in_stage team_class at.around } in
       let same : (i : ℕ) → 3 ≤ i → standing_in at rule.TeamStage all i ≡ Some alike = from_three _ (λ j. refl) in
-      let stands = rest_good given (naming_of sheet) Plays at rule.TeamStage all alike 3 rest same good.good.1.1.1 in
+      let stands = rest_good given (sheet_naming sheet) Plays at rule.TeamStage all alike 3 rest same good.good.1.1.1 in
       let stages = inner_counts stages_in at rule.TeamStage all head class end rest alike same in
       let sites = inner_counts choices_in at rule.TeamStage all head class end rest alike same in
       stage_finds begun at.around team_class _ (parts_alike alike rest) (count rest) _ _ (λ t body a b c. (a, b, c)) room some
@@ -247,7 +247,7 @@ module _ (sheet : Sheet) (given : Given) (gives : Gives sheet given) where
       one_and_more (ItemOf at from begun rule.Choice) parts good.fit
       (λ head rest some each good room.
       let all = cons head rest in
-      let alike = rest_good given (naming_of sheet) Plays at rule.Choice all (plain_part at place.Alternative all) 1 rest
+      let alike = rest_good given (sheet_naming sheet) Plays at rule.Choice all (plain_part at place.Alternative all) 1 rest
       (from_one _ (λ j. refl)) good.good.1 in
       let most = room.sites in
       follows_this (ensure (nat_lt begun.sites most_sites)) tt _
@@ -262,11 +262,11 @@ module _ (sheet : Sheet) (given : Given) (gives : Gives sheet given) where
   pub item_by : (at : Standing) (parts : Trees) (from to : ℕ) (begun : Begun) (found : Rule)
       → rule_of at.place parts ≡ Some found → Each Plays parts → GoodForm sheet given at found parts
       → HasRoom begun (parts_at (Some at) (list parts from to)) → ItemOf at from begun found parts
-      → Finds (item_rule (naming_of sheet) begun found parts)
+      → Finds (item_rule (sheet_naming sheet) begun found parts)
       (ItemAt at.around begun (parts_at (Some at) (list parts from to)))
   item_by at parts from to begun found told each good room finds_item =
       let same = ap (with_form at parts from (λ found. parts_in at found parts 0 parts)) told in
-      subst (λ all. Finds (item_rule (naming_of sheet) begun found parts) (ItemAt at.around begun all)) (sym same)
+      subst (λ all. Finds (item_rule (sheet_naming sheet) begun found parts) (ItemAt at.around begun all)) (sym same)
       (finds_item each good (subst (HasRoom begun) same room))
 
   -- each tree is read at the place of an item where it stands well
@@ -278,7 +278,7 @@ module _ (sheet : Sheet) (given : Given) (gives : Gives sheet given) where
       })
       (λ parts from to each. record {
         item = λ at here free good begun room.
-            list_finds given (naming_of sheet) (λ found. item_rule (naming_of sheet) begun found parts) place.Item at parts from
+            list_finds given (sheet_naming sheet) (λ found. item_rule (sheet_naming sheet) begun found parts) place.Item at parts from
             to here good
             ((λ good. item_by at parts from to begun rule.Do good.told each good room (do_finds at from begun parts free))
             ▹ (λ good. item_by at parts from to begun rule.PlayerStage good.told each good room

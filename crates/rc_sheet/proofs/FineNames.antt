@@ -9,12 +9,12 @@ use Rattle.std.proofs.Math.Bool.{or-false}
 use Rattle.rc_model.specs.Tree.{Tree, word, list, Trees, nil, cons}
 use Rattle.rc_sheet_model.specs.Sheet.{Class, game_class, player_class, team_class, Sort, player_sort, LocKind, vloc, iloc, hloc, mem, Who, game, current_player, current_team, who_var, Loc, Sheet}
 use Rattle.rc_sheet_model.specs.Limits.{most_variables}
-use Rattle.rc_sheet_model.specs.Naming.{naming_of, Variable, Scope, class_of}
+use Rattle.rc_sheet_model.specs.Naming.{Variable, Scope, class_of, sheet_naming}
 use Rattle.rc_sheet_model.specs.Naming.{kind_word as kind_bytes}
 use Rattle.rc_sheet_model.specs.WellFormed.{Around, IsAttr, IsValue, IsMap, HasSort, IsOwner, IsHolder, var_word, IsBinder, behind, is_mem, holds_references, IsLoc, IsNum}
 use Rattle.rc_semantics.specs.Classes.{same_sort, same_class, class_of_rule, class_at, bound_in}
 use Rattle.rc_semantics.specs.SecondParts.{Standing, part_at, bytes_of, word_in}
-use Rattle.rc_semantics.specs.SecondNames.{some_of, Mention, mention_of}
+use Rattle.rc_semantics.specs.SecondNames.{some_of, mention_of, OwnedMention}
 use Rattle.rc_semantics.specs.SecondFaults.{is_other_sort, is_misplaced, sorts_at}
 use Rattle.rc_semantics.specs.SecondFaults.{variable_in as variable_found}
 use Rattle.rc_grammar.specs.Keyword.{text_of}
@@ -30,7 +30,7 @@ use Rattle.rc_grammar.specs.declared.grammar.Rule.TheVariants as rule
 use Rattle.rc_grammar.specs.declared.fault.SheetKind.{SheetKind}
 use Rattle.rc_grammar.specs.declared.fault.SheetKind.TheVariants.{Shape}
 use Rattle.rc_grammar.specs.declared.fault.SheetFault.{SheetFault}
-use Rattle.rc_sheet.specs.ReadNames.{◌>>=◌, ensure, rule_at, name_at, binder_at, has_sort, place_in, sorted, variable_in, player_of_rule, player_at, team_of, team_parts, owner_rule, owner_at, holder_at, kind_word, is_loc_name, is_num_name, loc_parts, loc_rule, loc_at, num_parts, num_rule, num_at, map_at}
+use Rattle.rc_sheet.specs.ReadNames.{◌>>=◌, ensure, rule_at, name_at, binder_at, has_sort, place_in, sorted, variable_in, player_of_rule, player_at, team_of, team_parts, owner_rule, owner_at, holder_at, is_loc_name, is_num_name, loc_parts, loc_rule, loc_at, num_parts, num_rule, num_at, map_at, kind_keyword}
 use Rattle.rc_sheet.proofs.Fine.{Given, IsNamed, HasNumber, IsFineAtom, IsFineBinder}
 use Rattle.rc_sheet.proofs.Means.{means_so, found_passes}
 use Rattle.rc_sheet.proofs.ReadsNames.{same_bytes, sorts_same, kind_is, class_same}
@@ -116,8 +116,8 @@ not_in_scope bytes (variable ∷ scope) is =
         or_from (bytes_eq variable.word bytes) _ (same_either_way bytes variable.word same) (later is)
 
 -- the word of a kind is the keyword of no other
-kind_fits : (kind : LocKind) (bytes : List ℕ) → kind_bytes kind ≡ bytes → is_word (kind_word kind) bytes ≡ true
-kind_fits kind bytes is = (bytes_eq-Decides bytes (text_of (kind_word kind))).1 (sym is ∙ sym (kind_is kind))
+kind_fits : (kind : LocKind) (bytes : List ℕ) → kind_bytes kind ≡ bytes → is_word (kind_keyword kind) bytes ≡ true
+kind_fits kind bytes is = (bytes_eq-Decides bytes (text_of (kind_keyword kind))).1 (sym is ∙ sym (kind_is kind))
 
 -- whether locations hold references is told by the word of their kind
 pub kind_tells : (kind : LocKind) (bytes : List ℕ) → kind_bytes kind ≡ bytes → is_mem kind ≡ is_word keyword.Mem bytes
@@ -138,11 +138,11 @@ pub record Gives (sheet : Sheet) (given : Given) : Type 0 where
 module _ (sheet : Sheet) (given : Given) where
   -- a tree and a form that stand well, with the names of the sheet
   abbrev pub Good : Standing → Tree → Type 0
-  Good = IsGood given (naming_of sheet)
+  Good = IsGood given (sheet_naming sheet)
 
   -- the same of a form
   abbrev pub GoodForm : Standing → Rule → Trees → Type 0
-  GoodForm = IsGoodForm given (naming_of sheet)
+  GoodForm = IsGoodForm given (sheet_naming sheet)
 
   -- a variable in scope, at a place of it, and of a sort that its own place takes
   pub record IsBound (at : Standing) (bytes : List ℕ) : Type 0 where
@@ -155,7 +155,7 @@ module _ (sheet : Sheet) (given : Given) where
 
   -- where its part is fine
   pub bound_variable : (at : Standing) (bytes : List ℕ) → is_variable bytes ≡ true → some_of (sorts_at at.place) ≡ true
-      → IsFineAtom given (naming_of sheet) at bytes → IsBound at bytes
+      → IsFineAtom given (sheet_naming sheet) at bytes → IsBound at bytes
   bound_variable at bytes is some fine =
       let found = variable_found at.around.scope bytes in
       let bound = something_found found
@@ -179,7 +179,7 @@ module _ (sheet : Sheet) (given : Given) where
 
   -- a variable of the one sort that its place takes
   pub variable_finds : (at : Standing) (sort : Sort) (bytes : List ℕ) → is_variable bytes ≡ true → sorts_at at.place ≡ sort ∷ []
-      → IsFineAtom given (naming_of sheet) at bytes
+      → IsFineAtom given (sheet_naming sheet) at bytes
       → Finds (variable_in at.around.scope sort bytes) (HasSort at.around sort)
   unfolding variable_in
   variable_finds at sort bytes is sorts fine =
@@ -197,7 +197,7 @@ module _ (sheet : Sheet) (given : Given) where
 
   -- a variable that an owner's place takes is a player
   who_finds : (at : Standing) (bytes : List ℕ) (from to : ℕ) → is_variable bytes ≡ true
-      → sorts_at at.place ≡ player_sort ∷ [] → IsFineAtom given (naming_of sheet) at bytes
+      → sorts_at at.place ≡ player_sort ∷ [] → IsFineAtom given (sheet_naming sheet) at bytes
       → Finds (option_map who_var (variable_in at.around.scope player_sort bytes)) (OwnerAt at.around (word bytes from to))
   who_finds at bytes from to is sorts fine =
       makes (variable_in at.around.scope player_sort bytes) who_var (variable_finds at player_sort bytes is sorts fine)
@@ -226,7 +226,7 @@ module _ (sheet : Sheet) (given : Given) where
       (variable_finds at player_sort bytes (word_is_variable at place.Player bytes from to here refl good) (ap sorts_at here)
       good.fine.0) (λ var has. has)
   player_finds at (list parts from to) here good =
-      list_finds given (naming_of sheet) player_of_rule place.Player at parts from to here good
+      list_finds given (sheet_naming sheet) player_of_rule place.Player at parts from to here good
       ((λ form. finds current_player form.fine.fits), tt)
 
   -- the team of a player
@@ -272,7 +272,7 @@ module _ (sheet : Sheet) (given : Given) where
       → Finds (rule_at place.Owner parts >>= λ rule. owner_rule at.around.scope rule parts)
       (OwnerAt at.around (list parts from to))
   owner_list_finds at parts from to same good =
-      finds_by given (naming_of sheet) (λ rule. owner_rule at.around.scope rule parts) place.Owner at parts from to same good
+      finds_by given (sheet_naming sheet) (λ rule. owner_rule at.around.scope rule parts) place.Owner at parts from to same good
       ((λ form. of_its_class at parts from to rule.CurrentPlayer player_class _ (sym same ∙ form.told) refl
       (current_player_finds at parts form))
       ▹ (λ form. of_its_class at parts from to rule.CurrentTeam team_class _ (sym same ∙ form.told) refl
@@ -330,15 +330,15 @@ module _ (sheet : Sheet) (given : Given) where
       where_false (is_variable bytes) None (position (bytes_eq bytes) words) (not-true (is_variable bytes) plain)
       (finds_if (position (bytes_eq bytes) words) n is p)
   name_finds words at (list parts from to) n here good is p =
-      absurd (no_list given (naming_of sheet) place.Name at parts from to here good refl)
+      absurd (no_list given (sheet_naming sheet) place.Name at parts from to here good refl)
 
   -- what is said of a name's number, where the name is an atom of this role
   role_of_name : (at : Standing) (tree : Tree) (role : Role) → at.place ≡ place.Name → at.role ≡ role → Good at tree
-      → HasNumber given (naming_of sheet) role (bytes_of tree)
+      → HasNumber given (sheet_naming sheet) role (bytes_of tree)
   role_of_name at (word bytes from to) role here is good =
-      subst (λ r. HasNumber given (naming_of sheet) r bytes) is good.fine.0.numbered
+      subst (λ r. HasNumber given (sheet_naming sheet) r bytes) is good.fine.0.numbered
   role_of_name at (list parts from to) role here is good =
-      absurd (no_list given (naming_of sheet) place.Name at parts from to here good refl)
+      absurd (no_list given (sheet_naming sheet) place.Name at parts from to here good refl)
 
   -- the name of an attribute, of a value and of a map that are used
   pub attr_finds : Gives sheet given → (at : Standing) (tree : Tree) → at.place ≡ place.Name → at.role ≡ used_attribute
@@ -362,12 +362,12 @@ module _ (sheet : Sheet) (given : Given) where
   keyword_is keyword at (word bytes from to) here good =
       passes_test (is_word keyword bytes) Shape from (subst (λ p. atom_faults p bytes from ≡ []) here good.shaped)
   keyword_is keyword at (list parts from to) here good =
-      absurd (no_list given (naming_of sheet) (place.Word keyword) at parts from to here good refl)
+      absurd (no_list given (sheet_naming sheet) (place.Word keyword) at parts from to here good refl)
 
   -- `using MAP`
   pub map_finds : Gives sheet given → (at at' : Standing) (using map : Tree) → at.place ≡ place.Word keyword.Using
       → Good at using → at'.place ≡ place.Name → at'.role ≡ used_map → Good at' map
-      → Finds (map_at (naming_of sheet) using map) (IsMap sheet)
+      → Finds (map_at (sheet_naming sheet) using map) (IsMap sheet)
   unfolding map_at
   map_finds gives at at' using map there fixed here is good =
       let named = role_of_name at' map used_map here is good in
@@ -382,7 +382,7 @@ module _ (sheet : Sheet) (given : Given) where
       IsBinder sheet around bound × ((sort : Sort) → behind sheet around bound sort ≡ bound_in around bytes sort)
 
   -- where its form is fine
-  pub binder_finds : (outer at : Standing) (parts : Trees) (tree : Tree) → IsFineBinder (naming_of sheet) outer parts
+  pub binder_finds : (outer at : Standing) (parts : Trees) (tree : Tree) → IsFineBinder (sheet_naming sheet) outer parts
       → part_at 2 parts ≡ tree → at.place ≡ place.Variable → Good at tree
       → Finds (binder_at sheet.names.vars outer.around.scope tree) (BinderAt outer.around (bytes_of tree))
   unfolding binder_at
@@ -404,7 +404,7 @@ module _ (sheet : Sheet) (given : Given) where
         (λ sort. ap (λ w. bound_in outer.around w sort) same),
       ))
   binder_finds outer at parts (list inner from to) fine third here good =
-      absurd (no_list given (naming_of sheet) place.Variable at inner from to here good refl)
+      absurd (no_list given (sheet_naming sheet) place.Variable at inner from to here good refl)
 
   -- what holds behind a binder, where its variable's sort is known
   pub behind_binder : (F : Around → Type 0) (around : Around) (bytes : List ℕ) (bound : ℕ) (sort sort' : Sort)
@@ -414,10 +414,10 @@ module _ (sheet : Sheet) (given : Given) where
 
   -- the word of a kind
   kind_is_told : (kind : LocKind) (at : Standing) (tree : Tree) → at.place ≡ place.Kind → Good at tree
-      → kind_bytes kind ≡ bytes_of tree → is_form_word (kind_word kind) tree ≡ true
+      → kind_bytes kind ≡ bytes_of tree → is_form_word (kind_keyword kind) tree ≡ true
   kind_is_told kind at (word bytes from to) here good is = kind_fits kind bytes is
   kind_is_told kind at (list parts from to) here good is =
-      absurd (no_list given (naming_of sheet) place.Kind at parts from to here good refl)
+      absurd (no_list given (sheet_naming sheet) place.Kind at parts from to here good refl)
 
   -- a location, which holds cards or references as the word of its kind says
   abbrev pub LocAt : Around → List ℕ → Loc → Type 0
@@ -426,11 +426,11 @@ module _ (sheet : Sheet) (given : Given) where
 
   -- by its parts
   pub loc_parts_finds : (at : Standing) (parts : Trees) (from : ℕ) → GoodForm at rule.Location parts
-      → Finds (loc_parts (naming_of sheet) at.around.scope from parts) (LocAt at.around (word_in 1 parts))
+      → Finds (loc_parts (sheet_naming sheet) at.around.scope from parts) (LocAt at.around (word_in 1 parts))
   unfolding loc_parts
   loc_parts_finds at parts from form =
       three_only (λ parts. GoodForm at rule.Location parts
-      → Finds (loc_parts (naming_of sheet) at.around.scope from parts) (LocAt at.around (word_in 1 parts))) parts form.fit
+      → Finds (loc_parts (sheet_naming sheet) at.around.scope from parts) (LocAt at.around (word_in 1 parts))) parts form.fit
       (λ holder kind name form.
       let m = form.fine.fits.1 in
       follows (holder_at at.around.scope holder) _ (holder_finds _ holder refl form.good.0)
@@ -454,7 +454,7 @@ module _ (sheet : Sheet) (given : Given) where
   IsPlaced role name = Unit {0}
 
   -- where it is not misplaced
-  is_placed : (role : Role) (mention : Mention) (name : ℕ)
+  is_placed : (role : Role) (mention : OwnedMention) (name : ℕ)
       → holds_references sheet name ≡ Some (is_word keyword.Mem mention.kind) → is_misplaced role mention ≡ false
       → IsPlaced role name
   is_placed card_location mention name holds fits = holds ∙ ap Some fits
@@ -463,7 +463,7 @@ module _ (sheet : Sheet) (given : Given) where
 
   -- a location, as its role wants it
   pub loc_finds : (at : Standing) (tree : Tree) → at.place ≡ place.Location → Good at tree
-      → Finds (loc_at (naming_of sheet) at.around.scope tree)
+      → Finds (loc_at (sheet_naming sheet) at.around.scope tree)
       (λ loc. IsLoc sheet at.around loc × IsPlaced at.role loc.name)
   unfolding loc_at
   loc_finds at (word bytes from to) here good =
@@ -472,7 +472,7 @@ module _ (sheet : Sheet) (given : Given) where
       refused : atom_faults place.Location bytes from ≡ [] → ⊥
       refused is = cc
   loc_finds at (list parts from to) here good =
-      list_finds given (naming_of sheet) (loc_rule (naming_of sheet) at.around.scope from parts) place.Location at parts from to
+      list_finds given (sheet_naming sheet) (loc_rule (sheet_naming sheet) at.around.scope from parts) place.Location at parts from to
       here good
       ((λ form. implies _ (loc_parts_finds at parts from form)
       (λ loc is. (is.0, is_placed at.role (mention_of parts) loc.name is.1 form.fine.fits.0)))
@@ -480,11 +480,11 @@ module _ (sheet : Sheet) (given : Given) where
 
   -- a stored number
   pub num_parts_finds : (at : Standing) (parts : Trees) → GoodForm at rule.Counter parts
-      → Finds (num_parts (naming_of sheet) at.around.scope parts) (IsNum sheet at.around)
+      → Finds (num_parts (sheet_naming sheet) at.around.scope parts) (IsNum sheet at.around)
   unfolding num_parts
   num_parts_finds at parts form =
       three_only (λ parts. GoodForm at rule.Counter parts
-      → Finds (num_parts (naming_of sheet) at.around.scope parts) (IsNum sheet at.around)) parts form.fit
+      → Finds (num_parts (sheet_naming sheet) at.around.scope parts) (IsNum sheet at.around)) parts form.fit
       (λ holder sto name form.
       let m = form.fine.fits in
       follows_this (ensure (is_form_word keyword.Sto sto)) tt _
@@ -501,7 +501,7 @@ module _ (sheet : Sheet) (given : Given) where
 
   -- a stored number, at its place
   pub num_finds : (at : Standing) (tree : Tree) → at.place ≡ place.Counter → Good at tree
-      → Finds (num_at (naming_of sheet) at.around.scope tree) (IsNum sheet at.around)
+      → Finds (num_at (sheet_naming sheet) at.around.scope tree) (IsNum sheet at.around)
   unfolding num_at
   num_finds at (word bytes from to) here good =
       absurd (refused (subst (λ p. atom_faults p bytes from ≡ []) here good.shaped))
@@ -509,5 +509,5 @@ module _ (sheet : Sheet) (given : Given) where
       refused : atom_faults place.Counter bytes from ≡ [] → ⊥
       refused is = cc
   num_finds at (list parts from to) here good =
-      list_finds given (naming_of sheet) (num_rule (naming_of sheet) at.around.scope parts) place.Counter at parts from to here
+      list_finds given (sheet_naming sheet) (num_rule (sheet_naming sheet) at.around.scope parts) place.Counter at parts from to here
       good ((λ form. num_parts_finds at parts form) ▹ tt)

@@ -9,7 +9,7 @@ use Rattle.std.proofs.lemmas.List.Elements.{All-from_recursion, All-weaker}
 use Rattle.rc_model.specs.Tree.{Tree, word, list, Trees, nil, cons}
 use Rattle.rc_model.specs.Literal.{integer}
 use Rattle.rc_model.specs.Deck.{Entry}
-use Rattle.rc_model.specs.DeckText.{Names}
+use Rattle.rc_model.specs.DeckText.{DeckNames}
 use Rattle.rc_sheet_model.specs.Sheet.{Sheet}
 use Rattle.rc_model.specs.Clamp.{IsWithinClamp, largest_number}
 use Rattle.rc_sheet_model.specs.WellFormed.{IsEntry}
@@ -53,7 +53,7 @@ points_fit (word bytes from to) = unclamped_fits (integer bytes)
 points_fit (list parts from to) = nothing
 
 -- values, of which there is one
-values_some : (names : Names) (tree : Tree) → Means (read_value_list names tree) (λ values. 1 ≤ length values)
+values_some : (names : DeckNames) (tree : Tree) → Means (read_value_list names tree) (λ values. 1 ≤ length values)
 values_some names (word bytes from to) = nothing
 values_some names (list nil from to) = nothing
 values_some names (list (cons tree trees) from to) =
@@ -61,7 +61,7 @@ values_some names (list (cons tree trees) from to) =
     (λ value values a b. omega arith)
 
 -- an entry
-entry_fits : (names : Names) (tree : Tree) → Means (read_entry names tree) IsEntry
+entry_fits : (names : DeckNames) (tree : Tree) → Means (read_entry names tree) IsEntry
 entry_fits names (word bytes from to) = nothing
 entry_fits names (list nil from to) = nothing
 entry_fits names (list (cons head nil) from to) = nothing
@@ -77,7 +77,7 @@ entry_fits names (list (cons head (cons second (cons third nil))) from to) =
 entry_fits names (list (cons head (cons second (cons third (cons fourth others)))) from to) = nothing
 
 -- entries
-each_entry_fits : (names : Names) (trees : Trees) → Means (read_all_entries names trees) (AllByRecursion IsEntry)
+each_entry_fits : (names : DeckNames) (trees : Trees) → Means (read_all_entries names trees) (AllByRecursion IsEntry)
 each_entry_fits names nil = something [] tt
 each_entry_fits names (cons tree trees) =
     made_of ◌∷◌ (read_entry names tree) (read_all_entries names trees) (entry_fits names tree) (each_entry_fits names trees)
@@ -87,7 +87,7 @@ each_entry_fits names (cons tree trees) =
 abbrev pub ArePoints : List Entry → Type 0
 ArePoints entries = (1 ≤ length entries) × AllByRecursion IsEntry entries
 
-pub entries_fit : (names : Names) (tree : Tree) → Means (read_entries names tree) ArePoints
+pub entries_fit : (names : DeckNames) (tree : Tree) → Means (read_entries names tree) ArePoints
 entries_fit names (word bytes from to) = nothing
 entries_fit names (list nil from to) = nothing
 entries_fit names (list (cons tree trees) from to) =

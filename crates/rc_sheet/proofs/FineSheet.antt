@@ -16,7 +16,7 @@ use Rattle.rc_grammar.specs.declared.grammar.Rule.TheVariants as rule
 use Rattle.rc_sheet.specs.ReadNames.{◌>>=◌, sized}
 use Rattle.rc_sheet.specs.ReadItems.{body_at}
 use Rattle.rc_sheet.specs.ReadSetup.{Setup}
-use Rattle.rc_sheet.specs.ReadSheet.{setup_form_at, sheet_of, game_parts, game_rule, sheet_at}
+use Rattle.rc_sheet.specs.ReadSheet.{setup_form_at, game_parts, game_rule, sheet_at, sheet_with}
 use Rattle.rc_sheet.proofs.Fine.{Given, IsFine}
 use Rattle.rc_sheet.proofs.Finds.{Finds, finds, finds_if, found_as, follows}
 use Rattle.rc_sheet.proofs.GoodParts.{IsGood, sized_finds}
@@ -37,7 +37,7 @@ pub record HasFineBody (sheet : Sheet) : Type 0 where
 module _ (naming : Naming) (given : Given) where
   -- a sheet with this setup gives what its form gives, whatever its items and its score are
   abbrev pub IsSetUp : Setup → Type 0
-  IsSetUp setup = (body : SheetItems × (Best × IntExpr)) → Gives (sheet_of naming setup body) given
+  IsSetUp setup = (body : SheetItems × (Best × IntExpr)) → Gives (sheet_with naming setup body) given
 
   -- the setup of a form is read, as one of such sheets
   abbrev pub SetupFinds : Tree → Type 0
@@ -48,13 +48,13 @@ module _ (naming : Naming) (given : Given) where
 
   -- the body that is read makes the sheet
   body_of_game : (tree : Tree) (game : IsGame given naming tree) (setup : Setup) → IsSetUp setup
-      → Finds (body_at naming game.rest) (λ body. HasFineBody (sheet_of naming setup body))
+      → Finds (body_at naming game.rest) (λ body. HasFineBody (sheet_with naming setup body))
   body_of_game tree game setup gives =
       let guess = unwrap_or (body_at naming game.rest) no_body in
       let found = found_as (body_at naming game.rest)
-      (game_body_finds (sheet_of naming setup guess) given (gives guess) tree game) in
+      (game_body_finds (sheet_with naming setup guess) given (gives guess) tree game) in
       let same : guess ≡ found.0 = ap (λ o. unwrap_or o no_body) found.1 in
-      let is = subst (λ b. BodyAt (sheet_of naming setup b) given (gives b) found.0) same found.2 in
+      let is = subst (λ b. BodyAt (sheet_with naming setup b) given (gives b) found.0) same found.2 in
       finds_if (body_at naming game.rest) found.0 found.1
       (record {
         items = is.0;
@@ -70,7 +70,7 @@ module _ (naming : Naming) (given : Given) where
       follows (setup_form_at naming game.setup) _
       (set_up game.head game.setup game.rest game.from game.to game.is game.good.good.1.0)
       (λ setup is. follows (body_at naming game.rest) _ (body_of_game tree game setup is)
-      (λ body fine. finds (sheet_of naming setup body) fine))
+      (λ body fine. finds (sheet_with naming setup body) fine))
 
   -- A form without a fault of shape whose parts are fine is read, where its setup is and where it has no more stages and choices
   -- than a sheet may have.

@@ -1,6 +1,6 @@
 -- The groups of a deck and the entries of points are found where they stand well: each attribute and each value has a number.
 use Rattle.std.proofs.Common.{◌≡◌, ℕ, ◌+◌, ◌≤◌, true, false, not, List, [], Option, Some, None, option_map, position, bytes_eq, ℤ, refl, subst, ap, arith, eqb-true, ltb-true}
-use Rattle.std.specs.Prelude.{codes, pos, neg_ℤ, int_le, ◌&&◌}
+use Rattle.std.specs.Prelude.{codes, pos, neg_ℤ}
 use Rattle.std.specs.Option.{option_and_then, option_to_list}
 use Rattle.std.proofs.lemmas.Bool.{not-true}
 use Rattle.rc_model.specs.Literal.{integer}

@@ -10,9 +10,9 @@ use Rattle.rc_model.specs.Tree.{Tree, word, list, Trees, nil, cons}
 use Rattle.rc_sheet_model.specs.Sheet.{vloc, iloc, hloc, mem, LocName, NumName}
 use Rattle.rc_sheet_model.specs.Naming.{kind_word as kind_bytes}
 use Rattle.rc_model.specs.Words.{different, different_from}
-use Rattle.rc_sheet_model.specs.FormMentions.{is_atom, is_kind, word_of, gathered, all_gathered, loc_word, num_word, deck_loc, deck_lines, body, loc_mentions, num_mentions}
+use Rattle.rc_sheet_model.specs.FormMentions.{is_kind, word_of, gathered, all_gathered, loc_word, num_word, deck_loc, deck_lines, body, loc_mentions, num_mentions, is_text}
 use Rattle.rc_grammar.specs.Faults.{is_kind as is_kind_word}
-use Rattle.rc_semantics.specs.SecondNames.{is_named, Mention, firsts_from}
+use Rattle.rc_semantics.specs.SecondNames.{is_named, firsts_from, OwnedMention}
 use Rattle.rc_naming.specs.Mentions.{mention_by, loc_mention, num_mention, deck_location, all_locations, all_numbers}
 use Rattle.rc_naming.specs.Naming.{kind_by, firsts, loc_names, num_names, naming_of}
 use Rattle.rc_sheet.proofs.Means.{place_passes, means_so}
@@ -86,11 +86,11 @@ different_within seen (other ∷ words) x is =
     by false (inl is) kept new = inl is
     by false (inr is) kept new = inr (new is)
 
-abbrev pub name_of : Mention → List ℕ
+abbrev pub name_of : OwnedMention → List ℕ
 name_of mention = mention.name
 
 -- the names of the first mentions are the different names
-pub names_different : (seen : List (List ℕ)) (mentions : List Mention)
+pub names_different : (seen : List (List ℕ)) (mentions : List OwnedMention)
     → different_from seen (map name_of mentions) ≡ map name_of (firsts_from seen mentions)
 names_different seen [] = refl
 names_different seen (mention ∷ mentions) =
@@ -105,7 +105,7 @@ names_different seen (mention ∷ mentions) =
     by false kept new = ap (λ l. mention.name ∷ l) new
 
 -- the first mentions are mentions
-pub firsts_within : (seen : List (List ℕ)) (mentions : List Mention) → Within (firsts_from seen mentions) mentions
+pub firsts_within : (seen : List (List ℕ)) (mentions : List OwnedMention) → Within (firsts_from seen mentions) mentions
 firsts_within seen [] x is = is
 firsts_within seen (mention ∷ mentions) x is =
     by (is_named mention.name seen) is (firsts_within seen mentions x) (firsts_within (mention.name ∷ seen) mentions x)
@@ -119,9 +119,9 @@ firsts_within seen (mention ∷ mentions) x is =
     by false (inr is) kept new = inr (new is)
 
 -- the first mention of a name has the place of its name
-pub first_found : (mention : Mention) (mentions : List Mention) → Among mention mentions
+pub first_found : (mention : OwnedMention) (mentions : List OwnedMention) → Among mention mentions
     → (n : ℕ) × (position (bytes_eq mention.name) (different (map name_of mentions)) ≡ Some n)
-    × (first : Mention) × (slice_get (firsts mentions) n ≡ Some first) × (first.name ≡ mention.name) × Among first mentions
+    × (first : OwnedMention) × (slice_get (firsts mentions) n ≡ Some first) × (first.name ≡ mention.name) × Among first mentions
 first_found mention mentions is =
     let place = place_named mention.name (different (map name_of mentions))
     (among_different mention.name (map name_of mentions) (among_map name_of mention mentions is)) in
@@ -137,13 +137,13 @@ first_found mention mentions is =
       firsts_within [] mentions first.0 (get_among (firsts mentions) place.0 first.0 first.1),
     )
   where
-    by : (o : Option Mention) {p : Option Mention} → p ≡ o → option_map name_of o ≡ Some mention.name
-        → (first : Mention) × (p ≡ Some first) × (first.name ≡ mention.name)
+    by : (o : Option OwnedMention) {p : Option OwnedMention} → p ≡ o → option_map name_of o ≡ Some mention.name
+        → (first : OwnedMention) × (p ≡ Some first) × (first.name ≡ mention.name)
     by None is some = absurd cc
     by (Some first) is some = (first, is, same_Some first.name mention.name some)
 
 -- what the names say at a place
-loc_said : (number : ℕ) (mentions : List Mention) (n : ℕ) (mention : Mention) → slice_get mentions n ≡ Some mention
+loc_said : (number : ℕ) (mentions : List OwnedMention) (n : ℕ) (mention : OwnedMention) → slice_get mentions n ≡ Some mention
     → (loc : LocName) × (slice_get (loc_names number mentions) n ≡ Some loc) × (loc.kind ≡ kind_by mention.kind)
     × (loc.class ≡ mention.class)
 loc_said number [] n mention is = absurd cc
@@ -155,7 +155,7 @@ loc_said number (first ∷ mentions) zero mention is = (
 )
 loc_said number (first ∷ mentions) (suc n) mention is = loc_said (number + 1) mentions n mention is
 
-num_said : (number : ℕ) (mentions : List Mention) (n : ℕ) (mention : Mention) → slice_get mentions n ≡ Some mention
+num_said : (number : ℕ) (mentions : List OwnedMention) (n : ℕ) (mention : OwnedMention) → slice_get mentions n ≡ Some mention
     → (num : NumName) × (slice_get (num_names number mentions) n ≡ Some num) × (num.class ≡ mention.class)
 num_said number [] n mention is = absurd cc
 num_said number (first ∷ mentions) zero mention is =
@@ -180,7 +180,7 @@ num_name_of : (parts : Trees) → num_word parts ≡ map name_of (num_mention pa
 num_name_of nil = refl
 num_name_of (cons h nil) = refl
 num_name_of (cons h (cons k nil)) = refl
-num_name_of (cons h (cons k (cons n nil))) = by (is_atom "sto" k) n
+num_name_of (cons h (cons k (cons n nil))) = by (is_text "sto" k) n
   where
     by : (b : Bool) (n : Tree) → cond b (word_of n) [] ≡ map name_of (cond b (mention_by h k n) [])
     by true (word bytes from to) = refl
@@ -188,7 +188,7 @@ num_name_of (cons h (cons k (cons n nil))) = by (is_atom "sto" k) n
     by false n = refl
 num_name_of (cons h (cons k (cons n (cons m parts)))) = refl
 
-module _ (words : Trees → List (List ℕ)) (own : Trees → List Mention) (same : (parts : Trees) → words parts ≡ map name_of
+module _ (words : Trees → List (List ℕ)) (own : Trees → List OwnedMention) (same : (parts : Trees) → words parts ≡ map name_of
     (own parts)) where
   mutual
     names_gathered : (tree : Tree) → gathered words tree ≡ map name_of (gathered own tree)
@@ -203,7 +203,7 @@ module _ (words : Trees → List (List ℕ)) (own : Trees → List Mention) (sam
         ap₂ (λ l m. l ++ m) (names_gathered tree) (all_names_gathered trees)
         ∙ sym (map-append name_of (gathered own tree) (all_gathered own trees))
 
-flat_names : (f : Tree → List (List ℕ)) (g : Tree → List Mention) → ((tree : Tree) → f tree ≡ map name_of (g tree))
+flat_names : (f : Tree → List (List ℕ)) (g : Tree → List OwnedMention) → ((tree : Tree) → f tree ≡ map name_of (g tree))
     → (trees : List Tree) → flat_map f trees ≡ map name_of (flat_map g trees)
 flat_names f g each [] = refl
 flat_names f g each (tree ∷ trees) =
@@ -242,10 +242,10 @@ kind_back bytes is =
     by false false false false v i h m is = absurd cc
 
 -- a location is mentioned by the word of a kind
-abbrev KindWord : Mention → Type 0
+abbrev KindWord : OwnedMention → Type 0
 KindWord mention = is_kind_word mention.kind ≡ true
 
-loc_kinds : (parts : Trees) (mention : Mention) → Among mention (loc_mention parts) → KindWord mention
+loc_kinds : (parts : Trees) (mention : OwnedMention) → Among mention (loc_mention parts) → KindWord mention
 loc_kinds nil mention is = absurd is
 loc_kinds (cons h nil) mention is = absurd is
 loc_kinds (cons h (cons k nil)) mention is = absurd is
@@ -260,19 +260,19 @@ loc_kinds (cons h (cons k (cons n nil))) mention is = by k (is_kind k) refl n is
 loc_kinds (cons h (cons k (cons n (cons m parts)))) mention is = absurd is
 
 mutual
-  gathered_kinds : (tree : Tree) (mention : Mention) → Among mention (gathered loc_mention tree) → KindWord mention
+  gathered_kinds : (tree : Tree) (mention : OwnedMention) → Among mention (gathered loc_mention tree) → KindWord mention
   gathered_kinds (word bytes from to) mention is = absurd is
   gathered_kinds (list parts from to) mention is =
       ⊎_elim (λ one. all_gathered_kinds parts mention one) (λ one. loc_kinds parts mention one)
       (among_either mention (all_gathered loc_mention parts) (loc_mention parts) is)
 
-  all_gathered_kinds : (trees : Trees) (mention : Mention) → Among mention (all_gathered loc_mention trees) → KindWord mention
+  all_gathered_kinds : (trees : Trees) (mention : OwnedMention) → Among mention (all_gathered loc_mention trees) → KindWord mention
   all_gathered_kinds nil mention is = absurd is
   all_gathered_kinds (cons tree trees) mention is =
       ⊎_elim (λ one. gathered_kinds tree mention one) (λ one. all_gathered_kinds trees mention one)
       (among_either mention (gathered loc_mention tree) (all_gathered loc_mention trees) is)
 
-deck_kinds : (lines : List Tree) (mention : Mention) → Among mention (flat_map deck_location lines) → KindWord mention
+deck_kinds : (lines : List Tree) (mention : OwnedMention) → Among mention (flat_map deck_location lines) → KindWord mention
 deck_kinds [] mention is = absurd is
 deck_kinds (line ∷ lines) mention is =
     ⊎_elim (λ one. by line one) (λ one. deck_kinds lines mention one)
@@ -285,7 +285,7 @@ deck_kinds (line ∷ lines) mention is =
     by (list (cons a (cons b nil)) from to) one = absurd one
     by (list (cons a (cons b (cons loc rest))) from to) one = gathered_kinds loc mention one
 
-kinds_of_locations : (form : Tree) (mention : Mention) → Among mention (all_locations form) → KindWord mention
+kinds_of_locations : (form : Tree) (mention : OwnedMention) → Among mention (all_locations form) → KindWord mention
 kinds_of_locations form mention is =
     ⊎_elim (λ one. deck_kinds (deck_lines form) mention one) (λ one. all_gathered_kinds (body form) mention one)
     (among_either mention (flat_map deck_location (deck_lines form)) (all_gathered loc_mention (body form)) is)
@@ -293,8 +293,8 @@ kinds_of_locations form mention is =
 -- THE NAMING OF A FORM
 
 -- a mention of a location among mentions that agree has its number, its kind and its class
-pub loc_mention_found : (form : Tree) (mentions : List Mention) → Agree mentions → Within (all_locations form) mentions
-    → (mention : Mention) → Among mention (all_locations form) → IsLocMention (naming_of form) mention
+pub loc_mention_found : (form : Tree) (mentions : List OwnedMention) → Agree mentions → Within (all_locations form) mentions
+    → (mention : OwnedMention) → Among mention (all_locations form) → IsLocMention (naming_of form) mention
 loc_mention_found form mentions agree within mention is =
     let found = first_found mention (all_locations form) is in
     let said = loc_said 0 (firsts (all_locations form)) found.0 found.2 found.3 in
@@ -309,8 +309,8 @@ loc_mention_found form mentions agree within mention is =
     }
 
 -- the same of stored numbers
-pub num_mention_found : (form : Tree) (mentions : List Mention) → Agree mentions → Within (all_numbers form) mentions
-    → (mention : Mention) → Among mention (all_numbers form) → IsNumMention (naming_of form) mention
+pub num_mention_found : (form : Tree) (mentions : List OwnedMention) → Agree mentions → Within (all_numbers form) mentions
+    → (mention : OwnedMention) → Among mention (all_numbers form) → IsNumMention (naming_of form) mention
 num_mention_found form mentions agree within mention is =
     let found = first_found mention (all_numbers form) is in
     let said = num_said 0 (firsts (all_numbers form)) found.0 found.2 found.3 in

@@ -26,7 +26,7 @@ use Rattle.rc_naming.specs.Naming.{naming_of}
 use Rattle.rc_sheet.specs.ReadNames.{◌>>=◌, ensure, rule_at, name_at, owner_at, holder_at, is_loc_name, loc_parts, loc_rule, loc_at}
 use Rattle.rc_sheet.specs.ReadSetup.{Setup, Lines, no_line, within, count_at, members_at, team_rule, team_at, teams_at, face_words, home_of, deck_at, points_at, players_line, teams_line, deck_line, points_line, line_rule, line_at, lines_at, setup_of, setup_at}
 use Rattle.rc_setup.specs.Reading.{read_deck}
-use Rattle.rc_sheet.specs.ReadSheet.{setup_rule, setup_form_at, sheet_of}
+use Rattle.rc_sheet.specs.ReadSheet.{setup_rule, setup_form_at, sheet_with}
 use Rattle.rc_sheet.proofs.Means.{Means, nothing, something, anything, behind}
 use Rattle.rc_sheet.proofs.Shapes.{none_in_both, shape_of, line_place, three_only, four_only}
 use Rattle.rc_sheet.proofs.Faultless.{faultless}
@@ -96,7 +96,7 @@ module _ (naming : Naming) where
   -- a sheet with this naming
   abbrev named : Sheet
   named =
-      sheet_of naming (record { players = 0; teams = None; decks = []; points = [] }) (no_item, (highest, literal (pos 0)))
+      sheet_with naming (record { players = 0; teams = None; decks = []; points = [] }) (no_item, (highest, literal (pos 0)))
 
 -- one at the end
 some_at_end : {A : Type 0} (xs : List A) (x : A) → some_of (xs ++ x ∷ []) ≡ true

@@ -5,7 +5,7 @@ use Rattle.std.specs.List.{list_all, AllByRecursion}
 use Rattle.std.proofs.lemmas.Bool.{cond-true, cond-false, or_from}
 use Rattle.std.proofs.lemmas.List.{append-nil}
 use Rattle.rc_model.specs.Tree.{Tree, word, list, Trees, nil, cons}
-use Rattle.rc_sheet_model.specs.FormMentions.{is_atom, is_kind, gathered, all_gathered}
+use Rattle.rc_sheet_model.specs.FormMentions.{is_kind, gathered, all_gathered, is_text}
 use Rattle.rc_grammar.specs.Keyword.{text_of}
 use Rattle.rc_grammar.specs.Faults.{faults_at, faults_in, place_at, count, fits}
 use Rattle.rc_grammar.specs.Faults.{is_kind as is_kind_word}
@@ -17,7 +17,7 @@ use Rattle.rc_grammar.specs.declared.grammar.Place.TheVariants as place
 use Rattle.rc_grammar.specs.declared.grammar.Rule.{Rule}
 use Rattle.rc_grammar.specs.declared.grammar.Rule.TheVariants as rule
 use Rattle.rc_semantics.specs.SecondParts.{Standing, Part, atom, form, standing_in}
-use Rattle.rc_semantics.specs.SecondNames.{Mention, mention_of, locations_in, numbers_of}
+use Rattle.rc_semantics.specs.SecondNames.{mention_of, locations_in, numbers_of, OwnedMention}
 use Rattle.rc_naming.specs.Mentions.{mention_by, loc_mention, num_mention}
 use Rattle.rc_sheet.proofs.Shapes.{none_in_both, shape_of, rule_holds, two_only, three_only, refuses, refuted, atom_only, fixed_only, taken}
 use Rattle.rc_sheet.proofs.Bodies.{is_body_rule, body_rule, standing_at, all_refused}
@@ -168,7 +168,7 @@ num_silent r (cons h (cons k (cons n nil))) body quiet none =
     let apart = none_in_both (faults_at (place_at r 3 0) h) _ none in
     let second = (none_in_both (faults_at (place_at r 3 1) k) _ apart.1).0 in
     let refused = others_refuse is_counter sto_words r (sto_second r) body quiet in
-    cond-false (is_atom "sto" k) (mention_by h k n) [] (refuted (place_at r 3 1) "sto" k second refused.0)
+    cond-false (is_text "sto" k) (mention_by h k n) [] (refuted (place_at r 3 1) "sto" k second refused.0)
 num_silent r (cons h (cons k (cons n (cons m parts)))) body quiet none = refl
 
 -- a form that is none of a location, or of a stored number, gives none
@@ -182,7 +182,7 @@ no_number at rule.Counter parts from quiet = absurd cc
 no_number at r parts from quiet = refl
 
 -- what a form gives before its parts is what its list mentions behind them
-abbrev Moves : (Trees → List Mention) → (Part → List Mention) → Rule → Trees → Type 0
+abbrev Moves : (Trees → List OwnedMention) → (Part → List OwnedMention) → Rule → Trees → Type 0
 Moves own given r parts =
     (at : Standing) (from : ℕ) → given (form at r parts from) ++ all_gathered own parts ≡ all_gathered own parts ++ own parts
 
@@ -225,7 +225,7 @@ num_moves parts fit none =
     none
 
 -- the same of each form, where the forms that take one have told so, and others give and mention nothing
-moves_by : (own : Trees → List Mention) (given : Part → List Mention) (r : Rule) (parts : Trees)
+moves_by : (own : Trees → List OwnedMention) (given : Part → List OwnedMention) (r : Rule) (parts : Trees)
     → ((at : Standing) (from : ℕ) → given (form at r parts from) ≡ []) → own parts ≡ [] → Moves own given r parts
 moves_by own given r parts none silent at from =
     ap (λ l. l ++ all_gathered own parts) (none at from)

@@ -19,7 +19,7 @@ use Rattle.rc_semantics.specs.SecondNames.{attributes_in, values_in, maps_in}
 use Rattle.rc_semantics.specs.SecondFaults.{second_faults}
 use Rattle.rc_naming.specs.Naming.{naming_of}
 use Rattle.rc_sheet.specs.ReadSetup.{Setup}
-use Rattle.rc_sheet.specs.ReadSheet.{setup_form_at, sheet_of}
+use Rattle.rc_sheet.specs.ReadSheet.{setup_form_at, sheet_with}
 use Rattle.rc_sheet.proofs.Means.{Means, weaker}
 use Rattle.rc_sheet.proofs.Among.{Among, among_either, named_among, one_of_all}
 use Rattle.rc_sheet.proofs.FoundNames.{get_among}
@@ -117,11 +117,11 @@ module _ (a b c d e f from to : ℕ) (lines rest : Trees) where
   points_lines = lines_with "put" "points" lines
 
   module _ (shaped : IsSheetForm (setup_tree c d e f lines) lines rest (parts_with a b (setup_tree c d e f lines) rest))
-      (s : Setup) (body : SheetItems × (Best × IntExpr)) (stands : StandsSetup naming (sheet_of naming s body) lines) where
+      (s : Setup) (body : SheetItems × (Best × IntExpr)) (stands : StandsSetup naming (sheet_with naming s body) lines) where
     attrs_given : (bytes : List ℕ) (n : ℕ) → IsNamed bytes (flat_map attributes_in (parts_of tree))
-        → position (bytes_eq bytes) naming.names.attrs ≡ Some n → IsAttr (sheet_of naming s body) n
+        → position (bytes_eq bytes) naming.names.attrs ≡ Some n → IsAttr (sheet_with naming s body) n
     attrs_given bytes n named found =
-        number_among naming.names.attrs (flat_map attr_of (in_setup (sheet_of naming s body)))
+        number_among naming.names.attrs (flat_map attr_of (in_setup (sheet_with naming s body)))
         (flat_map (deck_words attrs) deck_lines ++ flat_map (points_words attrs) points_lines) bytes n
         (different_differ [] (attr_mentions tree))
         (setup_named attrs naming s.decks (numbered s.points) deck_lines points_lines refl stands.decks stands.points).each
@@ -130,9 +130,9 @@ module _ (a b c d e f from to : ℕ) (lines rest : Trees) where
         found
 
     values_given : (bytes : List ℕ) (n : ℕ) → IsNamed bytes (flat_map values_in (parts_of tree))
-        → position (bytes_eq bytes) naming.names.values ≡ Some n → IsValue (sheet_of naming s body) n
+        → position (bytes_eq bytes) naming.names.values ≡ Some n → IsValue (sheet_with naming s body) n
     values_given bytes n named found =
-        number_among naming.names.values (flat_map value_of (in_setup (sheet_of naming s body)))
+        number_among naming.names.values (flat_map value_of (in_setup (sheet_with naming s body)))
         (flat_map (deck_words values) deck_lines ++ flat_map (points_words values) points_lines) bytes n
         (different_differ [] (value_mentions tree))
         (setup_named values naming s.decks (numbered s.points) deck_lines points_lines refl stands.decks stands.points).each
@@ -141,7 +141,7 @@ module _ (a b c d e f from to : ℕ) (lines rest : Trees) where
         found
 
     maps_given : (bytes : List ℕ) (n : ℕ) → IsNamed bytes (flat_map maps_in (parts_of tree))
-        → position (bytes_eq bytes) naming.names.maps ≡ Some n → IsMap (sheet_of naming s body) n
+        → position (bytes_eq bytes) naming.names.maps ≡ Some n → IsMap (sheet_with naming s body) n
     maps_given bytes n named found =
         let there = map_within naming 0 s.points points_lines bytes stands.points
         (subst (Among bytes) (maps_give a b c d e f from to lines rest shaped ∙ points_alone lines)
@@ -160,7 +160,7 @@ is_set_up tree shaped sound =
     let naming = naming_of (whole_form a b c d e f from to lines rest) in
     weaker (setup_form_at naming (setup_tree c d e f lines)) (setup_form_means naming (setup_tree c d e f lines))
     (λ s stands body.
-    let setup = (stands (sheet_of naming s body) refl).1.1 in
+    let setup = (stands (sheet_with naming s body) refl).1.1 in
     record {
       attrs = attrs_given a b c d e f from to lines rest fits s body setup;
       values = values_given a b c d e f from to lines rest fits s body setup;

@@ -7,7 +7,7 @@ use Rattle.std.proofs.lemmas.Grind.{flat_map-append}
 use Rattle.rc_model.specs.Tree.{Tree, word, list, Trees, nil, cons}
 use Rattle.rc_sheet_model.specs.Sheet.{Names}
 use Rattle.rc_sheet_model.specs.Mentions.{Mention, attr_of, value_of, map_of, loc_of, num_of, var_of}
-use Rattle.rc_sheet_model.specs.FormMentions.{is_atom, is_kind, word_of, gathered, all_gathered, loc_word, num_word, is_measure, map_word, attr_word, value_word, is_binder, var_words, bound_words, all_var_words}
+use Rattle.rc_sheet_model.specs.FormMentions.{is_kind, word_of, gathered, all_gathered, loc_word, num_word, is_measure, map_word, attr_word, value_word, is_binder, var_words, bound_words, all_var_words, is_text}
 use Rattle.rc_sheet_model.specs.Rows.{◌▸◌, End, AtLeast, Row, Word, Atom}
 
 -- the six kinds of names
@@ -170,7 +170,7 @@ alone kind names ms trees all = record { same = ap (said kind names) (sym (appen
 
 -- the part is the word of a kind of locations, or that of stored numbers
 abbrev pub is_sort_word : Tree → Bool
-is_sort_word tree = is_kind tree || is_atom "sto" tree
+is_sort_word tree = is_kind tree || is_text "sto" tree
 
 -- A form of this description says what is mentioned, and is no such word.
 pub record Speaks (kind : Kind) (names : Names) (P : Tree → Type 0) (mentions : List Mention) : Type 0 where
@@ -223,8 +223,8 @@ at_least_speak {kind} {names} {P} {ms} least all = record { says = λ trees stan
 -- What a head tells of its list: whether a point map, an attribute, an attribute and a value, or a variable are mentioned.
 pub record IsHead (measure attr is binder : Bool) (head : Tree) : Type 0 where
   pub of_map : is_measure head ≡ measure
-  pub of_attr : (is_atom "attr" head || is_atom "partition" head) ≡ attr
-  pub of_value : is_atom "is" head ≡ is
+  pub of_attr : (is_text "attr" head || is_text "partition" head) ≡ attr
+  pub of_value : is_text "is" head ≡ is
   pub of_var : is_binder head ≡ binder
 
 -- that an atom with this text tells so, as a test
@@ -235,8 +235,8 @@ same false b = not b
 abbrev pub tells : Bool → Bool → Bool → Bool → String → Bool
 tells measure attr is binder text =
     same measure (is_measure (word (codes text) 0 0))
-    && (same attr (is_atom "attr" (word (codes text) 0 0) || is_atom "partition" (word (codes text) 0 0))
-    && (same is (is_atom "is" (word (codes text) 0 0)) && same binder (is_binder (word (codes text) 0 0))))
+    && (same attr (is_text "attr" (word (codes text) 0 0) || is_text "partition" (word (codes text) 0 0))
+    && (same is (is_text "is" (word (codes text) 0 0)) && same binder (is_binder (word (codes text) 0 0))))
 
 -- it is so where the test says so
 same_is : (a b : Bool) → same a b ≡ true → b ≡ a
@@ -265,10 +265,10 @@ IsPlain head = IsHead false false false false head
 
 -- no word of a kind of locations, and not that of stored numbers
 pub no_kind : (tree : Tree) → is_sort_word tree ≡ false → is_kind tree ≡ false
-no_kind tree other = (or_parts (is_kind tree) (is_atom "sto" tree) other).0
+no_kind tree other = (or_parts (is_kind tree) (is_text "sto" tree) other).0
 
-pub no_number : (tree : Tree) → is_sort_word tree ≡ false → is_atom "sto" tree ≡ false
-no_number tree other = (or_parts (is_kind tree) (is_atom "sto" tree) other).1
+pub no_number : (tree : Tree) → is_sort_word tree ≡ false → is_text "sto" tree ≡ false
+no_number tree other = (or_parts (is_kind tree) (is_text "sto" tree) other).1
 
 -- what a list mentions itself whose head tells nothing, and whose second part is no word of a kind
 pub own-plain : (kind : Kind) (binder : Bool) (head second : Tree) (rest : Trees) → IsHead false false false binder head

@@ -5,13 +5,13 @@ use Rattle.rc_sheet_model.specs.Sheet.{Sheet}
 use Rattle.rc_sheet_model.specs.FormMentions.{names_of, AreNames}
 use Rattle.rc_model.specs.Numbers.{below}
 use Rattle.rc_sheet_model.specs.Numbering.{IsNumbered}
-use Rattle.rc_sheet_model.specs.Naming.{Naming, naming_of}
+use Rattle.rc_sheet_model.specs.Naming.{Naming, sheet_naming}
 use Rattle.rc_sheet_model.specs.Stands.{Stands}
-use Rattle.rc_naming.specs.Naming.{naming_of as naming_of_form}
+use Rattle.rc_naming.specs.Naming.{naming_of}
 use Rattle.rc_naming.proofs.Whole.{loc_numbers, num_numbers}
 use Rattle.rc_sheet.specs.ReadNames.{rule_at}
 use Rattle.rc_sheet.specs.ReadItems.{body_at}
-use Rattle.rc_sheet.specs.ReadSheet.{setup_form_at, sheet_of, game_parts, game_rule, sheet_at}
+use Rattle.rc_sheet.specs.ReadSheet.{setup_form_at, game_parts, game_rule, sheet_at, sheet_with}
 use Rattle.rc_sheet.proofs.Means.{Means, nothing, something, means_so, behind, anything}
 use Rattle.rc_sheet.proofs.ReadsSheet.{sheet_means}
 use Rattle.rc_sheet.proofs.Mentioned.{attrs, values, maps, locs, nums, vars}
@@ -23,7 +23,7 @@ use Rattle.rc_grammar.specs.declared.grammar.Rule.TheVariants as rule
 
 -- a sheet that is read has this naming, and its stages and choices are in order
 pub record IsReadBy (naming : Naming) (sheet : Sheet) : Type 0 where
-  pub named : naming_of sheet ≡ naming
+  pub named : sheet_naming sheet ≡ naming
   pub in_order : AreInOrder sheet.items
 
 -- by its rule
@@ -32,7 +32,7 @@ unfolding game_parts
 game_rule_reads naming rule.Game (cons head (cons setup parts)) =
     behind (setup_form_at naming setup) _ (anything (setup_form_at naming setup))
     (λ said u. behind (body_at naming parts) _ (body_in_order naming parts)
-    (λ body in_order. something (sheet_of naming said body) (record { named = refl; in_order = in_order })))
+    (λ body in_order. something (sheet_with naming said body) (record { named = refl; in_order = in_order })))
 game_rule_reads naming rule parts = nothing
 
 -- a whole form
@@ -49,7 +49,7 @@ pub record AreCounted (naming : Naming) : Type 0 where
   pub nums : map (λ num. num.name) naming.nums ≡ below (length naming.names.nums)
 
 -- the names of the sheet are those of the form
-names_same : (naming : Naming) (sheet : Sheet) (tree : Tree) → naming_of sheet ≡ naming → naming.names ≡ names_of tree
+names_same : (naming : Naming) (sheet : Sheet) (tree : Tree) → sheet_naming sheet ≡ naming → naming.names ≡ names_of tree
     → AreNames sheet tree
 names_same naming sheet tree named names = ap (λ n. n.names) named ∙ names
 
@@ -60,7 +60,7 @@ read_is_numbered naming tree sheet is names counted =
     let stands : Stands sheet tree = means_so (sheet_at naming tree) sheet (sheet_means naming tree) is in
     let reads : IsReadBy naming sheet = means_so (sheet_at naming tree) sheet (sheet_reads naming tree) is in
     let named : AreNames sheet tree = names_same naming sheet tree reads.named names in
-    let counted' : AreCounted (naming_of sheet) = subst AreCounted (sym reads.named) counted in
+    let counted' : AreCounted (sheet_naming sheet) = subst AreCounted (sym reads.named) counted in
     record {
       attrs = names_numbered attrs sheet tree stands named;
       values = names_numbered values sheet tree stands named;
@@ -75,6 +75,6 @@ read_is_numbered naming tree sheet is names counted =
     }
 
 -- where the naming is that of the form
-pub read_with_names_of : (tree : Tree) (sheet : Sheet) → sheet_at (naming_of_form tree) tree ≡ Some sheet → IsNumbered sheet
+pub read_with_names_of : (tree : Tree) (sheet : Sheet) → sheet_at (naming_of tree) tree ≡ Some sheet → IsNumbered sheet
 read_with_names_of tree sheet is =
-    read_is_numbered (naming_of_form tree) tree sheet is refl (record { locs = loc_numbers tree; nums = num_numbers tree })
+    read_is_numbered (naming_of tree) tree sheet is refl (record { locs = loc_numbers tree; nums = num_numbers tree })

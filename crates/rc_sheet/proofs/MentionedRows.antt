@@ -9,7 +9,7 @@ use Rattle.rc_model.specs.Literal.{integer}
 use Rattle.rc_model.specs.Tree.{Tree, word, list, Trees, nil, cons}
 use Rattle.rc_sheet_model.specs.Sheet.{Names, Sort, player_sort, LocKind, vloc, iloc, hloc, mem, LocName, Who, game, current_player, current_team, team_of_current, team_of_var, who_var, Loc, Num}
 use Rattle.rc_sheet_model.specs.Mentions.{Mention, attr_name, value_name, map_name, loc_name, num_name, var_name, in_loc, in_num}
-use Rattle.rc_sheet_model.specs.FormMentions.{is_atom, is_kind, is_measure, is_binder, word_of, var_words, all_var_words}
+use Rattle.rc_sheet_model.specs.FormMentions.{is_kind, is_measure, is_binder, word_of, var_words, all_var_words, is_text}
 use Rattle.rc_sheet_model.specs.Rows.{◌▸◌, End, Row, Word, Atom}
 use Rattle.rc_model.specs.Words.{is_variable}
 use Rattle.rc_sheet_model.specs.Naming.{Naming, Scope, kind_word, Named, Binder, InScope, Literal, KindOf}
@@ -32,8 +32,8 @@ variable_plain : (bytes : List ℕ) (from to : ℕ) → is_variable bytes ≡ tr
 variable_plain bytes from to is =
     record {
       of_map = at_variable (λ b. is_measure (word b from to)) (λ b. refl) bytes is;
-      of_attr = at_variable (λ b. is_atom "attr" (word b from to) || is_atom "partition" (word b from to)) (λ b. refl) bytes is;
-      of_value = at_variable (λ b. is_atom "is" (word b from to)) (λ b. refl) bytes is;
+      of_attr = at_variable (λ b. is_text "attr" (word b from to) || is_text "partition" (word b from to)) (λ b. refl) bytes is;
+      of_value = at_variable (λ b. is_text "is" (word b from to)) (λ b. refl) bytes is;
       of_var = at_variable (λ b. is_binder (word b from to)) (λ b. refl) bytes is;
     }
 
@@ -186,7 +186,7 @@ own-value vars names attr value head second a v from to from' to' told is is' = 
 
 -- a location
 own-loc : (kind : Kind) (names : Names) (number : ℕ) (head second : Tree) (bytes : List ℕ) (from to : ℕ)
-    → IsPlain head → is_kind second ≡ true → is_atom "sto" second ≡ false → slice_get names.locs number ≡ Some bytes
+    → IsPlain head → is_kind second ≡ true → is_text "sto" second ≡ false → slice_get names.locs number ≡ Some bytes
     → said kind names (loc_name number ∷ []) ≡ own kind (cons head (cons second (cons (word bytes from to) nil)))
 own-loc attrs names number head second bytes from to told yes_kind no_sto is = sym (cond-false _ _ _ told.of_attr)
 own-loc values names number head second bytes from to told yes_kind no_sto is = refl
@@ -198,7 +198,7 @@ own-loc vars names number head second bytes from to told yes_kind no_sto is = re
 
 -- a stored number
 own-num : (kind : Kind) (names : Names) (number : ℕ) (head second : Tree) (bytes : List ℕ) (from to : ℕ)
-    → IsPlain head → is_kind second ≡ false → is_atom "sto" second ≡ true → slice_get names.nums number ≡ Some bytes
+    → IsPlain head → is_kind second ≡ false → is_text "sto" second ≡ true → slice_get names.nums number ≡ Some bytes
     → said kind names (num_name number ∷ []) ≡ own kind (cons head (cons second (cons (word bytes from to) nil)))
 own-num attrs names number head second bytes from to told no_kind' yes_sto is = sym (cond-false _ _ _ told.of_attr)
 own-num values names number head second bytes from to told no_kind' yes_sto is = refl
@@ -295,17 +295,17 @@ value_speaks {kind} {P} {ms} names attr value text told card = record { says = l
 
 -- what the word of a kind tells, and the word of the kind that a name's locations have
 kind_tells : (kind : LocKind) (from to : ℕ)
-    → (is_kind (word (kind_word kind) from to) ≡ true) × (is_atom "sto" (word (kind_word kind) from to) ≡ false)
+    → (is_kind (word (kind_word kind) from to) ≡ true) × (is_text "sto" (word (kind_word kind) from to) ≡ false)
 kind_tells vloc from to = (refl, refl)
 kind_tells iloc from to = (refl, refl)
 kind_tells hloc from to = (refl, refl)
 kind_tells mem from to = (refl, refl)
 
 kind_told : (found : Option LocName) (bytes : List ℕ) (from to : ℕ) → option_map (λ loc. kind_word loc.kind) found ≡ Some bytes
-    → (is_kind (word bytes from to) ≡ true) × (is_atom "sto" (word bytes from to) ≡ false)
+    → (is_kind (word bytes from to) ≡ true) × (is_text "sto" (word bytes from to) ≡ false)
 kind_told None bytes from to is = absurd (none-some bytes is)
 kind_told (Some loc) bytes from to is =
-    subst (λ b. (is_kind (word b from to) ≡ true) × (is_atom "sto" (word b from to) ≡ false))
+    subst (λ b. (is_kind (word b from to) ≡ true) × (is_text "sto" (word b from to) ≡ false))
     (same_Some (kind_word loc.kind) bytes is) (kind_tells loc.kind from to)
 
 -- `(HOLDER KIND NAME)`
@@ -368,7 +368,7 @@ num_list_says kind naming scope num (list (cons head (cons (word k from' to') (c
     (behind_word kind naming.names [] n from'' to'' nil (no_part kind naming.names))))
     (own-num kind naming.names num.name head (word k from' to') n from'' to'' head'
     (subst (λ b. is_kind (word b from' to') ≡ false) (sym stands.1.0) refl)
-    (subst (λ b. is_atom "sto" (word b from' to') ≡ true) (sym stands.1.0) refl)
+    (subst (λ b. is_text "sto" (word b from' to') ≡ true) (sym stands.1.0) refl)
     stands.1.1.0.0)
 
 -- a stored number

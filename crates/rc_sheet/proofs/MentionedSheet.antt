@@ -9,7 +9,7 @@ use Rattle.rc_sheet_model.specs.FormMentions.{body, deck_lines, points_lines, po
 use Rattle.rc_model.specs.Words.{different}
 use Rattle.rc_sheet_model.specs.Numbering.{mentioned}
 use Rattle.rc_sheet_model.specs.Rows.{◌▸◌, End}
-use Rattle.rc_sheet_model.specs.Naming.{naming_of, self_scope}
+use Rattle.rc_sheet_model.specs.Naming.{self_scope, sheet_naming}
 use Rattle.rc_sheet_model.specs.StandsSetup.{StandsSetup, numbered, lines_with}
 use Rattle.rc_sheet_model.specs.StandsItems.{StandItems}
 use Rattle.rc_sheet_model.specs.Stands.{StandsBest, StandsScoring, Stands}
@@ -27,7 +27,7 @@ scoring_speaks : {kind : Kind} (sheet : Sheet) → Speaks kind sheet.names (Stan
 scoring_speaks {kind} sheet =
     let best : Speaks kind sheet.names (StandsBest sheet.best) [] = best_speaks sheet.best in
     plain_speaks "scoring" refl best.other
-    (then_speak best (last_speaks (int_speaks (naming_of sheet) self_scope sheet.score)))
+    (then_speak best (last_speaks (int_speaks (sheet_naming sheet) self_scope sheet.score)))
 
 -- all mentions of a form of one kind
 abbrev pub form_words : Kind → Tree → List (List ℕ)
@@ -66,8 +66,8 @@ form_words-parts vars form =
     (sym (none_said (points_lines form)))
 
 -- the setup, and what stands behind it
-parts_said : (kind : Kind) (sheet : Sheet) (lines rest : Trees) → StandsSetup (naming_of sheet) sheet lines
-    → StandItems (naming_of sheet) sheet.items (StandsScoring sheet ▸ End) rest
+parts_said : (kind : Kind) (sheet : Sheet) (lines rest : Trees) → StandsSetup (sheet_naming sheet) sheet lines
+    → StandItems (sheet_naming sheet) sheet.items (StandsScoring sheet ▸ End) rest
     → said kind sheet.names (mentions sheet)
     ≡ flat_map (deck_words kind) (lines_with "create" "deck" lines)
     ++ flat_map (points_words kind) (lines_with "put" "points" lines)
@@ -76,13 +76,13 @@ parts_said kind sheet lines rest setup stand =
     let decks = flat_map in_deck sheet.decks in
     let points = flat_map in_map (numbered sheet.points) in
     let behind : SayAll kind sheet.names (in_items sheet.items ++ in_int sheet.score) rest =
-    (items_then (naming_of sheet) sheet.items (last_speaks (scoring_speaks sheet))).says rest stand in
+    (items_then (sheet_naming sheet) sheet.items (last_speaks (scoring_speaks sheet))).says rest stand in
     ap (said kind sheet.names) (append_assoc (decks ++ points) (in_items sheet.items) (in_int sheet.score))
     ∙ said-append kind sheet.names (decks ++ points) (in_items sheet.items ++ in_int sheet.score)
     ∙ ap₂ ◌++◌
     (said-append kind sheet.names decks points
-    ∙ ap₂ ◌++◌ (decks_said kind (naming_of sheet) sheet.decks _ setup.decks)
-    (maps_said kind (naming_of sheet) (numbered sheet.points) _ setup.points))
+    ∙ ap₂ ◌++◌ (decks_said kind (sheet_naming sheet) sheet.decks _ setup.decks)
+    (maps_said kind (sheet_naming sheet) (numbered sheet.points) _ setup.points))
     (behind.same)
 
 -- a sheet mentions what its form mentions

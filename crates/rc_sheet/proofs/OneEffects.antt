@@ -7,7 +7,7 @@ use Rattle.rc_sheet_model.specs.Mentions.{Mention, attr_name, loc_name, num_name
 use Rattle.rc_sheet_model.specs.Rows.{◌▸◌, AtLeast}
 use Rattle.rc_sheet_model.specs.Rows.{End as Last}
 use Rattle.rc_sheet_model.specs.Rows.{Some as Full}
-use Rattle.rc_sheet_model.specs.Naming.{Naming, Scope, naming_of, bind, sort_of, Named, Binder, KindOf}
+use Rattle.rc_sheet_model.specs.Naming.{Naming, Scope, bind, sort_of, Named, Binder, KindOf, sheet_naming}
 use Rattle.rc_sheet_model.specs.StandsExpressions.{StandsOwner, StandsHolder, StandsLoc, StandsNum, StandsCard, StandsColl, StandColls, StandsInt, StandsTest, StandsRange, StandsDomain}
 use Rattle.rc_sheet_model.specs.StandsEffects.{StandsSpot, StandsEffect, StandEffects}
 use Rattle.rc_sheet_model.specs.StandsItems.{StandsAlt}
@@ -63,19 +63,19 @@ module _ (sheet : Sheet) (told : Naming) (differ : Differ sheet.names) where
 
   -- SPOT
   one_spot : (around : Around) (end : End) (loc : Loc) (tree : Tree) → Apart around.scope
-      → StandsSpot (naming_of sheet) around.scope end loc tree → SpotIs around end loc tree
+      → StandsSpot (sheet_naming sheet) around.scope end loc tree → SpotIs around end loc tree
   one_spot around top loc tree alone stands =
-      row_one "top" (StandsLoc (naming_of sheet) around.scope loc) (SpotIs around top loc) tree stands
+      row_one "top" (StandsLoc (sheet_naming sheet) around.scope loc) (SpotIs around top loc) tree stands
       (λ f t from to l here. only_map sheet told (λ loc. (top, loc)) loc (loc_name loc.name ∷ []) _
       (one_loc sheet told around.scope loc l differ alone here))
   one_spot around bottom loc tree alone stands =
-      row_one "bottom" (StandsLoc (naming_of sheet) around.scope loc) (SpotIs around bottom loc) tree stands
+      row_one "bottom" (StandsLoc (sheet_naming sheet) around.scope loc) (SpotIs around bottom loc) tree stands
       (λ f t from to l here. only_map sheet told (λ loc. (bottom, loc)) loc (loc_name loc.name ∷ []) _
       (one_loc sheet told around.scope loc l differ alone here))
 
   -- what is moved, and where to
   moved : {A : Type 0} (around : Around) (make : A → End → Loc → Effect) (a : A) (ms : List Mention) (end : End) (loc : Loc)
-      (found : Option A) (spot : Tree) → Apart around.scope → StandsSpot (naming_of sheet) around.scope end loc spot
+      (found : Option A) (spot : Tree) → Apart around.scope → StandsSpot (sheet_naming sheet) around.scope end loc spot
       → Only sheet told a ms found
       → Only sheet told (make a end loc) (ms ++ loc_name loc.name ∷ [])
       (option_map (λ p. make p.0 p.1.0 p.1.1) (both found (spot_at (along sheet told) around.scope spot)))
@@ -86,60 +86,60 @@ module _ (sheet : Sheet) (told : Naming) (differ : Differ sheet.names) where
   mutual
     -- EFFECT
     pub one_effect : (around : Around) (a : Effect) (tree : Tree) → Apart around.scope
-        → StandsEffect (naming_of sheet) around.scope a tree → IsEffect sheet around a → EffectIs around a tree
+        → StandsEffect (sheet_naming sheet) around.scope a tree → IsEffect sheet around a → EffectIs around a tree
     one_effect around (move card end loc) tree alone stands is =
-        row_two "move" (StandsCard (naming_of sheet) around.scope card) (StandsSpot (naming_of sheet) around.scope end loc)
+        row_two "move" (StandsCard (sheet_naming sheet) around.scope card) (StandsSpot (sheet_naming sheet) around.scope end loc)
         (EffectIs around (move card end loc)) tree stands
         (λ f t from to c s here there. by_rule sheet told rule.Move
         (λ rule. effect_rule (along sheet told) around.scope rule (cons (word (codes "move") f t) (cons c (cons s nil))))
         (move card end loc) (in_effect (move card end loc))
         (rule_at place.Effect (cons (word (codes "move") f t) (cons c (cons s nil))))
-        (move_rule (naming_of sheet) around.scope card f t c s here)
+        (move_rule (sheet_naming sheet) around.scope card f t c s here)
         (moved around move card (in_card card) end loc _ s alone there
         (one_card sheet told differ around card c alone here is.0).0))
     one_effect around (move_all cards end loc) tree alone stands is =
         row_words "move" "all"
-        (StandsColl (naming_of sheet) around.scope cards ▸ StandsSpot (naming_of sheet) around.scope end loc ▸ Last)
+        (StandsColl (sheet_naming sheet) around.scope cards ▸ StandsSpot (sheet_naming sheet) around.scope end loc ▸ Last)
         (EffectIs around (move_all cards end loc)) tree stands
-        (λ f t f' t' from to parts more. two_parts (StandsColl (naming_of sheet) around.scope cards)
-        (StandsSpot (naming_of sheet) around.scope end loc)
+        (λ f t f' t' from to parts more. two_parts (StandsColl (sheet_naming sheet) around.scope cards)
+        (StandsSpot (sheet_naming sheet) around.scope end loc)
         (λ l. EffectIs around (move_all cards end loc)
         (list (cons (word (codes "move") f t) (cons (word (codes "all") f' t') l)) from to)) parts more
         (λ c s here there. moved around move_all cards (in_coll cards) end loc _ s alone there
         (one_coll sheet told differ around cards c alone here is.0)))
     one_effect around (remember card end loc) tree alone stands is =
-        row_two "remember" (StandsCard (naming_of sheet) around.scope card) (StandsSpot (naming_of sheet) around.scope end loc)
+        row_two "remember" (StandsCard (sheet_naming sheet) around.scope card) (StandsSpot (sheet_naming sheet) around.scope end loc)
         (EffectIs around (remember card end loc)) tree stands
         (λ f t from to c s here there. moved around remember card (in_card card) end loc _ s alone there
         (one_card sheet told differ around card c alone here is.0).0)
     one_effect around (forget card) tree alone stands is =
-        row_one "forget" (StandsCard (naming_of sheet) around.scope card) (EffectIs around (forget card)) tree stands
+        row_one "forget" (StandsCard (sheet_naming sheet) around.scope card) (EffectIs around (forget card)) tree stands
         (λ f t from to c here. only_map sheet told forget card (in_card card) _
         (one_card sheet told differ around card c alone here is).0)
     one_effect around (shuffle loc) tree alone stands is =
-        row_one "shuffle" (StandsLoc (naming_of sheet) around.scope loc) (EffectIs around (shuffle loc)) tree stands
+        row_one "shuffle" (StandsLoc (sheet_naming sheet) around.scope loc) (EffectIs around (shuffle loc)) tree stands
         (λ f t from to l here. only_map sheet told shuffle loc (loc_name loc.name ∷ []) _
         (one_loc sheet told around.scope loc l differ alone here))
     one_effect around (set_to num value) tree alone stands is =
-        row_two "set" (StandsNum (naming_of sheet) around.scope num) (StandsInt (naming_of sheet) around.scope value)
+        row_two "set" (StandsNum (sheet_naming sheet) around.scope num) (StandsInt (sheet_naming sheet) around.scope value)
         (EffectIs around (set_to num value)) tree stands
         (λ f t from to n v here there. only_pair sheet told set_to num value (num_name num.name ∷ []) (in_int value) _ _
         (one_num sheet told around.scope num n differ alone here)
         (one_int sheet told differ around value v alone there is.1).0)
     one_effect around (increase num value) tree alone stands is =
-        row_two "inc" (StandsNum (naming_of sheet) around.scope num) (StandsInt (naming_of sheet) around.scope value)
+        row_two "inc" (StandsNum (sheet_naming sheet) around.scope num) (StandsInt (sheet_naming sheet) around.scope value)
         (EffectIs around (increase num value)) tree stands
         (λ f t from to n v here there. only_pair sheet told increase num value (num_name num.name ∷ []) (in_int value) _ _
         (one_num sheet told around.scope num n differ alone here)
         (one_int sheet told differ around value v alone there is.1).0)
     one_effect around (decrease num value) tree alone stands is =
-        row_two "dec" (StandsNum (naming_of sheet) around.scope num) (StandsInt (naming_of sheet) around.scope value)
+        row_two "dec" (StandsNum (sheet_naming sheet) around.scope num) (StandsInt (sheet_naming sheet) around.scope value)
         (EffectIs around (decrease num value)) tree stands
         (λ f t from to n v here there. only_pair sheet told decrease num value (num_name num.name ∷ []) (in_int value) _ _
         (one_num sheet told around.scope num n differ alone here)
         (one_int sheet told differ around value v alone there is.1).0)
     one_effect around (when t effects) tree alone stands is =
-        row_part "if" (StandsTest (naming_of sheet) around.scope t) (Full (StandEffects (naming_of sheet) around.scope effects))
+        row_part "if" (StandsTest (sheet_naming sheet) around.scope t) (Full (StandEffects (sheet_naming sheet) around.scope effects))
         (EffectIs around (when t effects)) tree stands
         (λ f g from to x es here there. only_sized sheet told (count (cons (word (codes "if") f g) (cons x es))) rule.If
         (λ rule. effect_rule (along sheet told) around.scope rule (cons (word (codes "if") f g) (cons x es)))
@@ -147,8 +147,8 @@ module _ (sheet : Sheet) (told : Naming) (differ : Differ sheet.names) where
         (only_pair sheet told when t effects (in_test t) (in_effects effects) _ _
         (one_test sheet told differ around t x alone here is.0) (one_effects around effects es alone there.1 is.2)))
     one_effect around (repeat times effects) tree alone stands is =
-        row_part "repeat" (StandsInt (naming_of sheet) around.scope times)
-        (Full (StandEffects (naming_of sheet) around.scope effects)) (EffectIs around (repeat times effects)) tree stands
+        row_part "repeat" (StandsInt (sheet_naming sheet) around.scope times)
+        (Full (StandEffects (sheet_naming sheet) around.scope effects)) (EffectIs around (repeat times effects)) tree stands
         (λ f g from to x es here there. only_sized sheet told (count (cons (word (codes "repeat") f g) (cons x es))) rule.Repeat
         (λ rule. effect_rule (along sheet told) around.scope rule (cons (word (codes "repeat") f g) (cons x es)))
         (repeat times effects) (in_int times ++ in_effects effects)
@@ -156,12 +156,12 @@ module _ (sheet : Sheet) (told : Naming) (differ : Differ sheet.names) where
         (one_int sheet told differ around times x alone here is.0).0
         (one_effects (in_repeat around) effects es alone there.1 is.3)))
     one_effect around (for_each domain bound effects) tree alone stands is =
-        row_part "all" (StandsRange (naming_of sheet) around.scope domain)
-        (Binder (naming_of sheet) bound
-        ▸ Full (StandEffects (naming_of sheet) (bind (naming_of sheet) around.scope bound (sort_of domain)) effects))
+        row_part "all" (StandsRange (sheet_naming sheet) around.scope domain)
+        (Binder (sheet_naming sheet) bound
+        ▸ Full (StandEffects (sheet_naming sheet) (bind (sheet_naming sheet) around.scope bound (sort_of domain)) effects))
         (EffectIs around (for_each domain bound effects)) tree stands
-        (λ f g from to r parts here more. first_part (Binder (naming_of sheet) bound)
-        (Full (StandEffects (naming_of sheet) (bind (naming_of sheet) around.scope bound (sort_of domain)) effects))
+        (λ f g from to r parts here more. first_part (Binder (sheet_naming sheet) bound)
+        (Full (StandEffects (sheet_naming sheet) (bind (sheet_naming sheet) around.scope bound (sort_of domain)) effects))
         (λ l. EffectIs around (for_each domain bound effects) (list (cons (word (codes "all") f g)
         (cons r l)) from to)) parts more
         (λ v es binds there. only_sized sheet told (count (cons (word (codes "all") f g) (cons r (cons v es)))) rule.Each
@@ -181,7 +181,7 @@ module _ (sheet : Sheet) (told : Naming) (differ : Differ sheet.names) where
         (λ f t f' t' from to. something turn_round (refl, tt))
 
     pub one_effects : (around : Around) (all : Effects) (trees : Trees) → Apart around.scope
-        → StandEffects (naming_of sheet) around.scope all trees → AreEffects sheet around all → EffectsAre around all trees
+        → StandEffects (sheet_naming sheet) around.scope all trees → AreEffects sheet around all → EffectsAre around all trees
     one_effects around no_effect nil alone stands is = something no_effect (refl, tt)
     one_effects around no_effect (cons tree trees) alone stands is = absurd stands
     one_effects around (effect e all) nil alone stands is = absurd stands
@@ -191,11 +191,11 @@ module _ (sheet : Sheet) (told : Naming) (differ : Differ sheet.names) where
 
   -- cards as a domain
   cards_domain : (around : Around) (cards : CollExpr) (parts : Trees) (from to : ℕ)
-      → StandsColl (naming_of sheet) around.scope cards (list parts from to)
+      → StandsColl (sheet_naming sheet) around.scope cards (list parts from to)
       → CollIs sheet told differ around cards (list parts from to) → DomainIs around (each_card cards) (list parts from to)
   cards_domain around (group_var var) parts from to stands one = absurd stands
   cards_domain around (cards_in loc) parts from to stands one =
-      three_parts (StandsHolder around.scope loc.who) (KindOf (naming_of sheet) loc.name) (Named sheet.names.locs loc.name)
+      three_parts (StandsHolder around.scope loc.who) (KindOf (sheet_naming sheet) loc.name) (Named sheet.names.locs loc.name)
       (λ tree. CollIs sheet told differ around (cards_in loc) tree → DomainIs around (each_card (cards_in loc)) tree)
       (list parts from to) stands.0
       (λ holder kind name from to holds k n one.
@@ -218,7 +218,7 @@ module _ (sheet : Sheet) (told : Naming) (differ : Differ sheet.names) where
       (in_coll (filtered cards bound t)) _ one)
       one
   cards_domain around (union_of all) parts from to stands one =
-      behind_word "union" (AtLeast 2 (StandColls (naming_of sheet) around.scope all))
+      behind_word "union" (AtLeast 2 (StandColls (sheet_naming sheet) around.scope all))
       (λ tree. CollIs sheet told differ around (union_of all) tree → DomainIs around (each_card (union_of all)) tree)
       (list parts from to) stands
       (λ f t from to ps here one. sized_too sheet told (count (cons (word (codes "union") f t) ps)) rule.Union
@@ -230,7 +230,7 @@ module _ (sheet : Sheet) (told : Naming) (differ : Differ sheet.names) where
 
   -- DOMAIN
   pub one_domain : (around : Around) (domain : Domain) (tree : Tree) → Apart around.scope
-      → StandsDomain (naming_of sheet) around.scope domain tree → IsDomain sheet around domain → DomainIs around domain tree
+      → StandsDomain (sheet_naming sheet) around.scope domain tree → IsDomain sheet around domain → DomainIs around domain tree
   one_domain around each_player (word bytes from to) alone stands is =
       one_range sheet told differ around each_player (word bytes from to) alone stands is
   one_domain around each_player (list parts from to) alone stands is = absurd stands
@@ -240,22 +240,22 @@ module _ (sheet : Sheet) (told : Naming) (differ : Differ sheet.names) where
       cards_domain around cards parts from to stands (one_coll sheet told differ around cards
       (list parts from to) alone stands is)
   one_domain around (each_group cards attr) tree alone stands is =
-      row_two "partition" (StandsColl (naming_of sheet) around.scope cards) (Named sheet.names.attrs attr)
+      row_two "partition" (StandsColl (sheet_naming sheet) around.scope cards) (Named sheet.names.attrs attr)
       (DomainIs around (each_group cards attr)) tree stands
       (λ f t from to c n here named. only_pair sheet told each_group cards attr (in_coll cards) (attr_name attr ∷ []) _ _
       (one_coll sheet told differ around cards c alone here is.0) (one_attr sheet told attr n differ named))
 
   -- ALT
   pub one_alt : (around : Around) (a : Alt) (tree : Tree) → Apart around.scope
-      → StandsAlt (naming_of sheet) around.scope a tree → IsAlt sheet around a → AltIs around a tree
+      → StandsAlt (sheet_naming sheet) around.scope a tree → IsAlt sheet around a → AltIs around a tree
   one_alt around (do_alt effects) tree alone stands is =
-      behind_word "do" (Full (StandEffects (naming_of sheet) around.scope effects)) (AltIs around (do_alt effects)) tree stands
+      behind_word "do" (Full (StandEffects (sheet_naming sheet) around.scope effects)) (AltIs around (do_alt effects)) tree stands
       (λ f t from to es there. only_sized sheet told (count (cons (word (codes "do") f t) es)) rule.Do
       (λ rule. alt_rule (along sheet told) around.scope rule (cons (word (codes "do") f t) es))
       (do_alt effects) (in_effects effects)
       (only_map sheet told do_alt effects (in_effects effects) _ (one_effects around effects es alone there.1 is.1)))
   one_alt around (if_alt guard effects) tree alone stands is =
-      row_part "if" (StandsTest (naming_of sheet) around.scope guard) (Full (StandEffects (naming_of sheet) around.scope effects))
+      row_part "if" (StandsTest (sheet_naming sheet) around.scope guard) (Full (StandEffects (sheet_naming sheet) around.scope effects))
       (AltIs around (if_alt guard effects)) tree stands
       (λ f g from to x es here there. only_sized sheet told (count (cons (word (codes "if") f g) (cons x es))) rule.If
       (λ rule. alt_rule (along sheet told) around.scope rule (cons (word (codes "if") f g) (cons x es)))
@@ -263,8 +263,8 @@ module _ (sheet : Sheet) (told : Naming) (differ : Differ sheet.names) where
       (only_pair sheet told if_alt guard effects (in_test guard) (in_effects effects) _ _
       (one_test sheet told differ around guard x alone here is.0) (one_effects around effects es alone there.1 is.2)))
   one_alt around (any_alt domain bound alt) tree alone stands is =
-      row_three "any" (StandsDomain (naming_of sheet) around.scope domain) (Binder (naming_of sheet) bound)
-      (StandsAlt (naming_of sheet) (bind (naming_of sheet) around.scope bound (sort_of domain)) alt)
+      row_three "any" (StandsDomain (sheet_naming sheet) around.scope domain) (Binder (sheet_naming sheet) bound)
+      (StandsAlt (sheet_naming sheet) (bind (sheet_naming sheet) around.scope bound (sort_of domain)) alt)
       (AltIs around (any_alt domain bound alt)) tree stands
       (λ f g from to d v x here binds there. one_bound sheet told differ around domain bound alt (in_domain domain)
       (in_alt alt) _ v

@@ -10,7 +10,7 @@ use Rattle.rc_sheet_model.specs.Sheet.{Sort, player_sort, card_sort, group_sort,
 use Rattle.rc_sheet_model.specs.Mentions.{Mention, attr_name, value_name, map_name, loc_name, num_name, var_name, in_card, in_coll, in_colls, in_int, in_test, in_tests, in_domain}
 use Rattle.rc_sheet_model.specs.Rows.{◌▸◌, End, AtLeast, Row, Atom}
 use Rattle.rc_sheet_model.specs.Rows.{Some as Full}
-use Rattle.rc_sheet_model.specs.Naming.{Naming, Scope, naming_of, bind, sort_of, class_of, Named, Binder, InScope, KindOf}
+use Rattle.rc_sheet_model.specs.Naming.{Naming, Scope, bind, sort_of, class_of, Named, Binder, InScope, KindOf, sheet_naming}
 use Rattle.rc_sheet_model.specs.StandsExpressions.{StandsOwner, StandsHolder, StandsLoc, StandsNum, StandsCard, StandsColl, StandColls, StandsInt, StandsTest, StandTests, StandsRange}
 use Rattle.rc_sheet_model.specs.WellFormed.{Around, IsBinder, behind, IsCard, IsColl, AreColls, IsInt, IsTest, AreTests, IsRange}
 use Rattle.rc_semantics.specs.Classes.{same_class}
@@ -165,7 +165,7 @@ module _ (sheet : Sheet) (told : Naming) (differ : Differ sheet.names) where
   pub one_bound : {X Y : Type 0} (around : Around) (domain : Domain) (bound : ℕ) (x : X) (ms ms' : List Mention)
       (found : Option Domain)
       (variable : Tree) (later : Scope → Option X) (make : Domain → ℕ → X → Y)
-      → Only sheet told domain ms found → Binder (naming_of sheet) bound variable
+      → Only sheet told domain ms found → Binder (sheet_naming sheet) bound variable
       → Only sheet told x ms' (later (bind (along sheet told) around.scope bound (sort_of domain)))
       → Only sheet told (make domain bound x) (ms ++ var_name bound ∷ ms')
       (found >>= λ domain. binder_at sheet.names.vars around.scope variable >>= λ bound.
@@ -197,11 +197,11 @@ module _ (sheet : Sheet) (told : Naming) (differ : Differ sheet.names) where
 
   -- `(attr CARD ATTR)` as a side, by what is known of the card
   one_attr_side : (around : Around) (a : CardExpr) (attr : ℕ) (tree : Tree)
-      → Row (Atom "attr" ▸ StandsCard (naming_of sheet) around.scope a ▸ Named sheet.names.attrs attr ▸ End) tree
-      → ((c : Tree) → StandsCard (naming_of sheet) around.scope a c → CardIs around a c)
+      → Row (Atom "attr" ▸ StandsCard (sheet_naming sheet) around.scope a ▸ Named sheet.names.attrs attr ▸ End) tree
+      → ((c : Tree) → StandsCard (sheet_naming sheet) around.scope a c → CardIs around a c)
       → SideIs around (value_side a attr) (in_card a ++ attr_name attr ∷ []) tree
   one_attr_side around a attr tree stands each =
-      row_two "attr" (StandsCard (naming_of sheet) around.scope a) (Named sheet.names.attrs attr)
+      row_two "attr" (StandsCard (sheet_naming sheet) around.scope a) (Named sheet.names.attrs attr)
       (SideIs around (value_side a attr) (in_card a ++ attr_name attr ∷ [])) tree stands
       (λ f t from to c n here named. only_pair sheet told value_side a attr (in_card a) (attr_name attr ∷ []) _ _
       (each c here).0 (one_attr sheet told attr n differ named))
@@ -209,7 +209,7 @@ module _ (sheet : Sheet) (told : Naming) (differ : Differ sheet.names) where
   mutual
     -- CARD
     pub one_card : (around : Around) (a : CardExpr) (tree : Tree) → Apart around.scope
-        → StandsCard (naming_of sheet) around.scope a tree → IsCard sheet around a → CardIs around a tree
+        → StandsCard (sheet_naming sheet) around.scope a tree → IsCard sheet around a → CardIs around a tree
     one_card around (card_var var) (word bytes from to) alone stands is = (
       only_map sheet told card_var var [] (variable_in around.scope card_sort bytes)
           (only_quiet sheet told var (variable_in around.scope card_sort bytes)
@@ -219,24 +219,24 @@ module _ (sheet : Sheet) (told : Naming) (differ : Differ sheet.names) where
     )
     one_card around (card_var var) (list parts from to) alone stands is = absurd stands
     one_card around (top_card cards) tree alone stands is =
-        row_one "top" (StandsColl (naming_of sheet) around.scope cards) (CardIs around (top_card cards)) tree stands
+        row_one "top" (StandsColl (sheet_naming sheet) around.scope cards) (CardIs around (top_card cards)) tree stands
         (λ f t from to c here. with_side card_side (top_card cards) (in_coll cards)
         (option_map top_card (coll_at (along sheet told) around.scope c))
         (only_map sheet told top_card cards (in_coll cards) _ (one_coll around cards c alone here is)))
     one_card around (bottom_card cards) tree alone stands is =
-        row_one "bottom" (StandsColl (naming_of sheet) around.scope cards) (CardIs around (bottom_card cards)) tree stands
+        row_one "bottom" (StandsColl (sheet_naming sheet) around.scope cards) (CardIs around (bottom_card cards)) tree stands
         (λ f t from to c here. with_side card_side (bottom_card cards) (in_coll cards)
         (option_map bottom_card (coll_at (along sheet told) around.scope c))
         (only_map sheet told bottom_card cards (in_coll cards) _ (one_coll around cards c alone here is)))
     one_card around (max_card cards map) tree alone stands is =
-        row_using "max" (StandsColl (naming_of sheet) around.scope cards) map (CardIs around (max_card cards map)) tree stands
+        row_using "max" (StandsColl (sheet_naming sheet) around.scope cards) map (CardIs around (max_card cards map)) tree stands
         (λ f t f' t' from to c m here named. with_side card_side (max_card cards map) (in_coll cards ++ map_name map ∷ [])
         (option_map (λ p. max_card p.0 p.1)
         (both (coll_at (along sheet told) around.scope c) (map_at (along sheet told) (word (codes "using") f' t') m)))
         (only_pair sheet told max_card cards map (in_coll cards) (map_name map ∷ []) _ _ (one_coll around cards c alone here is.0)
         (one_map sheet told map f' t' m differ named)))
     one_card around (min_card cards map) tree alone stands is =
-        row_using "min" (StandsColl (naming_of sheet) around.scope cards) map (CardIs around (min_card cards map)) tree stands
+        row_using "min" (StandsColl (sheet_naming sheet) around.scope cards) map (CardIs around (min_card cards map)) tree stands
         (λ f t f' t' from to c m here named. with_side card_side (min_card cards map) (in_coll cards ++ map_name map ∷ [])
         (option_map (λ p. min_card p.0 p.1)
         (both (coll_at (along sheet told) around.scope c) (map_at (along sheet told) (word (codes "using") f' t') m)))
@@ -245,16 +245,16 @@ module _ (sheet : Sheet) (told : Naming) (differ : Differ sheet.names) where
 
     -- COLL
     pub one_coll : (around : Around) (a : CollExpr) (tree : Tree) → Apart around.scope
-        → StandsColl (naming_of sheet) around.scope a tree → IsColl sheet around a → CollIs around a tree
+        → StandsColl (sheet_naming sheet) around.scope a tree → IsColl sheet around a → CollIs around a tree
     one_coll around (group_var var) (word bytes from to) alone stands is =
         only_map sheet told group_var var [] (variable_in around.scope group_sort bytes)
         (only_quiet sheet told var (variable_in around.scope group_sort bytes)
         (one_variable around.scope group_sort var bytes from to alone stands))
     one_coll around (group_var var) (list parts from to) alone stands is = absurd stands
     one_coll around (cards_in loc) tree alone stands is =
-        three_parts (StandsHolder around.scope loc.who) (KindOf (naming_of sheet) loc.name)
+        three_parts (StandsHolder around.scope loc.who) (KindOf (sheet_naming sheet) loc.name)
         (Named sheet.names.locs loc.name)
-        (λ tree. StandsLoc (naming_of sheet) around.scope loc tree → CollIs around (cards_in loc) tree) tree stands.0
+        (λ tree. StandsLoc (sheet_naming sheet) around.scope loc tree → CollIs around (cards_in loc) tree) tree stands.0
         (λ holder kind name from to holds k n stands'. by_rule sheet told rule.Location
         (λ rule. coll_rule (along sheet told) around.scope from rule (cons holder (cons kind (cons name nil))))
         (cards_in loc) (loc_name loc.name ∷ []) _
@@ -263,8 +263,8 @@ module _ (sheet : Sheet) (told : Naming) (differ : Differ sheet.names) where
         (one_loc_parts sheet told around.scope loc (cons holder (cons kind (cons name nil))) from to differ alone stands')))
         stands
     one_coll around (filtered cards bound t) tree alone stands is =
-        row_three "filter" (StandsColl (naming_of sheet) around.scope cards) (Binder (naming_of sheet) bound)
-        (StandsTest (naming_of sheet) (bind (naming_of sheet) around.scope bound card_sort) t)
+        row_three "filter" (StandsColl (sheet_naming sheet) around.scope cards) (Binder (sheet_naming sheet) bound)
+        (StandsTest (sheet_naming sheet) (bind (sheet_naming sheet) around.scope bound card_sort) t)
         (CollIs around (filtered cards bound t)) tree stands
         (λ f g from to c v t' here binds there. only_then sheet told _ cards (filtered cards bound t) (in_coll cards)
         (var_name bound ∷ in_test t) (coll_at (along sheet told) around.scope c) (one_coll around cards c alone here is.0)
@@ -273,7 +273,7 @@ module _ (sheet : Sheet) (told : Naming) (differ : Differ sheet.names) where
         (only_map sheet told (λ t. filtered cards bound t) t (in_test t) _
         (one_test (behind sheet around bound card_sort) t t' (bound_apart around bound card_sort alone is.1) there is.2))))
     one_coll around (union_of parts) tree alone stands is =
-        behind_word "union" (AtLeast 2 (StandColls (naming_of sheet) around.scope parts)) (CollIs around (union_of parts)) tree
+        behind_word "union" (AtLeast 2 (StandColls (sheet_naming sheet) around.scope parts)) (CollIs around (union_of parts)) tree
         stands
         (λ f t from to ps here. only_sized sheet told (count (cons (word (codes "union") f t) ps)) rule.Union
         (λ rule. coll_rule (along sheet told) around.scope from rule (cons (word (codes "union") f t) ps))
@@ -281,7 +281,7 @@ module _ (sheet : Sheet) (told : Naming) (differ : Differ sheet.names) where
         (only_map sheet told union_of parts (in_colls parts) _ (one_colls around parts ps alone here.1 is.1)))
 
     pub one_colls : (around : Around) (all : CollExprs) (trees : Trees) → Apart around.scope
-        → StandColls (naming_of sheet) around.scope all trees → AreColls sheet around all → CollsAre around all trees
+        → StandColls (sheet_naming sheet) around.scope all trees → AreColls sheet around all → CollsAre around all trees
     one_colls around no_coll nil alone stands is = something no_coll (refl, tt)
     one_colls around no_coll (cons tree trees) alone stands is = absurd stands
     one_colls around (coll a all) nil alone stands is = absurd stands
@@ -291,7 +291,7 @@ module _ (sheet : Sheet) (told : Naming) (differ : Differ sheet.names) where
 
     -- INT
     pub one_int : (around : Around) (a : IntExpr) (tree : Tree) → Apart around.scope
-        → StandsInt (naming_of sheet) around.scope a tree → IsInt sheet around a → IntIs around a tree
+        → StandsInt (sheet_naming sheet) around.scope a tree → IsInt sheet around a → IntIs around a tree
     one_int around (literal value) (word bytes from to) alone stands is = (
       subst (λ o. Only sheet told (literal value) [] (option_map literal o)) (sym stands) (something (literal value) (refl, tt)),
       only_quiet sheet told (number_side (literal value)) (side_word around.scope bytes)
@@ -300,7 +300,7 @@ module _ (sheet : Sheet) (told : Naming) (differ : Differ sheet.names) where
     one_int around (literal value) (list parts from to) alone stands is = absurd stands
     one_int around (number num) tree alone stands is =
         three_parts (StandsHolder around.scope num.who) (Atom "sto") (Named sheet.names.nums num.name)
-        (λ tree. StandsNum (naming_of sheet) around.scope num tree → IntIs around (number num) tree) tree stands.0
+        (λ tree. StandsNum (sheet_naming sheet) around.scope num tree → IntIs around (number num) tree) tree stands.0
         (λ holder kind name from to holds k n stands'.
         let parts = cons holder (cons kind (cons name nil)) in
         let one : Only sheet told (number num) (num_name num.name ∷ [])
@@ -320,26 +320,26 @@ module _ (sheet : Sheet) (told : Naming) (differ : Differ sheet.names) where
         ))
         stands
     one_int around (size_of cards) tree alone stands is =
-        row_one "size" (StandsColl (naming_of sheet) around.scope cards) (IntIs around (size_of cards)) tree stands
+        row_one "size" (StandsColl (sheet_naming sheet) around.scope cards) (IntIs around (size_of cards)) tree stands
         (λ f t from to c here. with_side number_side (size_of cards) (in_coll cards)
         (option_map size_of (coll_at (along sheet told) around.scope c))
         (only_map sheet told size_of cards (in_coll cards) _ (one_coll around cards c alone here is)))
     one_int around (sum_of cards map) tree alone stands is =
-        row_using "sum" (StandsColl (naming_of sheet) around.scope cards) map (IntIs around (sum_of cards map)) tree stands
+        row_using "sum" (StandsColl (sheet_naming sheet) around.scope cards) map (IntIs around (sum_of cards map)) tree stands
         (λ f t f' t' from to c m here named. with_side number_side (sum_of cards map) (in_coll cards ++ map_name map ∷ [])
         (option_map (λ p. sum_of p.0 p.1)
         (both (coll_at (along sheet told) around.scope c) (map_at (along sheet told) (word (codes "using") f' t') m)))
         (only_pair sheet told sum_of cards map (in_coll cards) (map_name map ∷ []) _ _ (one_coll around cards c alone here is.0)
         (one_map sheet told map f' t' m differ named)))
     one_int around (worth_of card map) tree alone stands is =
-        row_using "points" (StandsCard (naming_of sheet) around.scope card) map (IntIs around (worth_of card map)) tree stands
+        row_using "points" (StandsCard (sheet_naming sheet) around.scope card) map (IntIs around (worth_of card map)) tree stands
         (λ f t f' t' from to c m here named. with_side number_side (worth_of card map) (in_card card ++ map_name map ∷ [])
         (option_map (λ p. worth_of p.0 p.1)
         (both (card_at (along sheet told) around.scope c) (map_at (along sheet told) (word (codes "using") f' t') m)))
         (only_pair sheet told worth_of card map (in_card card) (map_name map ∷ []) _ _ (one_card around card c alone here is.0).0
         (one_map sheet told map f' t' m differ named)))
     one_int around (add a b) tree alone stands is =
-        row_two "+" (StandsInt (naming_of sheet) around.scope a) (StandsInt (naming_of sheet) around.scope b)
+        row_two "+" (StandsInt (sheet_naming sheet) around.scope a) (StandsInt (sheet_naming sheet) around.scope b)
         (IntIs around (add a b)) tree stands
         (λ f t from to x y here there. with_side number_side (add a b) (in_int a ++ in_int b)
         (option_map (λ p. add p.0 p.1)
@@ -347,7 +347,7 @@ module _ (sheet : Sheet) (told : Naming) (differ : Differ sheet.names) where
         (only_pair sheet told add a b (in_int a) (in_int b) _ _ (one_int around a x alone here is.0).0
         (one_int around b y alone there is.1).0))
     one_int around (subtract a b) tree alone stands is =
-        row_two "-" (StandsInt (naming_of sheet) around.scope a) (StandsInt (naming_of sheet) around.scope b)
+        row_two "-" (StandsInt (sheet_naming sheet) around.scope a) (StandsInt (sheet_naming sheet) around.scope b)
         (IntIs around (subtract a b)) tree stands
         (λ f t from to x y here there. with_side number_side (subtract a b) (in_int a ++ in_int b)
         (option_map (λ p. subtract p.0 p.1)
@@ -355,7 +355,7 @@ module _ (sheet : Sheet) (told : Naming) (differ : Differ sheet.names) where
         (only_pair sheet told subtract a b (in_int a) (in_int b) _ _ (one_int around a x alone here is.0).0
         (one_int around b y alone there is.1).0))
     one_int around (multiply a b) tree alone stands is =
-        row_two "*" (StandsInt (naming_of sheet) around.scope a) (StandsInt (naming_of sheet) around.scope b)
+        row_two "*" (StandsInt (sheet_naming sheet) around.scope a) (StandsInt (sheet_naming sheet) around.scope b)
         (IntIs around (multiply a b)) tree stands
         (λ f t from to x y here there. with_side number_side (multiply a b) (in_int a ++ in_int b)
         (option_map (λ p. multiply p.0 p.1)
@@ -365,15 +365,15 @@ module _ (sheet : Sheet) (told : Naming) (differ : Differ sheet.names) where
 
     -- BOOL
     pub one_test : (around : Around) (a : Test) (tree : Tree) → Apart around.scope
-        → StandsTest (naming_of sheet) around.scope a tree → IsTest sheet around a → TestIs around a tree
+        → StandsTest (sheet_naming sheet) around.scope a tree → IsTest sheet around a → TestIs around a tree
     one_test around (eq_int a b) tree alone stands is =
-        row_two "=" (StandsInt (naming_of sheet) around.scope a) (StandsInt (naming_of sheet) around.scope b)
+        row_two "=" (StandsInt (sheet_naming sheet) around.scope a) (StandsInt (sheet_naming sheet) around.scope b)
         (TestIs around (eq_int a b)) tree stands
         (λ f t from to x y here there. equal_sides around (number_side a) (number_side b) (in_int a) (in_int b)
         (eq_int a b) x y refl
         (one_int around a x alone here is.0).1 (one_int around b y alone there is.1).1)
     one_test around (eq_card a b) tree alone stands is =
-        row_two "=" (StandsCard (naming_of sheet) around.scope a) (StandsCard (naming_of sheet) around.scope b)
+        row_two "=" (StandsCard (sheet_naming sheet) around.scope a) (StandsCard (sheet_naming sheet) around.scope b)
         (TestIs around (eq_card a b)) tree stands
         (λ f t from to x y here there. equal_sides around (card_side a) (card_side b) (in_card a) (in_card b)
         (eq_card a b) x y refl
@@ -391,13 +391,13 @@ module _ (sheet : Sheet) (told : Naming) (differ : Differ sheet.names) where
         (λ f t from to x y here there. equal_sides around (owner_side a) (owner_side b) [] [] (eq_who a b) x y
         (equal_owners a b stands.1) (one_owner_side around a x alone here) (one_owner_side around b y alone there))
     one_test around (ne (eq_int a b)) tree alone stands is =
-        row_two "!=" (StandsInt (naming_of sheet) around.scope a) (StandsInt (naming_of sheet) around.scope b)
+        row_two "!=" (StandsInt (sheet_naming sheet) around.scope a) (StandsInt (sheet_naming sheet) around.scope b)
         (TestIs around (ne (eq_int a b))) tree stands
         (λ f t from to x y here there. only_map sheet told ne (eq_int a b) (in_int a ++ in_int b) _
         (equal_sides around (number_side a) (number_side b) (in_int a) (in_int b) (eq_int a b) x y refl
         (one_int around a x alone here is.1.0).1 (one_int around b y alone there is.1.1).1))
     one_test around (ne (eq_card a b)) tree alone stands is =
-        row_two "!=" (StandsCard (naming_of sheet) around.scope a) (StandsCard (naming_of sheet) around.scope b)
+        row_two "!=" (StandsCard (sheet_naming sheet) around.scope a) (StandsCard (sheet_naming sheet) around.scope b)
         (TestIs around (ne (eq_card a b))) tree stands
         (λ f t from to x y here there. only_map sheet told ne (eq_card a b) (in_card a ++ in_card b) _
         (equal_sides around (card_side a) (card_side b) (in_card a) (in_card b) (eq_card a b) x y refl
@@ -418,27 +418,27 @@ module _ (sheet : Sheet) (told : Naming) (differ : Differ sheet.names) where
         (equal_owners a b stands.1) (one_owner_side around a x alone here) (one_owner_side around b y alone there)))
     one_test around (ne t) tree alone stands is = absurd stands
     one_test around (less a b) tree alone stands is =
-        row_two "<" (StandsInt (naming_of sheet) around.scope a) (StandsInt (naming_of sheet) around.scope b)
+        row_two "<" (StandsInt (sheet_naming sheet) around.scope a) (StandsInt (sheet_naming sheet) around.scope b)
         (TestIs around (less a b)) tree stands
         (λ f t from to x y here there. only_pair sheet told less a b (in_int a) (in_int b) _ _
         (one_int around a x alone here is.0).0 (one_int around b y alone there is.1).0)
     one_test around (less_eq a b) tree alone stands is =
-        row_two "<=" (StandsInt (naming_of sheet) around.scope a) (StandsInt (naming_of sheet) around.scope b)
+        row_two "<=" (StandsInt (sheet_naming sheet) around.scope a) (StandsInt (sheet_naming sheet) around.scope b)
         (TestIs around (less_eq a b)) tree stands
         (λ f t from to x y here there. only_pair sheet told less_eq a b (in_int a) (in_int b) _ _
         (one_int around a x alone here is.0).0 (one_int around b y alone there is.1).0)
     one_test around (more a b) tree alone stands is =
-        row_two ">" (StandsInt (naming_of sheet) around.scope a) (StandsInt (naming_of sheet) around.scope b)
+        row_two ">" (StandsInt (sheet_naming sheet) around.scope a) (StandsInt (sheet_naming sheet) around.scope b)
         (TestIs around (more a b)) tree stands
         (λ f t from to x y here there. only_pair sheet told more a b (in_int a) (in_int b) _ _
         (one_int around a x alone here is.0).0 (one_int around b y alone there is.1).0)
     one_test around (more_eq a b) tree alone stands is =
-        row_two ">=" (StandsInt (naming_of sheet) around.scope a) (StandsInt (naming_of sheet) around.scope b)
+        row_two ">=" (StandsInt (sheet_naming sheet) around.scope a) (StandsInt (sheet_naming sheet) around.scope b)
         (TestIs around (more_eq a b)) tree stands
         (λ f t from to x y here there. only_pair sheet told more_eq a b (in_int a) (in_int b) _ _
         (one_int around a x alone here is.0).0 (one_int around b y alone there is.1).0)
     one_test around (has_value card attr value) tree alone stands is =
-        row_three "is" (StandsCard (naming_of sheet) around.scope card) (Named sheet.names.attrs attr)
+        row_three "is" (StandsCard (sheet_naming sheet) around.scope card) (Named sheet.names.attrs attr)
         (Named sheet.names.values value) (TestIs around (has_value card attr value)) tree stands
         (λ f t from to c a v here named named'. only_then sheet told _ card (has_value card attr value) (in_card card)
         (attr_name attr ∷ value_name value ∷ []) (card_at (along sheet told) around.scope c)
@@ -448,27 +448,27 @@ module _ (sheet : Sheet) (told : Naming) (differ : Differ sheet.names) where
         (only_map sheet told (λ value. has_value card attr value) value (value_name value ∷ []) _
         (one_value sheet told value v differ named'))))
     one_test around (and_of tests) tree alone stands is =
-        behind_word "and" (Full (StandTests (naming_of sheet) around.scope tests)) (TestIs around (and_of tests)) tree stands
+        behind_word "and" (Full (StandTests (sheet_naming sheet) around.scope tests)) (TestIs around (and_of tests)) tree stands
         (λ f t from to ps here. only_sized sheet told (count (cons (word (codes "and") f t) ps)) rule.And _ (and_of tests)
         (in_tests tests) (only_map sheet told and_of tests (in_tests tests) _ (one_tests around tests ps alone here.1 is.1)))
     one_test around (or_of tests) tree alone stands is =
-        behind_word "or" (Full (StandTests (naming_of sheet) around.scope tests)) (TestIs around (or_of tests)) tree stands
+        behind_word "or" (Full (StandTests (sheet_naming sheet) around.scope tests)) (TestIs around (or_of tests)) tree stands
         (λ f t from to ps here. only_sized sheet told (count (cons (word (codes "or") f t) ps)) rule.Or _ (or_of tests)
         (in_tests tests) (only_map sheet told or_of tests (in_tests tests) _ (one_tests around tests ps alone here.1 is.1)))
     one_test around (not_of t) tree alone stands is =
-        row_one "not" (StandsTest (naming_of sheet) around.scope t) (TestIs around (not_of t)) tree stands
+        row_one "not" (StandsTest (sheet_naming sheet) around.scope t) (TestIs around (not_of t)) tree stands
         (λ f g from to x here. only_map sheet told not_of t (in_test t) _ (one_test around t x alone here is))
     one_test around (all_of domain bound t) tree alone stands is =
-        row_three "all" (StandsRange (naming_of sheet) around.scope domain) (Binder (naming_of sheet) bound)
-        (StandsTest (naming_of sheet) (bind (naming_of sheet) around.scope bound (sort_of domain)) t)
+        row_three "all" (StandsRange (sheet_naming sheet) around.scope domain) (Binder (sheet_naming sheet) bound)
+        (StandsTest (sheet_naming sheet) (bind (sheet_naming sheet) around.scope bound (sort_of domain)) t)
         (TestIs around (all_of domain bound t)) tree stands
         (λ f g from to r v x here binds there. one_bound around domain bound t (in_domain domain) (in_test t) _ v
         (λ scope. test_at (along sheet told) scope x) all_of (one_range around domain r alone here is.0) binds
         (one_test (behind sheet around bound (sort_of domain)) t x
         (bound_apart around bound (sort_of domain) alone is.1) there is.2))
     one_test around (any_of domain bound t) tree alone stands is =
-        row_three "any" (StandsRange (naming_of sheet) around.scope domain) (Binder (naming_of sheet) bound)
-        (StandsTest (naming_of sheet) (bind (naming_of sheet) around.scope bound (sort_of domain)) t)
+        row_three "any" (StandsRange (sheet_naming sheet) around.scope domain) (Binder (sheet_naming sheet) bound)
+        (StandsTest (sheet_naming sheet) (bind (sheet_naming sheet) around.scope bound (sort_of domain)) t)
         (TestIs around (any_of domain bound t)) tree stands
         (λ f g from to r v x here binds there. one_bound around domain bound t (in_domain domain) (in_test t) _ v
         (λ scope. test_at (along sheet told) scope x) any_of (one_range around domain r alone here is.0) binds
@@ -476,7 +476,7 @@ module _ (sheet : Sheet) (told : Naming) (differ : Differ sheet.names) where
         (bound_apart around bound (sort_of domain) alone is.1) there is.2))
 
     pub one_tests : (around : Around) (all : Tests) (trees : Trees) → Apart around.scope
-        → StandTests (naming_of sheet) around.scope all trees → AreTests sheet around all → TestsAre around all trees
+        → StandTests (sheet_naming sheet) around.scope all trees → AreTests sheet around all → TestsAre around all trees
     one_tests around no_test nil alone stands is = something no_test (refl, tt)
     one_tests around no_test (cons tree trees) alone stands is = absurd stands
     one_tests around (test t all) nil alone stands is = absurd stands
@@ -486,13 +486,13 @@ module _ (sheet : Sheet) (told : Naming) (differ : Differ sheet.names) where
 
     -- `player` or COLL
     pub one_range : (around : Around) (domain : Domain) (tree : Tree) → Apart around.scope
-        → StandsRange (naming_of sheet) around.scope domain tree → IsRange sheet around domain → RangeIs around domain tree
+        → StandsRange (sheet_naming sheet) around.scope domain tree → IsRange sheet around domain → RangeIs around domain tree
     one_range around each_player (word bytes from to) alone stands is =
         subst (λ b. RangeIs around each_player (word b from to)) (sym stands) (something each_player (refl, tt))
     one_range around each_player (list parts from to) alone stands is = absurd stands
     one_range around (each_card cards) tree alone stands is =
         subst (λ b. Only sheet told (each_card cards) (in_coll cards)
         (cond b (Some each_player) (option_map each_card (coll_at (along sheet told) around.scope tree))))
-        (sym (no_player (naming_of sheet) around.scope cards tree stands))
+        (sym (no_player (sheet_naming sheet) around.scope cards tree stands))
         (only_map sheet told each_card cards (in_coll cards) _ (one_coll around cards tree alone stands is))
     one_range around (each_group cards attr) tree alone stands is = absurd stands

@@ -10,7 +10,7 @@ use Rattle.rc_sheet_model.specs.Mentions.{Mention, in_int, in_test, in_effects, 
 use Rattle.rc_model.specs.Numbers.{below}
 use Rattle.rc_sheet_model.specs.Rows.{◌▸◌, End, AtLeast, Row, Atom}
 use Rattle.rc_sheet_model.specs.Rows.{Some as Full}
-use Rattle.rc_sheet_model.specs.Naming.{Naming, naming_of, self_scope}
+use Rattle.rc_sheet_model.specs.Naming.{Naming, self_scope, sheet_naming}
 use Rattle.rc_sheet_model.specs.StandsExpressions.{StandsInt, StandsTest}
 use Rattle.rc_sheet_model.specs.StandsEffects.{StandEffects}
 use Rattle.rc_sheet_model.specs.StandsItems.{StandAlts, StandsItem, StandItems}
@@ -79,7 +79,7 @@ module _ (sheet : Sheet) (told : Naming) (differ : Differ sheet.names) where
   ItemsAre begun all after trees = Only sheet told (all, after) (in_items all) (items_at (along sheet told) begun trees)
 
   -- alternatives
-  one_alts : (players teams : Bool) (all : List Alt) (trees : Trees) → StandAlts (naming_of sheet) all trees
+  one_alts : (players teams : Bool) (all : List Alt) (trees : Trees) → StandAlts (sheet_naming sheet) all trees
       → AreAlts sheet (within_stages players teams) all
       → Only sheet told all (flat_map in_alt all) (alts_at (along sheet told) trees)
   one_alts players teams [] nil stands is = something [] (refl, tt)
@@ -91,10 +91,10 @@ module _ (sheet : Sheet) (told : Naming) (differ : Differ sheet.names) where
       (one_alts players teams all trees stands.1 is.1)
 
   -- `(end BOOL)`
-  one_end : (players teams : Bool) (t : Test) (tree : Tree) → Row (Atom "end" ▸ StandsTest (naming_of sheet) [] t ▸ End) tree
+  one_end : (players teams : Bool) (t : Test) (tree : Tree) → Row (Atom "end" ▸ StandsTest (sheet_naming sheet) [] t ▸ End) tree
       → IsTest sheet (within_stages players teams) t → Only sheet told t (in_test t) (end_at (along sheet told) tree)
   one_end players teams t tree stands is =
-      row_one "end" (StandsTest (naming_of sheet) [] t)
+      row_one "end" (StandsTest (sheet_naming sheet) [] t)
       (λ tree. Only sheet told t (in_test t) (end_at (along sheet told) tree)) tree stands
       (λ f g from to x here. one_test sheet told differ (within_stages players teams) t x none_apart here is)
 
@@ -130,10 +130,10 @@ module _ (sheet : Sheet) (told : Naming) (differ : Differ sheet.names) where
   mutual
     -- ITEM
     one_item : (players teams : Bool) (begun after : Begun) (i : SheetItem) (tree : Tree)
-        → StandsItem (naming_of sheet) i tree → IsItem sheet (within_stages players teams) i
+        → StandsItem (sheet_naming sheet) i tree → IsItem sheet (within_stages players teams) i
         → Counts begun (stages_in_item i) (sites_in_item i) after → ItemIs begun i after tree
     one_item players teams begun after (do_item effects) tree stands is counts =
-        behind_word "do" (Full (StandEffects (naming_of sheet) [] effects)) (ItemIs begun (do_item effects) after) tree stands
+        behind_word "do" (Full (StandEffects (sheet_naming sheet) [] effects)) (ItemIs begun (do_item effects) after) tree stands
         (λ f t from to es there. only_sized sheet told (count (cons (word (codes "do") f t) es)) rule.Do
         (λ rule. item_rule (along sheet told) begun rule (cons (word (codes "do") f t) es))
         (do_item effects, after) (in_effects effects)
@@ -145,10 +145,10 @@ module _ (sheet : Sheet) (told : Naming) (differ : Differ sheet.names) where
     one_item players teams begun after (stage number game_class end body) tree stands is counts = absurd is
     one_item players teams begun after (stage number player_class end body) tree stands is counts =
         row_words "stage" "player"
-        (Row (Atom "end" ▸ StandsTest (naming_of sheet) [] end ▸ End) ▸ Full (StandItems (naming_of sheet) body End))
+        (Row (Atom "end" ▸ StandsTest (sheet_naming sheet) [] end ▸ End) ▸ Full (StandItems (sheet_naming sheet) body End))
         (ItemIs begun (stage number player_class end body) after) tree stands
-        (λ f t f' t' from to parts more. first_part (Row (Atom "end" ▸ StandsTest (naming_of sheet) [] end ▸ End))
-        (Full (StandItems (naming_of sheet) body End))
+        (λ f t f' t' from to parts more. first_part (Row (Atom "end" ▸ StandsTest (sheet_naming sheet) [] end ▸ End))
+        (Full (StandItems (sheet_naming sheet) body End))
         (λ l. ItemIs begun (stage number player_class end body) after
         (list (cons (word (codes "stage") f t) (cons (word (codes "player") f' t') l)) from to)) parts more
         (λ e is' here there. only_sized sheet told
@@ -162,10 +162,10 @@ module _ (sheet : Sheet) (told : Naming) (differ : Differ sheet.names) where
         (record { in_stages = counts.in_stages.1; in_sites = counts.in_sites })))))
     one_item players teams begun after (stage number team_class end body) tree stands is counts =
         row_words "stage" "team"
-        (Row (Atom "end" ▸ StandsTest (naming_of sheet) [] end ▸ End) ▸ Full (StandItems (naming_of sheet) body End))
+        (Row (Atom "end" ▸ StandsTest (sheet_naming sheet) [] end ▸ End) ▸ Full (StandItems (sheet_naming sheet) body End))
         (ItemIs begun (stage number team_class end body) after) tree stands
-        (λ f t f' t' from to parts more. first_part (Row (Atom "end" ▸ StandsTest (naming_of sheet) [] end ▸ End))
-        (Full (StandItems (naming_of sheet) body End))
+        (λ f t f' t' from to parts more. first_part (Row (Atom "end" ▸ StandsTest (sheet_naming sheet) [] end ▸ End))
+        (Full (StandItems (sheet_naming sheet) body End))
         (λ l. ItemIs begun (stage number team_class end body) after
         (list (cons (word (codes "stage") f t) (cons (word (codes "team") f' t') l)) from to)) parts more
         (λ e is' here there. only_sized sheet told
@@ -178,14 +178,14 @@ module _ (sheet : Sheet) (told : Naming) (differ : Differ sheet.names) where
         (one_items players true (with_stage begun) after body is' there.1 is.2
         (record { in_stages = counts.in_stages.1; in_sites = counts.in_sites })))))
     one_item players teams begun after (choice site alts) tree stands is counts =
-        behind_word "choice" (Full (StandAlts (naming_of sheet) alts)) (ItemIs begun (choice site alts) after) tree stands
+        behind_word "choice" (Full (StandAlts (sheet_naming sheet) alts)) (ItemIs begun (choice site alts) after) tree stands
         (λ f t from to as' there. only_sized sheet told (count (cons (word (codes "choice") f t) as')) rule.Choice
         (λ rule. item_rule (along sheet told) begun rule (cons (word (codes "choice") f t) as'))
         (choice site alts, after) (flat_map in_alt alts)
         (one_choice begun after site alts _ counts (one_alts players teams alts as' there.1 is.2)))
 
     one_items : (players teams : Bool) (begun after : Begun) (all : SheetItems) (trees : Trees)
-        → StandItems (naming_of sheet) all End trees → AreItems sheet (within_stages players teams) all
+        → StandItems (sheet_naming sheet) all End trees → AreItems sheet (within_stages players teams) all
         → Counts begun (stages_in all) (sites_in all) after → ItemsAre begun all after trees
     one_items players teams begun after no_item nil stands is counts =
         something (no_item, begun) (ap (λ b. (no_item, b)) (same_begun begun after counts), tt)
@@ -212,29 +212,29 @@ module _ (sheet : Sheet) (told : Naming) (differ : Differ sheet.names) where
   one_score : (tree : Tree) → StandsScoring sheet tree → IsInt sheet scored sheet.score
       → Only sheet told (sheet.best, sheet.score) (in_int sheet.score) (score_at (along sheet told) tree)
   one_score tree stands is =
-      row_two "scoring" (StandsBest sheet.best) (StandsInt (naming_of sheet) self_scope sheet.score)
+      row_two "scoring" (StandsBest sheet.best) (StandsInt (sheet_naming sheet) self_scope sheet.score)
       (λ tree. Only sheet told (sheet.best, sheet.score) (in_int sheet.score) (score_at (along sheet told) tree)) tree stands
       (λ f t from to b v here there. only_both sheet told sheet.best sheet.score [] (in_int sheet.score) _ _
       (one_best sheet.best b here) (one_int sheet told differ scored sheet.score v (one_apart _) there is).0)
 
   -- the items before the last part, and what stands last
   items_apart : (Last : Tree → Type 0) (all : SheetItems) (trees : Trees)
-      → StandItems (naming_of sheet) all (Last ▸ End) trees
-      → StandItems (naming_of sheet) all End (but_last trees) × (last : Tree) × (last_of trees ≡ Some last) × Last last
+      → StandItems (sheet_naming sheet) all (Last ▸ End) trees
+      → StandItems (sheet_naming sheet) all End (but_last trees) × (last : Tree) × (last_of trees ≡ Some last) × Last last
   items_apart Last no_item nil stands = absurd stands
   items_apart Last no_item (cons tree nil) stands = (tt, tree, refl, stands.0)
   items_apart Last no_item (cons tree (cons next trees)) stands = absurd stands.1
   items_apart Last (item i all) nil stands = absurd stands
   items_apart Last (item i all) (cons tree nil) stands = absurd (none_left all stands.1)
     where
-      none_left : (all : SheetItems) → StandItems (naming_of sheet) all (Last ▸ End) nil → ⊥
+      none_left : (all : SheetItems) → StandItems (sheet_naming sheet) all (Last ▸ End) nil → ⊥
       none_left no_item stands = stands
       none_left (item i all) stands = stands
   items_apart Last (item i all) (cons tree (cons next trees)) stands =
       let later = items_apart Last all (cons next trees) stands.1 in ((stands.0, later.0), later.1, later.2, later.3)
 
   -- the body of a sheet
-  pub one_body : (trees : Trees) → AtLeast 2 (StandItems (naming_of sheet) sheet.items (StandsScoring sheet ▸ End)) trees
+  pub one_body : (trees : Trees) → AtLeast 2 (StandItems (sheet_naming sheet) sheet.items (StandsScoring sheet ▸ End)) trees
       → AreItems sheet outside sheet.items → IsInt sheet scored sheet.score
       → stages_in sheet.items ≡ below (length (stages_in sheet.items))
       → sites_in sheet.items ≡ below (length (sites_in sheet.items))

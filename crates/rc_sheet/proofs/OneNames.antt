@@ -11,7 +11,7 @@ use Rattle.rc_model.specs.Tree.{Tree, word, list, Trees, nil, cons}
 use Rattle.rc_sheet_model.specs.Sheet.{Names, Class, player_sort, Sort, LocKind, vloc, iloc, hloc, mem, LocName, NumName, Who, game, current_player, current_team, team_of_current, team_of_var, who_var, Loc, Num, Sheet}
 use Rattle.rc_sheet_model.specs.Mentions.{Mention, attr_name, value_name, map_name, loc_name, num_name, var_name}
 use Rattle.rc_sheet_model.specs.Rows.{◌▸◌, End, Row, Word, Atom}
-use Rattle.rc_sheet_model.specs.Naming.{Naming, Variable, Scope, naming_of, class_of, Named, Binder, InScope, KindOf}
+use Rattle.rc_sheet_model.specs.Naming.{Naming, Variable, Scope, class_of, Named, Binder, InScope, KindOf, sheet_naming}
 use Rattle.rc_model.specs.Words.{is_variable}
 use Rattle.rc_sheet_model.specs.Naming.{kind_word as kind_bytes}
 use Rattle.rc_sheet_model.specs.StandsExpressions.{StandsOwner, StandsHolder, StandsLoc, StandsNum}
@@ -414,11 +414,11 @@ module _ (sheet : Sheet) (told : Naming) where
       weaker (name_at sheet.names.values tree) (one_name sheet.names.values n tree differ.values named)
       (λ m is. (is.0, (tt, tt)))
 
-  pub one_binder : (scope : Scope) (bound : ℕ) (tree : Tree) → Differ sheet.names → Binder (naming_of sheet) bound tree
+  pub one_binder : (scope : Scope) (bound : ℕ) (tree : Tree) → Differ sheet.names → Binder (sheet_naming sheet) bound tree
       → Only bound (var_name bound ∷ []) (binder_at sheet.names.vars scope tree)
   one_binder scope bound tree differ binds =
-      weaker (binder_at sheet.names.vars scope tree) (binder_means (naming_of sheet) scope tree)
-      (λ m is. (bound_once (naming_of sheet) m bound tree differ.vars is binds, (tt, tt)))
+      weaker (binder_at sheet.names.vars scope tree) (binder_means (sheet_naming sheet) scope tree)
+      (λ m is. (bound_once (sheet_naming sheet) m bound tree differ.vars is binds, (tt, tt)))
 
   pub one_map : (n f t : ℕ) (tree : Tree) → Differ sheet.names → Named sheet.names.maps n tree
       → Only n (map_name n ∷ []) (map_at along (word (codes "using") f t) tree)
@@ -428,7 +428,7 @@ module _ (sheet : Sheet) (told : Naming) where
 
   -- LOC
   pub one_loc_parts : (scope : Scope) (loc : Loc) (parts : Trees) (from to : ℕ) → Differ sheet.names → Apart scope
-      → StandsLoc (naming_of sheet) scope loc (list parts from to)
+      → StandsLoc (sheet_naming sheet) scope loc (list parts from to)
       → Only loc (loc_name loc.name ∷ []) (loc_parts along scope from parts)
   unfolding loc_parts
   one_loc_parts scope loc (cons holder (cons kind (cons name nil))) from to differ alone stands =
@@ -456,11 +456,11 @@ module _ (sheet : Sheet) (told : Naming) where
   one_loc_parts scope loc parts from to differ alone stands = nothing
 
   pub one_loc : (scope : Scope) (loc : Loc) (tree : Tree) → Differ sheet.names → Apart scope
-      → StandsLoc (naming_of sheet) scope loc tree → Only loc (loc_name loc.name ∷ []) (loc_at along scope tree)
+      → StandsLoc (sheet_naming sheet) scope loc tree → Only loc (loc_name loc.name ∷ []) (loc_at along scope tree)
   unfolding loc_at
   one_loc scope loc tree differ alone stands =
-      three_parts (StandsHolder scope loc.who) (KindOf (naming_of sheet) loc.name) (Named sheet.names.locs loc.name)
-      (λ tree. StandsLoc (naming_of sheet) scope loc tree → Only loc (loc_name loc.name ∷ []) (loc_at along scope tree))
+      three_parts (StandsHolder scope loc.who) (KindOf (sheet_naming sheet) loc.name) (Named sheet.names.locs loc.name)
+      (λ tree. StandsLoc (sheet_naming sheet) scope loc tree → Only loc (loc_name loc.name ∷ []) (loc_at along scope tree))
       tree stands.0
       (λ holder kind name from to holds k n stands'. by_rule rule.Location _ loc (loc_name loc.name ∷ [])
       (rule_at place.Location (cons holder (cons kind (cons name nil))))
@@ -470,7 +470,7 @@ module _ (sheet : Sheet) (told : Naming) where
 
   -- NUM
   pub one_num_parts : (scope : Scope) (num : Num) (parts : Trees) (from to : ℕ) → Differ sheet.names → Apart scope
-      → StandsNum (naming_of sheet) scope num (list parts from to)
+      → StandsNum (sheet_naming sheet) scope num (list parts from to)
       → Only num (num_name num.name ∷ []) (num_parts along scope parts)
   unfolding num_parts
   one_num_parts scope num (cons holder (cons sto (cons name nil))) from to differ alone stands =
@@ -496,11 +496,11 @@ module _ (sheet : Sheet) (told : Naming) where
   one_num_parts scope num parts from to differ alone stands = nothing
 
   pub one_num : (scope : Scope) (num : Num) (tree : Tree) → Differ sheet.names → Apart scope
-      → StandsNum (naming_of sheet) scope num tree → Only num (num_name num.name ∷ []) (num_at along scope tree)
+      → StandsNum (sheet_naming sheet) scope num tree → Only num (num_name num.name ∷ []) (num_at along scope tree)
   unfolding num_at
   one_num scope num tree differ alone stands =
       three_parts (StandsHolder scope num.who) (Atom "sto") (Named sheet.names.nums num.name)
-      (λ tree. StandsNum (naming_of sheet) scope num tree → Only num (num_name num.name ∷ []) (num_at along scope tree))
+      (λ tree. StandsNum (sheet_naming sheet) scope num tree → Only num (num_name num.name ∷ []) (num_at along scope tree))
       tree stands.0
       (λ holder kind name from to holds k n stands'. by_rule rule.Counter _ num (num_name num.name ∷ [])
       (rule_at place.Counter (cons holder (cons kind (cons name nil))))

@@ -8,10 +8,10 @@ use Rattle.rc_sheet_model.specs.Sheet.{Teams, game_class, DeckLine, Sheet}
 use Rattle.rc_sheet_model.specs.Mentions.{value_name, loc_name, in_groups, in_branches, in_deck, in_entry, in_map, in_setup}
 use Rattle.rc_sheet_model.specs.Rows.{◌▸◌, End, Row, Atom}
 use Rattle.rc_sheet_model.specs.Rows.{Some as Full}
-use Rattle.rc_sheet_model.specs.Naming.{Naming, naming_of, Named, Literal, KindOf, loc_class}
+use Rattle.rc_sheet_model.specs.Naming.{Naming, Named, Literal, KindOf, loc_class, sheet_naming}
 use Rattle.rc_sheet_model.specs.StandsSetup.{StandsPlayers, StandsTeam, StandTeams, StandsTeams, StandsGroups, StandsBranches, StandsDeck, StandValues, StandEntries, StandsMap, team_lines, numbered, StandsSetup}
 use Rattle.rc_sheet.specs.ReadSetup.{setup_in}
-use Rattle.rc_sheet.specs.ReadSheet.{setup_form_at, sheet_of}
+use Rattle.rc_sheet.specs.ReadSheet.{setup_form_at, sheet_with}
 use Rattle.rc_sheet.proofs.Means.{weaker}
 use Rattle.rc_sheet.proofs.ReadsSheet.{setup_form_means}
 use Rattle.rc_sheet.proofs.OneRows.{three_parts}
@@ -94,7 +94,7 @@ both_listed X Y R (list parts from to) row row' each = each parts row row'
 -- A sheet whose names differ, and a naming that a form is read by.
 module _ (sheet : Sheet) (told : Naming) (differ : Differ sheet.names) where
   -- VALUES AND ENTRIES
-  values_once : (values values' : List ℕ) (trees : Trees) → StandValues (naming_of sheet) values trees
+  values_once : (values values' : List ℕ) (trees : Trees) → StandValues (sheet_naming sheet) values trees
       → StandValues (along sheet told) values' trees → values ≡ values'
   values_once [] [] trees is is' = refl
   values_once [] (q ∷ values') nil is is' = absurd is'
@@ -105,7 +105,7 @@ module _ (sheet : Sheet) (told : Naming) (differ : Differ sheet.names) where
   values_once (p ∷ values) (q ∷ values') (cons tree trees) is is' =
       ap₂ ◌∷◌ (named_once sheet.names.values p q tree differ.values is.0 is'.0) (values_once values values' trees is.1 is'.1)
 
-  value_list_once : (values values' : List ℕ) (tree : Tree) → Row (Full (StandValues (naming_of sheet) values)) tree
+  value_list_once : (values values' : List ℕ) (tree : Tree) → Row (Full (StandValues (sheet_naming sheet) values)) tree
       → Row (Full (StandValues (along sheet told) values')) tree → values ≡ values'
   value_list_once values values' (word bytes from to) is is' = absurd is
   value_list_once values values' (list parts from to) is is' = values_once values values' parts is.1 is'.1
@@ -114,10 +114,10 @@ module _ (sheet : Sheet) (told : Naming) (differ : Differ sheet.names) where
   StandsEntry naming entry =
       Row (Named naming.names.attrs entry.attr ▸ Row (Full (StandValues naming entry.values)) ▸ Literal entry.points ▸ End)
 
-  entry_once : (entry entry' : Entry) (tree : Tree) → StandsEntry (naming_of sheet) entry tree
+  entry_once : (entry entry' : Entry) (tree : Tree) → StandsEntry (sheet_naming sheet) entry tree
       → StandsEntry (along sheet told) entry' tree → entry ≡ entry'
   entry_once entry entry' tree is =
-      three_parts (Named sheet.names.attrs entry.attr) (Row (Full (StandValues (naming_of sheet) entry.values)))
+      three_parts (Named sheet.names.attrs entry.attr) (Row (Full (StandValues (sheet_naming sheet) entry.values)))
       (Literal entry.points) (λ tree. StandsEntry (along sheet told) entry' tree → entry ≡ entry') tree is
       (λ a b c from to x y z is'.
       let attrs : entry.attr ≡ entry'.attr = named_once sheet.names.attrs entry.attr entry'.attr a differ.attrs x is'.0 in
@@ -125,7 +125,7 @@ module _ (sheet : Sheet) (told : Naming) (differ : Differ sheet.names) where
       let points : entry.points ≡ entry'.points = literal_once entry.points entry'.points c z is'.1.1.0 in
       λ i. record { attr = attrs i; values = values i; points = points i })
 
-  entries_once : (all all' : List Entry) (trees : Trees) → StandEntries (naming_of sheet) all trees
+  entries_once : (all all' : List Entry) (trees : Trees) → StandEntries (sheet_naming sheet) all trees
       → StandEntries (along sheet told) all' trees → all ≡ all'
   entries_once [] [] trees is is' = refl
   entries_once [] (q ∷ all') nil is is' = absurd is'
@@ -137,7 +137,7 @@ module _ (sheet : Sheet) (told : Naming) (differ : Differ sheet.names) where
       ap₂ ◌∷◌ (entry_once p q tree is.0 is'.0) (entries_once all all' trees is.1 is'.1)
 
   -- a point map
-  map_once : (number number' : ℕ) (all all' : List Entry) (tree : Tree) → StandsMap (naming_of sheet) (number, all) tree
+  map_once : (number number' : ℕ) (all all' : List Entry) (tree : Tree) → StandsMap (sheet_naming sheet) (number, all) tree
       → StandsMap (along sheet told) (number', all') tree → all ≡ all'
   map_once number number' all all' (word bytes from to) is is' = absurd is
   map_once number number' all all' (list nil from to) is is' = absurd is
@@ -150,7 +150,7 @@ module _ (sheet : Sheet) (told : Naming) (differ : Differ sheet.names) where
       entries_once all all' parts is.1.1.1.0.1 is'.1.1.1.0.1
 
   maps_once : (start : ℕ) (all all' : List (List Entry)) (lines : List Tree)
-      → AllZip (StandsMap (naming_of sheet)) (zip (range_with_len start (length all)) all) lines
+      → AllZip (StandsMap (sheet_naming sheet)) (zip (range_with_len start (length all)) all) lines
       → AllZip (StandsMap (along sheet told)) (zip (range_with_len start (length all')) all') lines → all ≡ all'
   maps_once start [] [] lines is is' = refl
   maps_once start [] (q ∷ all') [] is is' = absurd is'
@@ -169,7 +169,7 @@ module _ (sheet : Sheet) (told : Naming) (differ : Differ sheet.names) where
   branch_same a a' b b' r r' ea eb er = λ i. branch (ea i) (eb i) (er i)
 
   mutual
-    groups_once : (all all' : Groups) (trees : Trees) → StandsGroups (naming_of sheet) all trees
+    groups_once : (all all' : Groups) (trees : Trees) → StandsGroups (sheet_naming sheet) all trees
         → StandsGroups (along sheet told) all' trees → all ≡ all'
     groups_once no_group no_group trees is is' = refl
     groups_once no_group (group a' b' r') nil is is' = absurd is'
@@ -178,16 +178,16 @@ module _ (sheet : Sheet) (told : Naming) (differ : Differ sheet.names) where
     groups_once (group a b r) no_group (cons tree trees) is is' = absurd is'
     groups_once (group a b r) (group a' b' r') nil is is' = absurd is
     groups_once (group a b r) (group a' b' r') (cons tree trees) is is' =
-        two_of (Named sheet.names.attrs a) (Row (Full (StandsBranches (naming_of sheet) b)))
+        two_of (Named sheet.names.attrs a) (Row (Full (StandsBranches (sheet_naming sheet) b)))
         (λ tree. Row (Named sheet.names.attrs a' ▸ Row (Full (StandsBranches (along sheet told) b')) ▸ End) tree
         → group a b r ≡ group a' b' r') tree is.0
         (λ x y from to named row row'. group_same a a' b b' r r' (named_once sheet.names.attrs a a' x differ.attrs named row'.0)
-        (both_listed (Full (StandsBranches (naming_of sheet) b)) (Full (StandsBranches (along sheet told) b'))
+        (both_listed (Full (StandsBranches (sheet_naming sheet) b)) (Full (StandsBranches (along sheet told) b'))
         (b ≡ b') y row row'.1.0
         (λ parts s s'. branches_once b b' parts s.1 s'.1)) (groups_once r r' trees is.1 is'.1))
         is'.0
 
-    branches_once : (all all' : Branches) (trees : Trees) → StandsBranches (naming_of sheet) all trees
+    branches_once : (all all' : Branches) (trees : Trees) → StandsBranches (sheet_naming sheet) all trees
         → StandsBranches (along sheet told) all' trees → all ≡ all'
     branches_once no_branch no_branch trees is is' = refl
     branches_once no_branch (branch v' no_group r') nil is is' = absurd is'
@@ -247,14 +247,14 @@ module _ (sheet : Sheet) (told : Naming) (differ : Differ sheet.names) where
 
   -- DECKS
   home_once : (n n' : ℕ) (tree : Tree)
-      → Row (Atom "game" ▸ KindOf (naming_of sheet) n ▸ Named sheet.names.locs n ▸ End) tree
+      → Row (Atom "game" ▸ KindOf (sheet_naming sheet) n ▸ Named sheet.names.locs n ▸ End) tree
       → Row (Atom "game" ▸ KindOf (along sheet told) n' ▸ Named sheet.names.locs n' ▸ End) tree
-      → loc_class (naming_of sheet) n ≡ Some game_class → loc_class (along sheet told) n' ≡ Some game_class
+      → loc_class (sheet_naming sheet) n ≡ Some game_class → loc_class (along sheet told) n' ≡ Some game_class
       → (n ≡ n') × Agrees sheet told (loc_name n)
   home_once n n' tree row =
-      three_parts (Atom "game") (KindOf (naming_of sheet) n) (Named sheet.names.locs n)
+      three_parts (Atom "game") (KindOf (sheet_naming sheet) n) (Named sheet.names.locs n)
       (λ tree. Row (Atom "game" ▸ KindOf (along sheet told) n' ▸ Named sheet.names.locs n' ▸ End) tree
-      → loc_class (naming_of sheet) n ≡ Some game_class → loc_class (along sheet told) n' ≡ Some game_class
+      → loc_class (sheet_naming sheet) n ≡ Some game_class → loc_class (along sheet told) n' ≡ Some game_class
       → (n ≡ n') × Agrees sheet told (loc_name n)) tree row
       (λ holder kind name from to g k named row' class class'.
       let same = named_once sheet.names.locs n n' name differ.locs named row'.1.1.0 in (
@@ -264,8 +264,8 @@ module _ (sheet : Sheet) (told : Naming) (differ : Differ sheet.names) where
             (subst (λ n. loc_class (along sheet told) n ≡ Some game_class) (sym same) class'),
       ))
     where
-      at : (name kind : Tree) → Named sheet.names.locs n name → KindOf (naming_of sheet) n kind
-          → loc_class (naming_of sheet) n ≡ Some game_class → KindOf (along sheet told) n kind
+      at : (name kind : Tree) → Named sheet.names.locs n name → KindOf (sheet_naming sheet) n kind
+          → loc_class (sheet_naming sheet) n ≡ Some game_class → KindOf (along sheet told) n kind
           → loc_class (along sheet told) n ≡ Some game_class → Agrees sheet told (loc_name n)
       at (list parts from to) kind named k class k' class' = absurd named
       at (word bytes from to) kind named k class k' class' = (
@@ -274,13 +274,13 @@ module _ (sheet : Sheet) (told : Naming) (differ : Differ sheet.names) where
         kinds_agree (slice_get sheet.locs n) (slice_get told.locs n) kind game_class k class k' class',
       )
 
-  group_list_once : (all all' : Groups) (tree : Tree) → Row (Atom "deck" ▸ Full (StandsGroups (naming_of sheet) all)) tree
+  group_list_once : (all all' : Groups) (tree : Tree) → Row (Atom "deck" ▸ Full (StandsGroups (sheet_naming sheet) all)) tree
       → Row (Atom "deck" ▸ Full (StandsGroups (along sheet told) all')) tree → all ≡ all'
   group_list_once all all' (word bytes from to) is is' = absurd is
   group_list_once all all' (list nil from to) is is' = absurd is
   group_list_once all all' (list (cons head parts) from to) is is' = groups_once all all' parts is.1.1 is'.1.1
 
-  deck_once : (line line' : DeckLine) (tree : Tree) → StandsDeck (naming_of sheet) line tree
+  deck_once : (line line' : DeckLine) (tree : Tree) → StandsDeck (sheet_naming sheet) line tree
       → StandsDeck (along sheet told) line' tree → (line ≡ line') × Agrees sheet told (loc_name line.loc)
   deck_once line line' (word bytes from to) is is' = absurd is.0
   deck_once line line' (list nil from to) is is' = absurd is.0
@@ -292,7 +292,7 @@ module _ (sheet : Sheet) (told : Naming) (differ : Differ sheet.names) where
       let groups : line.groups ≡ line'.groups = group_list_once line.groups line'.groups d is.0.1.1.1.0 is'.0.1.1.1.0 in
       (ap₂ (λ l g. record { loc = l; groups = g }) home.0 groups, home.1)
 
-  decks_once : (all all' : List DeckLine) (lines : List Tree) → AllZip (StandsDeck (naming_of sheet)) all lines
+  decks_once : (all all' : List DeckLine) (lines : List Tree) → AllZip (StandsDeck (sheet_naming sheet)) all lines
       → AllZip (StandsDeck (along sheet told)) all' lines → (all ≡ all') × Agree sheet told (flat_map in_deck all)
   decks_once [] [] lines is is' = (refl, tt)
   decks_once [] (q ∷ all') [] is is' = absurd is'
@@ -308,7 +308,7 @@ module _ (sheet : Sheet) (told : Naming) (differ : Differ sheet.names) where
       )
 
   -- all lines
-  setup_once : (read : Sheet) (lines : Trees) → StandsSetup (naming_of sheet) sheet lines
+  setup_once : (read : Sheet) (lines : Trees) → StandsSetup (sheet_naming sheet) sheet lines
       → StandsSetup (along sheet told) read lines → (setup_in read ≡ setup_in sheet) × Agree sheet told (in_setup sheet)
   setup_once read lines is is' =
       let players : read.players ≡ sheet.players = one_player_line read.players sheet.players _ is'.players is.players in
@@ -323,14 +323,14 @@ module _ (sheet : Sheet) (told : Naming) (differ : Differ sheet.names) where
       )
 
   -- `(setup LINE+)`
-  pub one_setup : (tree : Tree) → Row (Atom "setup" ▸ Full (StandsSetup (naming_of sheet) sheet)) tree
+  pub one_setup : (tree : Tree) → Row (Atom "setup" ▸ Full (StandsSetup (sheet_naming sheet) sheet)) tree
       → Only sheet told (setup_in sheet) (in_setup sheet) (setup_form_at (along sheet told) tree)
   one_setup tree stands =
       weaker (setup_form_at (along sheet told) tree) (setup_form_means (along sheet told) tree)
-      (λ said is. rows (sheet_of (along sheet told) said (sheet.items, (sheet.best, sheet.score))) tree stands
-      (is (sheet_of (along sheet told) said (sheet.items, (sheet.best, sheet.score))) refl))
+      (λ said is. rows (sheet_with (along sheet told) said (sheet.items, (sheet.best, sheet.score))) tree stands
+      (is (sheet_with (along sheet told) said (sheet.items, (sheet.best, sheet.score))) refl))
     where
-      rows : (read : Sheet) (tree : Tree) → Row (Atom "setup" ▸ Full (StandsSetup (naming_of sheet) sheet)) tree
+      rows : (read : Sheet) (tree : Tree) → Row (Atom "setup" ▸ Full (StandsSetup (sheet_naming sheet) sheet)) tree
           → Row (Atom "setup" ▸ Full (StandsSetup (along sheet told) read)) tree
           → (setup_in read ≡ setup_in sheet) × Agree sheet told (in_setup sheet)
       rows read (word bytes from to) is is' = absurd is

@@ -12,18 +12,18 @@ use Rattle.rc_sheet_model.specs.Numbering.{IsNumbered}
 use Rattle.rc_sheet_model.specs.FormMentions.{names_of}
 use Rattle.rc_sheet_model.specs.Rows.{◌▸◌, End, AtLeast, Row, Atom}
 use Rattle.rc_sheet_model.specs.Rows.{Some as Full}
-use Rattle.rc_sheet_model.specs.Naming.{Naming, naming_of}
+use Rattle.rc_sheet_model.specs.Naming.{Naming, sheet_naming}
 use Rattle.rc_sheet_model.specs.StandsSetup.{StandsSetup}
 use Rattle.rc_sheet_model.specs.StandsItems.{StandItems}
 use Rattle.rc_sheet_model.specs.Stands.{StandsScoring, Stands}
 use Rattle.rc_sheet_model.specs.WellFormed.{IsWellFormed}
 use Rattle.rc_grammar.specs.Faults.{count}
-use Rattle.rc_naming.specs.Naming.{naming_of as naming_of_form}
+use Rattle.rc_naming.specs.Naming.{naming_of}
 use Rattle.rc_naming.proofs.Whole.{loc_numbers, num_numbers}
 use Rattle.rc_semantics.specs.SecondFaults.{sheet_fault}
 use Rattle.rc_sheet.specs.ReadSetup.{setup_in}
 use Rattle.rc_sheet.specs.ReadItems.{body_at}
-use Rattle.rc_sheet.specs.ReadSheet.{setup_form_at, sheet_of, game_parts, game_rule, sheet_at}
+use Rattle.rc_sheet.specs.ReadSheet.{setup_form_at, game_parts, game_rule, sheet_at, sheet_with}
 use Rattle.rc_sheet.proofs.Accepted.{is_read}
 use Rattle.rc_sheet.proofs.Means.{means_so}
 use Rattle.rc_sheet.proofs.Mentioned.{attrs, values, maps, locs, nums, vars}
@@ -69,7 +69,7 @@ names_are sheet tree stands is =
 module _ (sheet : Sheet) (told : Naming) where
   -- the sheet, with that naming's tables
   abbrev with_tables : Sheet
-  with_tables = sheet_of (along sheet told) (setup_in sheet) (sheet.items, (sheet.best, sheet.score))
+  with_tables = sheet_with (along sheet told) (setup_in sheet) (sheet.items, (sheet.best, sheet.score))
 
   one_read : (tree : Tree) → Stands sheet tree → IsWellFormed sheet
       → Only sheet told with_tables (in_setup sheet ++ (in_items sheet.items ++ in_int sheet.score))
@@ -77,8 +77,8 @@ module _ (sheet : Sheet) (told : Naming) where
   unfolding sheet_at game_parts
   one_read tree stands well =
       let differ = differ_of sheet well.numbered in
-      row_part "game" (Row (Atom "setup" ▸ Full (StandsSetup (naming_of sheet) sheet)))
-      (AtLeast 2 (StandItems (naming_of sheet) sheet.items (StandsScoring sheet ▸ End)))
+      row_part "game" (Row (Atom "setup" ▸ Full (StandsSetup (sheet_naming sheet) sheet)))
+      (AtLeast 2 (StandItems (sheet_naming sheet) sheet.items (StandsScoring sheet ▸ End)))
       (λ tree. Only sheet told with_tables (in_setup sheet ++ (in_items sheet.items ++ in_int sheet.score))
       (sheet_at (along sheet told) tree)) tree stands
       (λ f t from to setup parts here there. only_sized sheet told (count (cons (word (codes "game") f t) (cons setup parts)))
@@ -86,7 +86,7 @@ module _ (sheet : Sheet) (told : Naming) where
       (in_setup sheet ++ (in_items sheet.items ++ in_int sheet.score))
       (only_then sheet told _ (setup_in sheet) with_tables (in_setup sheet) (in_items sheet.items ++ in_int sheet.score)
       (setup_form_at (along sheet told) setup) (one_setup sheet told differ setup here)
-      (only_made sheet told (λ body. Some (sheet_of (along sheet told) (setup_in sheet) body))
+      (only_made sheet told (λ body. Some (sheet_with (along sheet told) (setup_in sheet) body))
       (sheet.items, (sheet.best, sheet.score)) with_tables (in_items sheet.items ++ in_int sheet.score)
       (body_at (along sheet told) parts) refl
       (one_body sheet told differ parts there well.items well.score well.numbered.stages well.numbered.sites))))
@@ -202,10 +202,10 @@ tables_same sheet told numbered names counted counted' agree =
 
 -- THE SHEET OF A FORM
 
-pub one_sheet : (tree : Tree) (read other : Sheet) → sheet_at (naming_of_form tree) tree ≡ Some read → Stands other tree
+pub one_sheet : (tree : Tree) (read other : Sheet) → sheet_at (naming_of tree) tree ≡ Some read → Stands other tree
     → IsWellFormed other → other ≡ read
 one_sheet tree read other is stands well =
-    let told : Naming = naming_of_form tree in
+    let told : Naming = naming_of tree in
     let names : other.names ≡ told.names = names_are other tree stands well.numbered in
     let same : along other told ≡ told = λ i. record { names = names i; locs = told.locs; nums = told.nums } in
     let is' : sheet_at (along other told) tree ≡ Some read = ap (λ n. sheet_at n tree) same ∙ is in
@@ -231,8 +231,8 @@ one_sheet tree read other is stands well =
 -- a form without a fault has one well formed sheet
 pub one_well_formed : (tree : Tree) (sheet other : Sheet) → sheet_fault tree ≡ None → Stands sheet tree → IsWellFormed sheet
     → Stands other tree → IsWellFormed other → other ≡ sheet
-one_well_formed tree sheet other faultless stands well stands' well' = by (sheet_at (naming_of_form tree) tree) refl
+one_well_formed tree sheet other faultless stands well stands' well' = by (sheet_at (naming_of tree) tree) refl
   where
-    by : (found : Option Sheet) → sheet_at (naming_of_form tree) tree ≡ found → other ≡ sheet
+    by : (found : Option Sheet) → sheet_at (naming_of tree) tree ≡ found → other ≡ sheet
     by None none = absurd (is_read tree faultless none)
     by (Some read) is = one_sheet tree read other is stands' well' ∙ sym (one_sheet tree read sheet is stands well)

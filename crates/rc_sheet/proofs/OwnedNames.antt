@@ -7,18 +7,18 @@ use Rattle.rc_model.specs.Tree.{Tree, Trees, nil, cons}
 use Rattle.rc_sheet_model.specs.StandsSetup.{begins_with, lines_with}
 use Rattle.rc_sheet_model.specs.Sheet.{Class, LocName, NumName, Sheet}
 use Rattle.rc_sheet_model.specs.Limits.{most_locations, most_numbers}
-use Rattle.rc_sheet_model.specs.Naming.{naming_of}
+use Rattle.rc_sheet_model.specs.Naming.{sheet_naming}
 use Rattle.rc_sheet_model.specs.FormMentions.{all_gathered}
 use Rattle.rc_sheet_model.specs.WellFormed.{owner_count}
 use Rattle.rc_grammar.specs.Faults.{faults}
 use Rattle.rc_grammar.specs.declared.grammar.Place.TheVariants as place
 use Rattle.rc_semantics.specs.Classes.{owner_count as owner_count_by}
 use Rattle.rc_semantics.specs.SecondParts.{parts_of}
-use Rattle.rc_semantics.specs.SecondNames.{Mention, player_count, team_count, locations_in, numbers_of, owned}
+use Rattle.rc_semantics.specs.SecondNames.{player_count, team_count, locations_in, numbers_of, owned, OwnedMention}
 use Rattle.rc_semantics.specs.SecondFaults.{location_count, number_count, second_faults}
 use Rattle.rc_naming.specs.Mentions.{loc_mention, deck_location, all_locations, all_numbers}
 use Rattle.rc_naming.specs.Naming.{kind_by, firsts, loc_names, num_names}
-use Rattle.rc_naming.specs.Naming.{naming_of as naming_of_form}
+use Rattle.rc_naming.specs.Naming.{naming_of}
 use Rattle.rc_sheet.specs.ReadSheet.{sheet_at}
 use Rattle.rc_sheet.proofs.Lines.{in_lines}
 use Rattle.rc_sheet.proofs.Whole.{sheet_only, locations_give, gives_mentions}
@@ -53,32 +53,32 @@ locations_are tree shaped =
 
 -- the owners of what the first mentions say
 locs_owned : (count count' : Class → ℕ) (same : (class : Class) → count' class ≡ count class) (number : ℕ)
-    (mentions : List Mention)
+    (mentions : List OwnedMention)
     → sum_by (λ loc. count loc.class) (loc_names number mentions) ≡ sum_by (λ mention. count' mention.class) mentions
 locs_owned count count' same number [] = refl
 locs_owned count count' same number (mention ∷ mentions) =
     sum_by-cons (λ (loc : LocName). count loc.class)
     (record { name = number; kind = kind_by mention.kind; class = mention.class }) (loc_names (number + 1) mentions)
     ∙ ap₂ (λ m n. m + n) (sym (same mention.class)) (locs_owned count count' same (number + 1) mentions)
-    ∙ sym (sum_by-cons (λ (mention : Mention). count' mention.class) mention mentions)
+    ∙ sym (sum_by-cons (λ (mention : OwnedMention). count' mention.class) mention mentions)
 
 nums_owned : (count count' : Class → ℕ) (same : (class : Class) → count' class ≡ count class) (number : ℕ)
-    (mentions : List Mention)
+    (mentions : List OwnedMention)
     → sum_by (λ num. count num.class) (num_names number mentions) ≡ sum_by (λ mention. count' mention.class) mentions
 nums_owned count count' same number [] = refl
 nums_owned count count' same number (mention ∷ mentions) =
     sum_by-cons (λ (num : NumName). count num.class) (record { name = number; class = mention.class })
     (num_names (number + 1) mentions)
     ∙ ap₂ (λ m n. m + n) (sym (same mention.class)) (nums_owned count count' same (number + 1) mentions)
-    ∙ sym (sum_by-cons (λ (mention : Mention). count' mention.class) mention mentions)
+    ∙ sym (sum_by-cons (λ (mention : OwnedMention). count' mention.class) mention mentions)
 
 module _ (tree : Tree) (sheet : Sheet) (shaped : faults place.Sheet tree ≡ []) (sound : second_faults tree ≡ [])
-    (is : sheet_at (naming_of_form tree) tree ≡ Some sheet) where
+    (is : sheet_at (naming_of tree) tree ≡ Some sheet) where
   counts : HasCounts tree sheet
-  counts = counts_are (naming_of_form tree) tree sheet is
+  counts = counts_are (naming_of tree) tree sheet is
 
-  named : naming_of sheet ≡ naming_of_form tree
-  named = (means_so (sheet_at (naming_of_form tree) tree) sheet (sheet_reads (naming_of_form tree) tree) is).named
+  named : sheet_naming sheet ≡ naming_of tree
+  named = (means_so (sheet_at (naming_of tree) tree) sheet (sheet_reads (naming_of tree) tree) is).named
 
   pub few_locations : sum_by (λ loc. owner_count sheet loc.class) sheet.locs ≤ most_locations
   few_locations =

@@ -17,7 +17,7 @@ use Rattle.rc_grammar.specs.declared.grammar.Rule.TheVariants as rule
 use Rattle.rc_semantics.specs.declared.role.Role.{Role}
 use Rattle.rc_semantics.specs.declared.role.Role.TheVariants.{GivenValue as given_value}
 use Rattle.rc_semantics.specs.SecondParts.{Standing, Part, atom, form, part_at, bytes_of, word_in, parts_of, is_binder, standing_alone}
-use Rattle.rc_semantics.specs.SecondNames.{Mention, attributes_in, value_by, values_in, maps_in, locations_in, numbers_of}
+use Rattle.rc_semantics.specs.SecondNames.{attributes_in, value_by, values_in, maps_in, locations_in, numbers_of, OwnedMention}
 use Rattle.rc_semantics.specs.SecondFaults.{second_faults}
 use Rattle.rc_naming.specs.Naming.{naming_of}
 use Rattle.rc_form.specs.SameForm.{IsOfAtoms, AreOfAtoms}
@@ -113,21 +113,21 @@ value_plain (atom at bytes from) shaped x is = by at.role shaped.gives is
     by role gives one = absurd one
 
 -- a mention of a location or of a stored number
-abbrev IsPlainMention : Mention → Type 0
+abbrev IsPlainMention : OwnedMention → Type 0
 IsPlainMention mention = is_plain_word mention.name ≡ true
 
-sole_mention : (mention other : Mention) → IsPlainMention other → Among mention (other ∷ []) → IsPlainMention mention
+sole_mention : (mention other : OwnedMention) → IsPlainMention other → Among mention (other ∷ []) → IsPlainMention mention
 sole_mention mention other plain (inl is) = subst IsPlainMention (sym is) plain
 sole_mention mention other plain (inr is) = absurd is
 
-location_plain : (part : Part) → IsShaped part → (x : Mention) → Among x (locations_in part) → IsPlainMention x
+location_plain : (part : Part) → IsShaped part → (x : OwnedMention) → Among x (locations_in part) → IsPlainMention x
 location_plain (form at rule.Location parts from) shaped x is =
     let many = eqb-true (count parts) 3 shaped.fit in
     sole_mention x _ (plain_at rule.Location 2 parts shaped (omega (arith, many)) refl) is
 location_plain (form at r parts from) shaped x is = absurd is
 location_plain (atom at bytes from) shaped x is = absurd is
 
-number_plain : (part : Part) → IsShaped part → (x : Mention) → Among x (numbers_of part) → IsPlainMention x
+number_plain : (part : Part) → IsShaped part → (x : OwnedMention) → Among x (numbers_of part) → IsPlainMention x
 number_plain (form at rule.Counter parts from) shaped x is =
     let many = eqb-true (count parts) 3 shaped.fit in
     sole_mention x _ (plain_at rule.Counter 2 parts shaped (omega (arith, many)) refl) is
@@ -155,8 +155,8 @@ all_different : (test : List ℕ → Bool) (words : List (List ℕ)) → ((x : L
 all_different test words each = all_among test (different words) (λ x is. each x (different_within [] words x is))
 
 -- the names of mentions
-names_plain : (words : List (List ℕ)) (mentions : List Mention) → words ≡ map name_of mentions
-    → ((mention : Mention) → Among mention mentions → IsPlainMention mention) → (x : List ℕ) → Among x words
+names_plain : (words : List (List ℕ)) (mentions : List OwnedMention) → words ≡ map name_of mentions
+    → ((mention : OwnedMention) → Among mention mentions → IsPlainMention mention) → (x : List ℕ) → Among x words
     → is_plain_word x ≡ true
 names_plain words mentions same each x is =
     let found = map_among name_of x mentions (subst (Among x) same is) in

@@ -13,7 +13,7 @@ use Rattle.rc_sheet.specs.ReadNames.{◌>>=◌, ensure, rule_at}
 use Rattle.rc_sheet.specs.ReadEffects.{effects_at, alts_at}
 use Rattle.rc_sheet.specs.ReadItems.{Begun, none_begun, with_stage, with_site, stage_of, choice_of, end_at, item_at, item_rule, items_at, score_at, but_last, last_of, body_at}
 use Rattle.rc_sheet.specs.ReadSetup.{Lines, no_line, count_at, teams_at, deck_at, points_at, players_line, teams_line, deck_line, points_line, line_rule, line_at, lines_at, setup_of}
-use Rattle.rc_sheet.specs.ReadSheet.{setup_rule, setup_form_at, sheet_of, game_parts, game_rule, sheet_at}
+use Rattle.rc_sheet.specs.ReadSheet.{setup_rule, setup_form_at, game_parts, game_rule, sheet_at, sheet_with}
 use Rattle.rc_sheet.proofs.Means.{Means, nothing, something, means_if, means_so, weaker, mapped, behind, both_mean, ensured, anything}
 use Rattle.rc_sheet.proofs.CountedItems.{CountedItems, items_count}
 use Rattle.rc_sheet.proofs.PlayersAndTeams.{IsBetween, count_counts}
@@ -182,7 +182,7 @@ unfolding game_parts
 game_rule_few naming rule.Game (cons head (cons setup parts)) =
     behind (setup_form_at naming setup) _ (setup_few naming setup)
     (λ said few. behind (body_at naming parts) _ (body_few naming parts)
-    (λ body few'. something (sheet_of naming said body)
+    (λ body few'. something (sheet_with naming said body)
     (record { some_players = few.no_less; players = few.no_more; stages = few'.stages; sites = few'.sites })))
 game_rule_few naming rule parts = nothing
 

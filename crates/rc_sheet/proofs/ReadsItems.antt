@@ -1,5 +1,5 @@
 -- What is read stands for its form: items, the scoring, and the body of a sheet.
-use Rattle.std.proofs.Common.{◌≡◌, ℕ, nat_lt, nat_le, List, [], Option, Some, None, sym, subst, ap, ◌∙◌, arith}
+use Rattle.std.proofs.Common.{◌≡◌, ℕ, nat_lt, nat_le, List, [], Option, Some, None, sym, subst, arith}
 use Rattle.std.proofs.lemmas.Option.{none-some, same_Some}
 use Rattle.rc_model.specs.Tree.{Tree, word, list, Trees, nil, cons}
 use Rattle.rc_sheet_model.specs.Sheet.{Class, player_class, team_class, Test, IntExpr, Best, highest, lowest, Alt, stage, choice, SheetItems, no_item, item}

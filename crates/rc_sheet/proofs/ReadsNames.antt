@@ -14,7 +14,7 @@ use Rattle.rc_semantics.specs.Classes.{same_sort, same_class}
 use Rattle.rc_grammar.specs.Grammar.{forms_of, front_of}
 use Rattle.rc_grammar.specs.Keyword.{text_of}
 use Rattle.rc_grammar.specs.Faults.{is_form_word, fits_head, begins, second_word, is_told, told_rule, plain_rule, or_else, rule_of, fits}
-use Rattle.rc_sheet.specs.ReadNames.{◌>>=◌, ensure, sized, rule_at, name_at, binder_at, has_sort, place_in, sorted, variable_in, player_of_rule, player_at, team_of, owner_rule, owner_at, holder_at, kind_word, is_loc_name, is_num_name, loc_parts, loc_rule, loc_at, num_parts, num_rule, num_at, map_at}
+use Rattle.rc_sheet.specs.ReadNames.{◌>>=◌, ensure, sized, rule_at, name_at, binder_at, has_sort, place_in, sorted, variable_in, player_of_rule, player_at, team_of, owner_rule, owner_at, holder_at, is_loc_name, is_num_name, loc_parts, loc_rule, loc_at, num_parts, num_rule, num_at, map_at, kind_keyword}
 use Rattle.rc_sheet.proofs.Means.{Means, nothing, something, weaker, mapped, behind, either, ensured, found_passes, place_passes}
 use Rattle.rc_grammar.specs.declared.keyword.Keyword.{Keyword}
 use Rattle.rc_grammar.specs.declared.keyword.Keyword.TheVariants as keyword
@@ -272,17 +272,17 @@ holder_means scope tree =
     (λ is. weaker (owner_at scope tree) (owner_means scope tree) (λ who stands. owner_holds scope who tree stands))
 
 -- the word of a kind
-pub kind_is : (kind : LocKind) → text_of (kind_word kind) ≡ kind_bytes kind
+pub kind_is : (kind : LocKind) → text_of (kind_keyword kind) ≡ kind_bytes kind
 kind_is vloc = refl
 kind_is iloc = refl
 kind_is hloc = refl
 kind_is mem = refl
 
 -- the word of the kind of the locations of a name
-kind_means : (found : LocName) (tree : Tree) → is_form_word (kind_word found.kind) tree ≡ true
+kind_means : (found : LocName) (tree : Tree) → is_form_word (kind_keyword found.kind) tree ≡ true
     → Word (λ bytes. Some (kind_bytes found.kind) ≡ Some bytes) tree
 kind_means found (word bytes from to) is =
-    ap Some (sym (kind_is found.kind) ∙ sym (same_bytes bytes (text_of (kind_word found.kind)) is))
+    ap Some (sym (kind_is found.kind) ∙ sym (same_bytes bytes (text_of (kind_keyword found.kind)) is))
 kind_means found (list parts from to) is = absurd cc
 
 -- the kind and the class of the locations of a name
@@ -291,7 +291,7 @@ pub loc_name_means : (tree : Tree) (class : Class) (found : Option LocName) → 
     × (option_map (λ loc. loc.class) found ≡ Some class)
 loc_name_means tree class None is = absurd cc
 loc_name_means tree class (Some loc) is =
-    let both = and_parts (is_form_word (kind_word loc.kind) tree) (same_class loc.class class) is in
+    let both = and_parts (is_form_word (kind_keyword loc.kind) tree) (same_class loc.class class) is in
     (kind_means loc tree both.0, ap Some (classes_same loc.class class both.1))
 
 -- the class of the numbers of a name

@@ -10,7 +10,7 @@ use Rattle.rc_sheet_model.specs.Stands.{Stands}
 use Rattle.rc_sheet.specs.ReadNames.{rule_at}
 use Rattle.rc_sheet.specs.ReadSetup.{setup_at, setup_in}
 use Rattle.rc_sheet.specs.ReadItems.{body_at}
-use Rattle.rc_sheet.specs.ReadSheet.{setup_rule, setup_form_at, sheet_of, game_parts, game_rule, sheet_at}
+use Rattle.rc_sheet.specs.ReadSheet.{setup_rule, setup_form_at, game_parts, game_rule, sheet_at, sheet_with}
 use Rattle.rc_sheet.proofs.Means.{Means, nothing, something, weaker, behind}
 use Rattle.rc_sheet.proofs.ReadsNames.{Told, told_at}
 use Rattle.rc_sheet.proofs.ReadsItems.{body_means}
@@ -44,7 +44,7 @@ unfolding game_parts
 game_rule_means naming from to rule.Game (cons head (cons setup parts)) told =
     behind (setup_form_at naming setup) _ (setup_form_means naming setup)
     (λ said stands. behind (body_at naming parts) _ (body_means naming parts)
-    (λ body stand. something (sheet_of naming said body) (told.0, (stands (sheet_of naming said body) refl, stand))))
+    (λ body stand. something (sheet_with naming said body) (told.0, (stands (sheet_with naming said body) refl, stand))))
 game_rule_means naming from to rule parts told = nothing
 
 -- the whole form

@@ -17,7 +17,7 @@ use Rattle.rc_semantics.specs.SecondParts.{Standing, Part, atom, form, parts_at,
 use Rattle.rc_sheet.specs.ReadNames.{rule_at}
 use Rattle.rc_sheet.specs.ReadItems.{body_at}
 use Rattle.rc_sheet.specs.ReadSetup.{Setup, Lines, no_line, line_rule, line_at, lines_at, setup_of}
-use Rattle.rc_sheet.specs.ReadSheet.{setup_rule, setup_form_at, sheet_of, game_parts, game_rule, sheet_at}
+use Rattle.rc_sheet.specs.ReadSheet.{setup_rule, setup_form_at, game_parts, game_rule, sheet_at, sheet_with}
 use Rattle.rc_sheet.proofs.Means.{Means, nothing, something, means_if, weaker, behind, anything, sized_is}
 use Rattle.rc_sheet.proofs.Bodies.{is_body, all_pass, standing_at}
 use Rattle.rc_sheet.proofs.Lands.{never, never_roles}
@@ -203,7 +203,7 @@ module _
         let later = parts_in standing_alone rule.Game all 2 rest in
         behind (setup_form_at naming setup) _ (setup_adds setup_at setup refl)
         (λ said adds. behind (body_at naming rest) _ (anything (body_at naming rest))
-        (λ body u. something (sheet_of naming said body)
+        (λ body u. something (sheet_with naming said body)
         (ap (λ l. l ++ flat_map given (first ++ (second ++ later))) (game standing_alone all from)
         ∙ flat_map-append given first (second ++ later)
         ∙ ap₂ (λ l m. l ++ m) (none_below (standing_at standing_alone rule.Game all 0 _) head refl)

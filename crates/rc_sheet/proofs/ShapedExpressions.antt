@@ -6,7 +6,7 @@ use Rattle.rc_model.specs.Tree.{Tree, word, list, Trees, nil, cons}
 use Rattle.rc_sheet_model.specs.Sheet.{card_sort, group_sort, Who, CardExpr, card_var, top_card, bottom_card, max_card, min_card, CollExpr, group_var, cards_in, filtered, union_of, CollExprs, no_coll, coll, IntExpr, literal, number, size_of, sum_of, worth_of, add, subtract, multiply, Test, eq_int, eq_card, eq_attr, eq_who, ne, less, less_eq, more, more_eq, has_value, and_of, or_of, not_of, all_of, any_of, Tests, no_test, test, Domain, each_player, each_card, each_group, Sheet}
 use Rattle.rc_sheet_model.specs.Rows.{◌▸◌, End, AtLeast, Row, Atom}
 use Rattle.rc_sheet_model.specs.Rows.{Some as Full}
-use Rattle.rc_sheet_model.specs.Naming.{naming_of, bind, sort_of, Named, Binder}
+use Rattle.rc_sheet_model.specs.Naming.{bind, sort_of, Named, Binder, sheet_naming}
 use Rattle.rc_sheet_model.specs.StandsExpressions.{StandsOwner, StandsCard, StandsColl, StandColls, StandsInt, StandsTest, StandTests, StandsRange, StandsDomain}
 use Rattle.rc_sheet_model.specs.WellFormed.{Around, behind, IsCard, IsColl, AreColls, IsInt, IsTest, AreTests, IsRange, IsDomain}
 use Rattle.rc_grammar.specs.Grammar.{front_of, more_of}
@@ -47,10 +47,10 @@ number_row r parts from to told side plain all =
 module _ (sheet : Sheet) where
   -- `(attr CARD ATTR)`
   attr_shaped : (around : Around) (a : CardExpr) (attr : ℕ) (tree : Tree)
-      → Row (Atom "attr" ▸ StandsCard (naming_of sheet) around.scope a ▸ Named sheet.names.attrs attr ▸ End) tree
-      → ((c : Tree) → StandsCard (naming_of sheet) around.scope a c → CardShaped c) → faults place.Side tree ≡ []
+      → Row (Atom "attr" ▸ StandsCard (sheet_naming sheet) around.scope a ▸ Named sheet.names.attrs attr ▸ End) tree
+      → ((c : Tree) → StandsCard (sheet_naming sheet) around.scope a c → CardShaped c) → faults place.Side tree ≡ []
   attr_shaped around a attr tree stands each =
-      row_two "attr" (StandsCard (naming_of sheet) around.scope a) (Named sheet.names.attrs attr)
+      row_two "attr" (StandsCard (sheet_naming sheet) around.scope a) (Named sheet.names.attrs attr)
       (λ tree. faults place.Side tree ≡ []) tree stands
       (λ f t from to c n here named.
       row_shaped place.Side rule.AttributeOf (cons (word (codes "attr") f t) (cons c (cons n nil))) from to refl refl
@@ -86,51 +86,51 @@ module _ (sheet : Sheet) where
       (fine, (fixed_shaped keyword.Using u using, ((name_shaped sheet.names.maps map m named).0, tt)))
 
   -- what a variable runs over, the variable, and a test
-  tested : (p : Place) (bound : ℕ) (c v x : Tree) → faults p c ≡ [] → Binder (naming_of sheet) bound v → TestShaped x
+  tested : (p : Place) (bound : ℕ) (c v x : Tree) → faults p c ≡ [] → Binder (sheet_naming sheet) bound v → TestShaped x
       → AreShaped (p ∷ place.Variable ∷ place.Test ∷ []) None (cons c (cons v (cons x nil)))
-  tested p bound c v x fine binds holds = (fine, (binder_shaped (naming_of sheet) bound v binds, (holds, tt)))
+  tested p bound c v x fine binds holds = (fine, (binder_shaped (sheet_naming sheet) bound v binds, (holds, tt)))
 
   mutual
     -- CARD
-    pub shaped_card : (around : Around) (a : CardExpr) (tree : Tree) → StandsCard (naming_of sheet) around.scope a tree
+    pub shaped_card : (around : Around) (a : CardExpr) (tree : Tree) → StandsCard (sheet_naming sheet) around.scope a tree
         → IsCard sheet around a → CardShaped tree
     shaped_card around (card_var var) tree stands is = (
       variable_shaped place.Card around.scope card_sort var tree stands (λ rest. refl),
       variable_shaped place.Side around.scope card_sort var tree stands (λ rest. refl),
     )
     shaped_card around (top_card cards) tree stands is =
-        row_one "top" (StandsColl (naming_of sheet) around.scope cards) CardShaped tree stands
+        row_one "top" (StandsColl (sheet_naming sheet) around.scope cards) CardShaped tree stands
         (λ f t from to c here. card_row rule.TopCard (cons (word (codes "top") f t) (cons c nil)) from to refl refl refl
         (refl, ((shaped_coll around cards c here is).0, tt)))
     shaped_card around (bottom_card cards) tree stands is =
-        row_one "bottom" (StandsColl (naming_of sheet) around.scope cards) CardShaped tree stands
+        row_one "bottom" (StandsColl (sheet_naming sheet) around.scope cards) CardShaped tree stands
         (λ f t from to c here. card_row rule.BottomCard (cons (word (codes "bottom") f t) (cons c nil)) from to refl refl refl
         (refl, ((shaped_coll around cards c here is).0, tt)))
     shaped_card around (max_card cards map) tree stands is =
-        row_three "max" (StandsColl (naming_of sheet) around.scope cards) (Atom "using") (Named sheet.names.maps map)
+        row_three "max" (StandsColl (sheet_naming sheet) around.scope cards) (Atom "using") (Named sheet.names.maps map)
         CardShaped tree stands
         (λ f t from to c u m here using named.
         card_row rule.MaxCard (cons (word (codes "max") f t) (cons c (cons u (cons m nil)))) from to refl refl refl
         (refl, measured place.Collection map c u m (shaped_coll around cards c here is.0).0 using named))
     shaped_card around (min_card cards map) tree stands is =
-        row_three "min" (StandsColl (naming_of sheet) around.scope cards) (Atom "using") (Named sheet.names.maps map)
+        row_three "min" (StandsColl (sheet_naming sheet) around.scope cards) (Atom "using") (Named sheet.names.maps map)
         CardShaped tree stands
         (λ f t from to c u m here using named.
         card_row rule.MinCard (cons (word (codes "min") f t) (cons c (cons u (cons m nil)))) from to refl refl refl
         (refl, measured place.Collection map c u m (shaped_coll around cards c here is.0).0 using named))
 
     -- COLL
-    pub shaped_coll : (around : Around) (a : CollExpr) (tree : Tree) → StandsColl (naming_of sheet) around.scope a tree
+    pub shaped_coll : (around : Around) (a : CollExpr) (tree : Tree) → StandsColl (sheet_naming sheet) around.scope a tree
         → IsColl sheet around a → CardsShaped tree
     shaped_coll around (group_var var) tree stands is = (
       variable_shaped place.Collection around.scope group_sort var tree stands (λ rest. refl),
       variable_shaped place.Members around.scope group_sort var tree stands (λ rest. refl),
       variable_shaped place.Domain around.scope group_sort var tree stands (λ rest. refl),
     )
-    shaped_coll around (cards_in loc) tree stands is = (loc_shaped (naming_of sheet) around.scope loc tree stands).1
+    shaped_coll around (cards_in loc) tree stands is = (loc_shaped (sheet_naming sheet) around.scope loc tree stands).1
     shaped_coll around (filtered cards bound t) tree stands is =
-        row_three "filter" (StandsColl (naming_of sheet) around.scope cards) (Binder (naming_of sheet) bound)
-        (StandsTest (naming_of sheet) (bind (naming_of sheet) around.scope bound card_sort) t) CardsShaped tree stands
+        row_three "filter" (StandsColl (sheet_naming sheet) around.scope cards) (Binder (sheet_naming sheet) bound)
+        (StandsTest (sheet_naming sheet) (bind (sheet_naming sheet) around.scope bound card_sort) t) CardsShaped tree stands
         (λ f g from to c v x here binds there.
         let parts = cons (word (codes "filter") f g) (cons c (cons v (cons x nil))) in
         let all : AreShaped (front_of rule.Filter) None parts = (
@@ -143,7 +143,7 @@ module _ (sheet : Sheet) where
           row_shaped place.Domain rule.Filter parts from to refl refl all,
         ))
     shaped_coll around (union_of cards) tree stands is =
-        behind_word "union" (AtLeast 2 (StandColls (naming_of sheet) around.scope cards)) CardsShaped tree stands
+        behind_word "union" (AtLeast 2 (StandColls (sheet_naming sheet) around.scope cards)) CardsShaped tree stands
         (λ f t from to ps here.
         let parts = cons (word (codes "union") f t) ps in
         let fit = more_fit 2 ps here.0 in
@@ -155,7 +155,7 @@ module _ (sheet : Sheet) where
         ))
 
     pub shaped_colls : (around : Around) (all : CollExprs) (trees : Trees)
-        → StandColls (naming_of sheet) around.scope all trees → AreColls sheet around all → AllShaped place.Collection trees
+        → StandColls (sheet_naming sheet) around.scope all trees → AreColls sheet around all → AllShaped place.Collection trees
     shaped_colls around no_coll nil stands is = tt
     shaped_colls around no_coll (cons tree trees) stands is = absurd stands
     shaped_colls around (coll a all) nil stands is = absurd stands
@@ -163,57 +163,57 @@ module _ (sheet : Sheet) where
         ((shaped_coll around a tree stands.0 is.0).0, shaped_colls around all trees stands.1 is.1)
 
     -- INT
-    pub shaped_int : (around : Around) (a : IntExpr) (tree : Tree) → StandsInt (naming_of sheet) around.scope a tree
+    pub shaped_int : (around : Around) (a : IntExpr) (tree : Tree) → StandsInt (sheet_naming sheet) around.scope a tree
         → IsInt sheet around a → NumberShaped tree
     shaped_int around (literal value) tree stands is =
         let fine = literal_shaped value tree stands is in (fine.0, fine.1)
-    shaped_int around (number num) tree stands is = (num_shaped (naming_of sheet) around.scope num tree stands).1
+    shaped_int around (number num) tree stands is = (num_shaped (sheet_naming sheet) around.scope num tree stands).1
     shaped_int around (size_of cards) tree stands is =
-        row_one "size" (StandsColl (naming_of sheet) around.scope cards) NumberShaped tree stands
+        row_one "size" (StandsColl (sheet_naming sheet) around.scope cards) NumberShaped tree stands
         (λ f t from to c here.
         number_row rule.Size (cons (word (codes "size") f t) (cons c nil)) from to refl refl refl
         (refl, ((shaped_coll around cards c here is).0, tt)))
     shaped_int around (sum_of cards map) tree stands is =
-        row_three "sum" (StandsColl (naming_of sheet) around.scope cards) (Atom "using") (Named sheet.names.maps map)
+        row_three "sum" (StandsColl (sheet_naming sheet) around.scope cards) (Atom "using") (Named sheet.names.maps map)
         NumberShaped tree stands
         (λ f t from to c u m here using named.
         number_row rule.Sum (cons (word (codes "sum") f t) (cons c (cons u (cons m nil)))) from to refl refl refl
         (refl, measured place.Collection map c u m (shaped_coll around cards c here is.0).0 using named))
     shaped_int around (worth_of card map) tree stands is =
-        row_three "points" (StandsCard (naming_of sheet) around.scope card) (Atom "using") (Named sheet.names.maps map)
+        row_three "points" (StandsCard (sheet_naming sheet) around.scope card) (Atom "using") (Named sheet.names.maps map)
         NumberShaped tree stands
         (λ f t from to c u m here using named.
         number_row rule.PointsOf (cons (word (codes "points") f t) (cons c (cons u (cons m nil)))) from to refl refl refl
         (refl, measured place.Card map c u m (shaped_card around card c here is.0).0 using named))
     shaped_int around (add a b) tree stands is =
-        row_two "+" (StandsInt (naming_of sheet) around.scope a) (StandsInt (naming_of sheet) around.scope b)
+        row_two "+" (StandsInt (sheet_naming sheet) around.scope a) (StandsInt (sheet_naming sheet) around.scope b)
         NumberShaped tree stands
         (λ f t from to x y here there.
         number_row rule.Plus (cons (word (codes "+") f t) (cons x (cons y nil))) from to refl refl refl
         (refl, ((shaped_int around a x here is.0).0, ((shaped_int around b y there is.1).0, tt))))
     shaped_int around (subtract a b) tree stands is =
-        row_two "-" (StandsInt (naming_of sheet) around.scope a) (StandsInt (naming_of sheet) around.scope b)
+        row_two "-" (StandsInt (sheet_naming sheet) around.scope a) (StandsInt (sheet_naming sheet) around.scope b)
         NumberShaped tree stands
         (λ f t from to x y here there.
         number_row rule.Minus (cons (word (codes "-") f t) (cons x (cons y nil))) from to refl refl refl
         (refl, ((shaped_int around a x here is.0).0, ((shaped_int around b y there is.1).0, tt))))
     shaped_int around (multiply a b) tree stands is =
-        row_two "*" (StandsInt (naming_of sheet) around.scope a) (StandsInt (naming_of sheet) around.scope b)
+        row_two "*" (StandsInt (sheet_naming sheet) around.scope a) (StandsInt (sheet_naming sheet) around.scope b)
         NumberShaped tree stands
         (λ f t from to x y here there.
         number_row rule.Times (cons (word (codes "*") f t) (cons x (cons y nil))) from to refl refl refl
         (refl, ((shaped_int around a x here is.0).0, ((shaped_int around b y there is.1).0, tt))))
 
     -- BOOL
-    pub shaped_test : (around : Around) (a : Test) (tree : Tree) → StandsTest (naming_of sheet) around.scope a tree
+    pub shaped_test : (around : Around) (a : Test) (tree : Tree) → StandsTest (sheet_naming sheet) around.scope a tree
         → IsTest sheet around a → faults place.Test tree ≡ []
     shaped_test around (eq_int a b) tree stands is =
-        row_two "=" (StandsInt (naming_of sheet) around.scope a) (StandsInt (naming_of sheet) around.scope b) TestShaped tree
+        row_two "=" (StandsInt (sheet_naming sheet) around.scope a) (StandsInt (sheet_naming sheet) around.scope b) TestShaped tree
         stands
         (λ f t from to x y here there. equal_row f t from to x y (shaped_int around a x here is.0).1
         (shaped_int around b y there is.1).1)
     shaped_test around (eq_card a b) tree stands is =
-        row_two "=" (StandsCard (naming_of sheet) around.scope a) (StandsCard (naming_of sheet) around.scope b) TestShaped tree
+        row_two "=" (StandsCard (sheet_naming sheet) around.scope a) (StandsCard (sheet_naming sheet) around.scope b) TestShaped tree
         stands
         (λ f t from to x y here there. equal_row f t from to x y (shaped_card around a x here is.0).1
         (shaped_card around b y there is.1).1)
@@ -224,12 +224,12 @@ module _ (sheet : Sheet) where
         (attr_shaped around b attr' y there (λ c stands. shaped_card around b c stands is.2)))
     shaped_test around (eq_who a b) tree stands is = owners_shaped around "=" a b tree stands.0 equal_row
     shaped_test around (ne (eq_int a b)) tree stands is =
-        row_two "!=" (StandsInt (naming_of sheet) around.scope a) (StandsInt (naming_of sheet) around.scope b) TestShaped tree
+        row_two "!=" (StandsInt (sheet_naming sheet) around.scope a) (StandsInt (sheet_naming sheet) around.scope b) TestShaped tree
         stands
         (λ f t from to x y here there. unequal_row f t from to x y (shaped_int around a x here is.1.0).1
         (shaped_int around b y there is.1.1).1)
     shaped_test around (ne (eq_card a b)) tree stands is =
-        row_two "!=" (StandsCard (naming_of sheet) around.scope a) (StandsCard (naming_of sheet) around.scope b) TestShaped tree
+        row_two "!=" (StandsCard (sheet_naming sheet) around.scope a) (StandsCard (sheet_naming sheet) around.scope b) TestShaped tree
         stands
         (λ f t from to x y here there. unequal_row f t from to x y (shaped_card around a x here is.1.0).1
         (shaped_card around b y there is.1.1).1)
@@ -241,31 +241,31 @@ module _ (sheet : Sheet) where
     shaped_test around (ne (eq_who a b)) tree stands is = owners_shaped around "!=" a b tree stands.0 unequal_row
     shaped_test around (ne t) tree stands is = absurd stands
     shaped_test around (less a b) tree stands is =
-        row_two "<" (StandsInt (naming_of sheet) around.scope a) (StandsInt (naming_of sheet) around.scope b) TestShaped tree
+        row_two "<" (StandsInt (sheet_naming sheet) around.scope a) (StandsInt (sheet_naming sheet) around.scope b) TestShaped tree
         stands
         (λ f t from to x y here there.
         row_shaped place.Test rule.Less (cons (word (codes "<") f t) (cons x (cons y nil))) from to refl refl
         (refl, ((shaped_int around a x here is.0).0, ((shaped_int around b y there is.1).0, tt))))
     shaped_test around (less_eq a b) tree stands is =
-        row_two "<=" (StandsInt (naming_of sheet) around.scope a) (StandsInt (naming_of sheet) around.scope b) TestShaped tree
+        row_two "<=" (StandsInt (sheet_naming sheet) around.scope a) (StandsInt (sheet_naming sheet) around.scope b) TestShaped tree
         stands
         (λ f t from to x y here there.
         row_shaped place.Test rule.LessOrEqual (cons (word (codes "<=") f t) (cons x (cons y nil))) from to refl refl
         (refl, ((shaped_int around a x here is.0).0, ((shaped_int around b y there is.1).0, tt))))
     shaped_test around (more a b) tree stands is =
-        row_two ">" (StandsInt (naming_of sheet) around.scope a) (StandsInt (naming_of sheet) around.scope b) TestShaped tree
+        row_two ">" (StandsInt (sheet_naming sheet) around.scope a) (StandsInt (sheet_naming sheet) around.scope b) TestShaped tree
         stands
         (λ f t from to x y here there.
         row_shaped place.Test rule.More (cons (word (codes ">") f t) (cons x (cons y nil))) from to refl refl
         (refl, ((shaped_int around a x here is.0).0, ((shaped_int around b y there is.1).0, tt))))
     shaped_test around (more_eq a b) tree stands is =
-        row_two ">=" (StandsInt (naming_of sheet) around.scope a) (StandsInt (naming_of sheet) around.scope b) TestShaped tree
+        row_two ">=" (StandsInt (sheet_naming sheet) around.scope a) (StandsInt (sheet_naming sheet) around.scope b) TestShaped tree
         stands
         (λ f t from to x y here there.
         row_shaped place.Test rule.MoreOrEqual (cons (word (codes ">=") f t) (cons x (cons y nil))) from to refl refl
         (refl, ((shaped_int around a x here is.0).0, ((shaped_int around b y there is.1).0, tt))))
     shaped_test around (has_value card attr value) tree stands is =
-        row_three "is" (StandsCard (naming_of sheet) around.scope card) (Named sheet.names.attrs attr)
+        row_three "is" (StandsCard (sheet_naming sheet) around.scope card) (Named sheet.names.attrs attr)
         (Named sheet.names.values value) TestShaped tree stands
         (λ f t from to c a v here named named'.
         row_shaped place.Test rule.Is (cons (word (codes "is") f t) (cons c (cons a (cons v nil)))) from to refl refl (
@@ -279,23 +279,23 @@ module _ (sheet : Sheet) where
           ),
         ))
     shaped_test around (and_of tests) tree stands is =
-        behind_word "and" (Full (StandTests (naming_of sheet) around.scope tests)) TestShaped tree stands
+        behind_word "and" (Full (StandTests (sheet_naming sheet) around.scope tests)) TestShaped tree stands
         (λ f t from to ps here.
         form_shaped place.Test rule.And (cons (word (codes "and") f t) ps) from to refl (more_fit 1 ps here.0) refl
         (refl, shaped_tests around tests ps here.1 is.1))
     shaped_test around (or_of tests) tree stands is =
-        behind_word "or" (Full (StandTests (naming_of sheet) around.scope tests)) TestShaped tree stands
+        behind_word "or" (Full (StandTests (sheet_naming sheet) around.scope tests)) TestShaped tree stands
         (λ f t from to ps here.
         form_shaped place.Test rule.Or (cons (word (codes "or") f t) ps) from to refl (more_fit 1 ps here.0) refl
         (refl, shaped_tests around tests ps here.1 is.1))
     shaped_test around (not_of t) tree stands is =
-        row_one "not" (StandsTest (naming_of sheet) around.scope t) TestShaped tree stands
+        row_one "not" (StandsTest (sheet_naming sheet) around.scope t) TestShaped tree stands
         (λ f g from to x here.
         row_shaped place.Test rule.Not (cons (word (codes "not") f g) (cons x nil)) from to refl refl
         (refl, (shaped_test around t x here is, tt)))
     shaped_test around (all_of domain bound t) tree stands is =
-        row_three "all" (StandsRange (naming_of sheet) around.scope domain) (Binder (naming_of sheet) bound)
-        (StandsTest (naming_of sheet) (bind (naming_of sheet) around.scope bound (sort_of domain)) t) TestShaped tree stands
+        row_three "all" (StandsRange (sheet_naming sheet) around.scope domain) (Binder (sheet_naming sheet) bound)
+        (StandsTest (sheet_naming sheet) (bind (sheet_naming sheet) around.scope bound (sort_of domain)) t) TestShaped tree stands
         (λ f g from to r v x here binds there.
         row_shaped place.Test rule.ForAll (cons (word (codes "all") f g) (cons r (cons v (cons x nil)))) from to refl refl (
           refl,
@@ -303,8 +303,8 @@ module _ (sheet : Sheet) where
               (shaped_test (behind sheet around bound (sort_of domain)) t x there is.2),
         ))
     shaped_test around (any_of domain bound t) tree stands is =
-        row_three "any" (StandsRange (naming_of sheet) around.scope domain) (Binder (naming_of sheet) bound)
-        (StandsTest (naming_of sheet) (bind (naming_of sheet) around.scope bound (sort_of domain)) t) TestShaped tree stands
+        row_three "any" (StandsRange (sheet_naming sheet) around.scope domain) (Binder (sheet_naming sheet) bound)
+        (StandsTest (sheet_naming sheet) (bind (sheet_naming sheet) around.scope bound (sort_of domain)) t) TestShaped tree stands
         (λ f g from to r v x here binds there.
         row_shaped place.Test rule.ForAny (cons (word (codes "any") f g) (cons r (cons v (cons x nil)))) from to refl refl (
           refl,
@@ -313,7 +313,7 @@ module _ (sheet : Sheet) where
         ))
 
     pub shaped_tests : (around : Around) (all : Tests) (trees : Trees)
-        → StandTests (naming_of sheet) around.scope all trees → AreTests sheet around all → AllShaped place.Test trees
+        → StandTests (sheet_naming sheet) around.scope all trees → AreTests sheet around all → AllShaped place.Test trees
     shaped_tests around no_test nil stands is = tt
     shaped_tests around no_test (cons tree trees) stands is = absurd stands
     shaped_tests around (test t all) nil stands is = absurd stands
@@ -322,7 +322,7 @@ module _ (sheet : Sheet) where
 
     -- `player` or COLL
     pub shaped_range : (around : Around) (domain : Domain) (tree : Tree)
-        → StandsRange (naming_of sheet) around.scope domain tree → IsRange sheet around domain → RangeShaped tree
+        → StandsRange (sheet_naming sheet) around.scope domain tree → IsRange sheet around domain → RangeShaped tree
     shaped_range around each_player (word bytes from to) stands is =
         subst (λ b. RangeShaped (word b from to)) (sym stands) (refl, refl)
     shaped_range around each_player (list parts from to) stands is = absurd stands
@@ -332,11 +332,11 @@ module _ (sheet : Sheet) where
 
   -- DOMAIN
   pub shaped_domain : (around : Around) (domain : Domain) (tree : Tree)
-      → StandsDomain (naming_of sheet) around.scope domain tree → IsDomain sheet around domain → faults place.Domain tree ≡ []
+      → StandsDomain (sheet_naming sheet) around.scope domain tree → IsDomain sheet around domain → faults place.Domain tree ≡ []
   shaped_domain around each_player tree stands is = (shaped_range around each_player tree stands is).1
   shaped_domain around (each_card cards) tree stands is = (shaped_coll around cards tree stands is).2
   shaped_domain around (each_group cards attr) tree stands is =
-      row_two "partition" (StandsColl (naming_of sheet) around.scope cards) (Named sheet.names.attrs attr)
+      row_two "partition" (StandsColl (sheet_naming sheet) around.scope cards) (Named sheet.names.attrs attr)
       (λ tree. faults place.Domain tree ≡ []) tree stands
       (λ f t from to c n here named.
       row_shaped place.Domain rule.Partition (cons (word (codes "partition") f t) (cons c (cons n nil))) from to refl refl

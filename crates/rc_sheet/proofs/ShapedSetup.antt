@@ -10,7 +10,7 @@ use Rattle.rc_sheet_model.specs.Sheet.{Teams, DeckLine, game, Sheet}
 use Rattle.rc_model.specs.Clamp.{IsWithinClamp}
 use Rattle.rc_sheet_model.specs.Rows.{◌▸◌, End, Row, Atom}
 use Rattle.rc_sheet_model.specs.Rows.{Some as Full}
-use Rattle.rc_sheet_model.specs.Naming.{Naming, naming_of, Named, Literal, KindOf}
+use Rattle.rc_sheet_model.specs.Naming.{Naming, Named, Literal, KindOf, sheet_naming}
 use Rattle.rc_sheet_model.specs.StandsSetup.{StandsPlayers, StandsTeams, StandsGroups, StandsBranches, StandsDeck, StandValues, StandEntries, StandsMap, begins_with, lines_with, are_lines, team_lines, StandsSetup}
 use Rattle.rc_sheet_model.specs.WellFormed.{IsEntry, ArePartition, AreTeams, IsWellFormed}
 use Rattle.rc_grammar.specs.Grammar.{front_of}
@@ -271,7 +271,7 @@ any_deck : (decks : List DeckLine) → AllByRecursion (λ line. Unit {0}) decks
 any_deck [] = tt
 any_deck (line ∷ decks) = (tt, any_deck decks)
 
-setup_lines_shaped : (sheet : Sheet) (lines : Trees) → StandsSetup (naming_of sheet) sheet lines → IsWellFormed sheet
+setup_lines_shaped : (sheet : Sheet) (lines : Trees) → StandsSetup (sheet_naming sheet) sheet lines → IsWellFormed sheet
     → AllShaped place.Line lines
 setup_lines_shaped sheet lines stands well =
     lines_shaped lines stands.lines_alone
@@ -282,16 +282,16 @@ setup_lines_shaped sheet lines stands well =
     (lines_with "create" "teams" lines)
     (λ teams line stands are. teams_shaped sheet.players teams line stands are well.limits.players) stands.teams
     (team_line_shaped sheet.players sheet.teams well.teams))
-    (each_line (StandsDeck (naming_of sheet)) (λ line. Unit {0}) sheet.decks (lines_with "create" "deck" lines)
-    (λ deck line stands any. deck_shaped (naming_of sheet) deck line stands) stands.decks (any_deck sheet.decks))
-    (each_map (naming_of sheet) 0 sheet.points (lines_with "put" "points" lines) stands.points
+    (each_line (StandsDeck (sheet_naming sheet)) (λ line. Unit {0}) sheet.decks (lines_with "create" "deck" lines)
+    (λ deck line stands any. deck_shaped (sheet_naming sheet) deck line stands) stands.decks (any_deck sheet.decks))
+    (each_map (sheet_naming sheet) 0 sheet.points (lines_with "put" "points" lines) stands.points
     (entries_by_recursion sheet.points (recursion_from_All (All IsEntry) sheet.points well.entries)))
 
 -- `(setup LINE+)`
-pub setup_shaped : (sheet : Sheet) (tree : Tree) → Row (Atom "setup" ▸ Full (StandsSetup (naming_of sheet) sheet)) tree
+pub setup_shaped : (sheet : Sheet) (tree : Tree) → Row (Atom "setup" ▸ Full (StandsSetup (sheet_naming sheet) sheet)) tree
     → IsWellFormed sheet → faults place.Setup tree ≡ []
 setup_shaped sheet tree row well =
-    behind_word "setup" (Full (StandsSetup (naming_of sheet) sheet)) (λ tree. faults place.Setup tree ≡ []) tree row
+    behind_word "setup" (Full (StandsSetup (sheet_naming sheet) sheet)) (λ tree. faults place.Setup tree ≡ []) tree row
     (λ f t from to lines there.
     let parts = cons (word (codes "setup") f t) lines in
     by_form place.Setup rule.Setup parts from to refl (more_fit 1 lines there.0)

@@ -6,7 +6,7 @@ use Rattle.rc_model.specs.Tree.{Tree, word, Trees, nil, cons, count}
 use Rattle.rc_sheet_model.specs.Sheet.{SheetItems, no_item, item, Sheet}
 use Rattle.rc_sheet_model.specs.Rows.{◌▸◌, End, AtLeast, Row, Atom}
 use Rattle.rc_sheet_model.specs.Rows.{Some as Full}
-use Rattle.rc_sheet_model.specs.Naming.{naming_of}
+use Rattle.rc_sheet_model.specs.Naming.{sheet_naming}
 use Rattle.rc_sheet_model.specs.StandsSetup.{StandsSetup}
 use Rattle.rc_sheet_model.specs.StandsItems.{StandItems}
 use Rattle.rc_sheet_model.specs.Stands.{StandsScoring, Stands}
@@ -29,12 +29,12 @@ body_place n index last behind is =
     ap₂ or_behind (slice_get_past (front_of rule.Game) index behind) (ap (behind_front rule.Game) is)
 
 module _ (sheet : Sheet) where
-  none_left : (all : SheetItems) → StandItems (naming_of sheet) all (StandsScoring sheet ▸ End) nil → ⊥
+  none_left : (all : SheetItems) → StandItems (sheet_naming sheet) all (StandsScoring sheet ▸ End) nil → ⊥
   none_left no_item stands = stands
   none_left (item i all) stands = stands
 
   body_shaped : (n index : ℕ) (all : SheetItems) (trees : Trees) → 2 ≤ index → n ≡ index + count trees
-      → StandItems (naming_of sheet) all (StandsScoring sheet ▸ End) trees → AreItems sheet (within_stages false false) all
+      → StandItems (sheet_naming sheet) all (StandsScoring sheet ▸ End) trees → AreItems sheet (within_stages false false) all
       → ((score : Tree) → StandsScoring sheet score → faults place.Scoring score ≡ [])
       → faults_in rule.Game n index trees ≡ []
   body_shaped n index no_item nil behind many stands are score = absurd stands
@@ -53,8 +53,8 @@ module _ (sheet : Sheet) where
   -- a form that stands for a well formed sheet
   pub sheet_shaped : (tree : Tree) → Stands sheet tree → IsWellFormed sheet → faults place.Sheet tree ≡ []
   sheet_shaped tree stands well =
-      row_part "game" (Row (Atom "setup" ▸ Full (StandsSetup (naming_of sheet) sheet)))
-      (AtLeast 2 (StandItems (naming_of sheet) sheet.items (StandsScoring sheet ▸ End))) (λ tree. faults place.Sheet tree ≡ [])
+      row_part "game" (Row (Atom "setup" ▸ Full (StandsSetup (sheet_naming sheet) sheet)))
+      (AtLeast 2 (StandItems (sheet_naming sheet) sheet.items (StandsScoring sheet ▸ End))) (λ tree. faults place.Sheet tree ≡ [])
       tree stands
       (λ f t from to setup body here there.
       let parts = cons (word (codes "game") f t) (cons setup body) in

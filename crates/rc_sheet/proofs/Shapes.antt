@@ -8,7 +8,7 @@ use Prim.Native.String.{String}
 use Rattle.std.proofs.lemmas.Bool.{false_from_ne_true}
 use Rattle.std.proofs.lemmas.Slice.Eq.{bytes_eq-Decides}
 use Rattle.rc_model.specs.Tree.{Tree, word, list, Trees, nil, cons}
-use Rattle.rc_sheet_model.specs.FormMentions.{is_atom}
+use Rattle.rc_sheet_model.specs.FormMentions.{is_text}
 use Rattle.rc_grammar.specs.Keyword.{text_of}
 use Rattle.rc_grammar.specs.Grammar.{forms_of, front_of, more_of}
 use Rattle.rc_grammar.specs.Faults.{faults_at, faults_in, told_faults, lacks_players, told_rule, plain_rule, or_else, rule_of, behind_front, or_behind, place_at, count, back_of, fits_count, fits, atom_kind, is_word, unless}
@@ -157,7 +157,7 @@ refuses (Some p) bytes = is_some (atom_kind p bytes)
 
 -- where a place refuses a word, no tree without a fault there is that word
 pub refuted : (o : Option Place) (text : String) (tree : Tree) → faults_at o tree ≡ [] → refuses o (codes text) ≡ true
-    → is_atom text tree ≡ false
+    → is_text text tree ≡ false
 refuted None text tree none refused = absurd cc
 refuted (Some p) text (list parts from to) none refused = refl
 refuted (Some p) text (word bytes from to) none refused =

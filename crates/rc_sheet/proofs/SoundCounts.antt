@@ -9,7 +9,7 @@ use Rattle.rc_model.specs.Deck.{Groups, no_group, group, Branches, no_branch, br
 use Rattle.rc_sheet_model.specs.Sheet.{Teams, DeckLine, Sheet}
 use Rattle.rc_sheet_model.specs.Rows.{◌▸◌, End, AtLeast, Row, Atom}
 use Rattle.rc_sheet_model.specs.Rows.{Some as Full}
-use Rattle.rc_sheet_model.specs.Naming.{Naming, naming_of, Named, Literal, KindOf}
+use Rattle.rc_sheet_model.specs.Naming.{Naming, Named, Literal, KindOf, sheet_naming}
 use Rattle.rc_sheet_model.specs.StandsSetup.{StandsPlayers, StandTeams, StandsTeams, StandsGroups, StandsBranches, StandsDeck, StandsMap, begins_with, lines_with, team_lines, numbered, StandsSetup}
 use Rattle.rc_sheet_model.specs.StandsItems.{StandItems}
 use Rattle.rc_sheet_model.specs.Stands.{StandsScoring, Stands}
@@ -61,14 +61,14 @@ of_kind first second h (cons tree lines) = by (begins_with first second tree) (o
 
 -- a sheet's form, with its lines
 pub whole_form : (sheet : Sheet) (P : Tree → Type 0) (tree : Tree) → Stands sheet tree
-    → ((a b c d e f from to : ℕ) (lines rest : Trees) → StandsSetup (naming_of sheet) sheet lines
-    → StandItems (naming_of sheet) sheet.items (StandsScoring sheet ▸ End) rest
+    → ((a b c d e f from to : ℕ) (lines rest : Trees) → StandsSetup (sheet_naming sheet) sheet lines
+    → StandItems (sheet_naming sheet) sheet.items (StandsScoring sheet ▸ End) rest
     → P (list (cons (word (codes "game") a b) (cons (list (cons (word (codes "setup") c d) lines) e f) rest)) from to))
     → P tree
 whole_form sheet P tree stands each =
-    row_part "game" (Row (Atom "setup" ▸ Full (StandsSetup (naming_of sheet) sheet)))
-    (AtLeast 2 (StandItems (naming_of sheet) sheet.items (StandsScoring sheet ▸ End))) P tree stands
-    (λ a b from to setup rest here there. behind_word "setup" (Full (StandsSetup (naming_of sheet) sheet))
+    row_part "game" (Row (Atom "setup" ▸ Full (StandsSetup (sheet_naming sheet) sheet)))
+    (AtLeast 2 (StandItems (sheet_naming sheet) sheet.items (StandsScoring sheet ▸ End))) P tree stands
+    (λ a b from to setup rest here there. behind_word "setup" (Full (StandsSetup (sheet_naming sheet) sheet))
     (λ setup. P (list (cons (word (codes "game") a b) (cons setup rest)) from to)) setup here
     (λ c d e f lines more. each a b c d e f from to lines rest more.1 there.1))
 
@@ -198,11 +198,11 @@ players_counted sheet tree stands =
     (of_pairs StandsTeams (LineGives ℕ players_in g) (team_lines sheet.teams) _ setup.teams
     (λ teams tree is stands. teams_form ℕ players_in players_of_lines players_outer g teams tree stands
     (λ f t f' t' from to more beside. refl)))
-    (of_pairs (StandsDeck (naming_of sheet)) (LineGives ℕ players_in g) sheet.decks _ setup.decks
-    (λ line tree is stands. deck_form ℕ players_in players_of_lines players_outer (naming_of sheet) g line tree stands
+    (of_pairs (StandsDeck (sheet_naming sheet)) (LineGives ℕ players_in g) sheet.decks _ setup.decks
+    (λ line tree is stands. deck_form ℕ players_in players_of_lines players_outer (sheet_naming sheet) g line tree stands
     (λ f t f' t' from to more beside stands. refl)))
-    (of_pairs (StandsMap (naming_of sheet)) (LineGives ℕ players_in g) (numbered sheet.points) _ setup.points
-    (λ line tree is stands. map_form ℕ players_in players_of_lines players_outer (naming_of sheet) g line tree stands
+    (of_pairs (StandsMap (sheet_naming sheet)) (LineGives ℕ players_in g) (numbered sheet.points) _ setup.points
+    (λ line tree is stands. map_form ℕ players_in players_of_lines players_outer (sheet_naming sheet) g line tree stands
     (λ f t f' t' from to more beside. refl))))
     ∙ of_kind "create" "players" h lines
     ∙ same_one sheet.players (lines_with "create" "players" lines) setup.players)
@@ -242,12 +242,12 @@ teams_counted sheet tree stands =
           (of_pairs StandsTeams (LineGives Trees teams_in g) (team_lines sheet.teams) _ setup.teams
           (λ teams tree is stands. teams_form Trees teams_in teams_of_lines teams_outer g teams tree stands
           (λ f t f' t' from to more beside. refl)))
-          (of_pairs (StandsDeck (naming_of sheet)) (LineGives Trees teams_in g) sheet.decks _ setup.decks
-          (λ line tree is stands. deck_form Trees teams_in teams_of_lines teams_outer (naming_of sheet) g line tree stands
+          (of_pairs (StandsDeck (sheet_naming sheet)) (LineGives Trees teams_in g) sheet.decks _ setup.decks
+          (λ line tree is stands. deck_form Trees teams_in teams_of_lines teams_outer (sheet_naming sheet) g line tree stands
           (λ f t f' t' from to more beside stands. refl)))
-          (of_pairs (StandsMap (naming_of sheet)) (LineGives Trees teams_in g) (numbered sheet.points) _
+          (of_pairs (StandsMap (sheet_naming sheet)) (LineGives Trees teams_in g) (numbered sheet.points) _
           setup.points
-          (λ line tree is stands. map_form Trees teams_in teams_of_lines teams_outer (naming_of sheet) g line tree stands
+          (λ line tree is stands. map_form Trees teams_in teams_of_lines teams_outer (sheet_naming sheet) g line tree stands
           (λ f t f' t' from to more beside. refl))))
           ∙ of_kind "create" "teams" (λ tree. parts_of_list tree) lines,
     ))
@@ -362,11 +362,11 @@ cards_counted sheet tree stands =
     (of_pairs StandsTeams (LineGives ℕ cards_in g) (team_lines sheet.teams) _ setup.teams
     (λ teams tree is stands. teams_form ℕ cards_in cards_of_lines cards_outer g teams tree stands
     (λ f t f' t' from to more beside. refl)))
-    (of_pairs (StandsDeck (naming_of sheet)) (LineGives ℕ cards_in g) sheet.decks _ setup.decks
-    (λ line tree is stands. deck_form ℕ cards_in cards_of_lines cards_outer (naming_of sheet) g line tree stands
+    (of_pairs (StandsDeck (sheet_naming sheet)) (LineGives ℕ cards_in g) sheet.decks _ setup.decks
+    (λ line tree is stands. deck_form ℕ cards_in cards_of_lines cards_outer (sheet_naming sheet) g line tree stands
     (λ f t f' t' from to more beside stands. refl)))
-    (of_pairs (StandsMap (naming_of sheet)) (LineGives ℕ cards_in g) (numbered sheet.points) _ setup.points
-    (λ line tree is stands. map_form ℕ cards_in cards_of_lines cards_outer (naming_of sheet) g line tree stands
+    (of_pairs (StandsMap (sheet_naming sheet)) (LineGives ℕ cards_in g) (numbered sheet.points) _ setup.points
+    (λ line tree is stands. map_form ℕ cards_in cards_of_lines cards_outer (sheet_naming sheet) g line tree stands
     (λ f t f' t' from to more beside. refl))))
     ∙ of_kind "create" "deck" cards_of_tree lines
-    ∙ decks_count (naming_of sheet) sheet.decks (lines_with "create" "deck" lines) setup.decks)
+    ∙ decks_count (sheet_naming sheet) sheet.decks (lines_with "create" "deck" lines) setup.decks)

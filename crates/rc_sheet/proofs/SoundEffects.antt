@@ -9,7 +9,7 @@ use Rattle.rc_sheet_model.specs.Rows.{◌▸◌}
 use Rattle.rc_sheet_model.specs.Rows.{End as Last}
 use Rattle.rc_sheet_model.specs.Rows.{Some as Full}
 use Rattle.rc_sheet_model.specs.Limits.{most_repeats}
-use Rattle.rc_sheet_model.specs.Naming.{naming_of, bind, sort_of, class_of, Named, Binder}
+use Rattle.rc_sheet_model.specs.Naming.{bind, sort_of, class_of, Named, Binder, sheet_naming}
 use Rattle.rc_sheet_model.specs.Naming.{kind_word as kind_bytes}
 use Rattle.rc_sheet_model.specs.StandsExpressions.{StandsOwner, StandsLoc, StandsNum, StandsCard, StandsColl, StandsInt, StandsTest, StandsRange, StandsDomain}
 use Rattle.rc_sheet_model.specs.StandsEffects.{StandsSpot, StandsEffect, StandEffects}
@@ -82,10 +82,10 @@ module _ (sheet : Sheet) (all : List Part) (given : AreGiven sheet all) where
       → AllSound sheet all (parts_at (Some (standing place.Spot around role beside above)) tree)
 
   spot_sound : (around : Around) (references : Bool) (end : End) (loc : Loc) (role : Role) (tree : Tree) → Bears role
-      → Takes sheet all role loc → Apart around.scope → StandsSpot (naming_of sheet) around.scope end loc tree
+      → Takes sheet all role loc → Apart around.scope → StandsSpot (sheet_naming sheet) around.scope end loc tree
       → IsPlace sheet around references loc → SpotSound around role tree
   spot_sound around references top loc role tree bears takes alone stands is =
-      row_one "top" (StandsLoc (naming_of sheet) around.scope loc) (SpotSound around role) tree stands
+      row_one "top" (StandsLoc (sheet_naming sheet) around.scope loc) (SpotSound around role) tree stands
       (λ f t from to l here beside above.
       list_sound sheet all (standing place.Spot around role beside above) rule.TopOf
       (cons (word (codes "top") f t) (cons l nil)) from to refl
@@ -97,7 +97,7 @@ module _ (sheet : Sheet) (all : List Part) (given : AreGiven sheet all) where
             (bears.other place.Location around whole (above ++ [])) takes here is.0.0) tt,
       )))
   spot_sound around references bottom loc role tree bears takes alone stands is =
-      row_one "bottom" (StandsLoc (naming_of sheet) around.scope loc) (SpotSound around role) tree stands
+      row_one "bottom" (StandsLoc (sheet_naming sheet) around.scope loc) (SpotSound around role) tree stands
       (λ f t from to l here beside above.
       list_sound sheet all (standing place.Spot around role beside above) rule.BottomOf
       (cons (word (codes "bottom") f t) (cons l nil)) from to refl
@@ -222,13 +222,13 @@ module _ (sheet : Sheet) (all : List Part) (given : AreGiven sheet all) where
   mutual
     -- EFFECT
     pub effect_sound : (around : Around) (e : Effect) (tree : Tree) → Apart around.scope
-        → StandsEffect (naming_of sheet) around.scope e tree → IsEffect sheet around e → EffectSound around tree
+        → StandsEffect (sheet_naming sheet) around.scope e tree → IsEffect sheet around e → EffectSound around tree
     effect_sound around (move card end loc) tree alone stands is =
-        row_two "move" (StandsCard (naming_of sheet) around.scope card) (StandsSpot (naming_of sheet) around.scope end loc)
+        row_two "move" (StandsCard (sheet_naming sheet) around.scope card) (StandsSpot (sheet_naming sheet) around.scope end loc)
         (EffectSound around) tree stands
         (λ f t from to c s here there. sound_list sheet all place.Effect rule.Move around
         (cons (word (codes "move") f t) (cons c (cons s nil))) from to
-        (card_held (naming_of sheet) around.scope card
+        (card_held (sheet_naming sheet) around.scope card
         (λ c. rule_of place.Effect (cons (word (codes "move") f t) (cons c (cons s nil))) ≡ Some rule.Move) c here
         (λ rest from to. refl) (λ parts from to. refl))
         (λ p r b a from plain. record { once = refl; known = refl; kind_fits = plain.other; shallow = refl; said = tt })
@@ -240,10 +240,10 @@ module _ (sheet : Sheet) (all : List Part) (given : AreGiven sheet all) where
         )))
     effect_sound around (move_all cards end loc) tree alone stands is =
         row_words "move" "all"
-        (StandsColl (naming_of sheet) around.scope cards ▸ StandsSpot (naming_of sheet) around.scope end loc ▸ Last)
+        (StandsColl (sheet_naming sheet) around.scope cards ▸ StandsSpot (sheet_naming sheet) around.scope end loc ▸ Last)
         (EffectSound around) tree stands
-        (λ f t f' t' from to parts more. two_parts (StandsColl (naming_of sheet) around.scope cards)
-        (StandsSpot (naming_of sheet) around.scope end loc)
+        (λ f t f' t' from to parts more. two_parts (StandsColl (sheet_naming sheet) around.scope cards)
+        (StandsSpot (sheet_naming sheet) around.scope end loc)
         (λ l. EffectSound around (list (cons (word (codes "move") f t) (cons (word (codes "all") f' t') l)) from to)) parts more
         (λ c s here there. sound_list sheet all place.Effect rule.MoveAll around
         (cons (word (codes "move") f t) (cons (word (codes "all") f' t') (cons c (cons s nil)))) from to refl
@@ -258,7 +258,7 @@ module _ (sheet : Sheet) (all : List Part) (given : AreGiven sheet all) where
           ),
         ))))
     effect_sound around (remember card end loc) tree alone stands is =
-        row_two "remember" (StandsCard (naming_of sheet) around.scope card) (StandsSpot (naming_of sheet) around.scope end loc)
+        row_two "remember" (StandsCard (sheet_naming sheet) around.scope card) (StandsSpot (sheet_naming sheet) around.scope end loc)
         (EffectSound around) tree stands
         (λ f t from to c s here there. sound_list sheet all place.Effect rule.Remember around
         (cons (word (codes "remember") f t) (cons c (cons s nil))) from to refl
@@ -270,7 +270,7 @@ module _ (sheet : Sheet) (all : List Part) (given : AreGiven sheet all) where
               (takes_references around loc is.1) alone there is.1 _ _) tt),
         )))
     effect_sound around (forget card) tree alone stands is =
-        row_one "forget" (StandsCard (naming_of sheet) around.scope card) (EffectSound around) tree stands
+        row_one "forget" (StandsCard (sheet_naming sheet) around.scope card) (EffectSound around) tree stands
         (λ f t from to c here. sound_list sheet all place.Effect rule.Forget around
         (cons (word (codes "forget") f t) (cons c nil)) from to refl
         (λ p r b a from plain. record { once = refl; known = refl; kind_fits = plain.other; shallow = refl; said = tt })
@@ -279,7 +279,7 @@ module _ (sheet : Sheet) (all : List Part) (given : AreGiven sheet all) where
           then sheet all given place.Card around _ _ c _ (card_sound sheet all given around card c alone here is).0 tt,
         )))
     effect_sound around (shuffle loc) tree alone stands is =
-        row_one "shuffle" (StandsLoc (naming_of sheet) around.scope loc) (EffectSound around) tree stands
+        row_one "shuffle" (StandsLoc (sheet_naming sheet) around.scope loc) (EffectSound around) tree stands
         (λ f t from to l here. sound_list sheet all place.Effect rule.Shuffle around
         (cons (word (codes "shuffle") f t) (cons l nil)) from to refl
         (λ p r b a from plain. record { once = refl; known = refl; kind_fits = plain.other; shallow = refl; said = tt })
@@ -291,49 +291,49 @@ module _ (sheet : Sheet) (all : List Part) (given : AreGiven sheet all) where
               is.0.0) tt,
         )))
     effect_sound around (set_to num value) tree alone stands is =
-        row_two "set" (StandsNum (naming_of sheet) around.scope num) (StandsInt (naming_of sheet) around.scope value)
+        row_two "set" (StandsNum (sheet_naming sheet) around.scope num) (StandsInt (sheet_naming sheet) around.scope value)
         (EffectSound around) tree stands
         (λ f t from to n v here there. set_sound around f t from to n v
         (num_sound sheet all place.Counter around num n nums_alone alone here is.0.0)
         (int_sound sheet all given around value v alone there is.1).0)
     effect_sound around (increase num value) tree alone stands is =
-        row_two "inc" (StandsNum (naming_of sheet) around.scope num) (StandsInt (naming_of sheet) around.scope value)
+        row_two "inc" (StandsNum (sheet_naming sheet) around.scope num) (StandsInt (sheet_naming sheet) around.scope value)
         (EffectSound around) tree stands
         (λ f t from to n v here there. increase_sound around f t from to n v
         (num_sound sheet all place.Counter around num n nums_alone alone here is.0.0)
         (int_sound sheet all given around value v alone there is.1).0)
     effect_sound around (decrease num value) tree alone stands is =
-        row_two "dec" (StandsNum (naming_of sheet) around.scope num) (StandsInt (naming_of sheet) around.scope value)
+        row_two "dec" (StandsNum (sheet_naming sheet) around.scope num) (StandsInt (sheet_naming sheet) around.scope value)
         (EffectSound around) tree stands
         (λ f t from to n v here there. decrease_sound around f t from to n v
         (num_sound sheet all place.Counter around num n nums_alone alone here is.0.0)
         (int_sound sheet all given around value v alone there is.1).0)
     effect_sound around (when t effects) tree alone stands is =
-        row_part "if" (StandsTest (naming_of sheet) around.scope t) (Full (StandEffects (naming_of sheet) around.scope effects))
+        row_part "if" (StandsTest (sheet_naming sheet) around.scope t) (Full (StandEffects (sheet_naming sheet) around.scope effects))
         (EffectSound around) tree stands
         (λ f g from to x es here there. if_sound place.Effect around f g from to x es refl
         (test_sound sheet all given around t x alone here is.0) (effects_sound around effects es alone there.1 is.2))
     effect_sound around (repeat times effects) tree alone stands is =
-        row_part "repeat" (StandsInt (naming_of sheet) around.scope times)
-        (Full (StandEffects (naming_of sheet) around.scope effects)) (EffectSound around) tree stands
+        row_part "repeat" (StandsInt (sheet_naming sheet) around.scope times)
+        (Full (StandEffects (sheet_naming sheet) around.scope effects)) (EffectSound around) tree stands
         (λ f g from to x es here there. repeat_sound around f g from to x es (lt-leb most_repeats around.repeats is.1)
         (int_sound sheet all given around times x alone here is.0).0
         (effects_sound (in_repeat around) effects es alone there.1 is.3))
     effect_sound around (for_each domain bound effects) tree alone stands is =
-        row_part "all" (StandsRange (naming_of sheet) around.scope domain)
-        (Binder (naming_of sheet) bound
-        ▸ Full (StandEffects (naming_of sheet) (bind (naming_of sheet) around.scope bound (sort_of domain)) effects))
+        row_part "all" (StandsRange (sheet_naming sheet) around.scope domain)
+        (Binder (sheet_naming sheet) bound
+        ▸ Full (StandEffects (sheet_naming sheet) (bind (sheet_naming sheet) around.scope bound (sort_of domain)) effects))
         (EffectSound around) tree stands
-        (λ f g from to r parts here more. first_part (Binder (naming_of sheet) bound)
-        (Full (StandEffects (naming_of sheet) (bind (naming_of sheet) around.scope bound (sort_of domain)) effects))
+        (λ f g from to r parts here more. first_part (Binder (sheet_naming sheet) bound)
+        (Full (StandEffects (sheet_naming sheet) (bind (sheet_naming sheet) around.scope bound (sort_of domain)) effects))
         (λ l. EffectSound around (list (cons (word (codes "all") f g) (cons r l)) from to)) parts more
         (λ v es binds there.
         let inner = effects_sound (behind sheet around bound (sort_of domain)) effects es
         (behind_apart sheet all given around bound (sort_of domain) alone is.1) there.1 is.3 in
-        bound_word (naming_of sheet) bound
+        bound_word (sheet_naming sheet) bound
         (λ v. EffectSound around (list (cons (word (codes "all") f g) (cons r (cons v es))) from to)) v binds
         (λ bytes f' t' found. each_sound around bound (sort_of domain) bytes f g f' t' from to r es
-        (binds_so sheet all given around bound bytes is.1 found) (range_sort (naming_of sheet) around.scope domain r here)
+        (binds_so sheet all given around bound bytes is.1 found) (range_sort (sheet_naming sheet) around.scope domain r here)
         (range_sound sheet all given around domain r alone here is.0) inner)))
     effect_sound around (next_is who) tree alone stands is =
         row_word_part "cycle" "next" (StandsOwner around.scope who) (EffectSound around) tree stands
@@ -363,7 +363,7 @@ module _ (sheet : Sheet) (all : List Part) (given : AreGiven sheet all) where
         (λ p r b a. (fixed sheet all _ _ _ _ _ _, (fixed sheet all _ _ _ _ _ _, tt))))
 
     pub effects_sound : (around : Around) (effects : Effects) (trees : Trees) → Apart around.scope
-        → StandEffects (naming_of sheet) around.scope effects trees → AreEffects sheet around effects
+        → StandEffects (sheet_naming sheet) around.scope effects trees → AreEffects sheet around effects
         → Each (EffectSound around) trees
     effects_sound around no_effect nil alone stands are = tt
     effects_sound around no_effect (cons tree trees) alone stands are = absurd stands
@@ -373,12 +373,12 @@ module _ (sheet : Sheet) (all : List Part) (given : AreGiven sheet all) where
 
   -- DOMAIN
   pub domain_sound : (around : Around) (domain : Domain) (tree : Tree) → Apart around.scope
-      → StandsDomain (naming_of sheet) around.scope domain tree → IsDomain sheet around domain
+      → StandsDomain (sheet_naming sheet) around.scope domain tree → IsDomain sheet around domain
       → Sound sheet all place.Domain around tree
   domain_sound around each_player tree alone stands is = player_sound sheet all given place.Domain around tree stands
   domain_sound around (each_card cards) tree alone stands is = (coll_sound sheet all given around cards tree alone stands is).1
   domain_sound around (each_group cards attr) tree alone stands is =
-      row_two "partition" (StandsColl (naming_of sheet) around.scope cards) (Named sheet.names.attrs attr)
+      row_two "partition" (StandsColl (sheet_naming sheet) around.scope cards) (Named sheet.names.attrs attr)
       (Sound sheet all place.Domain around) tree stands
       (λ f t from to c n here named. sound_list sheet all place.Domain rule.Partition around
       (cons (word (codes "partition") f t) (cons c (cons n nil))) from to refl
@@ -411,29 +411,29 @@ module _ (sheet : Sheet) (all : List Part) (given : AreGiven sheet all) where
       ))
 
   pub alt_sound : (around : Around) (alt : Alt) (tree : Tree) → Apart around.scope
-      → StandsAlt (naming_of sheet) around.scope alt tree → IsAlt sheet around alt
+      → StandsAlt (sheet_naming sheet) around.scope alt tree → IsAlt sheet around alt
       → Sound sheet all place.Alternative around tree
   alt_sound around (do_alt effects) tree alone stands is =
-      behind_word "do" (Full (StandEffects (naming_of sheet) around.scope effects)) (Sound sheet all place.Alternative around)
+      behind_word "do" (Full (StandEffects (sheet_naming sheet) around.scope effects)) (Sound sheet all place.Alternative around)
       tree
       stands
       (λ f t from to es there. do_sound place.Alternative around f t from to es refl
       (effects_sound around effects es alone there.1 is.1))
   alt_sound around (if_alt guard effects) tree alone stands is =
-      row_part "if" (StandsTest (naming_of sheet) around.scope guard) (Full (StandEffects (naming_of sheet) around.scope effects))
+      row_part "if" (StandsTest (sheet_naming sheet) around.scope guard) (Full (StandEffects (sheet_naming sheet) around.scope effects))
       (Sound sheet all place.Alternative around) tree stands
       (λ f g from to x es here there. if_sound place.Alternative around f g from to x es refl
       (test_sound sheet all given around guard x alone here is.0) (effects_sound around effects es alone there.1 is.2))
   alt_sound around (any_alt domain bound alt) tree alone stands is =
-      row_three "any" (StandsDomain (naming_of sheet) around.scope domain) (Binder (naming_of sheet) bound)
-      (StandsAlt (naming_of sheet) (bind (naming_of sheet) around.scope bound (sort_of domain)) alt)
+      row_three "any" (StandsDomain (sheet_naming sheet) around.scope domain) (Binder (sheet_naming sheet) bound)
+      (StandsAlt (sheet_naming sheet) (bind (sheet_naming sheet) around.scope bound (sort_of domain)) alt)
       (Sound sheet all place.Alternative around) tree stands
       (λ f g from to d v x here binds there.
       let inner = alt_sound (behind sheet around bound (sort_of domain)) alt x
       (behind_apart sheet all given around bound (sort_of domain) alone is.1) there is.2 in
-      bound_word (naming_of sheet) bound
+      bound_word (sheet_naming sheet) bound
       (λ v. Sound sheet all place.Alternative around
       (list (cons (word (codes "any") f g) (cons d (cons v (cons x nil)))) from to)) v binds
       (λ bytes f' t' found. any_sound around bound (sort_of domain) bytes f g f' t' from to d x
-      (binds_so sheet all given around bound bytes is.1 found) (domain_sort (naming_of sheet) around.scope domain d here)
+      (binds_so sheet all given around bound bytes is.1 found) (domain_sort (sheet_naming sheet) around.scope domain d here)
       (domain_sound around domain d alone here is.0) inner))

@@ -7,7 +7,7 @@ use Rattle.rc_model.specs.Deck.{Groups, no_group, group, Branches, no_branch, br
 use Rattle.rc_sheet_model.specs.Sheet.{Sheet}
 use Rattle.rc_sheet_model.specs.Rows.{◌▸◌, End, Row}
 use Rattle.rc_sheet_model.specs.Rows.{Some as Full}
-use Rattle.rc_sheet_model.specs.Naming.{Naming, naming_of, Named, Literal}
+use Rattle.rc_sheet_model.specs.Naming.{Naming, Named, Literal, sheet_naming}
 use Rattle.rc_sheet_model.specs.StandsSetup.{StandsGroups, StandsBranches, StandValues, StandEntries}
 use Rattle.rc_sheet_model.specs.WellFormed.{Around, is_among, group_attrs, branch_attrs, AreGroups, AreBranches}
 use Rattle.rc_grammar.specs.declared.grammar.Place.{Place}
@@ -228,7 +228,7 @@ module _ (sheet : Sheet) (all : List Part) where
       pub groups_sound : (before : List ℕ) (groups : Groups) (at : Standing) (r : Rule) (parts : Trees) (k : ℕ) (trees : Trees)
           → GroupsStand at r parts → behind_at (suc k) parts ≡ trees
           → Worded sheet.names.attrs before (at.above ++ attributes_among (front (suc k) parts))
-          → StandsGroups (naming_of sheet) groups trees → AreGroups before groups
+          → StandsGroups (sheet_naming sheet) groups trees → AreGroups before groups
           → AllSound sheet all (parts_in at r parts (suc k) trees)
       groups_sound before no_group at r parts k nil stand tail worded stands are = tt
       groups_sound before no_group at r parts k (cons tree trees) stand tail worded stands are = absurd stands
@@ -238,7 +238,7 @@ module _ (sheet : Sheet) (all : List Part) where
           let next = next_front (suc k) parts tree trees tail in
           let above = at.above ++ attributes_among (front (suc k) parts) in
           let here : AllSound sheet all (parts_at (Some (standing place.Group at.around no_role parts above)) tree) =
-          group_parts (naming_of sheet) attr branches
+          group_parts (sheet_naming sheet) attr branches
           (λ tree. AllSound sheet all (parts_at (Some (standing place.Group at.around no_role parts above)) tree)) tree stands.0
           (λ bytes f t a b from to first more is inside. one_group before attr branches at.around parts above bytes f t a b from
           to
@@ -250,11 +250,11 @@ module _ (sheet : Sheet) (all : List Part) where
           (λ w one. ⊎_elim (λ same. (attr, inl refl, is ∙ ap Some (sym same))) (λ none. absurd none) one))
           inside well.1)) in
           let own : Worded sheet.names.attrs (attr ∷ branch_attrs branches) (attributes_of tree) =
-          group_parts (naming_of sheet) attr branches
+          group_parts (sheet_naming sheet) attr branches
           (λ tree. Worded sheet.names.attrs (attr ∷ branch_attrs branches) (attributes_of tree)) tree stands.0
           (λ bytes f t a b from to first more is inside w one.
           ⊎_elim (λ same. (attr, inl refl, is ∙ ap Some (sym same)))
-          (λ later. let found = branches_worded (naming_of sheet) branches (cons first more) inside w later in
+          (λ later. let found = branches_worded (sheet_naming sheet) branches (cons first more) inside w later in
           (found.0, inr found.1, found.2)) one) in
           let behind = attr ∷ branch_attrs branches ++ before in
           let worded' : Worded sheet.names.attrs behind (at.above ++ attributes_among (front (suc k + 1) parts)) =
@@ -277,29 +277,29 @@ module _ (sheet : Sheet) (all : List Part) where
 
       pub branches_sound : (before : List ℕ) (branches : Branches) (around : Around) (beside : Trees) (above : List (List ℕ))
           (parts : Trees) (k : ℕ) (trees : Trees) → Worded sheet.names.attrs before above
-          → StandsBranches (naming_of sheet) branches trees → AreBranches before branches
+          → StandsBranches (sheet_naming sheet) branches trees → AreBranches before branches
           → AllSound sheet all (parts_in (standing place.Branches around no_role beside above) rule.Branches parts k trees)
       branches_sound before no_branch around beside above parts k nil worded stands are = tt
       branches_sound before no_branch around beside above parts k (cons tree trees) worded stands are = absurd stands
       branches_sound before (branch value inner others) around beside above parts k nil worded stands are =
-          absurd (no_more_branches (naming_of sheet) value inner others stands)
+          absurd (no_more_branches (sheet_naming sheet) value inner others stands)
       branches_sound before (branch value inner others) around beside above parts k (cons (word bytes from to) trees) worded
           stands
           are =
-          let both = first_branch (naming_of sheet) value inner others (word bytes from to) trees stands in (
+          let both = first_branch (sheet_naming sheet) value inner others (word bytes from to) trees stands in (
             (given_sound place.Branch around parts (above ++ []) bytes from to refl).0,
             branches_sound before others around beside above parts (k + 1) trees worded both.1 are.1,
           )
       branches_sound before (branch value inner others) around beside above parts k (cons (list nil from to) trees) worded stands
           are =
-          absurd (first_branch (naming_of sheet) value inner others (list nil from to) trees stands).0
+          absurd (first_branch (sheet_naming sheet) value inner others (list nil from to) trees stands).0
       branches_sound before (branch value inner others) around beside above parts k
           (cons (list (cons (list vs f t) groups) from to) trees) worded stands are =
-          absurd (first_branch (naming_of sheet) value inner others (list (cons (list vs f t) groups) from to) trees stands).0.0
+          absurd (first_branch (sheet_naming sheet) value inner others (list (cons (list vs f t) groups) from to) trees stands).0.0
       branches_sound before (branch value inner others) around beside above parts k
           (cons (list (cons (word bytes f t) groups) from to) trees) worded stands are =
           let whole = cons (word bytes f t) groups in
-          let both = first_branch (naming_of sheet) value inner others (list whole from to) trees stands in
+          let both = first_branch (sheet_naming sheet) value inner others (list whole from to) trees stands in
           let at = standing place.Branch around given_value parts (above ++ []) in
           all_join sheet all (parts_at (Some at) (list whole from to))
           (parts_in (standing place.Branches around no_role beside above) rule.Branches parts (k + 1) trees)
@@ -317,7 +317,7 @@ module _ (sheet : Sheet) (all : List Part) where
 
   -- ENTRIES
   values_sound : (values : List ℕ) (around : Around) (beside : Trees) (above : List (List ℕ)) (parts : Trees) (k : ℕ)
-      (trees : Trees) → StandValues (naming_of sheet) values trees
+      (trees : Trees) → StandValues (sheet_naming sheet) values trees
       → AllSound sheet all (parts_in (standing place.Values around no_role beside above) rule.Values parts k trees)
   values_sound [] around beside above parts k nil stands = tt
   values_sound [] around beside above parts k (cons tree trees) stands = absurd stands
@@ -335,14 +335,14 @@ module _ (sheet : Sheet) (all : List Part) where
   literal_sound q around value (list parts from to) none stands = absurd stands
 
   entry_sound : (around : Around) (entry : Entry) (tree : Tree)
-      → Row (Named sheet.names.attrs entry.attr ▸ Row (Full (StandValues (naming_of sheet) entry.values))
+      → Row (Named sheet.names.attrs entry.attr ▸ Row (Full (StandValues (sheet_naming sheet) entry.values))
       ▸ Literal entry.points ▸ End) tree → Sound sheet all place.Entry around tree
   entry_sound around entry tree stands =
-      three_parts (Named sheet.names.attrs entry.attr) (Row (Full (StandValues (naming_of sheet) entry.values)))
+      three_parts (Named sheet.names.attrs entry.attr) (Row (Full (StandValues (sheet_naming sheet) entry.values)))
       (Literal entry.points) (Sound sheet all place.Entry around) tree stands made
     where
       made : (a v p : Tree) (from to : ℕ) → Named sheet.names.attrs entry.attr a
-          → Row (Full (StandValues (naming_of sheet) entry.values)) v → Literal entry.points p
+          → Row (Full (StandValues (sheet_naming sheet) entry.values)) v → Literal entry.points p
           → Sound sheet all place.Entry around (list (cons a (cons v (cons p nil))) from to)
       made (list inner f t) v p from to named row literal = absurd named
       made (word bytes f t) (word w a b) p from to named row literal = absurd row
@@ -365,7 +365,7 @@ module _ (sheet : Sheet) (all : List Part) where
           ))
 
   pub entries_sound : (around : Around) (entries : List Entry) (trees : Trees)
-      → StandEntries (naming_of sheet) entries trees → Each (Sound sheet all place.Entry around) trees
+      → StandEntries (sheet_naming sheet) entries trees → Each (Sound sheet all place.Entry around) trees
   entries_sound around [] nil stands = tt
   entries_sound around [] (cons tree trees) stands = absurd stands
   entries_sound around (entry ∷ entries) nil stands = absurd stands

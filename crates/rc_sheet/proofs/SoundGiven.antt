@@ -8,7 +8,7 @@ use Rattle.rc_model.specs.Tree.{Tree}
 use Rattle.rc_model.specs.Deck.{Entry}
 use Rattle.rc_sheet_model.specs.Sheet.{Sheet}
 use Rattle.rc_sheet_model.specs.Mentions.{Mention, map_of, in_deck, in_entry, in_map}
-use Rattle.rc_sheet_model.specs.Naming.{naming_of}
+use Rattle.rc_sheet_model.specs.Naming.{sheet_naming}
 use Rattle.rc_sheet_model.specs.FormMentions.{points_entries, deck_groups, group_attr_words, entry_attr_words, group_value_words, entry_value_words}
 use Rattle.rc_sheet_model.specs.StandsSetup.{numbered, lines_with}
 use Rattle.rc_sheet_model.specs.Stands.{Stands}
@@ -81,8 +81,8 @@ are_given sheet tree shaped stands =
           (subst (Among bytes) (sym (attributes_give a b c d e f from to lines rest fits))
           (within_lines (λ line. group_attr_words (deck_groups line)) (λ line. entry_attr_words (points_entries line)) lines bytes
           (subst (Among bytes)
-          (setup_said attrs sheet deck_lines points_lines (decks_said attrs (naming_of sheet) sheet.decks deck_lines setup.decks)
-          (maps_said attrs (naming_of sheet) (numbered sheet.points) points_lines setup.points))
+          (setup_said attrs sheet deck_lines points_lines (decks_said attrs (sheet_naming sheet) sheet.decks deck_lines setup.decks)
+          (maps_said attrs (sheet_naming sheet) (numbered sheet.points) points_lines setup.points))
           (word_said attrs sheet n bytes
           (flat_map in_deck sheet.decks ++ flat_map in_map (numbered sheet.points)) is attr))));
       values = λ n bytes is value. among_named bytes _
@@ -91,13 +91,13 @@ are_given sheet tree shaped stands =
           bytes
           (subst (Among bytes)
           (setup_said values sheet deck_lines points_lines
-          (decks_said values (naming_of sheet) sheet.decks deck_lines setup.decks)
-          (maps_said values (naming_of sheet) (numbered sheet.points) points_lines setup.points))
+          (decks_said values (sheet_naming sheet) sheet.decks deck_lines setup.decks)
+          (maps_said values (sheet_naming sheet) (numbered sheet.points) points_lines setup.points))
           (word_said values sheet n bytes
           (flat_map in_deck sheet.decks ++ flat_map in_map (numbered sheet.points)) is value))));
       maps = λ n bytes is map. among_named bytes _
           (subst (Among bytes) (sym (maps_give a b c d e f from to lines rest fits ∙ points_alone lines))
-          (subst (Among bytes) (maps_said maps (naming_of sheet) (numbered sheet.points) points_lines setup.points)
+          (subst (Among bytes) (maps_said maps (sheet_naming sheet) (numbered sheet.points) points_lines setup.points)
           (subst (λ w. Among w (said maps sheet.names (flat_map in_map (numbered sheet.points))))
           (get_or_from_slice_get sheet.names.maps n bytes [] is)
           (among_map (λ m. slice_index_or sheet.names.maps m []) n (flat_map map_of (flat_map in_map (numbered sheet.points)))

@@ -5,7 +5,7 @@ use Rattle.rc_model.specs.Tree.{Tree, word, list, Trees, nil, cons}
 use Rattle.rc_sheet_model.specs.Sheet.{game_class, player_class, team_class, Test, Best, highest, lowest, Alt, SheetItem, do_item, stage, choice, SheetItems, no_item, item, Sheet}
 use Rattle.rc_sheet_model.specs.Rows.{◌▸◌, End, Row, Atom}
 use Rattle.rc_sheet_model.specs.Rows.{Some as Full}
-use Rattle.rc_sheet_model.specs.Naming.{naming_of, self_scope}
+use Rattle.rc_sheet_model.specs.Naming.{self_scope, sheet_naming}
 use Rattle.rc_sheet_model.specs.StandsExpressions.{StandsInt, StandsTest}
 use Rattle.rc_sheet_model.specs.StandsEffects.{StandEffects}
 use Rattle.rc_sheet_model.specs.StandsItems.{StandAlts, StandsItem, StandItems}
@@ -47,7 +47,7 @@ one_more k = omega arith
 
 -- A sheet, and all parts of a form, which give what the sheet's setup gives.
 module _ (sheet : Sheet) (all : List Part) (given : AreGiven sheet all) where
-  alts_sound : (players teams : Bool) (alts : List Alt) (trees : Trees) → StandAlts (naming_of sheet) alts trees
+  alts_sound : (players teams : Bool) (alts : List Alt) (trees : Trees) → StandAlts (sheet_naming sheet) alts trees
       → AreAlts sheet (within players teams) alts → Each (Sound sheet all place.Alternative (within players teams)) trees
   alts_sound players teams [] nil stands are = tt
   alts_sound players teams [] (cons tree trees) stands are = absurd stands
@@ -58,10 +58,10 @@ module _ (sheet : Sheet) (all : List Part) (given : AreGiven sheet all) where
   )
 
   -- `(end BOOL)`
-  end_sound : (players teams : Bool) (t : Test) (tree : Tree) → Row (Atom "end" ▸ StandsTest (naming_of sheet) [] t ▸ End) tree
+  end_sound : (players teams : Bool) (t : Test) (tree : Tree) → Row (Atom "end" ▸ StandsTest (sheet_naming sheet) [] t ▸ End) tree
       → IsTest sheet (within players teams) t → Sound sheet all place.End (within players teams) tree
   end_sound players teams t tree stands is =
-      row_one "end" (StandsTest (naming_of sheet) [] t) (Sound sheet all place.End (within players teams)) tree stands
+      row_one "end" (StandsTest (sheet_naming sheet) [] t) (Sound sheet all place.End (within players teams)) tree stands
       (λ f g from to x here. sound_list sheet all place.End rule.End (within players teams)
       (cons (word (codes "end") f g) (cons x nil)) from to refl
       (λ p r b a from plain. record { once = refl; known = refl; kind_fits = plain.other; shallow = refl; said = tt })
@@ -86,10 +86,10 @@ module _ (sheet : Sheet) (all : List Part) (given : AreGiven sheet all) where
 
   mutual
     -- ITEM
-    pub item_sound : (players teams : Bool) (i : SheetItem) (tree : Tree) → StandsItem (naming_of sheet) i tree
+    pub item_sound : (players teams : Bool) (i : SheetItem) (tree : Tree) → StandsItem (sheet_naming sheet) i tree
         → IsItem sheet (within players teams) i → Sound sheet all place.Item (within players teams) tree
     item_sound players teams (do_item effects) tree stands is =
-        behind_word "do" (Full (StandEffects (naming_of sheet) [] effects)) (Sound sheet all place.Item (within players teams))
+        behind_word "do" (Full (StandEffects (sheet_naming sheet) [] effects)) (Sound sheet all place.Item (within players teams))
         tree
         stands
         (λ f t from to es there. do_sound sheet all given place.Item (within players teams) f t from to es refl
@@ -97,10 +97,10 @@ module _ (sheet : Sheet) (all : List Part) (given : AreGiven sheet all) where
     item_sound players teams (stage number game_class end body) tree stands is = absurd is
     item_sound players teams (stage number player_class end body) tree stands is =
         row_words "stage" "player"
-        (Row (Atom "end" ▸ StandsTest (naming_of sheet) [] end ▸ End) ▸ Full (StandItems (naming_of sheet) body End))
+        (Row (Atom "end" ▸ StandsTest (sheet_naming sheet) [] end ▸ End) ▸ Full (StandItems (sheet_naming sheet) body End))
         (Sound sheet all place.Item (within players teams)) tree stands
-        (λ f t f' t' from to parts more. first_part (Row (Atom "end" ▸ StandsTest (naming_of sheet) [] end ▸ End))
-        (Full (StandItems (naming_of sheet) body End))
+        (λ f t f' t' from to parts more. first_part (Row (Atom "end" ▸ StandsTest (sheet_naming sheet) [] end ▸ End))
+        (Full (StandItems (sheet_naming sheet) body End))
         (λ l. Sound sheet all place.Item (within players teams)
         (list (cons (word (codes "stage") f t) (cons (word (codes "player") f' t') l)) from to)) parts more
         (λ e is' here there.
@@ -121,10 +121,10 @@ module _ (sheet : Sheet) (all : List Part) (given : AreGiven sheet all) where
         ))))
     item_sound players teams (stage number team_class end body) tree stands is =
         row_words "stage" "team"
-        (Row (Atom "end" ▸ StandsTest (naming_of sheet) [] end ▸ End) ▸ Full (StandItems (naming_of sheet) body End))
+        (Row (Atom "end" ▸ StandsTest (sheet_naming sheet) [] end ▸ End) ▸ Full (StandItems (sheet_naming sheet) body End))
         (Sound sheet all place.Item (within players teams)) tree stands
-        (λ f t f' t' from to parts more. first_part (Row (Atom "end" ▸ StandsTest (naming_of sheet) [] end ▸ End))
-        (Full (StandItems (naming_of sheet) body End))
+        (λ f t f' t' from to parts more. first_part (Row (Atom "end" ▸ StandsTest (sheet_naming sheet) [] end ▸ End))
+        (Full (StandItems (sheet_naming sheet) body End))
         (λ l. Sound sheet all place.Item (within players teams)
         (list (cons (word (codes "stage") f t) (cons (word (codes "team") f' t') l)) from to)) parts more
         (λ e is' here there.
@@ -144,12 +144,12 @@ module _ (sheet : Sheet) (all : List Part) (given : AreGiven sheet all) where
           ),
         ))))
     item_sound players teams (choice site alts) tree stands is =
-        behind_word "choice" (Full (StandAlts (naming_of sheet) alts)) (Sound sheet all place.Item (within players teams)) tree
+        behind_word "choice" (Full (StandAlts (sheet_naming sheet) alts)) (Sound sheet all place.Item (within players teams)) tree
         stands
         (λ f t from to as' there. choice_sound players teams f t from to as' is.0
         (alts_sound players teams alts as' there.1 is.2))
 
-    items_sound : (players teams : Bool) (items : SheetItems) (trees : Trees) → StandItems (naming_of sheet) items End trees
+    items_sound : (players teams : Bool) (items : SheetItems) (trees : Trees) → StandItems (sheet_naming sheet) items End trees
         → AreItems sheet (within players teams) items → Each (Sound sheet all place.Item (within players teams)) trees
     items_sound players teams no_item nil stands are = tt
     items_sound players teams no_item (cons tree trees) stands are = absurd stands
@@ -167,7 +167,7 @@ module _ (sheet : Sheet) (all : List Part) (given : AreGiven sheet all) where
   scoring_sound : (tree : Tree) → StandsScoring sheet tree → IsInt sheet scored sheet.score
       → Sound sheet all place.Scoring outside tree
   scoring_sound tree stands is =
-      row_two "scoring" (StandsBest sheet.best) (StandsInt (naming_of sheet) self_scope sheet.score)
+      row_two "scoring" (StandsBest sheet.best) (StandsInt (sheet_naming sheet) self_scope sheet.score)
       (Sound sheet all place.Scoring outside) tree stands
       (λ f t from to b v here there. sound_list sheet all place.Scoring rule.Scoring outside
       (cons (word (codes "scoring") f t) (cons b (cons v nil))) from to refl
@@ -181,7 +181,7 @@ module _ (sheet : Sheet) (all : List Part) (given : AreGiven sheet all) where
 
   -- what follows the setup
   body_sound : (whole : Trees) (k : ℕ) (items : SheetItems) (trees : Trees)
-      → StandItems (naming_of sheet) items (StandsScoring sheet ▸ End) trees
+      → StandItems (sheet_naming sheet) items (StandsScoring sheet ▸ End) trees
       → count whole ≡ suc (suc k) + count trees → AreItems sheet outside items → IsInt sheet scored sheet.score
       → AllSound sheet all (parts_in standing_alone rule.Game whole (suc (suc k)) trees)
   body_sound whole k no_item nil stands total are score = absurd stands
@@ -192,7 +192,7 @@ module _ (sheet : Sheet) (all : List Part) (given : AreGiven sheet all) where
   body_sound whole k (item i items) nil stands total are score = absurd stands
   body_sound whole k (item i items) (cons tree nil) stands total are score = absurd (none_left items stands.1)
     where
-      none_left : (items : SheetItems) → StandItems (naming_of sheet) items (StandsScoring sheet ▸ End) nil → ⊥
+      none_left : (items : SheetItems) → StandItems (sheet_naming sheet) items (StandsScoring sheet ▸ End) nil → ⊥
       none_left no_item stands = stands
       none_left (item i items) stands = stands
   body_sound whole k (item i items) (cons tree (cons next trees)) stands total are score =
@@ -205,7 +205,7 @@ module _ (sheet : Sheet) (all : List Part) (given : AreGiven sheet all) where
       (body_sound whole (suc k) items (cons next trees) stands.1 (omega (arith, total)) are.1 score)))
 
   -- the body of a sheet
-  pub sheet_body_sound : (whole trees : Trees) → StandItems (naming_of sheet) sheet.items (StandsScoring sheet ▸ End) trees
+  pub sheet_body_sound : (whole trees : Trees) → StandItems (sheet_naming sheet) sheet.items (StandsScoring sheet ▸ End) trees
       → count whole ≡ suc (suc (count trees)) → AreItems sheet outside sheet.items → IsInt sheet scored sheet.score
       → AllSound sheet all (parts_in standing_alone rule.Game whole 2 trees)
   sheet_body_sound whole trees stands total are score =

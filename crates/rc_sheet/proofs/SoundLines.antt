@@ -9,7 +9,7 @@ use Rattle.rc_model.specs.Deck.{Entry}
 use Rattle.rc_sheet_model.specs.Sheet.{Teams, game, Loc, DeckLine, Sheet}
 use Rattle.rc_sheet_model.specs.Rows.{◌▸◌, End, Row, Atom}
 use Rattle.rc_sheet_model.specs.Rows.{Some as Full}
-use Rattle.rc_sheet_model.specs.Naming.{naming_of, class_of, Named, Literal, KindOf}
+use Rattle.rc_sheet_model.specs.Naming.{class_of, Named, Literal, KindOf, sheet_naming}
 use Rattle.rc_sheet_model.specs.StandsSetup.{StandsPlayers, StandsTeam, StandTeams, StandsTeams, StandsGroups, StandsDeck, StandEntries, StandsMap, begins_with, lines_with, are_lines, team_lines, numbered, StandsSetup}
 use Rattle.rc_sheet_model.specs.WellFormed.{outside, is_mem, IsDeck, IsWellFormed}
 use Rattle.rc_grammar.specs.declared.grammar.Place.TheVariants as place
@@ -158,10 +158,10 @@ module _ (sheet : Sheet) (all : List Part) where
       (ap (λ n. option_map (λ l. is_mem l.kind) (slice_get sheet.locs n)) name ∙ is.3))
 
   deck_tree : Alone sheet.names.attrs → (line : DeckLine) (whole : Trees) (d : Tree) → IsDeck sheet line
-      → Row (Atom "deck" ▸ Full (StandsGroups (naming_of sheet) line.groups)) d
+      → Row (Atom "deck" ▸ Full (StandsGroups (sheet_naming sheet) line.groups)) d
       → AllSound sheet all (parts_at (Some (standing place.Deck outside no_role whole [])) d)
   deck_tree alone line whole d is row =
-      behind_word "deck" (Full (StandsGroups (naming_of sheet) line.groups))
+      behind_word "deck" (Full (StandsGroups (sheet_naming sheet) line.groups))
       (λ d. AllSound sheet all (parts_at (Some (standing place.Deck outside no_role whole [])) d)) d row
       (λ f t from to groups more.
       let parts = cons (word (codes "deck") f t) groups in
@@ -174,15 +174,15 @@ module _ (sheet : Sheet) (all : List Part) where
       ))
 
   deck_line : Alone sheet.names.attrs → (line : DeckLine) (tree : Tree) → IsDeck sheet line
-      → StandsDeck (naming_of sheet) line tree
+      → StandsDeck (sheet_naming sheet) line tree
       → LineSound tree
   deck_line alone line tree is stands =
       row_words "create" "deck"
-      (Row (Atom "game" ▸ KindOf (naming_of sheet) line.loc ▸ Named sheet.names.locs line.loc ▸ End)
-      ▸ Row (Atom "deck" ▸ Full (StandsGroups (naming_of sheet) line.groups)) ▸ End) LineSound tree stands.0
+      (Row (Atom "game" ▸ KindOf (sheet_naming sheet) line.loc ▸ Named sheet.names.locs line.loc ▸ End)
+      ▸ Row (Atom "deck" ▸ Full (StandsGroups (sheet_naming sheet) line.groups)) ▸ End) LineSound tree stands.0
       (λ f t f' t' from to parts more. two_parts
-      (Row (Atom "game" ▸ KindOf (naming_of sheet) line.loc ▸ Named sheet.names.locs line.loc ▸ End))
-      (Row (Atom "deck" ▸ Full (StandsGroups (naming_of sheet) line.groups)))
+      (Row (Atom "game" ▸ KindOf (sheet_naming sheet) line.loc ▸ Named sheet.names.locs line.loc ▸ End))
+      (Row (Atom "deck" ▸ Full (StandsGroups (sheet_naming sheet) line.groups)))
       (λ l. LineSound (list (cons (word (codes "create") f t) (cons (word (codes "deck") f' t') l)) from to)) parts more
       (λ l d here there beside.
       let whole = cons (word (codes "create") f t) (cons (word (codes "deck") f' t') (cons l (cons d nil))) in
@@ -200,17 +200,17 @@ module _ (sheet : Sheet) (all : List Part) where
       )))
 
   -- `(put points MAP (ENTRY+))`
-  map_line : (line : ℕ × List Entry) (tree : Tree) → StandsMap (naming_of sheet) line tree → LineSound tree
+  map_line : (line : ℕ × List Entry) (tree : Tree) → StandsMap (sheet_naming sheet) line tree → LineSound tree
   map_line line tree stands =
       row_words "put" "points"
-      (Named sheet.names.maps line.0 ▸ Row (Full (StandEntries (naming_of sheet) line.1)) ▸ End) LineSound tree stands
+      (Named sheet.names.maps line.0 ▸ Row (Full (StandEntries (sheet_naming sheet) line.1)) ▸ End) LineSound tree stands
       (λ f t f' t' from to parts more. two_parts (Named sheet.names.maps line.0)
-      (Row (Full (StandEntries (naming_of sheet) line.1)))
+      (Row (Full (StandEntries (sheet_naming sheet) line.1)))
       (λ l. LineSound (list (cons (word (codes "put") f t) (cons (word (codes "points") f' t') l)) from to)) parts more
       (λ m e named row. made f t f' t' from to m e named row))
     where
       made : (f t f' t' from to : ℕ) (m e : Tree) → Named sheet.names.maps line.0 m
-          → Row (Full (StandEntries (naming_of sheet) line.1)) e
+          → Row (Full (StandEntries (sheet_naming sheet) line.1)) e
           → LineSound (list (cons (word (codes "put") f t) (cons (word (codes "points") f' t') (cons m (cons e nil)))) from to)
       made f t f' t' from to (list inner a b) e named row = absurd named
       made f t f' t' from to (word bytes a b) (word w c d) named row = absurd row
@@ -241,14 +241,14 @@ module _ (sheet : Sheet) (all : List Part) where
   -- THE SETUP
   pub setup_lines_sound : (lines : Trees) → Alone sheet.names.attrs
       → ((teams : Teams) → sheet.teams ≡ Some teams → NoneLeft teams)
-      → StandsSetup (naming_of sheet) sheet lines → IsWellFormed sheet → Each LineSound lines
+      → StandsSetup (sheet_naming sheet) sheet lines → IsWellFormed sheet → Each LineSound lines
   setup_lines_sound lines alone none setup well =
       each_line LineSound lines setup.lines_alone
       (of_pairs StandsPlayers LineSound (sheet.players ∷ []) _ setup.players (λ n tree is stands. players_line n tree stands))
       (of_pairs StandsTeams LineSound (team_lines sheet.teams) _ setup.teams
       (λ teams tree is stands. teams_line teams tree (none teams (team_line_is sheet.teams teams is)) stands))
-      (of_pairs (StandsDeck (naming_of sheet)) LineSound sheet.decks _ setup.decks
+      (of_pairs (StandsDeck (sheet_naming sheet)) LineSound sheet.decks _ setup.decks
       (λ line tree is stands. deck_line alone line tree
       (one_of_all (IsDeck sheet) line sheet.decks (recursion_from_All (IsDeck sheet) sheet.decks well.decks) is) stands))
-      (of_pairs (StandsMap (naming_of sheet)) LineSound (numbered sheet.points) _ setup.points
+      (of_pairs (StandsMap (sheet_naming sheet)) LineSound (numbered sheet.points) _ setup.points
       (λ line tree is stands. map_line line tree stands))

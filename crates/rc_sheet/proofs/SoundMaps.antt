@@ -5,7 +5,7 @@ use Rattle.std.proofs.lemmas.Slice.Eq.{bytes_eq-Decides}
 use Rattle.rc_model.specs.Tree.{Tree}
 use Rattle.rc_model.specs.Deck.{Entry}
 use Rattle.rc_sheet_model.specs.Sheet.{Sheet}
-use Rattle.rc_sheet_model.specs.Naming.{Naming, naming_of}
+use Rattle.rc_sheet_model.specs.Naming.{Naming, sheet_naming}
 use Rattle.rc_sheet_model.specs.FormMentions.{points_map}
 use Rattle.rc_sheet_model.specs.StandsSetup.{StandsMap, lines_with}
 use Rattle.rc_sheet_model.specs.Stands.{Stands}
@@ -67,5 +67,5 @@ maps_alone sheet tree shaped stands alone =
     sheet_only (λ tree. Stands sheet tree → IsDistinct bytes_eq (flat_map maps_in (parts_of tree))) tree shaped
     (λ a b c d e f from to lines rest fits stands.
     subst (IsDistinct bytes_eq) (sym (maps_give a b c d e f from to lines rest fits ∙ points_alone lines))
-    (maps_apart (naming_of sheet) alone 0 sheet.points (lines_with "put" "points" lines) stands.1.0.1.1.points).0)
+    (maps_apart (sheet_naming sheet) alone 0 sheet.points (lines_with "put" "points" lines) stands.1.0.1.1.points).0)
     stands

@@ -9,7 +9,7 @@ use Rattle.rc_model.specs.Deck.{Entry}
 use Rattle.rc_sheet_model.specs.Sheet.{Teams, DeckLine, Sheet}
 use Rattle.rc_sheet_model.specs.Rows.{Row}
 use Rattle.rc_sheet_model.specs.Rows.{Some as Full}
-use Rattle.rc_sheet_model.specs.Naming.{naming_of}
+use Rattle.rc_sheet_model.specs.Naming.{sheet_naming}
 use Rattle.rc_sheet_model.specs.StandsSetup.{StandsPlayers, StandsTeam, StandTeams, StandsTeams, StandsDeck, StandsMap, begins_with, lines_with, team_lines, numbered}
 use Rattle.rc_sheet_model.specs.Stands.{Stands}
 use Rattle.rc_sheet_model.specs.WellFormed.{outside}
@@ -199,7 +199,7 @@ teams_said sheet teams tree is stands =
     teams_listed teams beside (cons (word (codes "create") f t) (cons (word (codes "teams") f' t') parts)) 0 parts more.1
     ∙ ap members_of (sym is))
 
-deck_none : (sheet : Sheet) (line : DeckLine) (tree : Tree) → StandsDeck (naming_of sheet) line tree
+deck_none : (sheet : Sheet) (line : DeckLine) (tree : Tree) → StandsDeck (sheet_naming sheet) line tree
     → LineGives ℕ members_in (said sheet) tree
 deck_none sheet line tree stands =
     row_words "create" "deck" _ (LineGives ℕ members_in (said sheet)) tree stands.0
@@ -207,7 +207,7 @@ deck_none sheet line tree stands =
     (cons (word (codes "create") f t) (cons (word (codes "deck") f' t') parts)) 0
     (cons (word (codes "create") f t) (cons (word (codes "deck") f' t') parts)) refl)
 
-map_none : (sheet : Sheet) (line : ℕ × List Entry) (tree : Tree) → StandsMap (naming_of sheet) line tree
+map_none : (sheet : Sheet) (line : ℕ × List Entry) (tree : Tree) → StandsMap (sheet_naming sheet) line tree
     → LineGives ℕ members_in (said sheet) tree
 map_none sheet line tree stands =
     row_words "put" "points" _ (LineGives ℕ members_in (said sheet)) tree stands
@@ -234,9 +234,9 @@ members_are sheet tree stands =
     (λ n tree is stands. players_none sheet n tree stands))
     (of_pairs StandsTeams (LineGives ℕ members_in (said sheet)) (team_lines sheet.teams) _ setup.teams
     (λ teams tree is stands. teams_said sheet teams tree (team_line_is sheet.teams teams is) stands))
-    (of_pairs (StandsDeck (naming_of sheet)) (LineGives ℕ members_in (said sheet)) sheet.decks _ setup.decks
+    (of_pairs (StandsDeck (sheet_naming sheet)) (LineGives ℕ members_in (said sheet)) sheet.decks _ setup.decks
     (λ line tree is stands. deck_none sheet line tree stands))
-    (of_pairs (StandsMap (naming_of sheet)) (LineGives ℕ members_in (said sheet)) (numbered sheet.points) _ setup.points
+    (of_pairs (StandsMap (sheet_naming sheet)) (LineGives ℕ members_in (said sheet)) (numbered sheet.points) _ setup.points
     (λ line tree is stands. map_none sheet line tree stands)))
     ∙ of_kind "create" "teams" (λ tree. members_of sheet.teams) lines
     ∙ one_line sheet.teams (lines_with "create" "teams" lines) setup.teams)

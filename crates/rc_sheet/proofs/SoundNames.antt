@@ -7,7 +7,7 @@ use Rattle.std.proofs.lemmas.Slice.Eq.{bytes_eq-Decides}
 use Rattle.rc_model.specs.Tree.{Tree, word, list, Trees, nil, cons}
 use Rattle.rc_sheet_model.specs.Sheet.{Sort, player_sort, Who, game, current_player, current_team, team_of_current, team_of_var, who_var, Loc, Num, Sheet}
 use Rattle.rc_sheet_model.specs.Rows.{Atom}
-use Rattle.rc_sheet_model.specs.Naming.{Variable, Scope, naming_of, class_of, Named, InScope, KindOf}
+use Rattle.rc_sheet_model.specs.Naming.{Variable, Scope, class_of, Named, InScope, KindOf, sheet_naming}
 use Rattle.rc_sheet_model.specs.Naming.{kind_word as kind_bytes}
 use Rattle.rc_sheet_model.specs.StandsExpressions.{StandsOwner, StandsHolder, StandsLoc, StandsNum}
 use Rattle.rc_sheet_model.specs.WellFormed.{Around, IsOwner, IsHolder}
@@ -20,7 +20,7 @@ use Rattle.rc_semantics.specs.Classes.{class_at}
 use Rattle.rc_semantics.specs.declared.role.Role.{Role}
 use Rattle.rc_semantics.specs.declared.role.Role.TheVariants.{No as no_role}
 use Rattle.rc_semantics.specs.SecondParts.{Standing, Part, atom, parts_at}
-use Rattle.rc_semantics.specs.SecondNames.{some_of, Mention, mention_of}
+use Rattle.rc_semantics.specs.SecondNames.{some_of, mention_of, OwnedMention}
 use Rattle.rc_semantics.specs.SecondFaults.{sorts_at, variable_in, is_unnamed, is_other_sort, is_other_side, is_misplaced}
 use Rattle.rc_sheet.proofs.OneRows.{three_parts}
 use Rattle.rc_sheet.proofs.OneNames.{Apart, variable_word, owner_forms}
@@ -221,23 +221,23 @@ module _ (sheet : Sheet) (all : List Part) where
   -- a role takes the locations of this name
   abbrev pub Takes : Role → Loc → Type 0
   Takes role loc =
-      (mention : Mention)
+      (mention : OwnedMention)
       → option_map (λ l. kind_bytes l.kind) (slice_get sheet.locs loc.name) ≡ Some mention.kind
       → mention.class ≡ class_of loc.who → is_misplaced role mention ≡ false
 
   pub loc_sound : (q : Place) (around : Around) (loc : Loc) (tree : Tree) (role : Role) (beside : Trees)
       (above : List (List ℕ)) → TakesLocs q → Apart around.scope
       → is_other_side (standing q around role beside above) role ≡ false → Takes role loc
-      → StandsLoc (naming_of sheet) around.scope loc tree → IsHolder around loc.who
+      → StandsLoc (sheet_naming sheet) around.scope loc tree → IsHolder around loc.who
       → AllSound sheet all (parts_at (Some (standing q around role beside above)) tree)
   loc_sound q around loc tree role beside above fits alone other takes stands is =
-      three_parts (StandsHolder around.scope loc.who) (KindOf (naming_of sheet) loc.name)
+      three_parts (StandsHolder around.scope loc.who) (KindOf (sheet_naming sheet) loc.name)
       (Named sheet.names.locs loc.name)
       (λ tree. AllSound sheet all (parts_at (Some (standing q around role beside above)) tree)) tree stands.0
       (λ holder kind name from to holds k n. made holder kind name from to holds k n)
     where
       made : (holder kind name : Tree) (from to : ℕ) → StandsHolder around.scope loc.who holder
-          → KindOf (naming_of sheet) loc.name kind → Named sheet.names.locs loc.name name
+          → KindOf (sheet_naming sheet) loc.name kind → Named sheet.names.locs loc.name name
           → AllSound sheet all
           (parts_at (Some (standing q around role beside above)) (list (cons holder (cons kind (cons name nil))) from to))
       made holder (list inner f t) name from to holds k n = absurd k
@@ -269,13 +269,13 @@ module _ (sheet : Sheet) (all : List Part) where
 
   -- at a place of which nothing more is wanted
   pub plain_loc : (q : Place) (around : Around) (loc : Loc) (tree : Tree) → TakesLocs q → Apart around.scope
-      → StandsLoc (naming_of sheet) around.scope loc tree → IsHolder around loc.who → Sound sheet all q around tree
+      → StandsLoc (sheet_naming sheet) around.scope loc tree → IsHolder around loc.who → Sound sheet all q around tree
   plain_loc q around loc tree fits alone stands is role beside above plain =
       loc_sound q around loc tree role beside above fits alone plain.other (λ mention k class. plain.placed mention) stands is
 
   -- NUM
   pub num_sound : (q : Place) (around : Around) (num : Num) (tree : Tree) → TakesNums q → Apart around.scope
-      → StandsNum (naming_of sheet) around.scope num tree → IsHolder around num.who → Sound sheet all q around tree
+      → StandsNum (sheet_naming sheet) around.scope num tree → IsHolder around num.who → Sound sheet all q around tree
   num_sound q around num tree fits alone stands is =
       three_parts (StandsHolder around.scope num.who) (Atom "sto") (Named sheet.names.nums num.name)
       (λ tree. Sound sheet all q around tree) tree stands.0

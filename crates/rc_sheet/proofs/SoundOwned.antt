@@ -7,7 +7,7 @@ use Rattle.std.proofs.lemmas.List.Sums.{sum_by-cons}
 use Rattle.std.proofs.lemmas.Option.{same_Some}
 use Rattle.rc_model.specs.Tree.{Tree}
 use Rattle.rc_sheet_model.specs.Sheet.{Class, LocName, NumName, Sheet}
-use Rattle.rc_sheet_model.specs.Naming.{naming_of, loc_class, num_class}
+use Rattle.rc_sheet_model.specs.Naming.{loc_class, num_class, sheet_naming}
 use Rattle.rc_model.specs.Words.{different}
 use Rattle.rc_sheet_model.specs.Numbering.{IsNumbered}
 use Rattle.rc_sheet_model.specs.Stands.{Stands}
@@ -17,7 +17,7 @@ use Rattle.rc_grammar.specs.declared.grammar.Place.TheVariants as place
 use Rattle.rc_naming.specs.Mentions.{all_locations, all_numbers}
 use Rattle.rc_semantics.specs.Classes.{owner_count as owner_count_by}
 use Rattle.rc_semantics.specs.SecondParts.{Part, parts_of}
-use Rattle.rc_semantics.specs.SecondNames.{is_named, Mention, locations_in, numbers_of, firsts_from, owned}
+use Rattle.rc_semantics.specs.SecondNames.{is_named, locations_in, numbers_of, firsts_from, owned, OwnedMention}
 use Rattle.rc_sheet.proofs.FoundNames.{name_of, names_different, loc_names_are, num_names_are}
 use Rattle.rc_sheet.proofs.OneNames.{Differ, all_at}
 use Rattle.rc_sheet.proofs.OneSheet.{length_below, names_are}
@@ -27,7 +27,7 @@ use Rattle.rc_sheet.proofs.SoundParts.{IsLocSaid, IsNumSaid, AllSound}
 use Rattle.rc_sheet.proofs.SoundWhole.{locs_said, nums_said}
 
 -- what holds of mentions holds of the first ones
-of_firsts : (P : Mention → Type 0) (seen : List (List ℕ)) (ms : List Mention) → AllByRecursion P ms
+of_firsts : (P : OwnedMention → Type 0) (seen : List (List ℕ)) (ms : List OwnedMention) → AllByRecursion P ms
     → AllByRecursion P (firsts_from seen ms)
 of_firsts P seen [] all = tt
 of_firsts P seen (m ∷ ms) all =
@@ -80,7 +80,7 @@ module _ (sheet : Sheet) (all : List Part) (differ : Differ sheet.names) (number
         let c = length-map sheet.locs (λ (loc : LocName). loc.name) in
         let d = ap length numbered.loc_numbers in
         let e = length_below 0 (length sheet.names.locs) in
-        same_sum (λ (m : Mention). owner_count_by players teams m.class) (λ (loc : LocName). owner_count sheet loc.class) ms
+        same_sum (λ (m : OwnedMention). owner_count_by players teams m.class) (λ (loc : LocName). owner_count sheet loc.class) ms
         sheet.locs
         (omega (arith, a, b, c, d, e))
         (λ i m is.
@@ -90,7 +90,7 @@ module _ (sheet : Sheet) (all : List Part) (differ : Differ sheet.names) (number
         let same : known.number ≡ i = differ.locs known.number i m.name known.named here in
         known_class (λ (loc : LocName). loc.class) (slice_get sheet.locs i) m.class (owner_count_by players teams)
         (owner_count sheet)
-        owners (ap (λ n. loc_class (naming_of sheet) n) (sym same) ∙ known.same_class))
+        owners (ap (λ n. loc_class (sheet_naming sheet) n) (sym same) ∙ known.same_class))
 
     pub nums_owned : map name_of (firsts_from [] (flat_map numbers_of all)) ≡ sheet.names.nums
         → owned players teams (flat_map numbers_of all) ≡ sum_by (λ num. owner_count sheet num.class) sheet.nums
@@ -102,7 +102,7 @@ module _ (sheet : Sheet) (all : List Part) (differ : Differ sheet.names) (number
         let c = length-map sheet.nums (λ (num : NumName). num.name) in
         let d = ap length numbered.num_numbers in
         let e = length_below 0 (length sheet.names.nums) in
-        same_sum (λ (m : Mention). owner_count_by players teams m.class) (λ (num : NumName). owner_count sheet num.class) ms
+        same_sum (λ (m : OwnedMention). owner_count_by players teams m.class) (λ (num : NumName). owner_count sheet num.class) ms
         sheet.nums
         (omega (arith, a, b, c, d, e))
         (λ i m is.
@@ -112,7 +112,7 @@ module _ (sheet : Sheet) (all : List Part) (differ : Differ sheet.names) (number
         let same : known.number ≡ i = differ.nums known.number i m.name known.named here in
         known_class (λ (num : NumName). num.class) (slice_get sheet.nums i) m.class (owner_count_by players teams)
         (owner_count sheet)
-        owners (ap (λ n. num_class (naming_of sheet) n) (sym same) ∙ known.same_class))
+        owners (ap (λ n. num_class (sheet_naming sheet) n) (sym same) ∙ known.same_class))
 
 -- the first mentions have the names of the sheet
 pub locs_first : (sheet : Sheet) (tree : Tree) → faults place.Sheet tree ≡ [] → Stands sheet tree → IsNumbered sheet

@@ -4,7 +4,7 @@ use Rattle.std.specs.Prelude.{codes}
 use Rattle.std.specs.List.{AllByRecursion}
 use Rattle.rc_model.specs.Tree.{Tree, word, list, Trees, nil, cons}
 use Rattle.rc_sheet_model.specs.Sheet.{Sheet}
-use Rattle.rc_sheet_model.specs.Naming.{naming_of, loc_class, num_class}
+use Rattle.rc_sheet_model.specs.Naming.{loc_class, num_class, sheet_naming}
 use Rattle.rc_sheet_model.specs.Naming.{kind_word as kind_bytes}
 use Rattle.rc_sheet_model.specs.WellFormed.{Around, IsAttr, IsValue, IsMap}
 use Rattle.rc_grammar.specs.Faults.{is_variable, rule_of}
@@ -15,7 +15,7 @@ use Rattle.rc_grammar.specs.declared.grammar.Rule.TheVariants as rule
 use Rattle.rc_semantics.specs.declared.role.Role.{Role}
 use Rattle.rc_semantics.specs.declared.role.Role.TheVariants.{No as no_role}
 use Rattle.rc_semantics.specs.SecondParts.{Standing, Part, atom, form, with_form, parts_at, parts_in, standing_in}
-use Rattle.rc_semantics.specs.SecondNames.{some_of, is_named, attributes_in, values_in, maps_in, Mention, mention_of}
+use Rattle.rc_semantics.specs.SecondNames.{some_of, is_named, attributes_in, values_in, maps_in, mention_of, OwnedMention}
 use Rattle.rc_semantics.specs.SecondFaults.{is_player_again, sorts_at, is_unbound, is_unnamed, is_no_player, is_misused, is_other_side, is_misplaced, is_twice, is_unknown, is_wrong_kind, is_too_deep}
 use Rattle.rc_sheet.proofs.GoodParts.{Each}
 
@@ -33,17 +33,17 @@ all_both P (x ∷ xs) ys first second = (first.0, all_both P xs ys first.1 secon
 -- A sheet, and all parts of a form.
 module _ (sheet : Sheet) (all : List Part) where
   -- a mention of a location, and of a stored number, says what the sheet does of the name
-  pub record IsLocSaid (mention : Mention) : Type 0 where
+  pub record IsLocSaid (mention : OwnedMention) : Type 0 where
     pub number : ℕ
     pub named : slice_get sheet.names.locs number ≡ Some mention.name
     pub same_kind : option_map (λ loc. kind_bytes loc.kind) (slice_get sheet.locs number) ≡ Some mention.kind
-    pub same_class : loc_class (naming_of sheet) number ≡ Some mention.class
+    pub same_class : loc_class (sheet_naming sheet) number ≡ Some mention.class
 
-  pub record IsNumSaid (mention : Mention) : Type 0 where
+  pub record IsNumSaid (mention : OwnedMention) : Type 0 where
     pub number : ℕ
     pub named : slice_get sheet.names.nums number ≡ Some mention.name
     pub stored : mention.kind ≡ codes "sto"
-    pub same_class : num_class (naming_of sheet) number ≡ Some mention.class
+    pub same_class : num_class (sheet_naming sheet) number ≡ Some mention.class
 
   abbrev pub IsSaid : Part → Type 0
   IsSaid (form at rule.Location parts from) = IsLocSaid (mention_of parts)
@@ -68,7 +68,7 @@ module _ (sheet : Sheet) (all : List Part) where
   pub record IsPlain (at : Standing) : Type 0 where
     pub other : is_other_side at at.role ≡ false
     pub named : (bytes : List ℕ) → is_unnamed all at.role bytes ≡ false
-    pub placed : (mention : Mention) → is_misplaced at.role mention ≡ false
+    pub placed : (mention : OwnedMention) → is_misplaced at.role mention ≡ false
 
   pub no_role_plain : (place : Place) (around : Around) (beside : Trees) (above : List (List ℕ))
       → IsPlain (standing place around no_role beside above)

@@ -10,7 +10,7 @@ use Rattle.rc_model.specs.Numbers.{below}
 use Rattle.rc_sheet_model.specs.Mentions.{stages_in, sites_in}
 use Rattle.rc_sheet_model.specs.Rows.{◌▸◌, End, AtLeast, Row, Atom}
 use Rattle.rc_sheet_model.specs.Rows.{Some as Full}
-use Rattle.rc_sheet_model.specs.Naming.{naming_of}
+use Rattle.rc_sheet_model.specs.Naming.{sheet_naming}
 use Rattle.rc_sheet_model.specs.FormMentions.{attr_mentions, value_mentions, map_mentions}
 use Rattle.rc_sheet_model.specs.StandsSetup.{StandsSetup}
 use Rattle.rc_sheet_model.specs.StandsItems.{StandItems}
@@ -49,10 +49,10 @@ use Rattle.rc_sheet.proofs.SoundWhole.{IsTogether, no_second_faults}
 module _ (sheet : Sheet) (all : List Part) (given : AreGiven sheet all) (differ : Differ sheet.names)
     (well : IsWellFormed sheet) (none : (teams : Teams) → sheet.teams ≡ Some teams → NoneLeft sheet all teams)
   where
-    setup_sound : (whole : Trees) (tree : Tree) → Row (Atom "setup" ▸ Full (StandsSetup (naming_of sheet) sheet)) tree
+    setup_sound : (whole : Trees) (tree : Tree) → Row (Atom "setup" ▸ Full (StandsSetup (sheet_naming sheet) sheet)) tree
         → AllSound sheet all (parts_at (Some (standing place.Setup outside no_role whole [])) tree)
     setup_sound whole tree stands =
-        behind_word "setup" (Full (StandsSetup (naming_of sheet) sheet))
+        behind_word "setup" (Full (StandsSetup (sheet_naming sheet) sheet))
         (λ tree. AllSound sheet all (parts_at (Some (standing place.Setup outside no_role whole [])) tree)) tree stands
         (λ f t from to lines here.
         let parts = cons (word (codes "setup") f t) lines in
@@ -66,8 +66,8 @@ module _ (sheet : Sheet) (all : List Part) (given : AreGiven sheet all) (differ 
 
     parts_sound : (tree : Tree) → Stands sheet tree → AllSound sheet all (parts_of tree)
     parts_sound tree stands =
-        row_part "game" (Row (Atom "setup" ▸ Full (StandsSetup (naming_of sheet) sheet)))
-        (AtLeast 2 (StandItems (naming_of sheet) sheet.items (StandsScoring sheet ▸ End)))
+        row_part "game" (Row (Atom "setup" ▸ Full (StandsSetup (sheet_naming sheet) sheet)))
+        (AtLeast 2 (StandItems (sheet_naming sheet) sheet.items (StandsScoring sheet ▸ End)))
         (λ tree. AllSound sheet all (parts_of tree)) tree stands
         (λ f t from to setup rest here there.
         let whole = cons (word (codes "game") f t) (cons setup rest) in

@@ -9,7 +9,7 @@ use Rattle.rc_sheet_model.specs.Sheet.{game_class, player_class, team_class, She
 use Rattle.rc_sheet_model.specs.Mentions.{stages_in_item, stages_in, sites_in_item, sites_in}
 use Rattle.rc_sheet_model.specs.Rows.{◌▸◌, End, Row, Atom}
 use Rattle.rc_sheet_model.specs.Rows.{Some as Full}
-use Rattle.rc_sheet_model.specs.Naming.{Naming, naming_of}
+use Rattle.rc_sheet_model.specs.Naming.{Naming, sheet_naming}
 use Rattle.rc_sheet_model.specs.StandsExpressions.{StandsTest}
 use Rattle.rc_sheet_model.specs.StandsEffects.{StandEffects}
 use Rattle.rc_sheet_model.specs.StandsItems.{StandAlts, StandsItem, StandItems}
@@ -218,7 +218,7 @@ module _
 
     -- what follows the setup
     body_size : (sheet : Sheet) (whole : Trees) (k : ℕ) (items : SheetItems) (trees : Trees)
-        → StandItems (naming_of sheet) items (StandsScoring sheet ▸ End) trees → count whole ≡ suc (suc k) + count trees
+        → StandItems (sheet_naming sheet) items (StandsScoring sheet ▸ End) trees → count whole ≡ suc (suc k) + count trees
         → Size (parts_in standing_alone rule.Game whole (suc (suc k)) trees) ≡ counted s c items
     body_size sheet whole k no_item nil stands total = absurd stands
     body_size sheet whole k no_item (cons tree nil) stands total =
@@ -229,7 +229,7 @@ module _
     body_size sheet whole k (item i items) nil stands total = absurd stands
     body_size sheet whole k (item i items) (cons tree nil) stands total = absurd (none_left items stands.1)
       where
-        none_left : (items : SheetItems) → StandItems (naming_of sheet) items (StandsScoring sheet ▸ End) nil → ⊥
+        none_left : (items : SheetItems) → StandItems (sheet_naming sheet) items (StandsScoring sheet ▸ End) nil → ⊥
         none_left no_item stands = stands
         none_left (item i items) stands = stands
     body_size sheet whole k (item i items) (cons tree (cons next trees)) stands total =
@@ -237,7 +237,7 @@ module _
         (parts_in standing_alone rule.Game whole (suc (suc k) + 1) (cons next trees))
         ∙ ap₂ (λ m n. m + n)
         (ap (λ o. Size (parts_at o tree)) (stands_item whole k (count trees) total)
-        ∙ item_size (naming_of sheet) i tree outside no_role whole [] stands.0)
+        ∙ item_size (sheet_naming sheet) i tree outside no_role whole [] stands.0)
         (ap (λ j. Size (parts_in standing_alone rule.Game whole j (cons next trees))) (sym (one_more k))
         ∙ body_size sheet whole (suc k) items (cons next trees) stands.1 (omega (arith, total)))
 

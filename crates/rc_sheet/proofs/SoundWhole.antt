@@ -10,7 +10,7 @@ use Rattle.std.proofs.lemmas.List.{length-append}
 use Rattle.std.proofs.lemmas.Grind.{flat_map-append}
 use Rattle.std.proofs.lemmas.Slice.Eq.{bytes_eq-Decides}
 use Rattle.rc_sheet_model.specs.Sheet.{Sheet}
-use Rattle.rc_sheet_model.specs.Naming.{naming_of, loc_class, num_class}
+use Rattle.rc_sheet_model.specs.Naming.{loc_class, num_class, sheet_naming}
 use Rattle.rc_sheet_model.specs.Naming.{kind_word as kind_bytes}
 use Rattle.rc_sheet_model.specs.Limits.{most_cards, most_locations, most_numbers, most_attrs, most_values, most_maps, most_stages, most_sites}
 use Rattle.rc_sheet_model.specs.WellFormed.{is_among}
@@ -23,7 +23,7 @@ use Rattle.rc_semantics.specs.Classes.{same_class, owner_count}
 use Rattle.rc_semantics.specs.declared.role.Role.{Role}
 use Rattle.rc_semantics.specs.declared.role.Role.TheVariants.{GivenValue as given_value}
 use Rattle.rc_semantics.specs.SecondParts.{Standing, Part, atom, form, word_in}
-use Rattle.rc_semantics.specs.SecondNames.{some_of, is_named, number_by, players_in, player_count, teams_in, team_count, member_by, members_in, cards_in, attributes_in, values_in, maps_in, Mention, mention_of, first_mention, firsts_from, owned, locations_in, numbers_of, stages_in, choices_in, different_count}
+use Rattle.rc_semantics.specs.SecondNames.{some_of, is_named, number_by, players_in, player_count, teams_in, team_count, member_by, members_in, cards_in, attributes_in, values_in, maps_in, mention_of, first_mention, firsts_from, owned, locations_in, numbers_of, stages_in, choices_in, different_count, OwnedMention}
 use Rattle.rc_semantics.specs.SecondFaults.{is_player_again, is_no_player, is_unbound, is_unnamed, is_other_side, differs_from, is_other_mention, is_misplaced, is_twice, is_unknown, is_wrong_kind, passes, card_count, attribute_count, value_count, map_count, stage_count, choice_count, location_count, number_count, atom_counts, is_too_deep, is_too_many, lacks_cards, fault_where, faults_of, faults_behind}
 use Rattle.rc_sheet.proofs.Among.{Among, among_left}
 use Rattle.rc_sheet.proofs.ReadsNames.{class_same}
@@ -64,30 +64,30 @@ no_faults_behind all earlier (part ∷ parts) each =
 
 module _ (sheet : Sheet) (all : List Part) (differ : Differ sheet.names) where
   -- two mentions of one location say the same
-  same_loc : (one other : Mention) → IsLocSaid sheet all one → IsLocSaid sheet all other → one.name ≡ other.name
+  same_loc : (one other : OwnedMention) → IsLocSaid sheet all one → IsLocSaid sheet all other → one.name ≡ other.name
       → (one.kind ≡ other.kind) × (one.class ≡ other.class)
   same_loc one other said said' same =
       let number : said.number ≡ said'.number =
       differ.locs said.number said'.number one.name said.named (said'.named ∙ ap Some (sym same)) in (
         same_Some one.kind other.kind (sym said.same_kind
             ∙ ap (λ n. option_map (λ loc. kind_bytes loc.kind) (slice_get sheet.locs n)) number ∙ said'.same_kind),
-        same_Some one.class other.class (sym said.same_class ∙ ap (loc_class (naming_of sheet)) number ∙ said'.same_class),
+        same_Some one.class other.class (sym said.same_class ∙ ap (loc_class (sheet_naming sheet)) number ∙ said'.same_class),
       )
 
-  same_num : (one other : Mention) → IsNumSaid sheet all one → IsNumSaid sheet all other → one.name ≡ other.name
+  same_num : (one other : OwnedMention) → IsNumSaid sheet all one → IsNumSaid sheet all other → one.name ≡ other.name
       → (one.kind ≡ other.kind) × (one.class ≡ other.class)
   same_num one other said said' same =
       let number : said.number ≡ said'.number =
       differ.nums said.number said'.number one.name said.named (said'.named ∙ ap Some (sym same)) in (
         said.stored ∙ sym said'.stored,
-        same_Some one.class other.class (sym said.same_class ∙ ap (num_class (naming_of sheet)) number ∙ said'.same_class),
+        same_Some one.class other.class (sym said.same_class ∙ ap (num_class (sheet_naming sheet)) number ∙ said'.same_class),
       )
 
   -- so none is another than the first of its name
-  no_other : (P : Mention → Type 0)
-      → ((one other : Mention) → P one → P other → one.name ≡ other.name
+  no_other : (P : OwnedMention → Type 0)
+      → ((one other : OwnedMention) → P one → P other → one.name ≡ other.name
       → (one.kind ≡ other.kind) × (one.class ≡ other.class))
-      → (mention : Mention) (earlier : List Mention) → P mention → AllByRecursion P earlier
+      → (mention : OwnedMention) (earlier : List OwnedMention) → P mention → AllByRecursion P earlier
       → is_other_mention earlier mention ≡ false
   no_other P agree mention [] said all_said = refl
   no_other P agree mention (first ∷ earlier) said all_said =
@@ -160,21 +160,21 @@ fewer_cards most earlier part later le =
     omega (arith, le, same, both)
 
 -- the first mentions of more mentions are the first ones, and others
-first_ones : (seen : List (List ℕ)) (xs ys : List Mention)
-    → (more : List Mention) × (firsts_from seen (xs ++ ys) ≡ firsts_from seen xs ++ more)
+first_ones : (seen : List (List ℕ)) (xs ys : List OwnedMention)
+    → (more : List OwnedMention) × (firsts_from seen (xs ++ ys) ≡ firsts_from seen xs ++ more)
 first_ones seen [] ys = (firsts_from seen ys, refl)
 first_ones seen (x ∷ xs) ys =
     by (is_named x.name seen) (first_ones seen xs ys) (first_ones (x.name ∷ seen) xs ys)
   where
-    by : (old : Bool) → (more : List Mention) × (firsts_from seen (xs ++ ys) ≡ firsts_from seen xs ++ more)
-        → (more : List Mention) × (firsts_from (x.name ∷ seen) (xs ++ ys) ≡ firsts_from (x.name ∷ seen) xs ++ more)
-        → (more : List Mention)
+    by : (old : Bool) → (more : List OwnedMention) × (firsts_from seen (xs ++ ys) ≡ firsts_from seen xs ++ more)
+        → (more : List OwnedMention) × (firsts_from (x.name ∷ seen) (xs ++ ys) ≡ firsts_from (x.name ∷ seen) xs ++ more)
+        → (more : List OwnedMention)
         × (cond old (firsts_from seen (xs ++ ys)) (x ∷ firsts_from (x.name ∷ seen) (xs ++ ys))
         ≡ cond old (firsts_from seen xs) (x ∷ firsts_from (x.name ∷ seen) xs) ++ more)
     by true kept new = kept
     by false kept new = (new.0, ap (λ l. x ∷ l) new.1)
 
-fewer_owned : (players teams most : ℕ) (f : Part → List Mention) (earlier : List Part) (part : Part) (later : List Part)
+fewer_owned : (players teams most : ℕ) (f : Part → List OwnedMention) (earlier : List Part) (part : Part) (later : List Part)
     → owned players teams (flat_map f (earlier ++ (part ∷ later))) ≤ most
     → owned players teams (flat_map f (earlier ++ part ∷ [])) ≤ most
 fewer_owned players teams most f earlier part later le =

@@ -5,7 +5,7 @@ use Rattle.std.specs.List.{list_any, list_all, AllByRecursion}
 use Rattle.std.proofs.lemmas.Bool.{cond-false, or_from}
 use Rattle.std.proofs.lemmas.List.{append-nil}
 use Rattle.rc_model.specs.Tree.{Tree, word, list, Trees, nil, cons}
-use Rattle.rc_sheet_model.specs.FormMentions.{is_atom, gathered, all_gathered, attr_word, value_word, map_word, word_of, is_measure}
+use Rattle.rc_sheet_model.specs.FormMentions.{gathered, all_gathered, attr_word, value_word, map_word, word_of, is_measure, is_text}
 use Rattle.rc_grammar.specs.Faults.{faults_at, faults_in, place_at, count, fits}
 use Rattle.rc_grammar.specs.Grammar.{forms_of}
 use Rattle.rc_grammar.specs.Keyword.{text_of}
@@ -135,13 +135,13 @@ attr_silent r (cons h (cons c nil)) body quiet none = refl
 attr_silent r (cons h (cons c (cons a nil))) body quiet none =
     let head = (none_in_both (faults_at (place_at r 3 0) h) _ none).0 in
     let refused = others_refuse is_attribute 3 attr_heads r (attr_begins r) body quiet in
-    cond-false (is_atom "attr" h || is_atom "partition" h) (word_of a) []
-    (or_from (is_atom "attr" h) (is_atom "partition" h) (refuted (place_at r 3 0) "attr" h head refused.0)
+    cond-false (is_text "attr" h || is_text "partition" h) (word_of a) []
+    (or_from (is_text "attr" h) (is_text "partition" h) (refuted (place_at r 3 0) "attr" h head refused.0)
     (refuted (place_at r 3 0) "partition" h head refused.1.0))
 attr_silent r (cons h (cons c (cons a (cons v nil)))) body quiet none =
     let head = (none_in_both (faults_at (place_at r 4 0) h) _ none).0 in
     let refused = others_refuse is_attribute 4 is_heads r (is_begins r) body quiet in
-    cond-false (is_atom "is" h) (word_of a) [] (refuted (place_at r 4 0) "is" h head refused.0)
+    cond-false (is_text "is" h) (word_of a) [] (refuted (place_at r 4 0) "is" h head refused.0)
 attr_silent r (cons h (cons c (cons a (cons v (cons w parts))))) body quiet none = refl
 
 value_silent : (r : Rule) (parts : Trees) → is_body_rule r ≡ true → list_any is_value (front_roles r) ≡ false
@@ -153,7 +153,7 @@ value_silent r (cons h (cons c (cons a nil))) body quiet none = refl
 value_silent r (cons h (cons c (cons a (cons v nil)))) body quiet none =
     let head = (none_in_both (faults_at (place_at r 4 0) h) _ none).0 in
     let refused = others_refuse is_value 4 is_heads r (value_begins r) body quiet in
-    cond-false (is_atom "is" h) (word_of v) [] (refuted (place_at r 4 0) "is" h head refused.0)
+    cond-false (is_text "is" h) (word_of v) [] (refuted (place_at r 4 0) "is" h head refused.0)
 value_silent r (cons h (cons c (cons a (cons v (cons w parts))))) body quiet none = refl
 
 map_silent : (r : Rule) (parts : Trees) → is_body_rule r ≡ true → list_any is_map (front_roles r) ≡ false

@@ -15,7 +15,7 @@ use Rattle.rc_grammar.specs.declared.grammar.Rule.TheVariants as rule
 use Rattle.rc_semantics.specs.declared.role.Role.{Role}
 use Rattle.rc_semantics.specs.declared.role.Role.TheVariants.{No as no_role}
 use Rattle.rc_semantics.specs.SecondParts.{Standing, Part, parts_at, parts_in, parts_of, standing_alone}
-use Rattle.rc_semantics.specs.SecondNames.{Mention, attributes_in, values_in, maps_in, locations_in, numbers_of}
+use Rattle.rc_semantics.specs.SecondNames.{attributes_in, values_in, maps_in, locations_in, numbers_of, OwnedMention}
 use Rattle.rc_naming.specs.Mentions.{loc_mention, num_mention, deck_location, all_locations, all_numbers}
 use Rattle.rc_sheet.proofs.Among.{Among, Within, among_left, among_right, both_within}
 use Rattle.rc_sheet.proofs.Shapes.{none_in_both, fixed_only}
@@ -240,7 +240,7 @@ whole_gives a b c d e f from to lines rest shaped =
     let locs = locations_give a b c d e f from to lines rest shaped in
     let no_decks : flat_map {A = List ℕ} (λ (line : Tree). []) (lines_with "create" "deck" lines) ≡ [] =
     flat_nothing (lines_with "create" "deck" lines) in
-    let no_points : flat_map {A = Mention} (λ (line : Tree). []) (lines_with "put" "points" lines) ≡ [] =
+    let no_points : flat_map {A = OwnedMention} (λ (line : Tree). []) (lines_with "put" "points" lines) ≡ [] =
     flat_nothing (lines_with "put" "points" lines) in
     let points = flat_map points_map (lines_with "put" "points" lines) in
     let decks = flat_map deck_location (lines_with "create" "deck" lines) in

@@ -99,16 +99,16 @@ abbrev pub holder_at : Scope → Tree → Option Who
 holder_at scope tree = if is_form_word keyword.Game tree then Some game else owner_at scope tree
 
 -- the word of a kind of locations
-abbrev pub kind_word : LocKind → Keyword
-kind_word vloc = keyword.Vloc
-kind_word iloc = keyword.Iloc
-kind_word hloc = keyword.Hloc
-kind_word mem = keyword.Mem
+abbrev pub kind_keyword : LocKind → Keyword
+kind_keyword vloc = keyword.Vloc
+kind_keyword iloc = keyword.Iloc
+kind_keyword hloc = keyword.Hloc
+kind_keyword mem = keyword.Mem
 
 -- the locations of a name are of the kind that this word says and of this class, and its stored numbers are of this class
 abbrev pub is_loc_name : Tree → Class → Option LocName → Bool
 is_loc_name kind class None = false
-is_loc_name kind class (Some loc) = is_form_word (kind_word loc.kind) kind && same_class loc.class class
+is_loc_name kind class (Some loc) = is_form_word (kind_keyword loc.kind) kind && same_class loc.class class
 
 abbrev pub is_num_name : Class → Option NumName → Bool
 is_num_name class None = false

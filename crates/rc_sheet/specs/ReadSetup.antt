@@ -3,7 +3,7 @@ use Rattle.std.specs.Prelude.{ℕ, nat_le, ◌&&◌, ◌==◌, if◌then◌else�
 use Rattle.rc_model.specs.Tree.{Tree, word, list, Trees, nil, cons}
 use Rattle.rc_model.specs.Literal.{integer}
 use Rattle.rc_model.specs.Deck.{Entry}
-use Rattle.rc_model.specs.DeckText.{Names}
+use Rattle.rc_model.specs.DeckText.{DeckNames}
 use Rattle.rc_sheet_model.specs.Sheet.{Teams, DeckLine, Sheet, Who, game}
 use Rattle.rc_sheet_model.specs.Limits.{most_players}
 use Rattle.rc_sheet_model.specs.Naming.{Naming}
@@ -57,7 +57,7 @@ teams_at nil = Some []
 teams_at (cons part parts) = option_map (λ p. p.0 ∷ p.1) (both (team_at part) (teams_at parts))
 
 -- the words of attributes and of values
-abbrev pub face_words : Naming → Names
+abbrev pub face_words : Naming → DeckNames
 face_words naming = record { attrs = naming.names.attrs; values = naming.names.values }
 
 -- the number of a location's name, where it is the game's

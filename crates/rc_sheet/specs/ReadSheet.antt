@@ -20,8 +20,8 @@ setup_form_at naming (word bytes from to) = None
 setup_form_at naming (list parts from to) = rule_at place.Setup parts >>= λ rule. setup_rule naming rule parts
 
 -- the sheet of a setup, items and a scoring, with these names
-abbrev pub sheet_of : Naming → Setup → SheetItems × (Best × IntExpr) → Sheet
-sheet_of naming setup body =
+abbrev pub sheet_with : Naming → Setup → SheetItems × (Best × IntExpr) → Sheet
+sheet_with naming setup body =
     record {
       players = setup.players;
       teams = setup.teams;
@@ -40,7 +40,7 @@ unfoldable pub game_parts : Naming → Tree → Trees → Option Sheet
 game_parts naming setup parts = do
   setup ← setup_form_at naming setup
   body ← body_at naming parts
-  Some (sheet_of naming setup body)
+  Some (sheet_with naming setup body)
 
 -- `(game SETUP ITEM+ SCORING)`
 abbrev pub game_rule : Naming → Rule → Trees → Option Sheet

@@ -9,7 +9,7 @@ ghost use Rattle.rc_sheet_model.specs.Stands.{Stands};
 ghost use Rattle.rc_sheet_model.specs.WellFormed.{IsWellFormed};
 ghost use Rattle.rc_naming.specs.Naming.{naming_of};
 ghost use Rattle.rc_semantics.specs.SecondFaults.{sheet_fault};
-ghost use Rattle.rc_semantics.specs.Checks.{IfFault};
+ghost use Rattle.rc_semantics.specs.Checks.{IfSheetFault};
 ghost use Rattle.rc_sheet.specs.ReadSheet.{sheet_at};
 
 use crate::fail::ReadFail;
@@ -33,7 +33,7 @@ pub fn sheet_of(alloc: Global, form: &Form) -> Result<Sheet, SheetFail>
     ensures stands { IfOk result (λ sheet. Stands (sheet_seen sheet) (tree_of form.now)) }
     ensures well { IfOk result (λ sheet. IsWellFormed (sheet_seen sheet)) }
     ensures fine { IfOk result (λ _. sheet_fault (tree_of form.now) ≡ None) }
-    ensures found { IfErr result (λ fail. IfFault fail (λ fault. sheet_fault (tree_of form.now) ≡ Some fault)) }
+    ensures found { IfErr result (λ fail. IfSheetFault fail (λ fault. sheet_fault (tree_of form.now) ≡ Some fault)) }
 {
     if let Err(fault) = check_shape(form) {
         return Err(SheetFail::Fault(fault));

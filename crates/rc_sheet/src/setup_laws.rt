@@ -11,7 +11,7 @@ ghost use Rattle.rc_semantics.specs.SecondNames.{is_named, attributes_in, values
 ghost use Rattle.rc_semantics.specs.SecondParts.{Standing, Part, form, parts_of, word_in};
 ghost use Rattle.rc_naming.specs.Naming.{naming_of};
 ghost use Rattle.rc_sheet.specs.ReadSetup.{Setup};
-ghost use Rattle.rc_sheet.specs.ReadSheet.{setup_form_at, sheet_of};
+ghost use Rattle.rc_sheet.specs.ReadSheet.{setup_form_at, sheet_with};
 
 /// The map of a line of points has the number of the lines of points before it.
 pub fn maps_are_in_turn()
@@ -27,15 +27,15 @@ pub fn setup_is_given()
         (body : SheetItems × (Best × IntExpr)) (bytes : List ℕ) → tree ≡ list (cons head (cons setup rest)) from to
         → faults place.Sheet tree ≡ [] → second_faults tree ≡ [] → setup_form_at (naming_of tree) setup ≡ Some s
         → is_named bytes (flat_map attributes_in (parts_of tree)) ≡ true
-        → position (bytes_eq bytes) (naming_of tree).names.attrs ≡ Some n → IsAttr (sheet_of (naming_of tree) s body) n }
+        → position (bytes_eq bytes) (naming_of tree).names.attrs ≡ Some n → IsAttr (sheet_with (naming_of tree) s body) n }
     ensures values { (tree head setup : Tree) (rest : Trees) (from to n : ℕ) (s : Setup)
         (body : SheetItems × (Best × IntExpr)) (bytes : List ℕ) → tree ≡ list (cons head (cons setup rest)) from to
         → faults place.Sheet tree ≡ [] → second_faults tree ≡ [] → setup_form_at (naming_of tree) setup ≡ Some s
         → is_named bytes (flat_map values_in (parts_of tree)) ≡ true
-        → position (bytes_eq bytes) (naming_of tree).names.values ≡ Some n → IsValue (sheet_of (naming_of tree) s body) n }
+        → position (bytes_eq bytes) (naming_of tree).names.values ≡ Some n → IsValue (sheet_with (naming_of tree) s body) n }
     ensures maps { (tree head setup : Tree) (rest : Trees) (from to n : ℕ) (s : Setup)
         (body : SheetItems × (Best × IntExpr)) (bytes : List ℕ) → tree ≡ list (cons head (cons setup rest)) from to
         → faults place.Sheet tree ≡ [] → second_faults tree ≡ [] → setup_form_at (naming_of tree) setup ≡ Some s
         → is_named bytes (flat_map maps_in (parts_of tree)) ≡ true
-        → position (bytes_eq bytes) (naming_of tree).names.maps ≡ Some n → IsMap (sheet_of (naming_of tree) s body) n }
+        → position (bytes_eq bytes) (naming_of tree).names.maps ≡ Some n → IsMap (sheet_with (naming_of tree) s body) n }
 {}

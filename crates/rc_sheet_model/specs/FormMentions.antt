@@ -8,13 +8,13 @@ use Rattle.rc_sheet_model.specs.StandsSetup.{lines_with}
 use Rattle.rc_model.specs.Words.{different}
 
 -- the form is this atom
-abbrev pub is_atom : String → Tree → Bool
-is_atom text (word bytes from to) = bytes_eq bytes (codes text)
-is_atom text (list parts from to) = false
+abbrev pub is_text : String → Tree → Bool
+is_text text (word bytes from to) = bytes_eq bytes (codes text)
+is_text text (list parts from to) = false
 
 -- the form is the word of a kind of locations
 abbrev pub is_kind : Tree → Bool
-is_kind form = is_atom "vloc" form || is_atom "iloc" form || is_atom "hloc" form || is_atom "mem" form
+is_kind form = is_text "vloc" form || is_text "iloc" form || is_text "hloc" form || is_text "mem" form
 
 -- the word of an atom
 abbrev pub word_of : Tree → List (List ℕ)
@@ -43,12 +43,12 @@ loc_word parts = []
 
 -- `(HOLDER sto NAME)`
 abbrev pub num_word : Trees → List (List ℕ)
-num_word (cons holder (cons kind (cons name nil))) = if is_atom "sto" kind then word_of name else []
+num_word (cons holder (cons kind (cons name nil))) = if is_text "sto" kind then word_of name else []
 num_word parts = []
 
 -- `(max COLL using MAP)` and the like; another list may have an attribute of the name `using`
 abbrev pub is_measure : Tree → Bool
-is_measure head = is_atom "max" head || is_atom "min" head || is_atom "sum" head || is_atom "points" head
+is_measure head = is_text "max" head || is_text "min" head || is_text "sum" head || is_text "points" head
 
 abbrev pub map_word : Trees → List (List ℕ)
 map_word (cons head (cons card (cons fixed (cons map nil)))) = if is_measure head then word_of map else []
@@ -57,17 +57,17 @@ map_word parts = []
 -- `(attr CARD ATTR)`, `(partition COLL ATTR)`, `(is CARD ATTR VALUE)`
 abbrev pub attr_word : Trees → List (List ℕ)
 attr_word (cons head (cons card (cons attr nil))) =
-    if is_atom "attr" head || is_atom "partition" head then word_of attr else []
-attr_word (cons head (cons card (cons attr (cons value nil)))) = if is_atom "is" head then word_of attr else []
+    if is_text "attr" head || is_text "partition" head then word_of attr else []
+attr_word (cons head (cons card (cons attr (cons value nil)))) = if is_text "is" head then word_of attr else []
 attr_word parts = []
 
 abbrev pub value_word : Trees → List (List ℕ)
-value_word (cons head (cons card (cons attr (cons value nil)))) = if is_atom "is" head then word_of value else []
+value_word (cons head (cons card (cons attr (cons value nil)))) = if is_text "is" head then word_of value else []
 value_word parts = []
 
 -- `(filter COLL 'V ..)`, `(all DOMAIN 'V ..)`, `(any DOMAIN 'V ..)`, in the order of the text
 abbrev pub is_binder : Tree → Bool
-is_binder head = is_atom "filter" head || is_atom "all" head || is_atom "any" head
+is_binder head = is_text "filter" head || is_text "all" head || is_text "any" head
 
 abbrev mutual
   pub var_words : Tree → List (List ℕ)

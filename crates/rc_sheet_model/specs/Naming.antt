@@ -12,8 +12,8 @@ pub record Naming : Type 0 where
   pub nums : List NumName
 
 -- the naming of a sheet
-abbrev pub naming_of : Sheet → Naming
-naming_of sheet = record { names = sheet.names; locs = sheet.locs; nums = sheet.nums }
+abbrev pub sheet_naming : Sheet → Naming
+sheet_naming sheet = record { names = sheet.names; locs = sheet.locs; nums = sheet.nums }
 
 -- a bound variable: its word, and what it stands for
 pub record Variable : Type 0 where

@@ -3,7 +3,7 @@ use Rattle.std.specs.Prelude.{ℕ, ◌+◌, zero, suc, List, [], ◌∷◌, code
 use Rattle.rc_model.specs.Deck.{Groups, no_group, group, Branches, no_branch, branch}
 use Rattle.rc_sheet_model.specs.Sheet.{Sort, player_sort, card_sort, group_sort, lowest, game_class, player_class, team_class, vloc, iloc, mem, Who, game, Loc, Num, literal, choice, do_item, shuffle, eq_int, Test, stage, Sheet, DeckLine, no_item}
 use Rattle.rc_sheet_model.specs.Lists.{effects_from, items_from}
-use Rattle.rc_sheet_model.specs.Naming.{Naming, naming_of, Variable, Scope}
+use Rattle.rc_sheet_model.specs.Naming.{Naming, Variable, Scope, sheet_naming}
 use Rattle.rc_sheet_model.specs.WellFormed.{Around}
 use Rattle.rc_sheet_model.specs.Examples.{four_cards}
 
@@ -28,7 +28,7 @@ parts =
     }
 
 abbrev pub naming : Naming
-naming = naming_of parts
+naming = sheet_naming parts
 
 abbrev pub variable : List ℕ → Sort → Variable
 variable word sort = record { word = word; sort = sort }

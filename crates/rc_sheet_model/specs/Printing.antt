@@ -7,7 +7,7 @@ use Rattle.rc_model.specs.Tree.{Tree, word, list, printed}
 pub use Rattle.rc_model.specs.Tree.{packed}
 use Rattle.rc_model.specs.Deck.{Groups, no_group, group, Branches, no_branch, branch, Entry}
 use Rattle.rc_sheet_model.specs.Sheet.{Teams, Best, highest, lowest, Class, game_class, player_class, team_class, End, top, bottom, LocName, Who, game, current_player, current_team, team_of_current, team_of_var, who_var, Loc, Num, CardExpr, card_var, top_card, bottom_card, max_card, min_card, CollExpr, group_var, cards_in, filtered, union_of, CollExprs, no_coll, coll, IntExpr, literal, number, size_of, sum_of, worth_of, add, subtract, multiply, Test, eq_int, eq_card, eq_attr, eq_who, ne, less, less_eq, more, more_eq, has_value, and_of, or_of, not_of, all_of, any_of, Tests, no_test, test, Domain, each_player, each_card, each_group, Effect, move, move_all, remember, forget, shuffle, set_to, increase, decrease, when, repeat, for_each, next_is, turn_round, Effects, no_effect, effect, Alt, do_alt, if_alt, any_alt, SheetItem, do_item, stage, choice, SheetItems, no_item, item, DeckLine, Sheet}
-use Rattle.rc_sheet_model.specs.Naming.{Naming, naming_of, kind_word}
+use Rattle.rc_sheet_model.specs.Naming.{Naming, kind_word, sheet_naming}
 use Rattle.rc_sheet_model.specs.StandsSetup.{numbered}
 
 -- an atom, and a list of forms
@@ -69,8 +69,8 @@ abbrev pub with_map : Naming → String → Tree → ℕ → Tree
 with_map naming head part map = row (keyword head ∷ part ∷ keyword "using" ∷ named naming.names.maps map ∷ [])
 
 -- a card's attribute
-abbrev pub attr_of : Naming → Tree → ℕ → Tree
-attr_of naming card attr = two "attr" card (named naming.names.attrs attr)
+abbrev pub attr_form : Naming → Tree → ℕ → Tree
+attr_form naming card attr = two "attr" card (named naming.names.attrs attr)
 
 abbrev mutual
   pub card_form : Naming → Bound → CardExpr → Tree
@@ -106,7 +106,7 @@ abbrev mutual
   test_form naming bound (eq_int a b) = two "=" (int_form naming bound a) (int_form naming bound b)
   test_form naming bound (eq_card a b) = two "=" (card_form naming bound a) (card_form naming bound b)
   test_form naming bound (eq_attr a attr b attr') =
-      two "=" (attr_of naming (card_form naming bound a) attr) (attr_of naming (card_form naming bound b) attr')
+      two "=" (attr_form naming (card_form naming bound a) attr) (attr_form naming (card_form naming bound b) attr')
   test_form naming bound (eq_who who who') = two "=" (who_form bound who) (who_form bound who')
   test_form naming bound (ne t) = row (keyword "!=" ∷ sides naming bound t)
   test_form naming bound (less a b) = two "<" (int_form naming bound a) (int_form naming bound b)
@@ -130,7 +130,7 @@ abbrev mutual
   sides naming bound (eq_int a b) = int_form naming bound a ∷ int_form naming bound b ∷ []
   sides naming bound (eq_card a b) = card_form naming bound a ∷ card_form naming bound b ∷ []
   sides naming bound (eq_attr a attr b attr') =
-      attr_of naming (card_form naming bound a) attr ∷ attr_of naming (card_form naming bound b) attr' ∷ []
+      attr_form naming (card_form naming bound a) attr ∷ attr_form naming (card_form naming bound b) attr' ∷ []
   sides naming bound (eq_who who who') = who_form bound who ∷ who_form bound who' ∷ []
   sides naming bound other = []
 
@@ -248,7 +248,7 @@ map_form naming line =
 abbrev pub setup_forms : Sheet → List Tree
 setup_forms sheet =
     players_form sheet.players ∷ teams_forms sheet.teams
-    ++ map (deck_form (naming_of sheet)) sheet.decks ++ map (map_form (naming_of sheet)) (numbered sheet.points)
+    ++ map (deck_form (sheet_naming sheet)) sheet.decks ++ map (map_form (sheet_naming sheet)) (numbered sheet.points)
 
 abbrev pub best_form : Best → Tree
 best_form highest = keyword "max"
@@ -256,13 +256,13 @@ best_form lowest = keyword "min"
 
 -- in the score each player is the variable `'SELF` in turn
 abbrev pub scoring_form : Sheet → Tree
-scoring_form sheet = two "scoring" (best_form sheet.best) (int_form (naming_of sheet) (codes "'SELF" ∷ []) sheet.score)
+scoring_form sheet = two "scoring" (best_form sheet.best) (int_form (sheet_naming sheet) (codes "'SELF" ∷ []) sheet.score)
 
 -- the form of a whole sheet
 abbrev pub sheet_form : Sheet → Tree
 sheet_form sheet =
     row (keyword "game" ∷ row (keyword "setup" ∷ setup_forms sheet)
-    ∷ item_forms (naming_of sheet) sheet.items ++ scoring_form sheet ∷ [])
+    ∷ item_forms (sheet_naming sheet) sheet.items ++ scoring_form sheet ∷ [])
 
 -- its bytes
 abbrev pub printed_sheet : Sheet → List ℕ

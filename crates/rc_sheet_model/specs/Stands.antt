@@ -2,7 +2,7 @@
 use Rattle.rc_model.specs.Tree.{Tree}
 use Rattle.rc_sheet_model.specs.Sheet.{Best, highest, lowest, Sheet}
 use Rattle.rc_sheet_model.specs.Rows.{◌▸◌, End, AtLeast, Some, Row, Atom}
-use Rattle.rc_sheet_model.specs.Naming.{naming_of, self_scope}
+use Rattle.rc_sheet_model.specs.Naming.{self_scope, sheet_naming}
 use Rattle.rc_sheet_model.specs.StandsSetup.{StandsSetup}
 use Rattle.rc_sheet_model.specs.StandsExpressions.{StandsInt}
 use Rattle.rc_sheet_model.specs.StandsItems.{StandItems}
@@ -15,11 +15,11 @@ StandsBest lowest = Atom "min"
 -- `(scoring BEST INT)`
 abbrev pub StandsScoring : Sheet → Tree → Type 0
 StandsScoring sheet =
-    Row (Atom "scoring" ▸ StandsBest sheet.best ▸ StandsInt (naming_of sheet) self_scope sheet.score ▸ End)
+    Row (Atom "scoring" ▸ StandsBest sheet.best ▸ StandsInt (sheet_naming sheet) self_scope sheet.score ▸ End)
 
 -- `(game (setup LINE+) ITEM+ (scoring BEST INT))`
 abbrev pub Stands : Sheet → Tree → Type 0
 Stands sheet =
     Row (Atom "game"
-    ▸ Row (Atom "setup" ▸ Some (StandsSetup (naming_of sheet) sheet))
-    ▸ AtLeast 2 (StandItems (naming_of sheet) sheet.items (StandsScoring sheet ▸ End)))
+    ▸ Row (Atom "setup" ▸ Some (StandsSetup (sheet_naming sheet) sheet))
+    ▸ AtLeast 2 (StandItems (sheet_naming sheet) sheet.items (StandsScoring sheet ▸ End)))

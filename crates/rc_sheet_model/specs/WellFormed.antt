@@ -8,7 +8,7 @@ use Rattle.rc_model.specs.Deck.{Groups, no_group, group, Branches, no_branch, br
 use Rattle.rc_sheet_model.specs.Sheet.{Teams, Class, game_class, player_class, team_class, Sort, player_sort, card_sort, group_sort, LocKind, vloc, iloc, hloc, mem, Who, game, current_player, current_team, team_of_current, team_of_var, who_var, Loc, Num, CardExpr, card_var, top_card, bottom_card, max_card, min_card, CollExpr, group_var, cards_in, filtered, union_of, CollExprs, no_coll, coll, IntExpr, literal, number, size_of, sum_of, worth_of, add, subtract, multiply, Test, eq_int, eq_card, eq_attr, eq_who, ne, less, less_eq, more, more_eq, has_value, and_of, or_of, not_of, all_of, any_of, Tests, no_test, test, Domain, each_player, each_card, each_group, Effect, move, move_all, remember, forget, shuffle, set_to, increase, decrease, when, repeat, for_each, next_is, turn_round, Effects, no_effect, effect, Alt, do_alt, if_alt, any_alt, SheetItem, do_item, stage, choice, SheetItems, no_item, item, DeckLine, Sheet}
 use Rattle.rc_sheet_model.specs.Lists.{coll_list, test_list, effect_list, item_list}
 use Rattle.rc_model.specs.Words.{is_variable}
-use Rattle.rc_sheet_model.specs.Naming.{Scope, naming_of, bind, self_scope, sort_of, class_of, loc_class, num_class}
+use Rattle.rc_sheet_model.specs.Naming.{Scope, bind, self_scope, sort_of, class_of, loc_class, num_class, sheet_naming}
 use Rattle.rc_model.specs.Clamp.{IsWithinClamp}
 use Rattle.rc_sheet_model.specs.Limits.{most_players, most_cards, most_locations, most_numbers, most_attrs, most_values, most_maps, most_stages, most_sites, most_variables, most_repeats, most_open}
 use Rattle.rc_sheet_model.specs.Mentions.{attr_of, value_of, in_setup, stages_in, sites_in}
@@ -111,21 +111,21 @@ module _ (sheet : Sheet) where
   -- what is around the parts behind a binder
   abbrev pub behind : Around → ℕ → Sort → Around
   behind around bound sort =
-      record around { scope = bind (naming_of sheet) around.scope bound sort; binders = around.binders + 1 }
+      record around { scope = bind (sheet_naming sheet) around.scope bound sort; binders = around.binders + 1 }
 
   -- whether the locations of a name hold references
   abbrev pub holds_references : ℕ → Option Bool
   holds_references name = option_map (λ loc. is_mem loc.kind) (slice_get sheet.locs name)
 
   abbrev pub IsLoc : Around → Loc → Type 0
-  IsLoc around loc = IsHolder around loc.who × (loc_class (naming_of sheet) loc.name ≡ Some (class_of loc.who))
+  IsLoc around loc = IsHolder around loc.who × (loc_class (sheet_naming sheet) loc.name ≡ Some (class_of loc.who))
 
   -- a location of cards, or of references
   abbrev pub IsPlace : Around → Bool → Loc → Type 0
   IsPlace around references loc = IsLoc around loc × (holds_references loc.name ≡ Some references)
 
   abbrev pub IsNum : Around → Num → Type 0
-  IsNum around num = IsHolder around num.who × (num_class (naming_of sheet) num.name ≡ Some (class_of num.who))
+  IsNum around num = IsHolder around num.who × (num_class (sheet_naming sheet) num.name ≡ Some (class_of num.who))
 
   abbrev mutual
     pub IsCard : Around → CardExpr → Type 0
@@ -268,7 +268,7 @@ abbrev mutual
 abbrev pub IsDeck : Sheet → DeckLine → Type 0
 IsDeck sheet line =
     (1 ≤ length (group_attrs line.groups)) × AreGroups [] line.groups
-    × (loc_class (naming_of sheet) line.loc ≡ Some game_class) × (holds_references sheet line.loc ≡ Some false)
+    × (loc_class (sheet_naming sheet) line.loc ≡ Some game_class) × (holds_references sheet line.loc ≡ Some false)
 
 abbrev pub IsEntry : Entry → Type 0
 IsEntry entry = (1 ≤ length entry.values) × IsWithinClamp entry.points

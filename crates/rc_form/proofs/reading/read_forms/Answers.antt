@@ -5,7 +5,7 @@ use Rattle.rc_model.specs.Token.{tokens}
 use Rattle.rc_model.specs.Tree.{Tree, spelling}
 use Rattle.rc_model.specs.Spelled.{Spelled, IsTopList, next_offset}
 use Rattle.rc_form.specs.Form.{tree_of, trees_of, IsPrintable}
-use Rattle.rc_form.specs.FormFault.{IsFormFault, IfFault}
+use Rattle.rc_form.specs.FormFault.{IsFormFault, IfFormFault}
 use Rattle.rc_form.specs.Lexer.{tokens_at}
 use Rattle.rc_form.specs.Read.{read}
 use Rattle.rc_form.specs.Reader.{FaultIs}
@@ -43,14 +43,14 @@ is_spelled text want f reads rests = Spelled-from_read text want (trees_of f.lis
 
 -- the fault at which reading stops is the first
 IfErr-fault : (text : List ℕ) (want : ℕ) (r : Result Forms FormFail) → IfErr r (FaultIs (read want [] [] (tokens text)))
-    → IfErr r (λ fail. IfFault fail (λ f. IsFormFault text want f.kind f.at))
+    → IfErr r (λ fail. IfFormFault fail (λ f. IsFormFault text want f.kind f.at))
 IfErr-fault text want (Ok f) is = tt
 IfErr-fault text want (Err Memory) is = tt
 IfErr-fault text want (Err (Fault f)) is = fault-from_read want (tokens text) f is
 
 -- the first fault is the only one
 IfErr-only_fault : (text : List ℕ) (want : ℕ) (r : Result Forms FormFail) → IfErr r (FaultIs (read want [] [] (tokens text)))
-    → IfErr r (λ fail. IfFault fail (λ f. (kind : FormKind) (at : ℕ) → IsFormFault text want kind at → (kind ≡ f.kind) × (at ≡ f.at)))
+    → IfErr r (λ fail. IfFormFault fail (λ f. (kind : FormKind) (at : ℕ) → IsFormFault text want kind at → (kind ≡ f.kind) × (at ≡ f.at)))
 IfErr-only_fault text want (Ok f) is = tt
 IfErr-only_fault text want (Err Memory) is = tt
 IfErr-only_fault text want (Err (Fault f)) is =

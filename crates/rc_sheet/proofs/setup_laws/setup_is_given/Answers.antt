@@ -6,7 +6,7 @@ use Rattle.rc_grammar.specs.declared.grammar.Place.TheVariants as place
 use Rattle.rc_semantics.specs.SecondFaults.{second_faults}
 use Rattle.rc_naming.specs.Naming.{naming_of}
 use Rattle.rc_sheet.specs.ReadSetup.{Setup}
-use Rattle.rc_sheet.specs.ReadSheet.{setup_form_at, sheet_of}
+use Rattle.rc_sheet.specs.ReadSheet.{setup_form_at, sheet_with}
 use Rattle.rc_sheet.proofs.Means.{means_so}
 use Rattle.rc_sheet.proofs.Fine.{given_of}
 use Rattle.rc_sheet.proofs.FineNames.{Gives}
@@ -17,7 +17,7 @@ use Rattle.rc_sheet.proofs.setup_laws.setup_is_given.Goals as goal
 -- what a sheet with the setup of a form gives
 gives : (tree head setup : Tree) (rest : Trees) (from to : ℕ) (s : Setup) (body : SheetItems × (Best × IntExpr))
     → tree ≡ list (cons head (cons setup rest)) from to → faults place.Sheet tree ≡ [] → second_faults tree ≡ []
-    → setup_form_at (naming_of tree) setup ≡ Some s → Gives (sheet_of (naming_of tree) s body) (given_of tree)
+    → setup_form_at (naming_of tree) setup ≡ Some s → Gives (sheet_with (naming_of tree) s body) (given_of tree)
 gives tree head setup rest from to s body same shaped sound is =
     means_so (setup_form_at (naming_of tree) (setup_in tree)) s (is_set_up tree shaped sound)
     (ap (setup_form_at (naming_of tree)) (ap setup_in same) ∙ is) body

@@ -1,6 +1,6 @@
 use Rattle.std.proofs.Common.{◌≡◌, ◌+◌, ◌∷◌, ◌++◌, [], drop, Some, Err, option_map, sym, ap, subst, ◌∙◌, refl}
 use Rattle.rc_form.specs.Form.{tree_of, trees_of, packed}
-use Rattle.rc_semantics.specs.Checks.{IfFault, Checks}
+use Rattle.rc_semantics.specs.Checks.{Checks, IfSheetFault}
 use Rattle.rc_semantics.specs.SecondParts.{form, parts_at, parts_in, with_form, attributes_behind}
 use Rattle.rc_semantics.specs.Seen.{standing_seen}
 use Rattle.rc_semantics.specs.Summary.{check_all}
@@ -14,7 +14,7 @@ list-returns-in-Err-clause-walked t c = λ to.
     let at = standing_seen c.args.at.now c.args.self.now.above in
     let all = packed (trees_of c.args.parts.now) in
     subst
-    (λ found. IfFault c.in-Err.fail
+    (λ found. IfSheetFault c.in-Err.fail
     (λ fault. check_all c.args.whole.now c.args.self.now.seen
     (with_form at all c.args.from (λ rule. parts_in at rule all 0 all) found) ≡ Err fault))
     (sym (sym c.rule_of.ensures ∙ c.in-Some.is))
