@@ -23,6 +23,7 @@ pub fn entries_of(alloc: Global, names: &Names, entries: &Form) -> Result<Option
     ensures only { IfOk result (λ found. IfSome found
         (λ points. (list : List Entry) → EntriesStand names.now list (tree_of entries.now) → list ≡ entries_seen points)) }
 {
+    // The counts tell the proof that no name has two numbers.
     let _attrs_differ = names.attr_count();
     let _values_differ = names.value_count();
     read_entries(alloc, names, entries)

@@ -22,6 +22,7 @@ pub fn deck_of(alloc: Global, names: &Names, deck: &Form) -> Result<Option<DeckT
     ensures only { IfOk result (λ found. IfSome found
         (λ tree. (groups : Groups) → DeckStands names.now groups (tree_of deck.now) → groups ≡ groups_of tree)) }
 {
+    // The counts tell the proof that no name has two numbers.
     let _attrs_differ = names.attr_count();
     let _values_differ = names.value_count();
     read_deck(alloc, names, deck)
