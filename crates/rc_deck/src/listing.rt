@@ -68,8 +68,8 @@ fn extend_by_branch(
     branch: &Branch,
     all: &mut Vec<Face>,
 ) -> Result<(), Memory>
-    ensures { OnOk result
-        (all.new.items ≡ all.old.items ++ behind (face ++ (attr, value_of branch.now) ∷ []) (faces_of_groups (inner_of branch.now))) }
+    ensures { OnOk result (all.new.items
+        ≡ all.old.items ++ behind (face ++ (attr, value_of branch.now) ∷ []) (faces_of_groups (inner_of branch.now))) }
 {
     let face = face.with(attr, branch.value)?;
     let mut extended = extend_by_groups(alloc, face, &branch.groups)?;

@@ -24,6 +24,8 @@ const LIMIT: i64 = 1_000_000_000;
 
 /// What a face is worth: the sum of the points of all entries that it fits, then clamped to -1,000,000,000 ..
 /// 1,000,000,000.
+///
+/// The map has at most 2^23 entries, and the points of each are in that range.
 pub fn points(map: &PointMap, face: &Face) -> i64
     requires few { vec_len map.now.entries ≤ 2 ^ 23 }
     requires clamped { All (λ entry. IsWithinClamp entry.points) (entries_of map.now) }

@@ -100,7 +100,8 @@ IsFormFault text want kind at = IsFirstFault want (tokens text) kind at
 -- the text spells the wanted lists, or it has a first fault
 abbrev pub IsSpelledOrFaulty : List ℕ → ℕ → Type 0
 IsSpelledOrFaulty text want =
-    ((forms : List Tree) × (rest : ℕ) × Spelled text want forms rest) ⊎ ((kind : FormKind) × (at : ℕ) × IsFormFault text want kind at)
+    ((forms : List Tree) × (rest : ℕ) × Spelled text want forms rest)
+    ⊎ ((kind : FormKind) × (at : ℕ) × IsFormFault text want kind at)
 
 -- what holds of the fault; nothing is said where memory ran out
 abbrev pub IfFormFault : FormFail → (FormFault → Type 0) → Type 0

@@ -1,6 +1,7 @@
 //! Reads the lists in parentheses that a text spells, and prints them.
 #![tactic(auto)]
 
+mod examples;
 mod fault;
 mod form;
 mod lexer;
@@ -10,6 +11,7 @@ mod reader;
 mod reading;
 mod word;
 
+pub use examples::{atoms, counted_lists, same_forms};
 pub use fault::{FormFail, FormFault, FormKind};
 pub use form::{Form, Span};
 pub use literal::{integer, natural};

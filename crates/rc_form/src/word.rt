@@ -33,7 +33,7 @@ impl Word {
     ghost use Rattle.std.specs.List.{list_all};
     ghost use Rattle.rc_model.specs.Token.{is_part};
 
-    /// The word of these bytes.
+    /// The word of these bytes, which are 1 to 64 that may stand in an atom.
     pub fn new(bytes: &[u8]) -> Word
         requires some { 1 ≤ length bytes.now }
         requires short { length bytes.now ≤ 64 }

@@ -1,5 +1,6 @@
 -- Small games whose plays are known, to try the definitions on.
-use Rattle.std.specs.Prelude.{ℕ, List, [], ◌∷◌, map, pos, codes}
+use Rattle.std.specs.Prelude.{ℕ, List, [], ◌∷◌, map, pos, neg_ℤ, codes}
+use Rattle.rc_model.specs.Deck.{Entry}
 use Rattle.rc_model.specs.SmallGame.{SmallGame}
 use Rattle.rc_model.specs.SmallText.{SheetParts, PlanWords}
 use Rattle.rc_model.specs.Tree.{Tree, word, list, packed}
@@ -16,6 +17,27 @@ four_cards scripts turns =
       seats = 0;
       turns = turns;
     }
+
+-- Three players are to be dealt two cards each out of three: the first gets two, the second one and the third none.
+abbrev pub three_hands : ℕ → SmallGame
+three_hands turns =
+    record {
+      players = 3;
+      worths = pos 1 ∷ pos 2 ∷ pos 3 ∷ [];
+      hand_size = 2;
+      scripts = [] ∷ [] ∷ [] ∷ [];
+      deal = 0;
+      seats = 0;
+      turns = turns;
+    }
+
+-- 1,000,000,000 for the values 1 and 2 of attribute 0, 5 for value 2 written twice, and -7 for value 2 of attribute 1
+abbrev pub three_entries : List Entry
+three_entries =
+    record { attr = 0; values = 1 ∷ 2 ∷ []; points = pos 1000000000 }
+    ∷ record { attr = 0; values = 2 ∷ 2 ∷ []; points = pos 5 }
+    ∷ record { attr = 1; values = 2 ∷ []; points = neg_ℤ (pos 7) }
+    ∷ []
 
 -- trees whose offsets don't matter
 abbrev pub atom : List ℕ → Tree
@@ -53,3 +75,25 @@ two_scripts =
       seats = codes "4";
       turns = codes "100";
     }
+
+-- `(deck (R ((1 (Q (x))) R)))`
+abbrev pub inner_deck : Tree
+inner_deck =
+    form (
+    atom (codes "deck")
+    ∷ form (
+    atom (codes "R")
+    ∷ form (
+    form (atom (codes "1") ∷ form (atom (codes "Q") ∷ one_word (codes "x") ∷ []) ∷ [])
+    ∷ atom (codes "R")
+    ∷ [])
+    ∷ [])
+    ∷ [])
+
+-- `((Q (y x) 1) (T (1) 2))`
+abbrev pub other_entries : Tree
+other_entries =
+    form (
+    form (atom (codes "Q") ∷ form (atom (codes "y") ∷ atom (codes "x") ∷ []) ∷ atom (codes "1") ∷ [])
+    ∷ form (atom (codes "T") ∷ one_word (codes "1") ∷ atom (codes "2") ∷ [])
+    ∷ [])

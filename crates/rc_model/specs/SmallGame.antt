@@ -85,7 +85,8 @@ plays_within turns rounds = flat_map option_to_list (take turns (turns_of rounds
 -- what a player's cards on the table are worth together, clamped once
 abbrev pub score_of : List ℤ → List Play → ℕ → ℤ
 score_of worths plays player =
-    clamped (fold ◌+ℤ◌ (pos 0) (map (λ play. slice_index_or worths play.card (pos 0)) (filter (λ play. play.pick.seat == player) plays)))
+    clamped (fold ◌+ℤ◌ (pos 0)
+    (map (λ play. slice_index_or worths play.card (pos 0)) (filter (λ play. play.pick.seat == player) plays)))
 
 -- two for each player whose score is smaller, and one for each other player whose score is equal
 abbrev pub rank_points : List ℤ → ℤ → ℕ

@@ -45,7 +45,9 @@ abbrev pub match_line : Record → List ℕ
 match_line r = line (codes "match " ++ decimal r.number ++ codes " deal " ++ decimal r.deal ++ codes " seats " ++ decimal r.seats)
 
 abbrev pub choose_line : Pick → List ℕ
-choose_line p = line (codes "choose " ++ decimal p.seat ++ codes " " ++ decimal p.site ++ codes " " ++ decimal p.item ++ codes " " ++ decimal p.size)
+choose_line p =
+    line (codes "choose " ++ decimal p.seat ++ codes " " ++ decimal p.site
+    ++ codes " " ++ decimal p.item ++ codes " " ++ decimal p.size)
 
 -- no line where there was no shuffle
 abbrev pub shuffles_line : ℕ → List ℕ
@@ -62,11 +64,15 @@ abbrev pub score_line : Score → List ℕ
 score_line s = line (codes "score " ++ decimal s.player ++ codes " " ++ signed_decimal s.score ++ codes " " ++ decimal s.points)
 
 abbrev pub standing_line : Standing → List ℕ
-standing_line s = line (codes "standing " ++ decimal s.place ++ codes " strategy " ++ decimal s.strategy ++ codes " points " ++ decimal s.points)
+standing_line s =
+    line (codes "standing " ++ decimal s.place ++ codes " strategy " ++ decimal s.strategy
+    ++ codes " points " ++ decimal s.points)
 
 -- a match: its line, its choices, its shuffles, its end, and each player's score
 abbrev pub record_text : Record → List ℕ
-record_text r = match_line r ++ flat_map choose_line r.picks ++ shuffles_line r.shuffles ++ end_line r.ending r.turn ++ flat_map score_line r.scores
+record_text r =
+    match_line r ++ flat_map choose_line r.picks ++ shuffles_line r.shuffles
+    ++ end_line r.ending r.turn ++ flat_map score_line r.scores
 
 -- a house text: the format's line, the matches in order, and the standings
 abbrev pub house_text : List Record → List Standing → List ℕ

@@ -1,3 +1,6 @@
+ghost use Rattle.std.specs.Prelude.{Some, codes};
+ghost use Rattle.rc_outside.specs.ReadFail.{read_fail_text};
+
 use std::error::Error;
 use std::fmt;
 
@@ -6,6 +9,8 @@ use std::fmt;
 pub struct Failed;
 
 impl fmt::Display for Failed {
+    ghost output = { λ _. Some (codes "a read or a write failed") };
+
     fn fmt<W: fmt::Write>(&self, f: &mut fmt::Formatter<W>) -> fmt::Result {
         f.write_str("a read or a write failed")
     }
@@ -25,6 +30,8 @@ pub enum ReadFail {
 }
 
 impl fmt::Display for ReadFail {
+    ghost output = { λ fail. Some (read_fail_text fail) };
+
     fn fmt<W: fmt::Write>(&self, f: &mut fmt::Formatter<W>) -> fmt::Result {
         f.write_str(match self {
             ReadFail::ReadFault => "a read failed",
@@ -41,6 +48,8 @@ impl Error for ReadFail {}
 pub struct WriteFault;
 
 impl fmt::Display for WriteFault {
+    ghost output = { λ _. Some (codes "a write failed") };
+
     fn fmt<W: fmt::Write>(&self, f: &mut fmt::Formatter<W>) -> fmt::Result {
         f.write_str("a write failed")
     }
@@ -53,6 +62,8 @@ impl Error for WriteFault {}
 pub struct NoRoom;
 
 impl fmt::Display for NoRoom {
+    ghost output = { λ _. Some (codes "out of memory") };
+
     fn fmt<W: fmt::Write>(&self, f: &mut fmt::Formatter<W>) -> fmt::Result {
         f.write_str("out of memory")
     }

@@ -33,7 +33,8 @@ plain number = (number, no_group)
 abbrev mutual
   pub read_groups : DeckNames → Trees → Option Groups
   read_groups names nil = Some no_group
-  read_groups names (cons tree trees) = both (λ first rest. group first.0 first.1 rest) (read_group names tree) (read_groups names trees)
+  read_groups names (cons tree trees) =
+      both (λ first rest. group first.0 first.1 rest) (read_group names tree) (read_groups names trees)
 
   pub read_group : DeckNames → Tree → Option Group
   read_group names (word bytes from to) = None
@@ -52,7 +53,8 @@ abbrev mutual
 
   pub read_branches : DeckNames → Trees → Option Branches
   read_branches names nil = Some no_branch
-  read_branches names (cons tree trees) = both (λ first rest. branch first.0 first.1 rest) (read_branch names tree) (read_branches names trees)
+  read_branches names (cons tree trees) =
+      both (λ first rest. branch first.0 first.1 rest) (read_branch names tree) (read_branches names trees)
 
   pub read_branch : DeckNames → Tree → Option Branch
   read_branch names (word bytes from to) = option_map plain (number_of names.values (word bytes from to))
@@ -98,7 +100,8 @@ entry_with attr worth = record { attr = attr; values = worth.0; points = worth.1
 
 abbrev pub read_entry_parts : DeckNames → Trees → Option Entry
 read_entry_parts names (cons head (cons second (cons third nil))) =
-    both entry_with (number_of names.attrs head) (both (λ values points. (values, points)) (read_value_list names second) (read_points third))
+    both entry_with (number_of names.attrs head)
+    (both (λ values points. (values, points)) (read_value_list names second) (read_points third))
 read_entry_parts names nil = None
 read_entry_parts names (cons head nil) = None
 read_entry_parts names (cons head (cons second nil)) = None

@@ -4,6 +4,7 @@
 //! deck tree and [`entries_of`] a point map. [`worths_of`] does it all, and says what each card of the deck is worth.
 #![tactic(auto)]
 
+mod laws;
 mod mentions;
 mod naming;
 mod points_reading;
@@ -12,6 +13,7 @@ mod tests;
 mod tree_reading;
 mod worth;
 
+pub use laws::{decks_are_read_where_they_stand, entries_are_read_where_they_stand};
 pub use mentions::names_of;
 pub use naming::{Names, Numbers};
 pub use points_reading::{entries_of, read_entries};

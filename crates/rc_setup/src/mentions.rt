@@ -13,7 +13,8 @@ use std::alloc::Global;
 /// The names that a deck and entries mention, in the order of the first mention, the deck's before the entries'. The time is
 /// linear in the length of the forms.
 pub fn names_of(alloc: Global, deck: &Form, entries: &Form) -> Result<Names, Memory>
-    ensures { IfOk result (λ names. names ≡ text.names_of (text.in_deck (tree_of deck.now) ++ text.in_entries (tree_of entries.now))) }
+    ensures { IfOk result (λ names. names
+        ≡ text.names_of (text.in_deck (tree_of deck.now) ++ text.in_entries (tree_of entries.now))) }
 {
     let mut names = Names::new(alloc);
     add_deck(&mut names, deck)?;

@@ -10,7 +10,7 @@ use rc_form::{Form, Word};
 use std::alloc::Global;
 use std::marker::Model;
 
-/// What gives numbers to the attributes and the values that forms name.
+/// What gives numbers to the attributes and the values that forms name, of which there are at most 65,536 each.
 pub trait Numbers {
     ghost use Rattle.rc_model.specs.DeckText.{DeckNames};
     ghost use Rattle.rc_setup.specs.Naming.{AreFew};

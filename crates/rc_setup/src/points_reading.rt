@@ -12,27 +12,33 @@ use rc_deck::{Memory, PointEntry, PointMap};
 use rc_form::{Form, integer};
 use std::alloc::Global;
 
-/// The point map that a form `(ENTRY ..)` stands for, each entry an `(ATTR (VALUE ..) n)`. `None` where it stands for none.
+/// The point map that a form `(ENTRY ..)` stands for, each entry an `(ATTR (VALUE ..) n)`. `None` where it stands for none. There
+/// are at most 65,536 names of attributes, and of values.
 pub fn entries_of(alloc: Global, names: &Names, entries: &Form) -> Result<Option<PointMap>, Memory>
     requires few { AreFew names.now }
-    ensures found { IfOk result (λ found. IfSome found (λ points. EntriesStand names.now (entries_seen points) (tree_of entries.now))) }
-    ensures none { IfOk result (λ found. IsNone found → (list : List Entry) → EntriesStand names.now list (tree_of entries.now) → ⊥) }
+    ensures found { IfOk result (λ found. IfSome found
+        (λ points. EntriesStand names.now (entries_seen points) (tree_of entries.now))) }
+    ensures none { IfOk result (λ found. IsNone found
+        → (list : List Entry) → EntriesStand names.now list (tree_of entries.now) → ⊥) }
     ensures only { IfOk result (λ found. IfSome found
         (λ points. (list : List Entry) → EntriesStand names.now list (tree_of entries.now) → list ≡ entries_seen points)) }
 {
+    // The counts tell the proof that no name has two numbers.
     let _attrs_differ = names.attr_count();
     let _values_differ = names.value_count();
     read_entries(alloc, names, entries)
 }
 
-/// The point map that a form `(ENTRY ..)` stands for, by any numbers of its names. `None` where it stands for none.
+/// The point map that a form `(ENTRY ..)` stands for, by any numbers of its names. `None` where it stands for none. There are at
+/// most 65,536 names of attributes, and of values.
 pub fn read_entries<N: Numbers>(
     alloc: Global,
     names: &N,
     entries: &Form,
 ) -> Result<Option<PointMap>, Memory>
     requires few { AreFew (N.words names.now) }
-    ensures { IfOk result (λ found. option_map entries_seen found ≡ reading.read_entries (N.words names.now) (tree_of entries.now)) }
+    ensures { IfOk result (λ found. option_map entries_seen found
+        ≡ reading.read_entries (N.words names.now) (tree_of entries.now)) }
 {
     let Form::List { items, .. } = entries else {
         return Ok(None);
@@ -92,7 +98,8 @@ fn read_value_list<N: Numbers>(
     form: &Form,
 ) -> Result<Option<Vec<u16>>, Memory>
     requires few { AreFew (N.words names.now) }
-    ensures { IfOk result (λ found. option_map (λ values. values.items) found ≡ reading.read_value_list (N.words names.now) (tree_of form.now)) }
+    ensures { IfOk result (λ found. option_map (λ values. values.items) found
+        ≡ reading.read_value_list (N.words names.now) (tree_of form.now)) }
 {
     let Form::List { items, .. } = form else {
         return Ok(None);

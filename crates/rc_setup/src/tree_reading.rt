@@ -12,20 +12,24 @@ use rc_deck::{Branch, DeckTree, Group, Memory};
 use rc_form::Form;
 use std::alloc::Global;
 
-/// The deck tree that a form `(deck GROUP ..)` stands for. `None` where it stands for none.
+/// The deck tree that a form `(deck GROUP ..)` stands for. `None` where it stands for none. There are at most 65,536 names of
+/// attributes, and of values.
 pub fn deck_of(alloc: Global, names: &Names, deck: &Form) -> Result<Option<DeckTree>, Memory>
     requires few { AreFew names.now }
     ensures found { IfOk result (λ found. IfSome found (λ tree. DeckStands names.now (groups_of tree) (tree_of deck.now))) }
-    ensures none { IfOk result (λ found. IsNone found → (groups : Groups) → DeckStands names.now groups (tree_of deck.now) → ⊥) }
+    ensures none { IfOk result (λ found. IsNone found
+        → (groups : Groups) → DeckStands names.now groups (tree_of deck.now) → ⊥) }
     ensures only { IfOk result (λ found. IfSome found
         (λ tree. (groups : Groups) → DeckStands names.now groups (tree_of deck.now) → groups ≡ groups_of tree)) }
 {
+    // The counts tell the proof that no name has two numbers.
     let _attrs_differ = names.attr_count();
     let _values_differ = names.value_count();
     read_deck(alloc, names, deck)
 }
 
-/// The deck tree that a form `(deck GROUP ..)` stands for, by any numbers of its names. `None` where it stands for none.
+/// The deck tree that a form `(deck GROUP ..)` stands for, by any numbers of its names. `None` where it stands for none. There are
+/// at most 65,536 names of attributes, and of values.
 pub fn read_deck<N: Numbers>(
     alloc: Global,
     names: &N,

@@ -22,9 +22,12 @@ const MOST_NAMES: usize = 256;
 /// What each card of a deck is worth, from the first to the last. `None` where the forms are no deck and entries, where the
 /// deck has more than 512 cards, where there are more than 256 attributes or values, or where a card has an attribute
 /// twice.
+///
+/// The form of the entries has at most 2^23 parts, as each form of a text of `read_forms` has.
 pub fn worths_of(alloc: Global, deck: &Form, entries: &Form) -> Result<Option<Vec<i64>>, Memory>
     requires few { count_of_parts (tree_of entries.now) ≤ 2 ^ 23 }
-    ensures found { IfOk result (λ found. IfSome found (λ worths. HaveWorths (tree_of deck.now) (tree_of entries.now) worths.items)) }
+    ensures found { IfOk result (λ found. IfSome found
+        (λ worths. HaveWorths (tree_of deck.now) (tree_of entries.now) worths.items)) }
     ensures none { IfOk result (λ found. IsNone found
         → (worths : List ℤ) → HaveWorths (tree_of deck.now) (tree_of entries.now) worths → ⊥) }
     ensures only { IfOk result (λ found. IfSome found
@@ -74,7 +77,7 @@ fn all_have_each_once(faces: &[Face]) -> bool
     true
 }
 
-// A face with an attribute twice shows it among its first 257 pairs, since there are at most 256 attributes.
+// It stops at the first attribute that stands twice, so where there are at most 256 attributes it looks at 257 pairs at most.
 fn has_each_once(face: &Face) -> bool
     ensures { IsTrue result ↔ HasEachOnce face.now }
 {
