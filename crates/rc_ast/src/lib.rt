@@ -14,6 +14,7 @@ mod printing;
 mod sheet;
 #[cfg(test)]
 mod tests;
+mod unplaced_examples;
 mod word;
 
 pub use effects::{Effect, End};
@@ -23,4 +24,5 @@ pub use laws::cards_are_faces;
 pub use names::{Class, LocKind, LocName, Names, NumName, Sort};
 pub use printing::{print_sheet, printed_form_stands};
 pub use sheet::{Best, DeckLine, Sheet, Teams};
+pub use unplaced_examples::{bare_forms, offsets_taken_away};
 pub use word::Word;

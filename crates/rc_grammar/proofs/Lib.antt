@@ -1,3 +1,4 @@
 pub mod Counts
 pub mod FirstFault
 pub mod InOrder
+pub mod OneForm

@@ -1,5 +1,5 @@
 -- The first round of faults of a form: parts that are no form of their place, and atoms that are no numbers of their place.
-use Rattle.std.specs.Prelude.{ℕ, ◌+◌, Bool, true, false, not, ◌&&◌, ◌||◌, ◌==◌, nat_lt, if◌then◌else◌, List, [], ◌∷◌, ◌++◌, length, slice_get, find, ℤ, pos, neg_ℤ, int_le, Option, Some, None, is_none, option_map, option_to_list, Result, Ok, Err}
+use Rattle.std.specs.Prelude.{ℕ, ◌+◌, Bool, true, false, not, ◌&&◌, ◌||◌, ◌==◌, nat_lt, if◌then◌else◌, List, [], ◌∷◌, ◌++◌, length, slice_get, find, filter, ℤ, pos, neg_ℤ, int_le, Option, Some, None, is_none, option_map, option_to_list, Result, Ok, Err}
 use Rattle.std.specs.List.{list_any}
 use Rattle.std.specs.Str.{bytes_eq}
 use Rattle.rc_model.specs.Clamp.{largest_number}
@@ -128,6 +128,13 @@ told_rule place head parts = find (λ rule. begins head rule && is_told (second_
 abbrev pub plain_rule : Place → Tree → Option Rule
 plain_rule place head = find (λ rule. begins head rule && is_none (second_word rule)) (forms_of place)
 
+-- all forms of the place that may begin with this part, by the word behind it or with none such
+abbrev pub told_forms : Place → Tree → Trees → List Rule
+told_forms place head parts = filter (λ rule. begins head rule && is_told (second_word rule) parts) (forms_of place)
+
+abbrev pub plain_forms : Place → Tree → List Rule
+plain_forms place head = filter (λ rule. begins head rule && is_none (second_word rule)) (forms_of place)
+
 -- the form that a list of these parts is to be
 abbrev pub rule_of : Place → Trees → Option Rule
 rule_of place nil = None
@@ -224,12 +231,9 @@ abbrev mutual
 abbrev pub faults : Place → Tree → List SheetFault
 faults place tree = faults_at (Some place) tree
 
--- the faults of the parts of a form, and of a list at a place
+-- the faults of the parts of a form
 abbrev pub part_faults : Rule → Trees → List SheetFault
 part_faults rule parts = faults_in rule (count parts) 0 parts
-
-abbrev pub list_faults : Place → ℕ → Trees → List SheetFault
-list_faults place from parts = told_faults place from parts (λ rule. part_faults rule parts) (rule_of place parts)
 
 -- the first of these faults
 abbrev pub first : List SheetFault → Option SheetFault

@@ -6,6 +6,7 @@ mod choice;
 mod fault;
 mod grammar;
 mod keyword;
+mod laws;
 mod shape;
 #[cfg(test)]
 mod tests;
@@ -15,4 +16,5 @@ pub use choice::{is_form_word, rule_of};
 pub use fault::{SheetFault, SheetKind};
 pub use grammar::{Place, Rule};
 pub use keyword::Keyword;
+pub use laws::one_form_at_most;
 pub use shape::{check_shape, start_of};

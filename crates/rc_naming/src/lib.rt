@@ -7,6 +7,7 @@
 mod finish;
 mod known;
 mod laws;
+mod naming_examples;
 mod numbering;
 mod setup;
 mod sheet_parts;
@@ -16,4 +17,5 @@ mod uses;
 mod walk;
 
 pub use laws::names_are_in_order;
+pub use naming_examples::{first_mentions, namings_of_sheets};
 pub use numbering::{Naming, naming_of};

@@ -1,6 +1,8 @@
 -- What the walk of a whole form answers.
-use Rattle.std.proofs.Common.{◌≡◌, ℕ, List, [], ◌∷◌, Some, None, Result, Ok, Err, IfOk, IfErr, refl, ap, ◌∙◌}
+use Rattle.std.proofs.Common.{◌≡◌, ℕ, ◌≤◌, List, [], ◌∷◌, Some, None, Result, Ok, Err, IfOk, IfErr, refl, ap, ◌∙◌}
+use Rattle.std.specs.List.{All}
 use Rattle.rc_model.specs.Tree.{Tree, nil}
+use Rattle.rc_model.specs.Placed.{IsPlaced}
 use Rattle.rc_sheet_model.specs.WellFormed.{Around, outside}
 use Rattle.rc_grammar.specs.Faults.{first, fault_of}
 use Rattle.rc_grammar.specs.declared.fault.SheetFault.{SheetFault}
@@ -12,6 +14,7 @@ use Rattle.rc_semantics.specs.SecondFaults.{second_faults}
 use Rattle.rc_semantics.specs.Summary.{Whole, whole_of, Summary, nothing_seen, check_all}
 use Rattle.rc_semantics.specs.SecondWalk.{check_form}
 use Rattle.rc_semantics.specs.Checks.{Checks, IfSheetFault}
+use Rattle.rc_semantics.proofs.InOrder.{first_is_least}
 use Rattle.rc_semantics.proofs.SecondLaw.{finds_first}
 
 -- the walk from the start is that of the form
@@ -40,3 +43,11 @@ pub answered_found : (tree : Tree) (new : Summary) (result : Result (Unit {0}) S
 answered_found tree new (Ok u) checks = tt
 answered_found tree new (Err fails.Memory) checks = tt
 answered_found tree new (Err (fails.Fault fault)) checks = finds_first tree ∙ ap fault_of checks
+
+-- which is the least, where the form is placed
+pub answered_least : (tree : Tree) (result : Result (Unit {0}) SheetFail)
+    → IfErr result (λ fail. IfFault fail (λ fault. first (second_faults tree) ≡ Some fault))
+    → IfErr result (λ fail. IfFault fail (λ fault. (size : ℕ) → IsPlaced size tree → All (λ other. fault.at ≤ other.at) (second_faults tree)))
+answered_least tree (Ok u) found = tt
+answered_least tree (Err fails.Memory) found = tt
+answered_least tree (Err (fails.Fault fault)) found = λ size placed. first_is_least size tree fault placed found

@@ -1,6 +1,6 @@
 -- Texts whose first fault is known, to try the definitions on. A `^` marks the byte behind it, and is no byte of the form.
 use Prim.Native.String.{String}
-use Rattle.std.specs.Prelude.{◌≡◌, ℕ, ◌+◌, ◌-◌, ◌==◌, Bool, true, false, not, List, [], ◌∷◌, ◌++◌, filter, map, position, unwrap_or, codes, Some, None}
+use Rattle.std.specs.Prelude.{◌≡◌, ℕ, ◌+◌, ◌-◌, ◌==◌, nat_lt, Bool, true, false, not, if◌then◌else◌, List, [], ◌∷◌, ◌++◌, filter, map, position, unwrap_or, codes, Some, None}
 use Rattle.rc_model.specs.Tree.{word, list, Trees, nil, cons}
 use Rattle.rc_sheet_model.specs.Examples.{form_of}
 use Rattle.rc_model.specs.Numbers.{below}
@@ -101,6 +101,14 @@ value n = atom (record standing_alone { role = given_value }) (n ∷ []) 0
 
 abbrev pub plain : Rule → ℕ → Part
 plain rule n = made rule []
+
+-- a location of references that is the game's
+abbrev pub references : ℕ → Part
+references n = made rule.Location (codes "game" ∷ codes "mem" ∷ (n ∷ []) ∷ [])
+
+-- the first parts below a number, and the second from it on
+abbrev pub switched : ℕ → (ℕ → Part) → (ℕ → Part) → ℕ → Part
+switched at first second n = if nat_lt n at then first n else second n
 
 -- eight players, and two teams of them
 abbrev pub eight : List Part

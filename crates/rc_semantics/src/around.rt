@@ -59,6 +59,7 @@ pub enum Inner<'a> {
 }
 
 impl<'a> Around<'a> {
+    ghost use Rattle.rc_sheet_model.specs.Limits.{most_variables, most_repeats};
     ghost use Rattle.rc_sheet_model.specs.Sheet.{player_class, team_class};
     ghost use Rattle.rc_sheet_model.specs.WellFormed as model;
 
@@ -124,7 +125,7 @@ impl<'a> Around<'a> {
 
     /// What is around the effects of a repeat.
     fn in_repeat(&self, alloc: Global) -> Result<Around<'a>, SheetFail>
-        requires { self.now.repeats < 2 }
+        requires { self.now.repeats < most_repeats }
         ensures around { IfOk result (λ around. around ≡ model.in_repeat self.now) }
         ensures memory { OnErr result (result ≡ Err SheetFail.Memory) }
     {
@@ -135,7 +136,7 @@ impl<'a> Around<'a> {
 
     /// What is around the body of a binder.
     fn bound_in(&self, alloc: Global, word: &'a [u8], sort: Sort) -> Result<Around<'a>, SheetFail>
-        requires { self.now.binders < 4 }
+        requires { self.now.binders < most_variables }
         ensures around { IfOk result (λ around. around ≡ classes.bound_in self.now word.now (sort_seen sort)) }
         ensures memory { OnErr result (result ≡ Err SheetFail.Memory) }
     {

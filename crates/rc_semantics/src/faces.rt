@@ -12,7 +12,7 @@ const TOO_MANY: u32 = 513;
 
 /// The faces of a deck's tree.
 pub fn faces_of(deck: Option<&Form>) -> u32
-    ensures { result ≡ min (names.faces_of (part_seen deck.entry)) 513 }
+    ensures { result ≡ min (names.faces_of (part_seen deck.entry)) TOO_MANY }
 {
     match deck {
         Some(Form::List { items, .. }) => face_count(items),
@@ -24,7 +24,7 @@ pub fn faces_of(deck: Option<&Form>) -> u32
 /// The faces that groups make: a product.
 #[cycle(faces)]
 fn face_count(groups: &[Form]) -> u32
-    ensures { result ≡ min (names.written_faces (packed (trees_of groups.now))) 513 }
+    ensures { result ≡ min (names.written_faces (packed (trees_of groups.now))) TOO_MANY }
 {
     let mut count = 1;
     for group in groups {
@@ -36,7 +36,7 @@ fn face_count(groups: &[Form]) -> u32
 /// The faces that a group makes by itself.
 #[cycle(faces)]
 fn group_faces(group: &Form) -> u32
-    ensures { result ≡ min (faces_by (tree_of group.now)) 513 }
+    ensures { result ≡ min (faces_by (tree_of group.now)) TOO_MANY }
 {
     let Form::List { items, .. } = group else {
         return 1;
@@ -53,7 +53,7 @@ fn group_faces(group: &Form) -> u32
 /// The faces that branches make: a sum.
 #[cycle(faces)]
 fn branch_count(branches: &[Form]) -> u32
-    ensures { result ≡ min (names.written_branches (packed (trees_of branches.now))) 513 }
+    ensures { result ≡ min (names.written_branches (packed (trees_of branches.now))) TOO_MANY }
 {
     let mut count = 0;
     for branch in branches {
@@ -65,7 +65,7 @@ fn branch_count(branches: &[Form]) -> u32
 /// The faces that a branch makes.
 #[cycle(faces)]
 fn branch_faces(branch: &Form) -> u32
-    ensures { result ≡ min (branch_by (tree_of branch.now)) 513 }
+    ensures { result ≡ min (branch_by (tree_of branch.now)) TOO_MANY }
 {
     match branch {
         Form::Atom { .. } => 1,
@@ -74,17 +74,17 @@ fn branch_faces(branch: &Form) -> u32
 }
 
 fn product(a: u32, b: u32) -> u32
-    requires few_a { a ≤ 513 }
-    requires few_b { b ≤ 513 }
-    ensures { result ≡ min (a * b) 513 }
+    requires few_a { a ≤ TOO_MANY }
+    requires few_b { b ≤ TOO_MANY }
+    ensures { result ≡ min (a * b) TOO_MANY }
 {
     (a * b).min(TOO_MANY)
 }
 
 fn sum(a: u32, b: u32) -> u32
-    requires few_a { a ≤ 513 }
-    requires few_b { b ≤ 513 }
-    ensures { result ≡ min (a + b) 513 }
+    requires few_a { a ≤ TOO_MANY }
+    requires few_b { b ≤ TOO_MANY }
+    ensures { result ≡ min (a + b) TOO_MANY }
 {
     (a + b).min(TOO_MANY)
 }

@@ -219,7 +219,7 @@ impl<'a> Summary<'a> {
 
 /// Whether a word is one too many among these.
 fn is_name_over(names: &DifferentNames<'_>, word: &[u8]) -> bool
-    ensures { result ≡ spec.goes_over 256 (length names.now) (spec.new_words word.now names.now) }
+    ensures { result ≡ spec.goes_over MOST_NAMES (length names.now) (spec.new_words word.now names.now) }
 {
     let more = if names.contains(word) { 0 } else { 1 };
     goes_over(MOST_NAMES, names.len() as u64, more)

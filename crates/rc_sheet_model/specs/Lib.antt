@@ -16,4 +16,5 @@ pub mod FormMentions
 pub mod Sight
 pub mod Examples
 pub mod PartExamples
+pub mod ClauseExamples
 pub mod SightExamples

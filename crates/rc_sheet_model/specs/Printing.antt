@@ -1,7 +1,7 @@
 -- The one form that stands for a sheet as it is printed, and its bytes. Its offsets are all 0, since nothing that is printed
 -- depends on them. A number that no word has is printed as an empty atom.
 use Prim.Native.String.{String}
-use Rattle.std.specs.Prelude.{ℕ, List, [], ◌∷◌, ◌++◌, map, flat_map, slice_get, slice_index_or, codes, ℤ, pos, Option, None, Some}
+use Rattle.std.specs.Prelude.{ℕ, List, [], ◌∷◌, ◌++◌, map, slice_get, slice_index_or, codes, ℤ, pos, Option, None, Some}
 use Rattle.std.specs.Fmt.{signed_decimal}
 use Rattle.rc_model.specs.Tree.{Tree, word, list, printed}
 pub use Rattle.rc_model.specs.Tree.{packed}

@@ -2,12 +2,17 @@
 //! sheet, and which sheets are well formed.
 #![tactic(auto)]
 
+mod clause_examples;
 mod examples;
 mod laws;
 mod part_examples;
 mod printing_examples;
 mod sight_examples;
 
+pub use clause_examples::{
+    a_line_of_teams, depths, faulty_parts, heads_and_places, names_counted, numbers_of_names,
+    own_domains, own_variable, owners_counted, owners_in_stages, ranges, seen_by_mover, words,
+};
 pub use examples::{
     four_cards_form, four_cards_numbered, four_cards_stands, four_cards_well_formed,
 };
