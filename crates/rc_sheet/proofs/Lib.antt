@@ -88,6 +88,17 @@ pub mod WellFormed
 pub mod ShapedParts
 pub mod PlainWords
 pub mod SomePlayers
+pub mod UnplacedTwice
+pub mod UnplacedForms
+pub mod UnplacedMentions
+pub mod UnplacedParts
+pub mod UnplacedSight
+pub mod Moved
+pub mod MovedExpressions
+pub mod MovedItems
+pub mod MovedSetup
+pub mod MovedSheet
+pub mod MovedWell
 pub mod PrintedAgain
 pub mod SoundParts
 pub mod SoundNames
