@@ -99,6 +99,7 @@ pub mod MovedItems
 pub mod MovedSetup
 pub mod MovedSheet
 pub mod MovedWell
+pub mod LineFeeds
 pub mod PrintedAgain
 pub mod SoundParts
 pub mod SoundNames

@@ -51,7 +51,7 @@ pub use limit_laws::{
 pub use name_laws::names_are_few;
 pub use numbering::{mentions_stand, what_is_read_is_numbered};
 pub use one_law::a_form_has_one_sheet;
-pub use printing_laws::printed_sheet_reads_back;
+pub use printing_laws::{printed_sheet_reads_back, written_sheet_reads_back};
 pub use rc_semantics::{SheetFail, SheetFault, SheetKind};
 pub use setup_laws::{maps_are_in_turn, setup_is_given};
 pub use sound_law::{a_sheet_has_no_fault, a_sheet_has_no_second_fault};
