@@ -46,8 +46,8 @@ answered_found tree new (Err (fails.Fault fault)) checks = finds_first tree ∙ 
 
 -- which is the least, where the form is placed
 pub answered_least : (tree : Tree) (result : Result (Unit {0}) SheetFail)
-    → IfErr result (λ fail. IfFault fail (λ fault. first (second_faults tree) ≡ Some fault))
-    → IfErr result (λ fail. IfFault fail (λ fault. (size : ℕ) → IsPlaced size tree → All (λ other. fault.at ≤ other.at) (second_faults tree)))
+    → IfErr result (λ fail. IfSheetFault fail (λ fault. first (second_faults tree) ≡ Some fault))
+    → IfErr result (λ fail. IfSheetFault fail (λ fault. (size : ℕ) → IsPlaced size tree → All (λ other. fault.at ≤ other.at) (second_faults tree)))
 answered_least tree (Ok u) found = tt
 answered_least tree (Err fails.Memory) found = tt
 answered_least tree (Err (fails.Fault fault)) found = λ size placed. first_is_least size tree fault placed found

@@ -1,4 +1,4 @@
--- A form that stands for a well formed sheet, and whose shape has no fault, has no fault of the second round.
+-- A form that stands for a well formed sheet has no fault of the second round where its shape has none, and so none at all.
 use Rattle.std.proofs.Common.{◌≡◌, ℕ, suc, ◌+◌, ◌<◌, ◌≤◌, List, [], ◌∷◌, length, map, flat_map, Option, Some, None, true, not, nat_eq, bytes_eq, refl, sym, subst, ap, ap₂, ◌∙◌, arith}
 use Rattle.std.specs.Prelude.{codes, sum, sum_by, slice_index_or}
 use Rattle.std.proofs.lemmas.List.Sums.{sum_by-cons}
@@ -17,14 +17,14 @@ use Rattle.rc_sheet_model.specs.StandsItems.{StandItems}
 use Rattle.rc_sheet_model.specs.Stands.{StandsScoring, Stands}
 use Rattle.rc_model.specs.Deck.{face_count}
 use Rattle.rc_sheet_model.specs.WellFormed.{outside, is_among, owner_count, AreTeams, IsWellFormed}
-use Rattle.rc_grammar.specs.Faults.{faults}
+use Rattle.rc_grammar.specs.Faults.{faults, first}
 use Rattle.rc_grammar.specs.declared.grammar.Place.TheVariants as place
 use Rattle.rc_grammar.specs.declared.grammar.Rule.TheVariants as rule
 use Rattle.rc_semantics.specs.Classes.{owner_count as owner_count_by}
 use Rattle.rc_semantics.specs.declared.role.Role.TheVariants.{No as no_role}
 use Rattle.rc_semantics.specs.SecondParts.{Part, parts_at, parts_of, standing_alone}
 use Rattle.rc_semantics.specs.SecondNames.{some_of, players_in, player_count, teams_in, team_count, members_in, cards_in, attributes_in, values_in, maps_in}
-use Rattle.rc_semantics.specs.SecondFaults.{card_count, attribute_count, value_count, map_count, stage_count, choice_count, location_count, number_count, second_faults}
+use Rattle.rc_semantics.specs.SecondFaults.{card_count, attribute_count, value_count, map_count, stage_count, choice_count, location_count, number_count, second_faults, or_fault, sheet_fault}
 use Rattle.rc_sheet.proofs.FewNames.{no_more_different}
 use Rattle.rc_sheet.proofs.OneRows.{behind_word, row_part}
 use Rattle.rc_sheet.proofs.OneNames.{Differ}
@@ -43,6 +43,7 @@ use Rattle.rc_sheet.proofs.SoundTeams.{players_listed, none_missing, partition_d
 use Rattle.rc_sheet.proofs.SoundOwned.{locs_owned, nums_owned, locs_first, nums_first}
 use Rattle.rc_sheet.proofs.SoundStages.{stages_are as stages_counted, choices_are as choices_counted}
 use Rattle.rc_sheet.proofs.SoundWhole.{IsTogether, no_second_faults}
+use Rattle.rc_sheet.proofs.ShapedSheet.{sheet_shaped}
 
 -- ALL PARTS ARE SOUND
 
@@ -229,3 +230,8 @@ module _ (sheet : Sheet) (tree : Tree) (stands : Stands sheet tree) (well : IsWe
     pub no_second_fault : second_faults tree ≡ []
     no_second_fault =
         no_second_faults sheet all differ together sound
+
+pub no_fault : (sheet : Sheet) (tree : Tree) → Stands sheet tree → IsWellFormed sheet → sheet_fault tree ≡ None
+no_fault sheet tree stands well =
+    let shaped = sheet_shaped sheet tree stands well in
+    ap₂ (λ xs ys. or_fault (first xs) (first ys)) shaped (no_second_fault sheet tree stands well shaped)

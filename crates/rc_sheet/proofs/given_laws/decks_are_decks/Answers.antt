@@ -1,5 +1,0 @@
-use Rattle.rc_sheet.proofs.FineDecks.{decks_are_decks}
-use Rattle.rc_sheet.proofs.given_laws.decks_are_decks.Goals as goal
-
-pub returns : goal.returns
-returns c = λ tree sheet shaped sound is. decks_are_decks tree sheet shaped sound is
