@@ -1,9 +1,9 @@
 -- A form that is the same as another one but for offsets, by the rows of the grammar.
 use Prim.Native.String.{String}
 use Rattle.std.proofs.Common.{◌≡◌, ℕ, ◌+◌, nat_le, List, refl, subst, ap, ◌∙◌}
-use Rattle.rc_model.specs.Tree.{Tree, word, list, Trees, nil, cons}
+use Rattle.rc_model.specs.Tree.{Tree, word, list, Trees, nil, cons, count}
 use Rattle.rc_form.specs.SameForm.{SameForm, SameForms}
-use Rattle.rc_sheet_model.specs.Rows.{◌▸◌, End, count, AtLeast, Row, Word, Atom}
+use Rattle.rc_sheet_model.specs.Rows.{◌▸◌, End, AtLeast, Row, Word, Atom}
 use Rattle.rc_sheet_model.specs.StandsExpressions.{Two}
 
 -- what holds of a form holds of each that is the same but for offsets

@@ -1,10 +1,10 @@
 -- Expressions and tests, where their forms are moved.
 use Prim.Native.String.{String}
 use Rattle.std.proofs.Common.{◌≡◌, ℕ, refl, sym, subst, ap, ap₂, ◌∙◌}
-use Rattle.rc_model.specs.Tree.{Tree, Trees}
+use Rattle.rc_model.specs.Tree.{Tree, Trees, start_of}
 use Rattle.rc_form.specs.SameForm.{SameForm}
 use Rattle.rc_sheet_model.specs.Sheet.{Sort, card_sort, Who, game, current_player, current_team, team_of_current, team_of_var, who_var, Loc, Num, CardExpr, card_var, top_card, bottom_card, max_card, min_card, CollExpr, group_var, cards_in, filtered, union_of, CollExprs, no_coll, coll, IntExpr, literal, number, size_of, sum_of, worth_of, add, subtract, multiply, Test, eq_int, eq_card, eq_attr, eq_who, ne, less, less_eq, more, more_eq, has_value, and_of, or_of, not_of, all_of, any_of, Tests, no_test, test, Domain, each_player, each_card, each_group}
-use Rattle.rc_sheet_model.specs.Rows.{◌▸◌, End, Row, Atom, start}
+use Rattle.rc_sheet_model.specs.Rows.{◌▸◌, End, Row, Atom}
 use Rattle.rc_sheet_model.specs.Naming.{Naming, Scope, bind, sort_of, Named, Binder, KindOf}
 use Rattle.rc_sheet_model.specs.StandsExpressions.{StandsOwner, StandsHolder, StandsLoc, StandsNum, Two, TwoOwners, StandsCard, StandsColl, StandColls, StandsInt, StandsTest, StandTests, StandsRange, StandsDomain}
 use Rattle.rc_ast.specs.Unplaced.{loc_unplaced, card_unplaced, coll_unplaced, colls_unplaced, int_unplaced, test_unplaced, tests_unplaced, domain_unplaced}
@@ -60,7 +60,7 @@ module _ (naming : Naming) where
       → Moves (StandsLoc naming scope loc) (StandsLoc naming scope) (λ again. loc_unplaced again ≡ loc_unplaced loc)
   loc_moves scope loc = record {
     of = λ form other same stands. record {
-      again = record { who = loc.who; name = loc.name; at = start other };
+      again = record { who = loc.who; name = loc.name; at = start_of other };
       stands = ((loc_parts_keep scope loc).of form other same stands.0, stands.1, refl);
       same = refl;
     };

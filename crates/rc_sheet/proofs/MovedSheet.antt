@@ -1,10 +1,10 @@
 -- A form that is the same but for offsets stands for a sheet that is the same but for offsets.
 use Rattle.std.proofs.Common.{◌≡◌, ℕ, ◌-◌}
-use Rattle.rc_model.specs.Tree.{Tree, word, list, Trees, nil, cons}
+use Rattle.rc_model.specs.Tree.{Tree, word, list, Trees, nil, cons, IsOpenAtMost, AreOpenAtMost}
 use Rattle.rc_form.specs.SameForm.{SameForm, SameForms}
 use Rattle.rc_sheet_model.specs.Sheet.{Best, highest, lowest, SheetItems, IntExpr, Sheet}
-use Rattle.rc_sheet_model.specs.Rows.{◌▸◌, End, AtLeast, Some, Row, Atom, IsOpenAtMost, AreOpenAtMost}
-use Rattle.rc_sheet_model.specs.Naming.{Naming, naming_of, self_scope}
+use Rattle.rc_sheet_model.specs.Rows.{◌▸◌, End, AtLeast, Some, Row, Atom}
+use Rattle.rc_sheet_model.specs.Naming.{Naming, self_scope, sheet_naming}
 use Rattle.rc_sheet_model.specs.StandsSetup.{StandsSetup}
 use Rattle.rc_sheet_model.specs.StandsExpressions.{StandsInt}
 use Rattle.rc_sheet_model.specs.StandsItems.{StandItems}
@@ -53,7 +53,7 @@ with_body sheet items score =
 
 module _ (sheet : Sheet) where
   abbrev naming : Naming
-  naming = naming_of sheet
+  naming = sheet_naming sheet
 
   scoring_moves : Moves (StandsScoring sheet)
       (λ again. Row (Atom "scoring" ▸ StandsBest sheet.best ▸ StandsInt naming self_scope again ▸ End))

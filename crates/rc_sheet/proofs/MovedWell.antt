@@ -6,7 +6,9 @@ use Rattle.rc_sheet_model.specs.Sheet.{Teams, Class, game_class, player_class, t
 use Rattle.rc_sheet_model.specs.Lists.{item_list}
 use Rattle.rc_sheet_model.specs.Limits.{most_locations, most_numbers, most_stages, most_sites}
 use Rattle.rc_sheet_model.specs.Mentions.{Mention, attr_of, value_of, map_of, loc_of, num_of, var_of, in_setup, in_items, in_int, mentions, stages_in, sites_in}
-use Rattle.rc_sheet_model.specs.Numbering.{different, mentioned, below, IsNumbered}
+use Rattle.rc_model.specs.Words.{different}
+use Rattle.rc_model.specs.Numbers.{below}
+use Rattle.rc_sheet_model.specs.Numbering.{mentioned, IsNumbered}
 use Rattle.rc_sheet_model.specs.WellFormed.{outside, scored, team_count, owner_count, IsInt, AreItems, HasWords, IsWithinLimits, IsShallow, IsWellFormed}
 use Rattle.rc_ast.specs.Unplaced.{int_unplaced, items_unplaced}
 use Rattle.rc_sheet.proofs.MovedSheet.{with_body}

@@ -1,8 +1,8 @@
 -- The form that is printed for a part of a sheet does not depend on its offsets.
 use Rattle.std.proofs.Common.{◌≡◌, List, [], ◌∷◌, ◌++◌, map, codes, refl, ap, ap₂}
 use Rattle.rc_sheet_model.specs.Sheet.{Loc, CardExpr, card_var, top_card, bottom_card, max_card, min_card, CollExpr, group_var, cards_in, filtered, union_of, CollExprs, no_coll, coll, IntExpr, literal, number, size_of, sum_of, worth_of, add, subtract, multiply, Test, eq_int, eq_card, eq_attr, eq_who, ne, less, less_eq, more, more_eq, has_value, and_of, or_of, not_of, all_of, any_of, Tests, no_test, test, Domain, each_player, each_card, each_group, End, top, bottom, Effect, move, move_all, remember, forget, shuffle, set_to, increase, decrease, when, repeat, for_each, next_is, turn_round, Effects, no_effect, effect, Alt, do_alt, if_alt, any_alt, SheetItem, do_item, stage, choice, SheetItems, no_item, item, Sheet}
-use Rattle.rc_sheet_model.specs.Naming.{Naming, naming_of}
-use Rattle.rc_sheet_model.specs.Printing.{Bound, keyword, named, row, one, two, with_map, attr_of, num_form, spot_form, class_form, binding, card_form, coll_form, coll_forms, int_form, test_form, sides, test_forms, domain_form, effect_form, effect_forms, alt_form, item_form, item_forms, setup_forms, best_form, sheet_form}
+use Rattle.rc_sheet_model.specs.Naming.{Naming, sheet_naming}
+use Rattle.rc_sheet_model.specs.Printing.{Bound, keyword, named, row, one, two, with_map, attr_form, num_form, spot_form, class_form, binding, card_form, coll_form, coll_forms, int_form, test_form, sides, test_forms, domain_form, effect_form, effect_forms, alt_form, item_form, item_forms, setup_forms, best_form, sheet_form}
 use Rattle.rc_ast.specs.Unplaced.{loc_unplaced, card_unplaced, coll_unplaced, colls_unplaced, int_unplaced, test_unplaced, tests_unplaced, domain_unplaced, effect_unplaced, effects_unplaced, alt_unplaced, item_unplaced, items_unplaced, unplaced}
 
 module _ (naming : Naming) where
@@ -41,7 +41,7 @@ module _ (naming : Naming) where
     test_alike bound (eq_int a b) = ap₂ (two "=") (int_alike bound a) (int_alike bound b)
     test_alike bound (eq_card a b) = ap₂ (two "=") (card_alike bound a) (card_alike bound b)
     test_alike bound (eq_attr a attr b attr') =
-        ap₂ (λ x y. two "=" (attr_of naming x attr) (attr_of naming y attr')) (card_alike bound a) (card_alike bound b)
+        ap₂ (λ x y. two "=" (attr_form naming x attr) (attr_form naming y attr')) (card_alike bound a) (card_alike bound b)
     test_alike bound (eq_who who who') = refl
     test_alike bound (ne t) = ap (λ l. row (keyword "!=" ∷ l)) (sides_alike bound t)
     test_alike bound (less a b) = ap₂ (two "<") (int_alike bound a) (int_alike bound b)
@@ -65,7 +65,7 @@ module _ (naming : Naming) where
     sides_alike bound (eq_int a b) = ap₂ (λ x y. x ∷ y ∷ []) (int_alike bound a) (int_alike bound b)
     sides_alike bound (eq_card a b) = ap₂ (λ x y. x ∷ y ∷ []) (card_alike bound a) (card_alike bound b)
     sides_alike bound (eq_attr a attr b attr') =
-        ap₂ (λ x y. attr_of naming x attr ∷ attr_of naming y attr' ∷ []) (card_alike bound a) (card_alike bound b)
+        ap₂ (λ x y. attr_form naming x attr ∷ attr_form naming y attr' ∷ []) (card_alike bound a) (card_alike bound b)
     sides_alike bound (eq_who who who') = refl
     sides_alike bound (ne t) = refl
     sides_alike bound (less a b) = refl
@@ -150,4 +150,4 @@ pub form_alike : (sheet : Sheet) → sheet_form (unplaced sheet) ≡ sheet_form 
 form_alike sheet =
     ap₂ (λ body score. row (keyword "game" ∷ row (keyword "setup" ∷ setup_forms sheet)
     ∷ body ++ two "scoring" (best_form sheet.best) score ∷ []))
-    (items_alike (naming_of sheet) sheet.items) (int_alike (naming_of sheet) (codes "'SELF" ∷ []) sheet.score)
+    (items_alike (sheet_naming sheet) sheet.items) (int_alike (sheet_naming sheet) (codes "'SELF" ∷ []) sheet.score)
