@@ -47,6 +47,6 @@ IsFirstSheet [] sheet = ⊥
 IsFirstSheet (form ∷ others) sheet = IsSheetOf form sheet × IsInSight sheet
 
 -- what holds of a fault; nothing is said where memory ran out
-abbrev pub IfFault : SourceFail → (SourceKind → ℕ → Type 0) → Type 0
-IfFault fails.Memory P = Unit {0}
-IfFault (fails.Fault kind at) P = P kind at
+abbrev pub IfSourceFault : SourceFail → (SourceKind → ℕ → Type 0) → Type 0
+IfSourceFault fails.Memory P = Unit {0}
+IfSourceFault (fails.Fault kind at) P = P kind at

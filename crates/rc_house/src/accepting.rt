@@ -5,7 +5,7 @@ ghost use Rattle.rc_form.specs.Form.{tree_of, IsPrintable};
 ghost use Rattle.rc_form.specs.SameForm.{IsOfAtoms};
 ghost use Rattle.rc_sheet_model.specs.Sight.{IsInSight};
 ghost use Rattle.rc_ast.specs.Sheet.{sheet_seen};
-ghost use Rattle.rc_house.specs.Accepted.{IsSheetOf, HasFirstFault, IfFault};
+ghost use Rattle.rc_house.specs.Accepted.{IsSheetOf, HasFirstFault, IfSourceFault};
 
 use crate::status::SourceKind;
 use rc_flow::{Checked, Unseen, check_sight};
@@ -29,7 +29,7 @@ pub fn accept(alloc: Global, form: &Form) -> Result<Checked, SourceFail>
     requires of_atoms { IsOfAtoms (tree_of form.now) }
     ensures sheet { IfOk result (λ checked. IsSheetOf (tree_of form.now) (sheet_seen checked)) }
     ensures sight { IfOk result (λ checked. IsInSight (sheet_seen checked)) }
-    ensures refused { IfErr result (λ fail. IfFault fail (λ kind at. HasFirstFault kind at (tree_of form.now))) }
+    ensures refused { IfErr result (λ fail. IfSourceFault fail (λ kind at. HasFirstFault kind at (tree_of form.now))) }
 {
     let sheet = match sheet_of(alloc, form) {
         Ok(sheet) => sheet,
