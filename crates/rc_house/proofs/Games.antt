@@ -6,7 +6,7 @@ use Rattle.rc_model.specs.SmallGame.{SmallGame}
 use Rattle.rc_model.specs.SmallText.{part_at, IsSmallSheet, IsSmallPlan}
 use Rattle.rc_form.specs.Form.{IsPrintable}
 use Rattle.rc_house.specs.SmallReading.{CountsReading, counts_at, PlanReading, plan_at}
-use Rattle.rc_house.specs.Parts.{SheetReading, sheet_of, plan_of, game_from}
+use Rattle.rc_house.specs.Parts.{SheetReading, sheet_reading, plan_reading, game_from}
 use Rattle.rc_house.proofs.Options.{some_is}
 use Rattle.rc_house.proofs.Sheet.{HasCounts, counts_take, counts_again}
 use Rattle.rc_house.proofs.Plan.{plan_takes, plan_again}
@@ -88,7 +88,7 @@ sheet_known sheet deck entries game parts is =
 -- a small sheet says what is read
 pub sheet_only : (sheet deck entries : Tree) (worths : List ℤ) (counts : CountsReading) (game : SmallGame) → HasParts sheet deck entries
     → ((others : List ℤ) → HaveWorths deck entries others → others ≡ worths) → Some counts ≡ counts_at (printed deck) (printed entries) (printed sheet)
-    → IsSmallSheet sheet game → sheet_of game ≡ says counts worths
+    → IsSmallSheet sheet game → sheet_reading game ≡ says counts worths
 sheet_only sheet deck entries worths counts game parts only read is =
     let known = sheet_known sheet deck entries game parts is in
     let same_worths : game.worths ≡ worths = only game.worths known.0 in
@@ -106,17 +106,17 @@ pub plan_found : (bytes : List ℕ) (sheet : SheetReading) (plan : PlanReading) 
 plan_found bytes sheet plan read = plan_takes bytes (game_from sheet plan) (sym read)
 
 -- as many scripts are read as the sheet has players
-plan_known : (bytes : List ℕ) (sheet : SheetReading) (game : SmallGame) → sheet_of game ≡ sheet → IsSmallPlan bytes game → plan_at sheet.players bytes ≡ Some (plan_of game)
+plan_known : (bytes : List ℕ) (sheet : SheetReading) (game : SmallGame) → sheet_reading game ≡ sheet → IsSmallPlan bytes game → plan_at sheet.players bytes ≡ Some (plan_reading game)
 plan_known bytes sheet game same is = ap (λ (s : SheetReading). plan_at s.players bytes) (sym same) ∙ plan_again bytes game is
 
 -- a plan that isn't read is no small plan
-pub plan_none : (bytes : List ℕ) (sheet : SheetReading) (game : SmallGame) → None ≡ plan_at sheet.players bytes → sheet_of game ≡ sheet → IsSmallPlan bytes game → ⊥
+pub plan_none : (bytes : List ℕ) (sheet : SheetReading) (game : SmallGame) → None ≡ plan_at sheet.players bytes → sheet_reading game ≡ sheet → IsSmallPlan bytes game → ⊥
 plan_none bytes sheet game read same is =
-    let other : None ≡ Some (plan_of game) = read ∙ plan_known bytes sheet game same is in absurd cc
+    let other : None ≡ Some (plan_reading game) = read ∙ plan_known bytes sheet game same is in absurd cc
 
 -- a game whose plan this is has the sheet and the plan that are read
-pub game_only : (bytes : List ℕ) (sheet : SheetReading) (plan : PlanReading) (game : SmallGame) → Some plan ≡ plan_at sheet.players bytes → sheet_of game ≡ sheet
+pub game_only : (bytes : List ℕ) (sheet : SheetReading) (plan : PlanReading) (game : SmallGame) → Some plan ≡ plan_at sheet.players bytes → sheet_reading game ≡ sheet
     → IsSmallPlan bytes game → game ≡ game_from sheet plan
 game_only bytes sheet plan game read same is =
-    let same_plan : plan_of game ≡ plan = some_is (sym (plan_known bytes sheet game same is) ∙ sym read) in
-    ap (λ s. game_from s (plan_of game)) same ∙ ap (game_from sheet) same_plan
+    let same_plan : plan_reading game ≡ plan = some_is (sym (plan_known bytes sheet game same is) ∙ sym read) in
+    ap (λ s. game_from s (plan_reading game)) same ∙ ap (game_from sheet) same_plan

@@ -7,7 +7,7 @@ use Rattle.rc_model.specs.Literal.{natural}
 use Rattle.rc_model.specs.SmallGame.{SmallGame}
 use Rattle.rc_model.specs.SmallText.{PlanWords, IsSmallPlan, spaced, script_text, plan_text}
 use Rattle.rc_house.specs.SmallReading.{scripts_at, TailReading, tail_at, PlanReading, plan_at}
-use Rattle.rc_house.specs.Parts.{plan_of}
+use Rattle.rc_house.specs.Parts.{plan_reading}
 use Rattle.rc_house.proofs.Options.{step, some_is}
 use Rattle.rc_house.proofs.Cuts.{behind_takes, behind_again, until_takes, until_again}
 use Rattle.rc_house.proofs.Numbers.{natural_lacks, number_takes, number_again}
@@ -105,17 +105,17 @@ from_front words =
     ∙ ap (λ t. seats_text ++ (t ++ tail_text words.deal words.seats words.turns)) (spaced_joined (map script_text words.scripts))
 
 -- a plan that is read is a small plan
-pub plan_takes : (bytes : List ℕ) (game : SmallGame) → plan_at game.players bytes ≡ Some (plan_of game) → IsSmallPlan bytes game
+pub plan_takes : (bytes : List ℕ) (game : SmallGame) → plan_at game.players bytes ≡ Some (plan_reading game) → IsSmallPlan bytes game
 unfolding plan_at
 plan_takes bytes game e =
     option_and_then_some _ _ _ e (λ opened at_opened e.
     option_and_then_some _ _ _ e (λ scripts at_scripts e.
     option_and_then_some _ _ _ e (λ tail at_tail e.
-    let says : record { scripts = scripts.0; tail = tail } ≡ plan_of game = some_is e in
+    let says : record { scripts = scripts.0; tail = tail } ≡ plan_reading game = some_is e in
     let scripts_say : scripts.0 ≡ game.scripts = ap (λ (p : PlanReading). p.scripts) says in
-    let tail_says : tail ≡ (plan_of game).tail = ap (λ (p : PlanReading). p.tail) says in
+    let tail_says : tail ≡ (plan_reading game).tail = ap (λ (p : PlanReading). p.tail) says in
     let first = scripts_take [] game.players opened game.scripts scripts.1 (at_scripts ∙ ap (λ (s : List (List ℕ)). Some (s, scripts.1)) scripts_say) in
-    let second = tail_takes scripts.1 (plan_of game).tail (at_tail ∙ ap (λ t. Some t) tail_says) in
+    let second = tail_takes scripts.1 (plan_reading game).tail (at_tail ∙ ap (λ t. Some t) tail_says) in
     let words : PlanWords = record { scripts = first.0; deal = second.deal_word; seats = second.seats_word; turns = second.turns_word } in
     let from_opened = first.3 ∙ ap (λ r. scripts_text [] first.0 ++ r) second.stands in
     record {
@@ -131,12 +131,12 @@ plan_takes bytes game e =
     })))
 
 -- a small plan is read
-pub plan_again : (bytes : List ℕ) (game : SmallGame) → IsSmallPlan bytes game → plan_at game.players bytes ≡ Some (plan_of game)
+pub plan_again : (bytes : List ℕ) (game : SmallGame) → IsSmallPlan bytes game → plan_at game.players bytes ≡ Some (plan_reading game)
 unfolding plan_at
 plan_again bytes game is =
     let words = is.words in
     let behind_scripts : List ℕ = tail_text words.deal words.seats words.turns in
-    let tail : TailWords behind_scripts (plan_of game).tail =
+    let tail : TailWords behind_scripts (plan_reading game).tail =
     record {
       deal_word = words.deal;
       seats_word = words.seats;
@@ -154,4 +154,4 @@ plan_again bytes game is =
     ap (λ count. scripts_at [] count front) (sym is.one_script_each) ∙ scripts_again [] words.scripts game.scripts behind_scripts is.scripts
     in
     ap (plan_at game.players) (is.spelled ∙ from_front words)
-    ∙ step _ (behind_again seats_text front) (step _ scripts (step _ (tail_again behind_scripts (plan_of game).tail tail) refl))
+    ∙ step _ (behind_again seats_text front) (step _ scripts (step _ (tail_again behind_scripts (plan_reading game).tail tail) refl))

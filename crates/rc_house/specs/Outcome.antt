@@ -5,7 +5,7 @@ use Rattle.rc_house.specs.declared.status.Status.{Status}
 use Rattle.rc_house.specs.declared.status.Status.TheVariants as ending
 use Rattle.rc_house.specs.Command.{IsCommand, note_of, Answer, text, fault, unbuilt, HasAnswer, IsAnswer}
 use Rattle.rc_house.specs.Status.{line_of}
-use Rattle.rc_house.specs.Port.{Port, Ports, HasFailed, Received, ReceivedFront, Took, NoCountFell}
+use Rattle.rc_house.specs.Port.{Port, Ports, HasFailed, Received, ReceivedFront, Took, Noted, NotedFront, NoCountFell}
 
 -- the most bytes that a source may have
 abbrev pub source_limit : ℕ
@@ -40,7 +40,7 @@ abbrev pub Outcome : Command → Ports → Ports → Status → Type 0
 -- the text was written, and what the command notes then
 Outcome command before after ending.Done =
     Answers before.source after.source command (IsTextWith (Received before.out after.out))
-    × Received before.notes after.notes (note_of command)
+    × Noted before.notes after.notes (note_of command)
 -- the sheet has this first fault
 Outcome command before after (ending.Sheet kind at) =
     Refuses (ending.Sheet kind at) before after
@@ -57,7 +57,7 @@ Outcome command before after ending.WriteFault =
     × Took before.notes after.notes (line_of ending.WriteFault))
     ⊎ (HasFailed before.notes after.notes
     × Answers before.source after.source command (IsTextWith (Received before.out after.out))
-    × ReceivedFront before.notes after.notes (note_of command))
+    × NotedFront before.notes after.notes (note_of command))
 -- the source has too many bytes
 Outcome command before after ending.TooLong = Refuses ending.TooLong before after × IsTooLong before.source
 -- the source can be read, and what it asks for isn't built

@@ -33,15 +33,15 @@ game_from sheet plan =
     }
 
 -- what the sheet of a game says
-abbrev pub sheet_of : SmallGame → SheetReading
-sheet_of game = record { players = game.players; worths = game.worths; hand_size = game.hand_size }
+abbrev pub sheet_reading : SmallGame → SheetReading
+sheet_reading game = record { players = game.players; worths = game.worths; hand_size = game.hand_size }
 
 -- what the plan of a game says
-abbrev pub plan_of : SmallGame → PlanReading
-plan_of game = record { scripts = game.scripts; tail = record { deal = game.deal; seats = game.seats; turns = game.turns } }
+abbrev pub plan_reading : SmallGame → PlanReading
+plan_reading game = record { scripts = game.scripts; tail = record { deal = game.deal; seats = game.seats; turns = game.turns } }
 
-abbrev pub sheet_seen : SheetParts → SheetReading
-sheet_seen sheet = record { players = sheet.players; worths = sheet.worths.items; hand_size = sheet.hand_size }
+abbrev pub sheet_parts_seen : SheetParts → SheetReading
+sheet_parts_seen sheet = record { players = sheet.players; worths = sheet.worths.items; hand_size = sheet.hand_size }
 
 abbrev pub counts_seen : SheetCounts → CountsReading
 counts_seen counts = record { players = counts.players; hand_size = counts.hand_size }
@@ -49,5 +49,5 @@ counts_seen counts = record { players = counts.players; hand_size = counts.hand_
 abbrev pub tail_seen : PlanTail → TailReading
 tail_seen tail = record { deal = tail.deal; seats = tail.seats; turns = tail.turns }
 
-abbrev pub plan_seen : PlanParts → PlanReading
-plan_seen plan = record { scripts = map (λ script. script.items) plan.scripts.items; tail = tail_seen plan.tail }
+abbrev pub plan_parts_seen : PlanParts → PlanReading
+plan_parts_seen plan = record { scripts = map (λ script. script.items) plan.scripts.items; tail = tail_seen plan.tail }

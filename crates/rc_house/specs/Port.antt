@@ -1,5 +1,5 @@
 -- What a call did to a source or to a sink, as far as these tell it.
-use Rattle.std.specs.Prelude.{ℕ, ◌≤◌, ◌⊎◌, List, Option}
+use Rattle.std.specs.Prelude.{◌≡◌, ℕ, ◌≤◌, ◌⊎◌, List, [], Option}
 use Rattle.rc_outside.specs.Faults.{Rose}
 use Rattle.rc_outside.specs.Sink.{Got, GotFront}
 
@@ -26,6 +26,14 @@ ReceivedFront before after text = GotFront before.told after.told text
 -- the sink received this text, or a write failed and it received a front of it
 abbrev pub Took : Port → Port → List ℕ → Type 0
 Took before after text = Received before after text ⊎ (HasFailed before after × ReceivedFront before after text)
+
+-- the notes received exactly this line; where there is none, nothing was done to them
+abbrev pub Noted : Port → Port → List ℕ → Type 0
+Noted before after note = Received before after note × (note ≡ [] → after ≡ before)
+
+-- the notes received a front of this line, which isn't empty
+abbrev pub NotedFront : Port → Port → List ℕ → Type 0
+NotedFront before after note = ReceivedFront before after note × (note ≡ [] → ⊥)
 
 -- The three ports of a command at a moment.
 pub record Ports : Type 0 where

@@ -6,7 +6,7 @@ use Rattle.rc_house.specs.declared.status.Status.{Status}
 use Rattle.rc_house.specs.declared.status.Status.TheVariants.{Done, Sheet, Memory, ReadFault, WriteFault, TooLong, Unbuilt}
 use Rattle.rc_house.specs.Status.{line_of}
 use Rattle.rc_house.specs.Answer.{seen}
-use Rattle.rc_house.specs.Port.{Port, HasFailed, Received, ReceivedFront, Took}
+use Rattle.rc_house.specs.Port.{Port, HasFailed, Received, ReceivedFront, Took, Noted, NotedFront}
 use Rattle.rc_house.specs.Outcome.{Answers, IsTooLong}
 
 -- the source was read, and this is the command's answer to it
@@ -25,10 +25,10 @@ ReadsNone before after Unbuilt = ⊥
 
 -- how writing a text and its note may end
 abbrev pub Delivers : List ℕ → List ℕ → Port → Port → Port → Port → Status → Type 0
-Delivers text note out out' notes notes' Done = Received out out' text × Received notes notes' note
+Delivers text note out out' notes notes' Done = Received out out' text × Noted notes notes' note
 Delivers text note out out' notes notes' WriteFault =
     (HasFailed out out' × ReceivedFront out out' text × Took notes notes' (line_of WriteFault))
-    ⊎ (HasFailed notes notes' × Received out out' text × ReceivedFront notes notes' note)
+    ⊎ (HasFailed notes notes' × Received out out' text × NotedFront notes notes' note)
 Delivers text note out out' notes notes' (Sheet kind at) = ⊥
 Delivers text note out out' notes notes' Memory = ⊥
 Delivers text note out out' notes notes' ReadFault = ⊥

@@ -12,8 +12,10 @@ mod running;
 mod sight_tests;
 mod small_text;
 mod status;
+mod table_examples;
 mod transcript;
 mod write;
 
 pub use running::{refuse, run, run_alone};
 pub use status::{SourceKind, Status};
+pub use table_examples::{codes_of_statuses, lines_of_statuses, words_of_commands};

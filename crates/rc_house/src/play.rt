@@ -6,9 +6,9 @@ ghost use Rattle.rc_house.specs.Transcript.{match_of, standing_of, ending_of};
 ghost use Rattle.rc_model.specs.Transcript.{done, limit};
 ghost use Rattle.rc_house.specs.Play.{IsPlayable, option_play_of, plays_in};
 
-use super::game::SmallGame;
-use super::transcript::{Ended, HouseText, MatchRecord, Pick};
-use super::write::write_house;
+use crate::game::SmallGame;
+use crate::transcript::{Ended, HouseText, MatchRecord, Pick};
+use crate::write::write_house;
 use rounds::{Play, dealt_cards, end_with_last_play, hand_of, laps_of, plays_from, turns_in};
 use scoring::{all_rank_points, player_scores, scores_of, standings_of};
 use std::alloc::{AllocError, Global};

@@ -151,6 +151,7 @@ impl Status {
     }
 }
 
+/// A line that is the same each time.
 fn fixed_line(text: &str) -> ArrayString<LINE>
     requires { length text.now ≤ 16 }
     ensures { result.bytes ≡ text.now }

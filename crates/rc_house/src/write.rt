@@ -3,7 +3,7 @@ ghost use Rattle.std.specs.Prelude.{◌≡◌, ◌++◌, map, flat_map, string_b
 ghost use Rattle.rc_model.specs.Transcript.{choose_line, shuffles_line, score_line, standing_line, record_text};
 ghost use Rattle.rc_house.specs.Transcript.{pick_of, player_score_of, match_of, standing_of, text_of};
 
-use super::transcript::{Ended, HouseText, MatchRecord, Pick, Score, Standing};
+use crate::transcript::{Ended, HouseText, MatchRecord, Pick, Score, Standing};
 use std::alloc::{AllocError, Global};
 use std::fmt;
 use std::fmt::Write;

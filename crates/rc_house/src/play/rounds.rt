@@ -3,7 +3,7 @@ ghost use Rattle.std.specs.Prelude.{◌≡◌, ◌+◌, ◌*◌, ◌<◌, ◌≤
 ghost use Rattle.rc_model.specs.SmallGame.{below, menu_size, scripted_item, play_from, through_last_play, turns_of};
 ghost use Rattle.rc_house.specs.Play.{option_play_of, plays_in, choice_in};
 
-use super::super::transcript::Pick;
+use crate::transcript::Pick;
 use std::alloc::{AllocError, Global};
 
 /// A choice, and the card that it takes out of the hand.

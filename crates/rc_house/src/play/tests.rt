@@ -3,8 +3,8 @@ ghost use Rattle.std.specs.Prelude.{IsTrue};
 ghost use Rattle.rc_house.specs.Game.{game_of};
 ghost use Rattle.rc_house.specs.Play.{IsPlayable};
 
-use super::super::game::SmallGame;
 use super::house;
+use crate::game::SmallGame;
 use std::alloc::{AllocError, Global};
 use std::process::Abort;
 

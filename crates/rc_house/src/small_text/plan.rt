@@ -1,7 +1,7 @@
 //! The plan of a small game.
 ghost use Rattle.std.specs.Prelude.{◌≡◌, ◌≤◌, [], map, option_map, IfOk, IfSome};
 ghost use Rattle.rc_house.specs.SmallReading as reading;
-ghost use Rattle.rc_house.specs.Parts.{plan_seen, tail_seen};
+ghost use Rattle.rc_house.specs.Parts.{plan_parts_seen, tail_seen};
 
 use super::cuts::{behind, until, words_of};
 use super::parts::{PlanParts, PlanTail};
@@ -15,7 +15,7 @@ pub fn read_plan(
     players: u8,
     printed: &[u8],
 ) -> Result<Option<PlanParts>, AllocError>
-    ensures { IfOk result (λ plan. option_map plan_seen plan ≡ reading.plan_at players printed.now) }
+    ensures { IfOk result (λ plan. option_map plan_parts_seen plan ≡ reading.plan_at players printed.now) }
 {
     let Some(opened) = behind(b"(plan (seats ", printed) else {
         return Ok(None);

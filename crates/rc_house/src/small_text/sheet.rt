@@ -8,7 +8,7 @@ ghost use Rattle.rc_model.specs.SmallText.{IsSmallSheet};
 ghost use Rattle.rc_model.specs.Tree.{printed};
 ghost use Rattle.rc_form.specs.Form.{tree_of, IsPrintable};
 ghost use Rattle.rc_setup.specs.Size.{count_of_parts};
-ghost use Rattle.rc_house.specs.Parts.{sheet_seen, sheet_of, game_from, counts_seen};
+ghost use Rattle.rc_house.specs.Parts.{sheet_parts_seen, sheet_reading, game_from, counts_seen};
 ghost use Rattle.rc_house.specs.SmallReading as reading;
 ghost use Rattle.rc_house.specs.SmallReading.{PlanReading};
 
@@ -30,11 +30,11 @@ pub fn read_sheet(alloc: Global, sheet: &Form) -> Result<Option<SheetParts>, All
     requires printable { IsPrintable (tree_of sheet.now) }
     requires few { length (starts (tree_of sheet.now)) ≤ 2 ^ 23 }
     ensures found { IfOk result (λ answer. IfSome answer (λ says. (plan : PlanReading) →
-        IsSmallSheet (tree_of sheet.now) (game_from (sheet_seen says) plan))) }
+        IsSmallSheet (tree_of sheet.now) (game_from (sheet_parts_seen says) plan))) }
     ensures none { IfOk result (λ answer. IfNone answer ((game : model.SmallGame) →
         IsSmallSheet (tree_of sheet.now) game → ⊥)) }
     ensures only { IfOk result (λ answer. IfSome answer (λ says. (game : model.SmallGame) →
-        IsSmallSheet (tree_of sheet.now) game → sheet_of game ≡ sheet_seen says)) }
+        IsSmallSheet (tree_of sheet.now) game → sheet_reading game ≡ sheet_parts_seen says)) }
 {
     let Some(deck) = part_at(sheet, &[1, 2, 3]) else {
         return Ok(None);

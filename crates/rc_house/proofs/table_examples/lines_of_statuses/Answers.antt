@@ -1,0 +1,11 @@
+use Rattle.std.proofs.Common.{refl}
+use Rattle.std.specs.Fmt.{digits}
+use Rattle.rc_house.proofs.table_examples.lines_of_statuses.Goals as goal
+
+pub returns-clause-sheet : goal.returns-clause-sheet
+unfolding digits
+returns-clause-sheet c = refl
+
+pub returns-clause-no_cards : goal.returns-clause-no_cards
+unfolding digits
+returns-clause-no_cards c = refl

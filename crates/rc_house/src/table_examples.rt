@@ -1,0 +1,45 @@
+//! The tables of statuses and commands, computed. No function here does anything: each has a contract that the check proves
+//! by computing.
+ghost use Rattle.std.specs.Prelude.{◌≡◌, ◌∷◌, [], codes};
+ghost use Rattle.rc_house.specs.declared.command.Command.TheVariants as command;
+ghost use Rattle.rc_house.specs.declared.status.SourceKind.TheVariants.{Unseen, NoCards};
+ghost use Rattle.rc_house.specs.declared.status.Status.TheVariants as ending;
+ghost use Rattle.rc_house.specs.Command.{IsCommand, note_of, wanted};
+ghost use Rattle.rc_house.specs.Status.{code_of, line_of};
+
+/// The exit codes.
+pub fn codes_of_statuses()
+    ensures done { code_of ending.Done ≡ 0 }
+    ensures sheet { code_of (ending.Sheet NoCards 6) ≡ 1 }
+    ensures memory { code_of ending.Memory ≡ 5 }
+    ensures read_fault { code_of ending.ReadFault ≡ 6 }
+    ensures write_fault { code_of ending.WriteFault ≡ 7 }
+    ensures too_long { code_of ending.TooLong ≡ 8 }
+    ensures unbuilt { code_of ending.Unbuilt ≡ 9 }
+{}
+
+/// The lines that are noted.
+pub fn lines_of_statuses()
+    ensures done { line_of ending.Done ≡ [] }
+    ensures sheet { line_of (ending.Sheet Unseen 338) ≡ codes "sheet Unseen 338\n" }
+    ensures no_cards { line_of (ending.Sheet NoCards 0) ≡ codes "sheet NoCards 0\n" }
+    ensures memory { line_of ending.Memory ≡ codes "no memory\n" }
+    ensures read_fault { line_of ending.ReadFault ≡ codes "read fault\n" }
+    ensures write_fault { line_of ending.WriteFault ≡ codes "write fault\n" }
+    ensures too_long { line_of ending.TooLong ≡ codes "too long\n" }
+    ensures unbuilt { line_of ending.Unbuilt ≡ codes "unbuilt\n" }
+{}
+
+/// One word names a command, as it is written.
+pub fn words_of_commands()
+    ensures play { IsCommand (codes "play" ∷ []) command.Play }
+    ensures sheet { IsCommand (codes "sheet" ∷ []) command.Sheet }
+    ensures none { IsCommand [] command.Sheet → ⊥ }
+    ensures another { IsCommand (codes "sheet" ∷ codes "x" ∷ []) command.Sheet → ⊥ }
+    ensures capital { IsCommand (codes "Play" ∷ []) command.Play → ⊥ }
+    ensures other { IsCommand (codes "sheet" ∷ []) command.Play → ⊥ }
+    ensures play_reads { wanted command.Play ≡ 2 }
+    ensures sheet_reads { wanted command.Sheet ≡ 1 }
+    ensures note { note_of command.Play ≡ codes "cache looks 0 hits 0\n" }
+    ensures no_note { note_of command.Sheet ≡ [] }
+{}
