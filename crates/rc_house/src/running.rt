@@ -2,8 +2,7 @@
 ghost use Rattle.std.specs.Prelude.{◌≡◌, ◌<◌, ◌≤◌, map, string_bytes, IfOk, IfErr};
 ghost use Rattle.rc_house.specs.Status.{line_of};
 ghost use Rattle.rc_house.specs.Port.{NoCountFell, Took, port, ports};
-ghost use Rattle.rc_house.specs.Command.{IsCommand};
-ghost use Rattle.rc_house.specs.Outcome.{Outcome, Succeeds, Ends};
+ghost use Rattle.rc_house.specs.Outcome.{Outcome, Ends};
 ghost use Rattle.rc_house.specs.Running.{ReadsAnswer, ReadsNone, Delivers};
 
 #[cfg(test)]
