@@ -4,7 +4,7 @@ ghost use Rattle.std.specs.Prelude.{◌≡◌, ◌∷◌, [], codes, pos, replic
 ghost use Rattle.rc_sheet_model.specs.Sheet.{player_class, team_class, iloc, vloc, mem, game, current_player, current_team, team_of_current, who_var, card_var, bottom_card, max_card, group_var, cards_in, filtered, union_of, literal, number, worth_of, add, subtract, eq_card, eq_who, ne, less, less_eq, and_of, or_of, all_of, any_of, each_player, each_card, each_group, when, repeat, for_each, next_is, turn_round, do_alt, any_alt, do_item, choice};
 ghost use Rattle.rc_sheet_model.specs.Lists.{colls_from, tests_from, effects_from};
 ghost use Rattle.rc_sheet_model.specs.Naming.{self_scope};
-ghost use Rattle.rc_sheet_model.specs.Rows.{IsOpenAtMost};
+ghost use Rattle.rc_model.specs.Tree.{IsOpenAtMost};
 ghost use Rattle.rc_sheet_model.specs.StandsExpressions.{StandsOwner, StandsLoc, StandsNum, StandsCard, StandsColl, StandsInt, StandsTest};
 ghost use Rattle.rc_sheet_model.specs.StandsItems.{StandsAlt};
 ghost use Rattle.rc_sheet_model.specs.Stands.{Stands};
