@@ -35,6 +35,7 @@ mod sides;
 mod sound_law;
 #[cfg(test)]
 mod tests;
+mod variables;
 
 pub use accepting::sheet_of;
 pub use converse_law::a_sheet_has_its_shape;
