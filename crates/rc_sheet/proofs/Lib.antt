@@ -7,6 +7,7 @@ pub mod InTurn
 pub mod ItemLemmas
 pub mod Lists
 pub mod Parts
+pub mod Numbers
 pub mod Places
 pub mod Faces
 pub mod Sheets

@@ -1,5 +1,6 @@
 -- The fields of a reader and of a scope.
-use Rattle.std.specs.Prelude.{◌≤◌, length, map}
+use Rattle.std.specs.Prelude.{◌≡◌, ◌≤◌, ℕ, List, length, map, position, bytes_eq}
+use Rattle.std.specs.Map.{lookup}
 use Rattle.rc_sheet_model.specs.Naming.{Naming}
 use Rattle.rc_sheet_model.specs.Naming.{Variable as PureVariable}
 use Rattle.rc_sheet_model.specs.Naming.{Scope as PureScope}
@@ -26,7 +27,11 @@ naming_seen reader =
       nums = map num_name_seen reader.nums.items;
     }
 
--- there are few names of each kind, but of variables
+-- entries give each of these words its first place, and no other word a number
+abbrev pub Numbers : List (List ℕ) → List (List ℕ × ℕ) → Type 0
+Numbers words entries = (word : List ℕ) → lookup (bytes_eq word) entries ≡ position (bytes_eq word) words
+
+-- there are few names of each kind, but of variables, and each variable is found
 pub record IsReader (reader : Fields) : Type 0 where
   pub attrs : length reader.names.attrs.items ≤ 256
   pub values : length reader.names.values.items ≤ 256
@@ -34,3 +39,4 @@ pub record IsReader (reader : Fields) : Type 0 where
   pub locs : length reader.names.locs.items ≤ 256
   pub nums : length reader.names.nums.items ≤ 256
   pub vars : length reader.names.vars.items ≤ 4294967295
+  pub numbers : Numbers reader.names.vars.items reader.variables.entries

@@ -24,7 +24,8 @@ use std::alloc::Global;
 /// Makes the sheet of a form. The error is the form's first fault, or that there was no memory: the first fault of its shape
 /// and its numbers, or else the first of its names, sorts and limits.
 ///
-/// The time is linear in the form but for look-ups among at most 256 names of a kind.
+/// The time is linear in the form, as far as hashes differ: a variable is found by its hash, and each other name by a search
+/// among at most 256.
 pub fn sheet_of(alloc: Global, form: &Form) -> Result<Sheet, SheetFail>
     requires placed { (size : ℕ) × IsPlaced size (tree_of form.now) }
     requires shallow { IsOpenAtMost 64 (tree_of form.now) }
@@ -57,7 +58,7 @@ fn sheet_of_faultless(alloc: Global, form: &Form) -> Result<Sheet, SheetFail>
     let Ok(naming) = naming_of(alloc, form) else {
         return Err(SheetFail::Memory);
     };
-    let Some(reader) = Reader::new(naming) else {
+    let Ok(Some(reader)) = Reader::new(alloc, naming) else {
         return Err(SheetFail::Memory);
     };
     match reader.sheet(alloc, form) {

@@ -51,7 +51,7 @@ impl Reader {
     fn deck_tree(&self, alloc: Global, form: &Form) -> Result<DeckTree, ReadFail>
         ensures { Gives groups_of result (faces.read_deck (reading.face_words self.now) (tree_of form.now)) }
     {
-        // the names are few
+        // a field is named, so that the check knows the reader's invariant: its names are few
         let _names = &self.names;
         match read_deck(alloc, self, form) {
             Ok(Some(tree)) => Ok(tree),

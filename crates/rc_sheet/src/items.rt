@@ -28,6 +28,9 @@ const MOST_STAGES: u16 = 256;
 /// How many choices a sheet may have.
 const MOST_SITES: u8 = 64;
 
+/// The items of a sheet, which scores are best, and the score.
+pub type Body = (Vec<SheetItem>, (Best, IntExpr));
+
 /// How many stages and choices begin before a place of the text. The next stage and the next choice have these numbers.
 #[derive(Clone, Copy, PartialEq, Eq, Debug)]
 pub struct Begun {
@@ -251,11 +254,7 @@ impl Reader {
 
     /// The items of a sheet, of which there is one at least, and the scoring, which stands last: which scores are best, and the
     /// score.
-    pub fn body(
-        &self,
-        alloc: Global,
-        parts: &[Form],
-    ) -> Result<(Vec<SheetItem>, (Best, IntExpr)), ReadFail>
+    pub fn body(&self, alloc: Global, parts: &[Form]) -> Result<Body, ReadFail>
         ensures { Gives (λ b. (items_seen b.0.items, (best_seen b.1.0, int_seen b.1.1))) result
             (reading.body_at self.now (packed (trees_of parts.now))) }
     {
@@ -274,7 +273,7 @@ impl Reader {
         alloc: Global,
         items: &[Form],
         scoring: &Form,
-    ) -> Result<(Vec<SheetItem>, (Best, IntExpr)), ReadFail>
+    ) -> Result<Body, ReadFail>
         ensures { Gives (λ b. (items_seen b.0.items, (best_seen b.1.0, int_seen b.1.1))) result
             (both (option_map (λ p. p.0) (reading.items_at self.now reading.none_begun (packed (trees_of items.now))))
             (reading.score_at self.now (tree_of scoring.now))) }

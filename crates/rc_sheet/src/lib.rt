@@ -24,6 +24,7 @@ mod sheet_tests;
 mod sides;
 #[cfg(test)]
 mod tests;
+mod variables;
 
 pub use accepting::sheet_of;
 pub use laws::{

@@ -16,7 +16,7 @@ use rc_grammar::{Keyword, Place, Rule, is_form_word, is_variable, rule_of};
 use std::alloc::Global;
 
 /// The most binders around one place.
-const MOST_VARIABLES: usize = 4;
+const MOST_BINDERS: usize = 4;
 
 /// The form that a list has at a place, which has as many parts.
 #[tactic(auto, using(crate::proofs::Counts::count_packed))]
@@ -106,13 +106,13 @@ impl Reader {
         let Form::Atom { word, .. } = form else {
             return Err(ReadFail::Meaningless);
         };
-        if !is_variable(word.bytes()) || scope.len() > MOST_VARIABLES {
+        if !is_variable(word.bytes()) || scope.len() > MOST_BINDERS {
             return Err(ReadFail::Meaningless);
         }
-        let Some(place) = place_of(&self.names.vars, word.bytes()) else {
+        let Some(number) = self.variable(word) else {
             return Err(ReadFail::Meaningless);
         };
-        let inner = scope.with(alloc, &self.names.vars[place], sort)?;
-        Ok((place as u32, inner))
+        let inner = scope.with(alloc, &self.names.vars[number as usize], sort)?;
+        Ok((number, inner))
     }
 }

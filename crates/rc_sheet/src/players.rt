@@ -58,6 +58,7 @@ fn team_at(alloc: Global, form: &Form) -> Result<Vec<u8>, ReadFail>
     }
 }
 
+/// The numbers of players.
 fn members_at(alloc: Global, forms: &[Form]) -> Result<Vec<u8>, ReadFail>
     ensures { Gives (λ team. team.items) result (reading.members_at (packed (trees_of forms.now))) }
 {

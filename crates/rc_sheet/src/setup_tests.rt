@@ -5,6 +5,7 @@ use crate::setup::Setup;
 use rc_ast::{Class, LocKind, LocName, Names, Word};
 use rc_deck::{Branch, Group, PointMap};
 use rc_form::read_forms;
+use rc_naming::Naming;
 use std::alloc::{AllocError, Global};
 use std::test::Fail;
 
@@ -12,9 +13,9 @@ use std::test::Fail;
 const MOST: usize = 1 << 23;
 
 // Attributes R and Q, values 1, 2 and x, maps W and V, the game's S and M, and the players' H.
-fn reader(alloc: Global) -> Result<Reader, AllocError> {
+fn reader(alloc: Global) -> Result<Reader, Fail> {
     let loc = |name, kind, class| LocName { name, kind, class };
-    Ok(Reader {
+    let naming = Naming {
         names: Names {
             attrs: vec![in alloc; Word::of(b"R"), Word::of(b"Q")]?,
             values: vec![in alloc; Word::of(b"1"), Word::of(b"2"), Word::of(b"x")]?,
@@ -29,7 +30,8 @@ fn reader(alloc: Global) -> Result<Reader, AllocError> {
             loc(2, LocKind::Hloc, Class::Player),
         ]?,
         nums: Vec::new(alloc),
-    })
+    };
+    Ok(Reader::new(alloc, naming)?.ok_or("too many variables")?)
 }
 
 // What the setup says, in numbers.

@@ -11,16 +11,14 @@ ghost use Rattle.rc_sheet.specs.ReadSheet as reading;
 ghost use Rattle.rc_sheet.specs.Gives.{Gives};
 
 use crate::fail::ReadFail;
+use crate::items::Body;
 use crate::names::rule_at;
 use crate::reader::Reader;
 use crate::setup::Setup;
-use rc_ast::{Best, IntExpr, Sheet, SheetItem};
+use rc_ast::Sheet;
 use rc_form::Form;
 use rc_grammar::{Place, Rule};
 use std::alloc::Global;
-
-/// The items, and the scoring.
-type Body = (Vec<SheetItem>, (Best, IntExpr));
 
 impl Reader {
     /// The sheet that a form says.

@@ -5,6 +5,7 @@ use crate::reader::Reader;
 use crate::scope::Scope;
 use rc_ast::{Class, LocKind, LocName, Names, NumName, Sort, Word};
 use rc_form::{Form, read_forms};
+use rc_naming::Naming;
 use std::alloc::Global;
 use std::fmt::Debug;
 use std::process::Abort;
@@ -75,7 +76,8 @@ fn reader(alloc: Global) -> Result<Reader, Fail> {
         num_name(1, Class::Player),
         num_name(2, Class::Team),
     ]?;
-    Ok(Reader { names, locs, nums })
+    let naming = Naming { names, locs, nums };
+    Ok(Reader::new(alloc, naming)?.ok_or("too many variables")?)
 }
 
 fn loc_name(name: u16, kind: LocKind, class: Class) -> LocName {

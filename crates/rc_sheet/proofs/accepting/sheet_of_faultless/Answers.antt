@@ -40,20 +40,23 @@ pub unreachable-requires : goal.unreachable-requires
 unreachable-requires c =
     let tree = tree_of c.args.form.now in
     let none = rw c.in-Err-Meaningless.field-0-is at c.in-Err-Meaningless.ensures in
-    is_read tree c.requires.faultless (none_read c.in-Some.reader tree (c.in-Some.ensures.some ∙ c.in-Ok.ensures.names) none)
+    let named = rw c.in-Ok-Some.field-0-is at c.in-Ok-Some.ensures.some in
+    is_read tree c.requires.faultless (none_read c.in-Ok-Some.reader tree (named ∙ c.in-Ok.ensures.names) none)
 
 pub returns-in-Ok-sheet-clause-stands : goal.returns-in-Ok-sheet-clause-stands
 returns-in-Ok-sheet-clause-stands c =
-    stands_read c.in-Some.reader (tree_of c.args.form.now) (sheet_seen c.in-Ok-sheet.sheet) c.in-Ok-sheet.ensures
+    stands_read c.in-Ok-Some.reader (tree_of c.args.form.now) (sheet_seen c.in-Ok-sheet.sheet) c.in-Ok-sheet.ensures
 
 pub returns-in-Ok-sheet-clause-well : goal.returns-in-Ok-sheet-clause-well
 returns-in-Ok-sheet-clause-well c =
-    well_read c.in-Some.reader (tree_of c.args.form.now) (sheet_seen c.in-Ok-sheet.sheet)
-    (c.in-Some.ensures.some ∙ c.in-Ok.ensures.names) c.requires.faultless
+    let named = rw c.in-Ok-Some.field-0-is at c.in-Ok-Some.ensures.some in
+    well_read c.in-Ok-Some.reader (tree_of c.args.form.now) (sheet_seen c.in-Ok-sheet.sheet)
+    (named ∙ c.in-Ok.ensures.names) c.requires.faultless
     (printable (tree_of c.args.form.now) c.requires.faultless c.requires.shallow)
     c.requires.of_atoms c.in-Ok-sheet.ensures
 
 pub returns-in-Ok-sheet-clause-read : goal.returns-in-Ok-sheet-clause-read
 returns-in-Ok-sheet-clause-read c =
-    ap (λ naming. sheet_at naming (tree_of c.args.form.now)) (sym (c.in-Some.ensures.some ∙ c.in-Ok.ensures.names))
+    let named = rw c.in-Ok-Some.field-0-is at c.in-Ok-Some.ensures.some in
+    ap (λ naming. sheet_at naming (tree_of c.args.form.now)) (sym (named ∙ c.in-Ok.ensures.names))
     ∙ c.in-Ok-sheet.ensures
