@@ -21,7 +21,7 @@ const CHOICE: (&str, &str) = (
 );
 
 /// Each kind with each owner, and whether the mover sees it as its owner is written.
-const LOCATIONS: [(&str, bool); 24] = [
+const LOCATIONS: &[(&str, bool)] = &[
     ("(game vloc X)", true),
     ("((current player) vloc X)", true),
     ("((current team) vloc X)", true),
@@ -151,96 +151,86 @@ fn check_row(
     check_sheet(rt, &text, expected, &row)
 }
 
-#[test]
-fn guards_and_domains_read_what_the_mover_sees(rt: HostRuntime) -> Result<(), Fail> {
-    for fragment in READING {
-        for (location, is_seen) in LOCATIONS {
-            let fault = if is_seen {
-                None
-            } else {
-                Some(SourceKind::Unseen)
-            };
-            check_row(&rt, CHOICE, fragment, location, fault)?;
+/// Fails unless each fragment with each location is refused at the first location where it reads what isn't seen, and
+/// accepted else.
+fn check_all(
+    rt: &(impl AllocGlobal + Abort),
+    around: (&str, &str),
+    fragments: &[&str],
+    locations: &[(&str, bool)],
+    is_reading: bool,
+) -> Result<(), Fail> {
+    for fragment in fragments {
+        for (location, is_seen) in locations {
+            let fault = (is_reading && !is_seen).then_some(SourceKind::Unseen);
+            check_row(rt, around, fragment, location, fault)?;
         }
     }
     Ok(())
+}
+
+#[test]
+fn guards_and_domains_read_what_the_mover_sees(rt: HostRuntime) -> Result<(), Fail> {
+    check_all(&rt, CHOICE, READING, LOCATIONS, true)
 }
 
 #[test]
 fn sizes_and_effects_read_anything(rt: HostRuntime) -> Result<(), Fail> {
-    for fragment in OTHERS {
-        for (location, _) in LOCATIONS {
-            check_row(&rt, CHOICE, fragment, location, None)?;
-        }
-    }
-    Ok(())
+    check_all(&rt, CHOICE, OTHERS, LOCATIONS, false)
 }
 
-/// Ends of stages, and effects outside of choices. 'P is a player.
-const OUTSIDE: [((&str, &str), &str); 3] = [
-    (
-        (
-            "(end (all player 'P ",
-            ")) (do (cycle reverse)))) (scoring max 0))",
-        ),
-        "(is (top @) R 1)",
-    ),
-    (
-        ("(end (= 0 0)) (do (all player 'P ", ")))) (scoring max 0))"),
-        "(if (any @ 'C (is 'C R 1)) (cycle reverse))",
-    ),
-    (
-        (
-            "(end (= 0 0)) (do (all player 'P ",
-            ")) (choice (do (cycle reverse))))) (scoring max 0))",
-        ),
-        "(all (filter @ 'C (= 'C (bottom @))) 'C (forget 'C))",
-    ),
-];
+/// What stands around the end of a stage, in which 'P is a player.
+const END: (&str, &str) = (
+    "(end (all player 'P ",
+    ")) (do (cycle reverse)))) (scoring max 0))",
+);
+
+/// What stands around an effect of a stage, in which 'P is a player.
+const EFFECT: (&str, &str) = ("(end (= 0 0)) (do (all player 'P ", ")))) (scoring max 0))");
+
+/// The same before a choice.
+const EFFECT_BEFORE: (&str, &str) = (
+    "(end (= 0 0)) (do (all player 'P ",
+    ")) (choice (do (cycle reverse))))) (scoring max 0))",
+);
 
 #[test]
 fn ends_and_other_items_read_anything(rt: HostRuntime) -> Result<(), Fail> {
-    for (around, fragment) in OUTSIDE {
-        for (location, _) in LOCATIONS {
-            check_row(&rt, around, fragment, location, None)?;
-        }
-    }
-    Ok(())
+    check_all(&rt, END, &["(is (top @) R 1)"], LOCATIONS, false)?;
+    let effect = "(if (any @ 'C (is 'C R 1)) (cycle reverse))";
+    check_all(&rt, EFFECT, &[effect], LOCATIONS, false)?;
+    let effect = "(all (filter @ 'C (= 'C (bottom @))) 'C (forget 'C))";
+    check_all(&rt, EFFECT_BEFORE, &[effect], LOCATIONS, false)
 }
 
-/// Locations of a player who is scored.
-const SCORED: [&str; 12] = [
-    "(game vloc X)",
-    "('SELF vloc X)",
-    "((team of 'SELF) vloc X)",
-    "(game iloc X)",
-    "('SELF iloc X)",
-    "((team of 'SELF) iloc X)",
-    "(game hloc X)",
-    "('SELF hloc X)",
-    "((team of 'SELF) hloc X)",
-    "(game mem X)",
-    "('SELF mem X)",
-    "((team of 'SELF) mem X)",
+/// What stands around the amount of a score.
+const SCORE: (&str, &str) = (
+    "(end (= 0 0)) (choice (do (cycle reverse))))) (scoring min ",
+    "))",
+);
+
+/// Locations of a player who is scored. It plays no part who sees them.
+const SCORED: &[(&str, bool)] = &[
+    ("(game vloc X)", false),
+    ("('SELF vloc X)", false),
+    ("((team of 'SELF) vloc X)", false),
+    ("(game iloc X)", false),
+    ("('SELF iloc X)", false),
+    ("((team of 'SELF) iloc X)", false),
+    ("(game hloc X)", false),
+    ("('SELF hloc X)", false),
+    ("((team of 'SELF) hloc X)", false),
+    ("(game mem X)", false),
+    ("('SELF mem X)", false),
+    ("((team of 'SELF) mem X)", false),
 ];
+
+/// Scores with a location.
+const SCORES: &[&str] = &["(sum @ using W)", "(size (filter @ 'C (= 'C (top @))))"];
 
 #[test]
 fn scores_read_anything(rt: HostRuntime) -> Result<(), Fail> {
-    let around = (
-        "(end (= 0 0)) (choice (do (cycle reverse))))) (scoring min ",
-        "))",
-    );
-    for location in SCORED {
-        check_row(&rt, around, "(sum @ using W)", location, None)?;
-        check_row(
-            &rt,
-            around,
-            "(size (filter @ 'C (= 'C (top @))))",
-            location,
-            None,
-        )?;
-    }
-    Ok(())
+    check_all(&rt, SCORE, SCORES, SCORED, false)
 }
 
 /// Alternatives of one choice, with the kind of the first fault. Nothing is put in at the marker.
@@ -330,13 +320,12 @@ const CHOICES: &[&str] = &[
     "(do (if (any (game hloc S) 'C (= 0 0)) (cycle reverse))) (choice (any player 'P (any @('P iloc H) 'C (do (forget 'C)))))",
 ];
 
+/// What stands around the items of a stage.
+const ITEMS: (&str, &str) = ("(end (= 0 0)) ", ")) (scoring max 0))");
+
 #[test]
 fn the_first_choice_that_breaks_the_rule_is_found(rt: HostRuntime) -> Result<(), Fail> {
-    for fragment in CHOICES {
-        let around = ("(end (= 0 0)) ", ")) (scoring max 0))");
-        check_row(&rt, around, fragment, "", Some(SourceKind::Unseen))?;
-    }
-    Ok(())
+    check_all(&rt, ITEMS, CHOICES, &[("", false)], true)
 }
 
 /// Stored numbers, and locations of the mover and of the mover's team, may stand everywhere.
@@ -351,8 +340,5 @@ const SEEN: &[&str] = &[
 
 #[test]
 fn what_is_seen_is_accepted(rt: HostRuntime) -> Result<(), Fail> {
-    for fragment in SEEN {
-        check_row(&rt, CHOICE, fragment, "", None)?;
-    }
-    Ok(())
+    check_all(&rt, CHOICE, SEEN, &[("", true)], true)
 }

@@ -146,16 +146,26 @@ fn expect_fault(
     word: &str,
     source: &[u8],
     kind: SourceKind,
-    name: &str,
     at: u32,
 ) -> Result<(), Fail> {
-    let noted = format!(in rt.alloc(); "sheet {name} {at}\n")?;
+    let noted = format!(in rt.alloc(); "sheet {kind:?} {at}\n")?;
     let end = End {
         status: Status::Sheet { kind, at },
         written: "",
         noted: noted.as_str(),
     };
     expect_command(rt, noted.as_str(), word, source, end)
+}
+
+/// Fails unless both commands over these bytes are refused with this fault.
+fn expect_refused(
+    rt: &(impl AllocGlobal + Abort),
+    source: &[u8],
+    kind: SourceKind,
+    at: u32,
+) -> Result<(), Fail> {
+    expect_fault(rt, "sheet", source, kind, at)?;
+    expect_fault(rt, "play", source, kind, at)
 }
 
 /// Plans for `SHEET`, and the texts of their plays.
@@ -182,21 +192,22 @@ const PLANS: &[(&str, &str)] = &[
     ),
 ];
 
-#[test]
-fn a_play_is_written_and_noted(rt: HostRuntime) -> Result<(), Fail> {
-    for (plan, text) in PLANS {
+/// Fails unless `SHEET` under each plan is played so.
+fn expect_texts(rt: &(impl AllocGlobal + Abort), plays: &[(&str, &str)]) -> Result<(), Fail> {
+    for (plan, text) in plays {
         let source = source_with(rt.alloc(), plan)?;
-        expect_play(
-            &rt,
-            plan,
-            source.as_str(),
-            End {
-                written: text,
-                ..PLAYED
-            },
-        )?;
+        let end = End {
+            written: text,
+            ..PLAYED
+        };
+        expect_play(rt, plan, source.as_str(), end)?;
     }
     Ok(())
+}
+
+#[test]
+fn a_play_is_written_and_noted(rt: HostRuntime) -> Result<(), Fail> {
+    expect_texts(&rt, PLANS)
 }
 
 /// Fails unless a play ends so whose source comes in pieces and fails at a read.
@@ -405,28 +416,30 @@ fn other_words_are_unbuilt_and_nothing_is_read(rt: HostRuntime) -> Result<(), Fa
     Ok(())
 }
 
+/// Fails unless `play` over a sheet with this behind it is unbuilt.
+fn expect_unbuilt(rt: &(impl AllocGlobal + Abort), sheet: &str, behind: &str) -> Result<(), Fail> {
+    let source = format!(in rt.alloc(); "{sheet}{behind}")?;
+    expect_play(rt, source.as_str(), source.as_str(), UNBUILT)
+}
+
 #[test]
 fn other_sources_are_unbuilt(rt: HostRuntime) -> Result<(), Fail> {
+    expect_unbuilt(&rt, SHEET, "")?;
     let source = source_with(rt.alloc(), PLAN)?;
-    for (before, after) in [
-        (SHEET, ""),
-        (source.as_str(), "x"),
-        (source.as_str(), "()"),
-        (source.as_str(), PLAN),
-        (source.as_str(), ")"),
-        (
-            SHEET,
-            "(plan (seats (script) (script)) (matches (0 0) (0 0)) (turns 100))",
-        ),
-        (
-            SHEET,
-            "(plan (seats (rollout 4 9) (script)) (matches (0 0)) (turns 100))",
-        ),
-    ] {
-        let source = format!(in rt.alloc(); "{before}{after}")?;
-        expect_play(&rt, source.as_str(), source.as_str(), UNBUILT)?;
-    }
-    Ok(())
+    expect_unbuilt(&rt, source.as_str(), "x")?;
+    expect_unbuilt(&rt, source.as_str(), "()")?;
+    expect_unbuilt(&rt, source.as_str(), PLAN)?;
+    expect_unbuilt(&rt, source.as_str(), ")")?;
+    expect_unbuilt(
+        &rt,
+        SHEET,
+        "(plan (seats (script) (script)) (matches (0 0) (0 0)) (turns 100))",
+    )?;
+    expect_unbuilt(
+        &rt,
+        SHEET,
+        "(plan (seats (rollout 4 9) (script)) (matches (0 0)) (turns 100))",
+    )
 }
 
 /// Where the last `(` stands that isn't closed.
@@ -448,15 +461,8 @@ fn last_open(text: &[u8]) -> Option<usize> {
 fn expect_cut(rt: &(impl AllocGlobal + Abort), source: &[u8], length: usize) -> Result<(), Fail> {
     let cut = source.get(..length).ok_or("the source is long enough")?;
     match last_open(cut) {
-        Some(at) => expect_fault(
-            rt,
-            "play",
-            cut,
-            SourceKind::Unclosed,
-            "Unclosed",
-            at.min(1000) as u32,
-        ),
-        None if length == 0 => expect_fault(rt, "play", cut, SourceKind::Shape, "Shape", 0),
+        Some(at) => expect_fault(rt, "play", cut, SourceKind::Unclosed, at.min(1000) as u32),
+        None if length == 0 => expect_fault(rt, "play", cut, SourceKind::Shape, 0),
         None if length < 523 => expect_command(rt, "the sheet alone", "play", cut, UNBUILT),
         None => expect_command(rt, "the whole source", "play", cut, PLAYED),
     }
@@ -472,174 +478,113 @@ fn a_cut_source_is_unclosed_at_the_last_open_list(rt: HostRuntime) -> Result<(),
     let open = source
         .as_str()
         .replacen(rt.alloc(), "WORTH)))\n", "WORTH))\n", 1)?;
-    expect_fault(
-        &rt,
-        "play",
-        open.as_bytes(),
-        SourceKind::Unclosed,
-        "Unclosed",
-        0,
-    )?;
-    expect_fault(
-        &rt,
-        "sheet",
-        open.as_bytes(),
-        SourceKind::Unclosed,
-        "Unclosed",
-        0,
-    )
+    expect_refused(&rt, open.as_bytes(), SourceKind::Unclosed, 0)
 }
 
 #[test]
 fn the_first_fault_of_the_forms_is_noted(rt: HostRuntime) -> Result<(), Fail> {
-    for word in ["sheet", "play"] {
-        expect_fault(&rt, word, b"", SourceKind::Shape, "Shape", 0)?;
-        expect_fault(&rt, word, b" ; none", SourceKind::Shape, "Shape", 7)?;
-        expect_fault(&rt, word, &[1], SourceKind::BadByte, "BadByte", 0)?;
-        expect_fault(&rt, word, b")", SourceKind::Stray, "Stray", 0)?;
-        let deep = vec![in rt.alloc(); b'('; 65]?;
-        expect_fault(&rt, word, &deep, SourceKind::TooDeep, "TooDeep", 64)?;
-        let mut long = vec![in rt.alloc(); b'a'; 66]?;
-        if let Some(first) = long.get_mut(0) {
-            *first = b'(';
-        }
-        expect_fault(&rt, word, &long, SourceKind::AtomLong, "AtomLong", 1)?;
+    expect_refused(&rt, b"", SourceKind::Shape, 0)?;
+    expect_refused(&rt, b" ; none", SourceKind::Shape, 7)?;
+    expect_refused(&rt, &[1], SourceKind::BadByte, 0)?;
+    expect_refused(&rt, b")", SourceKind::Stray, 0)?;
+    let deep = vec![in rt.alloc(); b'('; 65]?;
+    expect_refused(&rt, &deep, SourceKind::TooDeep, 64)?;
+    let mut long = vec![in rt.alloc(); b'a'; 66]?;
+    if let Some(first) = long.get_mut(0) {
+        *first = b'(';
+    }
+    expect_refused(&rt, &long, SourceKind::AtomLong, 1)
+}
+
+/// Fails unless `SHEET` with each change is refused with its fault: what is replaced, what stands there then, and the fault.
+fn expect_changes(
+    rt: &(impl AllocGlobal + Abort),
+    changes: &[(&str, &str, SourceKind, u32)],
+) -> Result<(), Fail> {
+    for (old, new, kind, at) in changes {
+        let sheet = SHEET.replacen(rt.alloc(), old, new, 1)?;
+        let source = format!(in rt.alloc(); "{sheet}{PLAN}")?;
+        expect_refused(rt, source.as_bytes(), *kind, *at)?;
     }
     Ok(())
 }
 
 /// Changes of `SHEET`, with the fault that each makes.
-const CHANGES: &[(&str, &str, SourceKind, &str, u32)] = &[
-    ("players 2", "players 9", SourceKind::Number, "Number", 29),
+const CHANGES: &[(&str, &str, SourceKind, u32)] = &[
+    ("players 2", "players 9", SourceKind::Number, 29),
     (
         "hloc STOCK) (deck",
         "hloc 'STOCK) (deck",
         SourceKind::Shape,
-        "Shape",
         56,
     ),
-    (
-        "(stage player",
-        "(stage foo",
-        SourceKind::Shape,
-        "Shape",
-        253,
-    ),
-    (
-        "(scoring max",
-        "(scoring best",
-        SourceKind::Shape,
-        "Shape",
-        419,
-    ),
+    ("(stage player", "(stage foo", SourceKind::Shape, 253),
+    ("(scoring max", "(scoring best", SourceKind::Shape, 419),
     (
         "(RANK (4) 4)",
         "(RANK (4) 1000000001)",
         SourceKind::Number,
-        "Number",
         156,
     ),
 ];
 
 #[test]
 fn the_first_fault_of_the_shape_is_noted(rt: HostRuntime) -> Result<(), Fail> {
-    for word in ["sheet", "play"] {
-        for (old, new, kind, name, at) in CHANGES {
-            let sheet = SHEET.replacen(rt.alloc(), old, new, 1)?;
-            let source = format!(in rt.alloc(); "{sheet}{PLAN}")?;
-            expect_fault(&rt, word, source.as_bytes(), *kind, name, *at)?;
-        }
-        for source in ["()", "(game)", " (game) ;", PLAN] {
-            let at = u32::from(source.starts_with(" "));
-            expect_fault(&rt, word, source.as_bytes(), SourceKind::Shape, "Shape", at)?;
-        }
-    }
+    expect_changes(&rt, CHANGES)?;
+    expect_refused(&rt, b"()", SourceKind::Shape, 0)?;
+    expect_refused(&rt, b"(game)", SourceKind::Shape, 0)?;
+    expect_refused(&rt, b" (game) ;", SourceKind::Shape, 1)?;
+    expect_refused(&rt, PLAN.as_bytes(), SourceKind::Shape, 0)?;
     // A fault of the forms that are read comes first.
-    expect_fault(&rt, "sheet", b"(game) )", SourceKind::Shape, "Shape", 0)?;
-    expect_fault(&rt, "play", b"(game) )", SourceKind::Stray, "Stray", 7)
+    expect_fault(&rt, "sheet", b"(game) )", SourceKind::Shape, 0)?;
+    expect_fault(&rt, "play", b"(game) )", SourceKind::Stray, 7)
 }
 
 /// Changes of `SHEET` that keep its shape, with the fault that each makes.
-const OTHER_MEANINGS: &[(&str, &str, SourceKind, &str, u32)] = &[
+const OTHER_MEANINGS: &[(&str, &str, SourceKind, u32)] = &[
     (
         "(put points",
         "(create players 2)\n(put points",
         SourceKind::Twice,
-        "Twice",
         88,
     ),
-    (
-        "using WORTH",
-        "using PRICE",
-        SourceKind::Unknown,
-        "Unknown",
-        454,
-    ),
-    (
-        "(stage player",
-        "(stage team",
-        SourceKind::Unknown,
-        "Unknown",
-        308,
-    ),
+    ("using WORTH", "using PRICE", SourceKind::Unknown, 454),
+    ("(stage player", "(stage team", SourceKind::Unknown, 308),
     (
         "(top ('P iloc HAND))",
         "(top ('P vloc HAND))",
         SourceKind::WrongKind,
-        "WrongKind",
         289,
     ),
     (
         "(repeat 2 (move",
         "(repeat 2 (repeat 2 (repeat 2 (shuffle (game hloc STOCK)))) (move",
         SourceKind::TooMany,
-        "TooMany",
         201,
     ),
     (
         "(create deck (game hloc STOCK) (deck (RANK (1 2 3 4))))\n",
         "",
         SourceKind::NoCards,
-        "NoCards",
         6,
     ),
 ];
 
 #[test]
 fn the_first_fault_of_the_meaning_is_noted(rt: HostRuntime) -> Result<(), Fail> {
-    for word in ["sheet", "play"] {
-        for (old, new, kind, name, at) in OTHER_MEANINGS {
-            let sheet = SHEET.replacen(rt.alloc(), old, new, 1)?;
-            let source = format!(in rt.alloc(); "{sheet}{PLAN}")?;
-            expect_fault(&rt, word, source.as_bytes(), *kind, name, *at)?;
-        }
-    }
+    expect_changes(&rt, OTHER_MEANINGS)?;
     // A fault of the shape comes first, also where it stands behind one of the meaning.
     let sheet = SHEET.replacen(rt.alloc(), "HAND", "STOCK", 1)?;
     let sheet = sheet.replacen(rt.alloc(), "(scoring max", "(scoring best", 1)?;
-    expect_fault(
-        &rt,
-        "sheet",
-        sheet.as_bytes(),
-        SourceKind::Shape,
-        "Shape",
-        420,
-    )
+    expect_refused(&rt, sheet.as_bytes(), SourceKind::Shape, 420)
 }
 
 #[test]
 fn hostile_sources_of_the_largest_size_are_refused(rt: HostRuntime) -> Result<(), Fail> {
     let opens = vec![in rt.alloc(); b'('; 1_048_576]?;
-    expect_fault(&rt, "sheet", &opens, SourceKind::TooDeep, "TooDeep", 64)?;
+    expect_fault(&rt, "sheet", &opens, SourceKind::TooDeep, 64)?;
     let comment = vec![in rt.alloc(); b';'; 1_048_576]?;
-    expect_fault(
-        &rt,
-        "sheet",
-        &comment,
-        SourceKind::Shape,
-        "Shape",
-        1_048_576,
-    )?;
+    expect_fault(&rt, "sheet", &comment, SourceKind::Shape, 1_048_576)?;
     let closes = vec![in rt.alloc(); b')'; 1_048_576]?;
-    expect_fault(&rt, "sheet", &closes, SourceKind::Stray, "Stray", 0)
+    expect_fault(&rt, "sheet", &closes, SourceKind::Stray, 0)
 }

@@ -46,48 +46,31 @@ const HAND: &str = "\
 ";
 
 /// Guards and domains of choices in the place of `HAND`, with the first location that is out of sight.
-const UNSEEN: &[(&str, u32)] = &[
-    (HANDS, 338),
+const UNSEEN: &[(&str, &str, SourceKind, u32)] = &[
+    (HAND, HANDS, SourceKind::Unseen, 338),
     // A guard, and a domain behind it whose location begins later.
     (
+        HAND,
         "(choice (if (is (top (game hloc STOCK)) RANK 1) (cycle reverse)) (any (game hloc STOCK) 'C (do (cycle reverse)))))\n",
+        SourceKind::Unseen,
         331,
     ),
     // The team is that of a player who is another one maybe.
     (
+        HAND,
         "(choice (any player 'P (any ((team of 'P) iloc PURSE) 'C (do (forget 'C))))))\n",
+        SourceKind::Unseen,
         338,
     ),
 ];
 
 #[test]
 fn the_first_location_out_of_sight_is_noted(rt: HostRuntime) -> Result<(), Fail> {
-    for word in ["sheet", "play"] {
-        for (choice, at) in UNSEEN {
-            let sheet = SHEET.replacen(rt.alloc(), HAND, choice, 1)?;
-            let source = format!(in rt.alloc(); "{sheet}{PLAN}")?;
-            expect_fault(
-                &rt,
-                word,
-                source.as_bytes(),
-                SourceKind::Unseen,
-                "Unseen",
-                *at,
-            )?;
-        }
-        // A fault of the parts comes first, also where it stands behind.
-        let sheet = SHEET.replacen(rt.alloc(), HAND, HANDS, 1)?;
-        let sheet = sheet.replacen(rt.alloc(), "using WORTH", "using PRICE", 1)?;
-        expect_fault(
-            &rt,
-            word,
-            sheet.as_bytes(),
-            SourceKind::Unknown,
-            "Unknown",
-            456,
-        )?;
-    }
-    Ok(())
+    expect_changes(&rt, UNSEEN)?;
+    // A fault of the parts comes first, also where it stands behind.
+    let sheet = SHEET.replacen(rt.alloc(), HAND, HANDS, 1)?;
+    let sheet = sheet.replacen(rt.alloc(), "using WORTH", "using PRICE", 1)?;
+    expect_refused(&rt, sheet.as_bytes(), SourceKind::Unknown, 456)
 }
 
 /// Fails unless `sheet` over this source writes this text on a line.
@@ -171,12 +154,5 @@ fn as_many_cards_as_may_be_are_accepted(rt: HostRuntime) -> Result<(), Fail> {
     expect_printed(&rt, sheet.as_str(), printed.as_str())?;
     // One card more: the line of the second deck is refused.
     let sheet = many_cards(rt.alloc(), "(create deck (game hloc S) (deck (R (0))))")?;
-    expect_fault(
-        &rt,
-        "sheet",
-        sheet.as_bytes(),
-        SourceKind::TooMany,
-        "TooMany",
-        205,
-    )
+    expect_fault(&rt, "sheet", sheet.as_bytes(), SourceKind::TooMany, 205)
 }
