@@ -9,8 +9,8 @@ ghost use Rattle.rc_naming.specs.Naming.{naming_of};
 
 /// The naming of a form is that of the sheet that it stands for.
 pub fn namings_of_sheets()
-    ensures four_cards { naming_of (form_of four_cards_text) ≡ sheet.naming_of four_cards }
-    ensures any_order { naming_of (form_of swapped_text) ≡ sheet.naming_of swapped }
+    ensures four_cards { naming_of (form_of four_cards_text) ≡ sheet.sheet_naming four_cards }
+    ensures any_order { naming_of (form_of swapped_text) ≡ sheet.sheet_naming swapped }
 {}
 
 /// The first mention in the printed order says what a name stands for: a deck's location before the items, an owner's inner
