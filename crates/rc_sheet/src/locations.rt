@@ -109,7 +109,7 @@ impl Reader {
 
 /// The word of a kind of locations.
 fn kind_word(kind: LocKind) -> Keyword
-    ensures { result ≡ reading.kind_word (kind_seen kind) }
+    ensures { result ≡ reading.kind_keyword (kind_seen kind) }
 {
     match kind {
         LocKind::Vloc => Keyword::Vloc,

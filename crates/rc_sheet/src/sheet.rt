@@ -76,7 +76,7 @@ impl Reader {
 
     /// The sheet of these parts, which has the reader's names.
     fn into_sheet(self, setup: Setup, body: Body) -> Sheet
-        ensures { sheet_seen result ≡ reading.sheet_of self (setup_seen setup)
+        ensures { sheet_seen result ≡ reading.sheet_with self (setup_seen setup)
             (items_seen body.0.items, (best_seen body.1.0, int_seen body.1.1)) }
     {
         let (items, (best, score)) = body;
