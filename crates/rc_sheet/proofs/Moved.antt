@@ -1,6 +1,6 @@
 -- A form that is the same as another one but for offsets, by the rows of the grammar.
 use Prim.Native.String.{String}
-use Rattle.std.proofs.Common.{◌≡◌, ℕ, ◌+◌, nat_le, List, refl, subst, ap, ◌∙◌}
+use Rattle.std.proofs.Common.{◌≡◌, ℕ, suc, nat_le, List, refl, subst, ap, ◌∙◌}
 use Rattle.rc_model.specs.Tree.{Tree, word, list, Trees, nil, cons, count}
 use Rattle.rc_form.specs.SameForm.{SameForm, SameForms}
 use Rattle.rc_sheet_model.specs.Rows.{◌▸◌, End, AtLeast, Row, Word, Atom}
@@ -36,7 +36,7 @@ pub same_count : (forms others : Trees) → SameForms forms others → count oth
 same_count nil nil same = refl
 same_count nil (cons other others) same = absurd same
 same_count (cons form forms) nil same = absurd same
-same_count (cons form forms) (cons other others) same = ap (λ n. n + 1) (same_count forms others same.1)
+same_count (cons form forms) (cons other others) same = ap suc (same_count forms others same.1)
 
 -- WHAT IS KEPT
 

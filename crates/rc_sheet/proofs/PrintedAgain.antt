@@ -1,7 +1,7 @@
 -- The text that is printed for a sheet is read back.
-use Rattle.std.proofs.Common.{◌≡◌, ℕ, ◌-◌, List, [], ◌∷◌, ◌++◌, length, Option, Some, None, refl, sym, ap, ap₂, ◌∙◌, leb-true}
+use Rattle.std.proofs.Common.{◌≡◌, ℕ, List, [], ◌∷◌, ◌++◌, length, Option, Some, None, refl, sym, ap, ap₂, ◌∙◌, leb-true}
 use Rattle.std.proofs.lemmas.Bool.{and_parts}
-use Rattle.rc_model.specs.Tree.{Tree, word, list, Trees, nil, cons, printed, printed_parts, printed_behind}
+use Rattle.rc_model.specs.Tree.{Tree, word, list, Trees, nil, cons, IsOpenAtMost, printed, printed_parts, printed_behind}
 use Rattle.rc_model.specs.Spelled.{Spelled}
 use Rattle.rc_model.specs.Transcript.{line}
 use Rattle.rc_form.specs.SameForm.{SameForm, SameForms, SpellsAgain, IsOfAtoms, AreOfAtoms}
