@@ -1,12 +1,12 @@
 -- Names that are added one by one are the different ones, in the order of their first mention.
-use Rattle.std.proofs.Common.{◌≡◌, ℕ, Bool, true, false, ◌||◌, cond, List, [], ◌∷◌, ◌++◌, inl, inr, map, fold, bytes_eq, Option, Some, None, option_map, option_to_list, refl, sym, ap, ◌∙◌, append_assoc}
+use Rattle.std.proofs.Common.{◌≡◌, ℕ, Bool, true, false, ◌||◌, cond, List, [], ◌∷◌, ◌++◌, inl, inr, map, bytes_eq, Option, Some, None, option_map, option_to_list, refl, sym, ap, ◌∙◌, append_assoc}
 use Rattle.std.specs.List.{list_any}
 use Rattle.std.proofs.lemmas.Bool.{cases_Bool, cond-true, cond-false}
 use Rattle.std.proofs.lemmas.List.{append-nil, map-append, map-id}
 use Rattle.std.proofs.lemmas.List.Folds.{list_any-append}
 use Rattle.rc_model.specs.Words.{different, different_from}
 use Rattle.rc_semantics.specs.SecondNames.{firsts_from, OwnedMention}
-use Rattle.rc_naming.specs.Known.{with_first, with_firsts, with_words, with_mentions}
+use Rattle.rc_naming.specs.Known.{with_firsts, with_words, with_mentions}
 
 pub list_any-map : {X Y : Type 0} (p : Y → Bool) (f : X → Y) (xs : List X) → list_any p (map f xs) ≡ list_any (λ x. p (f x)) xs
 list_any-map p f [] = refl

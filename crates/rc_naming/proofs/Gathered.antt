@@ -1,6 +1,6 @@
 -- The words of the mentions of locations and of stored numbers are those that a form mentions.
-use Rattle.std.proofs.Common.{◌≡◌, ℕ, ◌≤◌, Bool, true, false, if◌then◌else◌, List, [], ◌∷◌, ◌++◌, length, map, flat_map, refl, sym, ap, ◌∙◌}
-use Rattle.std.proofs.lemmas.List.{append-nil, map-append}
+use Rattle.std.proofs.Common.{◌≡◌, ℕ, Bool, true, false, if◌then◌else◌, List, [], ◌∷◌, ◌++◌, map, flat_map, refl, ap, ◌∙◌}
+use Rattle.std.proofs.lemmas.List.{map-append}
 use Rattle.rc_model.specs.Tree.{Tree, word, list, Trees, nil, cons}
 use Rattle.rc_sheet_model.specs.FormMentions.{is_kind, gathered, all_gathered, word_of, loc_word, num_word, deck_loc, body, deck_lines, loc_mentions, num_mentions, is_text}
 use Rattle.rc_semantics.specs.SecondNames.{OwnedMention}

@@ -11,7 +11,7 @@ use Rattle.rc_setup.proofs.FormLemmas.{tree_of_atom, tree_of_list}
 use Rattle.rc_setup.proofs.SliceLemmas.{two}
 use Rattle.rc_sheet_model.specs.FormMentions.{word_of, branch_attr_words, branch_value_words}
 use Rattle.rc_naming.specs.Mentions.{Mentions}
-use Rattle.rc_naming.specs.Known.{with_all, none, joined, in_groups, in_branches, in_deck_of}
+use Rattle.rc_naming.specs.Known.{with_all, none, in_groups, in_branches, in_deck_of}
 use Rattle.rc_naming.proofs.Steps.{with_all-joined}
 
 -- a list of these parts, alone

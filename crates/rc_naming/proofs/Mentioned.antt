@@ -1,9 +1,9 @@
 -- What lists of three and of four parts mention.
-use Rattle.std.proofs.Common.{◌≡◌, ℕ, ◌<◌, ◌≤◌, true, false, List, [], ◌∷◌, length, get_or, if◌then◌else◌, bytes_eq, refl, ap, sym, ◌∙◌, arith}
+use Rattle.std.proofs.Common.{◌≡◌, ℕ, ◌<◌, ◌≤◌, true, false, List, [], ◌∷◌, length, get_or, if◌then◌else◌, refl, ap, sym, ◌∙◌, arith}
 use Rattle.std.specs.Prelude.{codes}
 use Rattle.std.proofs.lemmas.Bool.{cond-true, cond-false}
 use Rattle.std.proofs.lemmas.Slice.Eq.{bytes_eq-Decides}
-use Rattle.rc_model.specs.Tree.{Tree, word, list, Trees, nil, cons}
+use Rattle.rc_model.specs.Tree.{Tree, word, list}
 use Rattle.rc_form.specs.declared.form.Form.{Form}
 use Rattle.rc_form.specs.Form.{tree_of, trees_of, packed}
 use Rattle.rc_sheet_model.specs.FormMentions.{attr_word, word_of, is_text}
@@ -11,7 +11,6 @@ use Rattle.rc_grammar.specs.Faults.{is_form_word}
 use Rattle.rc_grammar.specs.declared.keyword.Keyword.TheVariants as keyword
 use Rattle.rc_semantics.specs.Classes.{class_at}
 use Rattle.rc_semantics.specs.SecondParts.{bytes_of}
-use Rattle.rc_semantics.specs.SecondNames.{OwnedMention}
 use Rattle.rc_naming.specs.Mentions.{mention_by, num_mention}
 
 -- the fixed words of two definitions are the same

@@ -7,7 +7,6 @@ use Rattle.rc_form.specs.declared.form.Form.{Form}
 use Rattle.rc_form.specs.Form.{tree_of, trees_of, packed}
 use Rattle.rc_sheet_model.specs.FormMentions.{all_var_words, var_words, word_of, words_of, group_attr_words, group_value_words, branch_attr_words, branch_value_words, entry_attr_words, entry_value_words}
 use Rattle.rc_sheet_model.specs.StandsSetup.{begins_with, lines_with}
-use Rattle.rc_semantics.specs.SecondNames.{OwnedMention}
 use Rattle.rc_naming.specs.Mentions.{Mentions}
 use Rattle.rc_naming.specs.Known.{with_first, with_all, joined, in_tree, in_trees, variables, in_groups, in_branches, in_values, in_entries, in_deck_of, none, in_deck_line, in_deck_lines, deck_in, decks_in, in_points_line, in_points_lines, points_in, all_points_in}
 use Rattle.rc_naming.specs.declared.uses.Kind.{Kind}

@@ -1,46 +1,19 @@
 -- The names that are known at the end are the names of the form.
-use Rattle.std.proofs.Common.{◌≡◌, ℕ, ◌+◌, ◌≤◌, List, [], ◌∷◌, ◌++◌, length, map, flat_map, refl, sym, ap, ◌∙◌, subst}
+use Rattle.std.proofs.Common.{◌≡◌, ℕ, ◌+◌, ◌≤◌, List, [], ◌∷◌, length, map, refl, sym, ap, ◌∙◌, subst}
 use Rattle.std.specs.List.{range_with_len}
-use Rattle.std.proofs.lemmas.List.{append-nil, length-map}
-use Rattle.rc_model.specs.Tree.{Tree, Trees}
-use Rattle.rc_sheet_model.specs.Sheet.{Names, LocName, NumName}
+use Rattle.std.proofs.lemmas.List.{length-map}
+use Rattle.rc_model.specs.Tree.{Tree}
+use Rattle.rc_sheet_model.specs.Sheet.{LocName, NumName}
 use Rattle.rc_model.specs.Numbers.{below}
 use Rattle.rc_model.specs.Words.{different}
 use Rattle.rc_sheet_model.specs.Naming.{Naming}
-use Rattle.rc_sheet_model.specs.FormMentions.{setup_lines, body, deck_lines, points_lines, all_gathered, names_of, attr_mentions, value_mentions, map_mentions, loc_mentions, num_mentions, var_mentions, all_var_words}
+use Rattle.rc_sheet_model.specs.FormMentions.{names_of, attr_mentions, value_mentions, map_mentions, var_mentions}
 use Rattle.rc_semantics.specs.SecondNames.{OwnedMention}
-use Rattle.rc_naming.specs.Mentions.{Mentions, loc_mention, deck_location, all_locations, all_numbers, mentions_of}
+use Rattle.rc_naming.specs.Mentions.{Mentions, all_locations, all_numbers, mentions_of}
 use Rattle.rc_naming.specs.Naming.{naming_of, loc_names, num_names, firsts}
-use Rattle.rc_naming.specs.Known.{with_all, with_words, with_mentions, none, joined, decks_in, all_points_in, body_in, naming_by}
+use Rattle.rc_naming.specs.Known.{with_all, with_mentions, none, naming_by}
 use Rattle.rc_naming.proofs.Firsts.{words_added, mentions_added, names_added}
 use Rattle.rc_naming.proofs.Gathered.{location_words, number_words}
-use Rattle.rc_naming.proofs.Steps.{with_all-joined}
-
--- the setup and the body are all
-parts_are_all : (form : Tree) →
-    joined (joined (decks_in (setup_lines form)) (all_points_in (setup_lines form))) (body_in (body form)) ≡ mentions_of form
-parts_are_all form =
-    ap
-    (λ locs. record {
-      attrs = attr_mentions form;
-      values = value_mentions form;
-      maps = map_mentions form;
-      locs = locs ++ all_gathered loc_mention (body form);
-      nums = all_numbers form;
-      vars = var_mentions form;
-    })
-    (append-nil (flat_map deck_location (deck_lines form)))
-
-pub all_known : (form : Tree) →
-    with_all (with_all (with_all none (decks_in (setup_lines form))) (all_points_in (setup_lines form))) (body_in (body form))
-    ≡ with_all none (mentions_of form)
-all_known form =
-    let decks = decks_in (setup_lines form) in
-    let points = all_points_in (setup_lines form) in
-    let rest = body_in (body form) in
-    ap (λ known. with_all known rest) (with_all-joined none decks points)
-    ∙ with_all-joined none (joined decks points) rest
-    ∙ ap (with_all none) (parts_are_all form)
 
 pub same_naming : (attrs attrs' values values' maps maps' locs locs' nums nums' vars vars' : List (List ℕ))
     (loc_names loc_names' : List LocName) (num_names num_names' : List NumName)

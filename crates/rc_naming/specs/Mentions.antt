@@ -1,6 +1,5 @@
 -- Everything that a form mentions, kind by kind in the printed order; of locations and of stored numbers also what a mention
 -- says of them.
-use Prim.Native.String.{String}
 use Rattle.std.specs.Prelude.{ℕ, if◌then◌else◌, List, [], ◌∷◌, ◌++◌, flat_map}
 use Rattle.rc_model.specs.Tree.{Tree, word, list, Trees, nil, cons}
 use Rattle.rc_sheet_model.specs.FormMentions.{is_kind, gathered, all_gathered, body, deck_lines, attr_mentions, value_mentions, map_mentions, var_mentions, is_text}

@@ -38,10 +38,21 @@ pub fn naming_of(alloc: Global, form: &Form) -> Result<Naming, AllocError>
 pub fn known_of(alloc: Global, form: &Form) -> Result<Known, AllocError>
     ensures { IfOk result (λ known. known ≡ with_all none (mentions_of (tree_of form.now))) }
 {
-    let lines = setup_lines(form);
     let mut known = Known::new(alloc);
-    known.add_decks(lines)?;
-    known.add_all_points(lines)?;
-    known.add_body(body(form))?;
+    known.add_form(form)?;
     Ok(known)
+}
+
+impl Known {
+    ghost use Rattle.std.specs.Prelude.{OnOk};
+
+    /// Adds all names that a form mentions.
+    fn add_form(&mut self, form: &Form) -> Result<(), AllocError>
+        ensures { OnOk result (self.new ≡ with_all self.old (mentions_of (tree_of form.now))) }
+    {
+        let lines = setup_lines(form);
+        self.add_decks(lines)?;
+        self.add_all_points(lines)?;
+        self.add_body(body(form))
+    }
 }

@@ -1,4 +1,4 @@
-use Rattle.std.proofs.Common.{◌≡◌, length, arith}
+use Rattle.std.proofs.Common.{arith}
 use Rattle.rc_form.specs.Form.{tree_of}
 use Rattle.rc_naming.proofs.Lengths.{entries_other}
 use Rattle.rc_naming.proofs.sheet_parts.points_entries.Goals as goal

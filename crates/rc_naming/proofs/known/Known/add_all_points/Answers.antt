@@ -1,7 +1,5 @@
-use Rattle.std.proofs.Common.{◌∙◌, []}
-use Rattle.rc_model.specs.Tree.{cons, nil}
-use Rattle.rc_sheet_model.specs.FormMentions.{word_of}
-use Rattle.rc_naming.specs.Known.{in_deck_of, all_points_in, points_in}
+use Rattle.std.proofs.Common.{◌∙◌}
+use Rattle.rc_naming.specs.Known.{all_points_in, points_in}
 use Rattle.rc_naming.proofs.Steps.{step, points-split}
 use Rattle.rc_naming.proofs.known.Known.add_all_points.Goals as goal
 

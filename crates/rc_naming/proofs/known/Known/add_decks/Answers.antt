@@ -1,7 +1,5 @@
-use Rattle.std.proofs.Common.{◌∙◌, []}
-use Rattle.rc_model.specs.Tree.{cons, nil}
-use Rattle.rc_sheet_model.specs.FormMentions.{word_of}
-use Rattle.rc_naming.specs.Known.{in_deck_of, decks_in, deck_in}
+use Rattle.std.proofs.Common.{◌∙◌}
+use Rattle.rc_naming.specs.Known.{decks_in, deck_in}
 use Rattle.rc_naming.proofs.Steps.{step, decks-split}
 use Rattle.rc_naming.proofs.known.Known.add_decks.Goals as goal
 

@@ -1,7 +1,6 @@
-use Rattle.std.proofs.Common.{◌∙◌, []}
+use Rattle.std.proofs.Common.{◌∙◌}
 use Rattle.rc_model.specs.Tree.{cons, nil}
-use Rattle.rc_sheet_model.specs.FormMentions.{word_of}
-use Rattle.rc_naming.specs.Known.{in_deck_of, in_entries}
+use Rattle.rc_naming.specs.Known.{in_entries}
 use Rattle.rc_naming.proofs.Steps.{step, entries-split}
 use Rattle.rc_naming.proofs.known.Known.add_entries.Goals as goal
 

@@ -1,5 +1,4 @@
 use Rattle.std.proofs.Common.{◌∙◌, []}
-use Rattle.rc_model.specs.Tree.{cons, nil}
 use Rattle.rc_sheet_model.specs.FormMentions.{word_of}
 use Rattle.rc_naming.specs.Known.{in_deck_of, in_values}
 use Rattle.rc_naming.proofs.Steps.{step, values-split}
