@@ -1,6 +1,6 @@
 -- What is read so far, before what is read behind it.
 use Rattle.std.proofs.Common.{◌≡◌, ℕ, List, [], ◌∷◌, ◌++◌, map, refl, ap, ◌∙◌, append_assoc}
-use Rattle.std.proofs.lemmas.List.{append-nil, map-append}
+use Rattle.std.proofs.lemmas.List.{map-append}
 use Rattle.rc_model.specs.Deck.{Groups, no_group, group, Branches, no_branch, branch, Entry}
 use Rattle.rc_model.specs.DeckText.{DeckNames}
 use Rattle.rc_deck.specs.declared.tree.Group.{Group as DeckGroup}

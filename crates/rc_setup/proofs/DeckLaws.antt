@@ -1,15 +1,14 @@
 -- A deck tree is read from a form exactly where it stands there.
-use Rattle.std.proofs.Common.{◌≡◌, ◌≢◌, ℕ, Bool, true, false, cond, List, [], ◌∷◌, Option, Some, None, option_map, refl, sym, ap, subst, ◌∙◌}
+use Rattle.std.proofs.Common.{◌≡◌, ◌≢◌, ℕ, Bool, true, false, cond, List, Option, Some, None, option_map, refl, sym, ap, subst, ◌∙◌}
 use Rattle.std.specs.Prelude.{codes}
-use Rattle.std.specs.Str.{bytes_eq}
 use Rattle.std.proofs.lemmas.Bool.{cond-true}
-use Rattle.std.proofs.lemmas.Option.{same_Some, cond_some}
+use Rattle.std.proofs.lemmas.Option.{same_Some}
 use Rattle.std.proofs.lemmas.Slice.Eq.{bytes_eq-Decides}
 use Rattle.rc_model.specs.Tree.{Tree, word, list, Trees, nil, cons}
 use Rattle.rc_model.specs.Deck.{Groups, no_group, group, Branches, no_branch, branch}
-use Rattle.rc_model.specs.DeckText.{IsWord, IsList, IsName, IsGroup, IsBranch, GroupsStand, BranchesStand, DeckStands, DeckNames}
+use Rattle.rc_model.specs.DeckText.{IsWord, IsGroup, IsBranch, GroupsStand, BranchesStand, DeckStands, DeckNames}
 use Rattle.rc_setup.specs.Naming.{number_of, AllDiffer}
-use Rattle.rc_setup.specs.Reading.{both, unless_nil, plain, Group, Branch, read_groups, read_group, read_group_parts, read_branch_list, read_branches, read_branch, read_branch_parts, read_deck, read_deck_parts, is_word}
+use Rattle.rc_setup.specs.Reading.{unless_nil, plain, Group, Branch, read_groups, read_group, read_branch_list, read_branches, read_branch, read_deck, is_word}
 use Rattle.rc_setup.proofs.NamingLaws.{number_of-sound, number_of-complete}
 use Rattle.rc_setup.proofs.OptionLemmas.{both_some, both_of, unless_nil_found, unless_nil_of}
 

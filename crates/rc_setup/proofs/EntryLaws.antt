@@ -1,5 +1,5 @@
 -- Entries are read from a form exactly where they stand there.
-use Rattle.std.proofs.Common.{◌≡◌, ◌≢◌, ℕ, Bool, true, false, cond, ◌&&◌, List, [], ◌∷◌, length, Option, Some, None, ℤ, option_map, inl, inr, refl, sym, ap, subst, ◌∙◌}
+use Rattle.std.proofs.Common.{◌≡◌, ◌≢◌, ℕ, Bool, true, false, List, [], ◌∷◌, Option, Some, None, ℤ, inl, inr, refl, sym, ap, subst, ◌∙◌}
 use Rattle.std.specs.Option.{option_and_then}
 use Rattle.std.specs.Int.Signed.{le_z_yes}
 use Rattle.std.proofs.Math.Dec.{T}
@@ -10,9 +10,9 @@ use Rattle.rc_model.specs.Tree.{Tree, word, list, Trees, nil, cons}
 use Rattle.rc_model.specs.Literal.{integer}
 use Rattle.rc_model.specs.Clamp.{IsWithinClamp, is_within_clamp}
 use Rattle.rc_model.specs.Deck.{Entry}
-use Rattle.rc_model.specs.DeckText.{IsList, ValuesStand, IsPoints, EntryStands, AllEntriesStand, EntriesStand, DeckNames}
+use Rattle.rc_model.specs.DeckText.{ValuesStand, IsPoints, EntryStands, AllEntriesStand, EntriesStand, DeckNames}
 use Rattle.rc_setup.specs.Naming.{number_of}
-use Rattle.rc_setup.specs.Reading.{both, unless_nil, unclamped, entry_with, read_values, read_value_list, read_points, read_entry, read_entry_parts, read_all_entries, read_entries}
+use Rattle.rc_setup.specs.Reading.{unless_nil, unclamped, entry_with, read_values, read_value_list, read_points, read_entry, read_all_entries, read_entries}
 use Rattle.rc_setup.proofs.NamingLaws.{number_of-sound, number_of-complete}
 use Rattle.rc_setup.proofs.OptionLemmas.{both_some, both_of, unless_nil_found, unless_nil_of}
 use Rattle.rc_setup.proofs.DeckLaws.{BothDiffer}

@@ -1,5 +1,5 @@
 -- The tree of a form.
-use Rattle.std.proofs.Common.{◌≡◌, ℕ, List, Vec, sym, ap, ◌∙◌, refl}
+use Rattle.std.proofs.Common.{◌≡◌, ℕ, List, Vec, sym, ap, ◌∙◌}
 use Rattle.std.specs.Global.{Global}
 use Rattle.rc_model.specs.Tree.{Tree}
 use Rattle.rc_form.specs.declared.form.Form.{Form}

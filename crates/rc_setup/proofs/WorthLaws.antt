@@ -1,8 +1,8 @@
 -- The worths of a deck's cards are determined by its form and the entries'.
-use Rattle.std.proofs.Common.{◌≡◌, ℕ, zero, suc, ◌+◌, ◌<◌, ◌≤◌, List, [], ◌∷◌, length, get_or, map, min, All, ℤ, Option, Some, None, IfSome, refl, sym, ap, subst, ◌∙◌, arith}
+use Rattle.std.proofs.Common.{◌≡◌, ℕ, zero, suc, ◌<◌, ◌≤◌, List, [], ◌∷◌, length, get_or, map, All, ℤ, Option, Some, None, IfSome, refl, sym, ap, subst, ◌∙◌, arith}
 use Rattle.std.proofs.lemmas.Option.{same_Some}
 use Rattle.std.specs.Prelude.{◌++◌}
-use Rattle.rc_model.specs.Tree.{Tree, word, list, Trees, nil, cons, count}
+use Rattle.rc_model.specs.Tree.{Tree, Trees, nil, cons, count}
 use Rattle.rc_model.specs.Deck.{Groups, Face, Entry, AreFaces, points_of}
 use Rattle.rc_model.specs.DeckText.{names_of, in_deck, in_entries, DeckStands, EntriesStand, AllEntriesStand, HasEachOnce, HaveWorths, DeckNames}
 use Rattle.rc_model.specs.Clamp.{IsWithinClamp}
@@ -55,17 +55,10 @@ have_faces deck entries names groups e only worths have =
     let same = only have.groups (subst (λ n. DeckStands n have.groups deck) (sym e) have.deck_stands) in
     subst (λ gs. AreFaces gs have.faces) same have.are_faces
 
-pub many_cards : (deck entries : Tree) (names : DeckNames) (groups : Groups) (cap count : ℕ) → names ≡ names_in deck entries → AreOnly names groups deck →
-    ((faces : List Face) → AreFaces groups faces → count ≡ min cap (length faces)) → 512 < count → (worths : List ℤ) → HaveWorths deck entries worths → ⊥
-many_cards deck entries names groups cap count e only counts many worths have =
-    let counted : count ≡ min cap (length have.faces) = counts have.faces (have_faces deck entries names groups e only worths have) in
-    let few : length have.faces ≤ 512 = have.few_cards in
-    omega arith
-
-pub not_once : (deck entries : Tree) (names : DeckNames) (groups : Groups) (faces : List Face) → names ≡ names_in deck entries → AreOnly names groups deck →
-    ((fs : List Face) → AreFaces groups fs → fs ≡ faces) → (All HasEachOnce faces → ⊥) → (worths : List ℤ) → HaveWorths deck entries worths → ⊥
-not_once deck entries names groups faces e only only_faces never worths have =
-    never (subst (All HasEachOnce) (only_faces have.faces (have_faces deck entries names groups e only worths have)) have.once)
+pub no_cards : (deck entries : Tree) (names : DeckNames) (groups : Groups) → names ≡ names_in deck entries → AreOnly names groups deck →
+    ((faces : List Face) → AreFaces groups faces → length faces ≤ 512 → All HasEachOnce faces → ⊥) → (worths : List ℤ) → HaveWorths deck entries worths → ⊥
+no_cards deck entries names groups e only none worths have =
+    none have.faces (have_faces deck entries names groups e only worths have) have.few_cards have.once
 
 pub worths_stand : (deck entries : Tree) (names : DeckNames) (groups : Groups) (points : List Entry) (faces : List Face) (worths : List ℤ) → names ≡ names_in deck entries →
     DeckStands names groups deck → EntriesStand names points entries → AreFaces groups faces → All HasEachOnce faces → length faces ≤ 512 →

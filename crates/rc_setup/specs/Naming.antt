@@ -1,5 +1,5 @@
--- DeckNames are numbered as they are mentioned.
-use Rattle.std.specs.Prelude.{◌≡◌, ◌≢◌, ℕ, ◌≤◌, if◌then◌else◌, List, length, fold, AllPairs, Option, None}
+-- Names of attributes and values, numbered as they are mentioned.
+use Rattle.std.specs.Prelude.{◌≢◌, ℕ, ◌≤◌, if◌then◌else◌, List, length, fold, AllPairs, Option, None}
 use Rattle.std.specs.List.{position}
 use Rattle.std.specs.Str.{bytes_eq}
 use Rattle.rc_model.specs.Tree.{Tree, word, list}

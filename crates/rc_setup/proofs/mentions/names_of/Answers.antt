@@ -1,4 +1,4 @@
-use Rattle.std.proofs.Common.{◌≡◌, [], ◌++◌, ◌∙◌, ap, sym}
+use Rattle.std.proofs.Common.{[], ◌++◌, ◌∙◌, ap, sym}
 use Rattle.std.proofs.lemmas.List.Sums.{fold-append}
 use Rattle.rc_model.specs.DeckText.{in_deck, in_entries}
 use Rattle.rc_form.specs.Form.{tree_of}

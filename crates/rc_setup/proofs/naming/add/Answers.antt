@@ -1,7 +1,5 @@
 use Rattle.std.proofs.Common.{◌∙◌, ap, ◌++◌, ◌∷◌, [], cond}
 use Rattle.rc_setup.proofs.WordLemmas.{list_any_word}
-use Rattle.rc_setup.proofs.NamingLaws.{number_of-complete}
-use Rattle.rc_setup.proofs.MentionLemmas.{mentions_step}
 use Rattle.rc_setup.proofs.naming.add.Goals as goal
 
 pub returns : goal.returns

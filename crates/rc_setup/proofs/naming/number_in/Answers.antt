@@ -1,7 +1,5 @@
-use Rattle.std.proofs.Common.{◌≡◌, ◌∙◌, ap, sym, subst, Some, None, Option, ℕ, eqb, false, cond}
+use Rattle.std.proofs.Common.{◌≡◌, ◌∙◌, ap, sym, eqb, false}
 use Rattle.std.specs.Prelude.{slice_index}
-use Rattle.std.specs.List.{position}
-use Rattle.std.specs.Str.{bytes_eq}
 use Rattle.std.proofs.lemmas.Bool.{ne_eqb, cond-false}
 use Rattle.rc_setup.proofs.FormLemmas.{tree_of_atom}
 use Rattle.rc_setup.specs.Naming.{number_of}

@@ -1,4 +1,4 @@
-use Rattle.std.proofs.Common.{◌≡◌, ◌∙◌, ap, sym, Some, option_map, map, [], refl}
+use Rattle.std.proofs.Common.{◌∙◌, ap, sym, Some, option_map, map, [], refl}
 use Rattle.std.proofs.lemmas.Bool.{eq-eqb, false≢true}
 use Rattle.std.proofs.lemmas.List.{append-nil}
 use Rattle.rc_deck.specs.Points.{entry_of}

@@ -1,4 +1,4 @@
-use Rattle.std.proofs.Common.{◌≡◌, ◌∙◌, ap, Some, option_map}
+use Rattle.std.proofs.Common.{◌∙◌, ap, Some, option_map}
 use Rattle.rc_model.specs.Deck.{no_group}
 use Rattle.rc_deck.specs.Tree.{groups_in}
 use Rattle.rc_setup.specs.Reading.{plain}

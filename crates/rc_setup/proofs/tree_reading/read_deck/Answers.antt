@@ -1,7 +1,7 @@
-use Rattle.std.proofs.Common.{◌≡◌, ◌∙◌, ap, sym, Some, true, option_map}
+use Rattle.std.proofs.Common.{◌≡◌, ◌∙◌, ap, sym, true, option_map}
 use Rattle.std.specs.Prelude.{codes}
 use Rattle.std.proofs.lemmas.Bool.{eq-eqb, false≢true}
-use Rattle.rc_form.specs.Form.{tree_of, trees_of, packed}
+use Rattle.rc_form.specs.Form.{tree_of}
 use Rattle.rc_deck.specs.Tree.{groups_in}
 use Rattle.rc_setup.specs.Reading.{is_word}
 use Rattle.rc_setup.proofs.GroupLemmas.{read_deck_of}

@@ -1,4 +1,4 @@
-use Rattle.std.proofs.Common.{◌∙◌, ap, sym, subst, refl, get_or, ℕ, arith, length, ◌<◌}
+use Rattle.std.proofs.Common.{◌∙◌, sym, subst, refl, get_or, ℕ, length, ◌<◌}
 use Rattle.std.proofs.lemmas.Bool.{false≢true}
 use Rattle.std.proofs.lemmas.List.{take_all}
 use Rattle.rc_model.specs.DeckText.{HasEachOnce}
