@@ -5,6 +5,8 @@ ghost use Rattle.rc_form.specs.Form.{tree_of};
 ghost use Rattle.rc_grammar.specs.Faults.{faults, first};
 ghost use Rattle.rc_semantics.specs.Checks.{IfSheetFault};
 ghost use Rattle.rc_semantics.specs.SecondFaults.{second_faults};
+ghost use Rattle.rc_semantics.specs.SecondParts as parts_spec;
+ghost use Rattle.rc_semantics.specs.Summary as spec;
 
 use crate::around::Around;
 use crate::fault::SheetFail;
@@ -31,6 +33,15 @@ pub fn check_semantics(alloc: Global, form: &Form) -> Result<(), SheetFail>
         → All (λ other. fault.at ≤ other.at) (second_faults (tree_of form.now)))) }
 {
     let whole = Whole::of(alloc, form)?;
+    check_parts(alloc, &whole, form)
+}
+
+/// Looks at the parts of a form, of which this is known as a whole.
+fn check_parts<'a>(alloc: Global, whole: &Whole<'a>, form: &'a Form) -> Result<(), SheetFail>
+    requires known { whole.now ≡ spec.whole_of (parts_spec.parts_of (tree_of form.now)) }
+    ensures fine { IfOk result (λ _. second_faults (tree_of form.now) ≡ []) }
+    ensures found { IfErr result (λ fail. IfSheetFault fail (λ fault. first (second_faults (tree_of form.now)) ≡ Some fault)) }
+{
     let around = Around::outside(alloc);
     let at = Standing {
         place: Place::Sheet,
@@ -38,5 +49,5 @@ pub fn check_semantics(alloc: Global, form: &Form) -> Result<(), SheetFail>
         beside: &[],
         around: &around,
     };
-    Walk::new(alloc).part(&whole, &at, form)
+    Walk::new(alloc).part(whole, &at, form)
 }

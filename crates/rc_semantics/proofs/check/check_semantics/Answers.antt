@@ -1,30 +1,6 @@
-use Rattle.std.proofs.Common.{subst}
 use Rattle.rc_form.specs.Form.{tree_of}
-use Rattle.rc_semantics.specs.Checks.{Checks}
-use Rattle.rc_semantics.proofs.Answered.{from_start, answered_fine, answered_found, answered_least}
+use Rattle.rc_semantics.proofs.Answered.{answered_least}
 use Rattle.rc_semantics.proofs.check.check_semantics.Goals as goal
 
-pub returns-clause-fine : goal.returns-clause-fine
-returns-clause-fine c =
-    answered_fine (tree_of c.args.form.now) c.part.new.self.seen c.part.result
-    (subst (λ checked. Checks checked c.part.result c.part.new.self.seen)
-    (from_start (tree_of c.args.form.now) _ _ _ _
-    c.in_ok-whole.ensures.known c.new.ensures.seen c.outside-around.ensures c.new.ensures.above)
-    c.part.ensures.walked)
-
-pub returns-clause-found : goal.returns-clause-found
-returns-clause-found c =
-    answered_found (tree_of c.args.form.now) c.part.new.self.seen c.part.result
-    (subst (λ checked. Checks checked c.part.result c.part.new.self.seen)
-    (from_start (tree_of c.args.form.now) _ _ _ _
-    c.in_ok-whole.ensures.known c.new.ensures.seen c.outside-around.ensures c.new.ensures.above)
-    c.part.ensures.walked)
-
 pub returns-clause-least : goal.returns-clause-least
-returns-clause-least c =
-    answered_least (tree_of c.args.form.now) c.part.result
-    (answered_found (tree_of c.args.form.now) c.part.new.self.seen c.part.result
-    (subst (λ checked. Checks checked c.part.result c.part.new.self.seen)
-    (from_start (tree_of c.args.form.now) _ _ _ _
-    c.in_ok-whole.ensures.known c.new.ensures.seen c.outside-around.ensures c.new.ensures.above)
-    c.part.ensures.walked))
+returns-clause-least c = answered_least (tree_of c.args.form.now) c.check_parts.result c.check_parts.ensures.found
