@@ -14,3 +14,4 @@ pub mod ScoringLaws
 pub mod Scripts
 pub mod Sheet
 pub mod Spacing
+pub mod PrintedTwice

@@ -5,6 +5,7 @@ mod accepting;
 mod answer;
 mod command;
 mod game;
+mod laws;
 mod play;
 mod printing;
 mod running;
@@ -16,6 +17,7 @@ mod table_examples;
 mod transcript;
 mod write;
 
+pub use laws::a_printed_sheet_is_printed_again;
 pub use running::{refuse, run, run_alone};
 pub use status::{SourceKind, Status};
 pub use table_examples::{codes_of_statuses, lines_of_statuses, words_of_commands};
