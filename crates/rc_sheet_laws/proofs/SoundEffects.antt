@@ -1,11 +1,12 @@
 -- Spots, effects, domains and alternatives that stand for a well formed sheet's have no fault by themselves.
-use Rattle.std.proofs.Common.{◌≡◌, ℕ, suc, Bool, true, false, not, cond, nat_le, List, [], ◌++◌, Option, Some, None, option_map, slice_get, refl, sym, ap, ◌∙◌, arith, lt-ltb}
+use Prim.Native.String.{String}
+use Rattle.std.proofs.Common.{◌≡◌, ℕ, suc, Bool, true, false, not, cond, nat_le, List, [], ◌∷◌, ◌++◌, Option, Some, None, option_map, slice_get, refl, sym, ap, ◌∙◌, arith, lt-ltb}
 use Rattle.std.specs.Prelude.{codes}
 use Rattle.std.proofs.lemmas.Option.{same_Some}
 use Rattle.std.proofs.lemmas.Bool.{lt-leb}
 use Rattle.rc_model.specs.Tree.{Tree, word, list, Trees, nil, cons}
-use Rattle.rc_sheet_model.specs.Sheet.{Class, game_class, player_class, team_class, Sort, LocKind, vloc, iloc, hloc, mem, LocName, End, top, bottom, Loc, Domain, each_player, each_card, each_group, Effect, move, move_all, remember, forget, shuffle, set_to, increase, decrease, when, repeat, for_each, next_is, turn_round, Effects, no_effect, effect, Alt, do_alt, if_alt, any_alt, Sheet}
-use Rattle.rc_sheet_model.specs.Rows.{◌▸◌}
+use Rattle.rc_sheet_model.specs.Sheet.{Class, game_class, player_class, team_class, Sort, LocKind, vloc, iloc, hloc, mem, LocName, End, top, bottom, Loc, Num, IntExpr, Domain, each_player, each_card, each_group, Effect, move, move_all, remember, forget, shuffle, set_to, increase, decrease, when, repeat, for_each, next_is, turn_round, Effects, no_effect, effect, Alt, do_alt, if_alt, any_alt, Sheet}
+use Rattle.rc_sheet_model.specs.Rows.{◌▸◌, Row, Atom}
 use Rattle.rc_sheet_model.specs.Rows.{End as Last}
 use Rattle.rc_sheet_model.specs.Rows.{Some as Full}
 use Rattle.rc_sheet_model.specs.Limits.{most_repeats}
@@ -14,11 +15,13 @@ use Rattle.rc_sheet_model.specs.Naming.{kind_word as kind_bytes}
 use Rattle.rc_sheet_model.specs.StandsExpressions.{StandsOwner, StandsLoc, StandsNum, StandsCard, StandsColl, StandsInt, StandsTest, StandsRange, StandsDomain}
 use Rattle.rc_sheet_model.specs.StandsEffects.{StandsSpot, StandsEffect, StandEffects}
 use Rattle.rc_sheet_model.specs.StandsItems.{StandsAlt}
-use Rattle.rc_sheet_model.specs.WellFormed.{Around, is_mem, in_repeat, behind, IsInStage, IsPlace, IsDomain, IsEffect, AreEffects, IsAlt}
+use Rattle.rc_sheet_model.specs.WellFormed.{Around, is_mem, in_repeat, behind, IsHolder, IsInStage, IsPlace, IsInt, IsDomain, IsEffect, AreEffects, IsAlt}
 use Rattle.rc_grammar.specs.Faults.{is_word, rule_of}
+use Rattle.rc_grammar.specs.declared.keyword.Keyword.{Keyword}
 use Rattle.rc_grammar.specs.declared.keyword.Keyword.TheVariants as keyword
 use Rattle.rc_grammar.specs.declared.grammar.Place.{Place}
 use Rattle.rc_grammar.specs.declared.grammar.Place.TheVariants as place
+use Rattle.rc_grammar.specs.declared.grammar.Rule.{Rule}
 use Rattle.rc_grammar.specs.declared.grammar.Rule.TheVariants as rule
 use Rattle.rc_semantics.specs.Classes.{bound_in}
 use Rattle.rc_semantics.specs.declared.role.Role.{Role}
@@ -29,9 +32,9 @@ use Rattle.rc_sheet.proofs.GoodParts.{Each}
 use Rattle.rc_sheet_laws.proofs.OneRows.{behind_word, row_one, row_two, row_three, row_word, row_word_part, row_part, row_words, two_parts, first_part}
 use Rattle.rc_sheet_laws.proofs.OneNames.{Apart}
 use Rattle.rc_sheet_laws.proofs.OneEffects.{card_held}
-use Rattle.rc_sheet_laws.proofs.SoundParts.{standing, all_join, AllSound, Sound, plain_atom, list_sound, sound_list, rest_sound, AreGiven}
+use Rattle.rc_sheet_laws.proofs.SoundParts.{standing, IsRow, head_seat, plain_seat, all_join, AllSound, Sound, plain_atom, list_sound, sound_list, rest_sound, AreGiven}
 use Rattle.rc_sheet_laws.proofs.SoundNames.{owner_class, owner_place, fixed, owner_sound, Takes, loc_sound, num_sound}
-use Rattle.rc_sheet_laws.proofs.SoundRows.{locs_alone, nums_alone, range_sort, domain_sort, then, attr_sound, player_sound, bound_word, Binds, binds_so, behind_sound, behind_apart, binder_form}
+use Rattle.rc_sheet_laws.proofs.SoundRows.{locs_alone, nums_alone, range_sort, domain_sort, then, attr_sound, player_sound, bound_word, Binds, binds_so, behind_sound, behind_apart, binder_form, two_sound, many_sound, binder_sound}
 use Rattle.rc_sheet_laws.proofs.SoundExpressions.{card_sound, coll_sound, int_sound, test_sound, range_sound}
 
 -- the kind of a location tells whether it holds references
@@ -117,13 +120,8 @@ module _ (sheet : Sheet) (all : List Part) (given : AreGiven sheet all) where
       → rule_of q (cons (word (codes "do") f t) parts) ≡ Some rule.Do → Each (EffectSound around) parts
       → Sound sheet all q around (list (cons (word (codes "do") f t) parts) from to)
   do_sound q around f t from to parts told each =
-      sound_list sheet all q rule.Do around (cons (word (codes "do") f t) parts) from to told
-      (λ p r b a from plain. record { once = refl; known = refl; kind_fits = plain.other; shallow = refl; said = tt })
-      (λ p r b a. (
-        fixed sheet all _ _ _ _ _ _,
-        rest_sound sheet all suc (λ k. omega arith) (standing p around r b a) rule.Do (cons (word (codes "do") f t) parts)
-            place.Effect around (a ++ []) (λ k. refl) 0 parts each,
-      ))
+      many_sound sheet all given "do" rule.Do _ place.Effect (refl, λ at parts. (refl, tt)) (λ at parts n. refl) q around f t
+      from to parts told each
 
   if_sound : (q : Place) (around : Around) (f t from to : ℕ) (x : Tree) (parts : Trees)
       → rule_of q (cons (word (codes "if") f t) (cons x parts)) ≡ Some rule.If → Sound sheet all place.Test around x
@@ -183,41 +181,19 @@ module _ (sheet : Sheet) (all : List Part) (given : AreGiven sheet all) where
             parts each.1,
       )
 
-  set_sound : (around : Around) (f t from to : ℕ) (x y : Tree) → Sound sheet all place.Counter around x
-      → Sound sheet all place.Integer around y
-      → EffectSound around (list (cons (word (codes "set") f t) (cons x (cons y nil))) from to)
-  set_sound around f t from to x y sound sound' =
-      sound_list sheet all place.Effect rule.Set around (cons (word (codes "set") f t) (cons x (cons y nil))) from to refl
-      (λ p r b a from plain. record { once = refl; known = refl; kind_fits = plain.other; shallow = refl; said = tt })
-      (λ p r b a. (
-        fixed sheet all _ _ _ _ _ _,
-        then sheet all given place.Counter around _ _ x _ sound
-            (then sheet all given place.Integer around _ _ y _ sound' tt),
-      ))
-
-  increase_sound : (around : Around) (f t from to : ℕ) (x y : Tree) → Sound sheet all place.Counter around x
-      → Sound sheet all place.Integer around y
-      → EffectSound around (list (cons (word (codes "inc") f t) (cons x (cons y nil))) from to)
-  increase_sound around f t from to x y sound sound' =
-      sound_list sheet all place.Effect rule.Increase around (cons (word (codes "inc") f t) (cons x (cons y nil))) from to refl
-      (λ p r b a from plain. record { once = refl; known = refl; kind_fits = plain.other; shallow = refl; said = tt })
-      (λ p r b a. (
-        fixed sheet all _ _ _ _ _ _,
-        then sheet all given place.Counter around _ _ x _ sound
-            (then sheet all given place.Integer around _ _ y _ sound' tt),
-      ))
-
-  decrease_sound : (around : Around) (f t from to : ℕ) (x y : Tree) → Sound sheet all place.Counter around x
-      → Sound sheet all place.Integer around y
-      → EffectSound around (list (cons (word (codes "dec") f t) (cons x (cons y nil))) from to)
-  decrease_sound around f t from to x y sound sound' =
-      sound_list sheet all place.Effect rule.Decrease around (cons (word (codes "dec") f t) (cons x (cons y nil))) from to refl
-      (λ p r b a from plain. record { once = refl; known = refl; kind_fits = plain.other; shallow = refl; said = tt })
-      (λ p r b a. (
-        fixed sheet all _ _ _ _ _ _,
-        then sheet all given place.Counter around _ _ x _ sound
-            (then sheet all given place.Integer around _ _ y _ sound' tt),
-      ))
+  -- `(set NUM INT)` and the like
+  counter_sound : (text : String) (r : Rule) (k : Keyword) → IsRow r (head_seat k ∷ plain_seat place.Counter ∷ plain_seat place.Integer ∷ [])
+      → ((f t : ℕ) (x y : Tree) → rule_of place.Effect (cons (word (codes text) f t) (cons x (cons y nil))) ≡ Some r)
+      → (around : Around) (num : Num) (value : IntExpr) (tree : Tree) → Apart around.scope
+      → Row (Atom text ▸ StandsNum (sheet_naming sheet) around.scope num ▸ StandsInt (sheet_naming sheet) around.scope value ▸ Last)
+      tree
+      → IsHolder around num.who → IsInt sheet around value → EffectSound around tree
+  counter_sound text r k row told around num value tree alone stands is is' =
+      row_two text (StandsNum (sheet_naming sheet) around.scope num) (StandsInt (sheet_naming sheet) around.scope value)
+      (EffectSound around) tree stands
+      (λ f t from to n v here there. two_sound sheet all given text r k place.Counter place.Integer row place.Effect around f t
+      from to n v (told f t n v) (num_sound sheet all place.Counter around num n nums_alone alone here is)
+      (int_sound sheet all given around value v alone there is').0)
 
   mutual
     -- EFFECT
@@ -291,23 +267,14 @@ module _ (sheet : Sheet) (all : List Part) (given : AreGiven sheet all) where
               is.0.0) tt,
         )))
     effect_sound around (set_to num value) tree alone stands is =
-        row_two "set" (StandsNum (sheet_naming sheet) around.scope num) (StandsInt (sheet_naming sheet) around.scope value)
-        (EffectSound around) tree stands
-        (λ f t from to n v here there. set_sound around f t from to n v
-        (num_sound sheet all place.Counter around num n nums_alone alone here is.0.0)
-        (int_sound sheet all given around value v alone there is.1).0)
+        counter_sound "set" rule.Set _ (refl, λ at parts. (refl, (refl, (refl, tt)))) (λ f t x y. refl) around num value tree
+        alone stands is.0.0 is.1
     effect_sound around (increase num value) tree alone stands is =
-        row_two "inc" (StandsNum (sheet_naming sheet) around.scope num) (StandsInt (sheet_naming sheet) around.scope value)
-        (EffectSound around) tree stands
-        (λ f t from to n v here there. increase_sound around f t from to n v
-        (num_sound sheet all place.Counter around num n nums_alone alone here is.0.0)
-        (int_sound sheet all given around value v alone there is.1).0)
+        counter_sound "inc" rule.Increase _ (refl, λ at parts. (refl, (refl, (refl, tt)))) (λ f t x y. refl) around num value tree
+        alone stands is.0.0 is.1
     effect_sound around (decrease num value) tree alone stands is =
-        row_two "dec" (StandsNum (sheet_naming sheet) around.scope num) (StandsInt (sheet_naming sheet) around.scope value)
-        (EffectSound around) tree stands
-        (λ f t from to n v here there. decrease_sound around f t from to n v
-        (num_sound sheet all place.Counter around num n nums_alone alone here is.0.0)
-        (int_sound sheet all given around value v alone there is.1).0)
+        counter_sound "dec" rule.Decrease _ (refl, λ at parts. (refl, (refl, (refl, tt)))) (λ f t x y. refl) around num value tree
+        alone stands is.0.0 is.1
     effect_sound around (when t effects) tree alone stands is =
         row_part "if" (StandsTest (sheet_naming sheet) around.scope t) (Full (StandEffects (sheet_naming sheet) around.scope effects))
         (EffectSound around) tree stands
@@ -390,26 +357,6 @@ module _ (sheet : Sheet) (all : List Part) (given : AreGiven sheet all) where
       )))
 
   -- ALT
-  any_sound : (around : Around) (bound : ℕ) (sort : Sort) (bytes : List ℕ) (f t f' t' from to : ℕ) (c x : Tree)
-      → Binds sheet all given around bound bytes → sort_over c ≡ sort → Sound sheet all place.Domain around c
-      → Sound sheet all place.Alternative (behind sheet around bound sort) x
-      → Sound sheet all place.Alternative around
-      (list (cons (word (codes "any") f t) (cons c (cons (word bytes f' t') (cons x nil)))) from to)
-  any_sound around bound sort bytes f t f' t' from to c x binds same sound sound' =
-      sound_list sheet all place.Alternative rule.AnyOf around
-      (cons (word (codes "any") f t) (cons c (cons (word bytes f' t') (cons x nil)))) from to refl
-      (binder_form sheet all given rule.AnyOf around
-      (cons (word (codes "any") f t) (cons c (cons (word bytes f' t') (cons x nil)))) refl
-      binds.fresh binds.room)
-      (λ p r b a. (
-        fixed sheet all _ _ _ _ _ _,
-        then sheet all given place.Domain around _ _ c _ sound (
-          plain_atom sheet all _ bytes f' refl refl refl,
-          then sheet all given place.Alternative (bound_in around bytes (sort_over c)) _ _ x _
-              (behind_sound sheet all given place.Alternative around bound bytes (sort_over c) sort x binds same sound') tt,
-        ),
-      ))
-
   pub alt_sound : (around : Around) (alt : Alt) (tree : Tree) → Apart around.scope
       → StandsAlt (sheet_naming sheet) around.scope alt tree → IsAlt sheet around alt
       → Sound sheet all place.Alternative around tree
@@ -434,6 +381,8 @@ module _ (sheet : Sheet) (all : List Part) (given : AreGiven sheet all) where
       bound_word (sheet_naming sheet) bound
       (λ v. Sound sheet all place.Alternative around
       (list (cons (word (codes "any") f g) (cons d (cons v (cons x nil)))) from to)) v binds
-      (λ bytes f' t' found. any_sound around bound (sort_of domain) bytes f g f' t' from to d x
+      (λ bytes f' t' found. binder_sound sheet all given "any" rule.AnyOf _ place.Domain place.Alternative refl
+      (λ at parts. (refl, (refl, (refl, tt)))) (λ at parts. refl) place.Alternative around bound (sort_of domain) bytes f g f' t'
+      from to d x refl
       (binds_so sheet all given around bound bytes is.1 found) (domain_sort (sheet_naming sheet) around.scope domain d here)
       (domain_sound around domain d alone here is.0) inner))

@@ -1,5 +1,5 @@
 -- Parts of a form that keep what a well formed sheet says of what they stand for, whatever stands before them.
-use Rattle.std.proofs.Common.{◌≡◌, ℕ, suc, ◌+◌, Bool, true, false, ◌&&◌, ◌||◌, List, [], ◌∷◌, ◌++◌, flat_map, Some, option_map, slice_get, refl, sym, subst}
+use Rattle.std.proofs.Common.{◌≡◌, ℕ, suc, ◌+◌, Bool, true, false, ◌&&◌, ◌||◌, not, List, [], ◌∷◌, ◌++◌, flat_map, Option, Some, option_map, slice_get, refl, sym, subst}
 use Rattle.std.specs.Prelude.{codes}
 use Rattle.std.specs.List.{AllByRecursion}
 use Rattle.rc_model.specs.Tree.{Tree, word, list, Trees, nil, cons}
@@ -8,13 +8,14 @@ use Rattle.rc_sheet_model.specs.Naming.{loc_class, num_class, sheet_naming}
 use Rattle.rc_sheet_model.specs.Naming.{kind_word as kind_bytes}
 use Rattle.rc_sheet_model.specs.WellFormed.{Around, IsAttr, IsValue, IsMap}
 use Rattle.rc_grammar.specs.Faults.{is_variable, rule_of}
+use Rattle.rc_grammar.specs.declared.keyword.Keyword.{Keyword}
 use Rattle.rc_grammar.specs.declared.grammar.Place.{Place}
 use Rattle.rc_grammar.specs.declared.grammar.Place.TheVariants as place
 use Rattle.rc_grammar.specs.declared.grammar.Rule.{Rule}
 use Rattle.rc_grammar.specs.declared.grammar.Rule.TheVariants as rule
 use Rattle.rc_semantics.specs.declared.role.Role.{Role}
 use Rattle.rc_semantics.specs.declared.role.Role.TheVariants.{No as no_role}
-use Rattle.rc_semantics.specs.SecondParts.{Standing, Part, atom, form, with_form, parts_at, parts_in, standing_in}
+use Rattle.rc_semantics.specs.SecondParts.{Standing, Part, atom, form, is_binder, with_form, parts_at, parts_in, standing_in}
 use Rattle.rc_semantics.specs.SecondNames.{some_of, is_named, attributes_in, values_in, maps_in, mention_of, OwnedMention}
 use Rattle.rc_semantics.specs.SecondFaults.{is_player_again, sorts_at, is_unbound, is_unnamed, is_no_player, is_misused, is_other_side, is_misplaced, is_twice, is_unknown, is_wrong_kind, is_too_deep}
 use Rattle.rc_sheet.proofs.GoodParts.{Each}
@@ -29,6 +30,37 @@ pub all_both : {A : Type 0} (P : A → Type 0) (xs ys : List A) → AllByRecursi
     → AllByRecursion P (xs ++ ys)
 all_both P [] ys first second = second
 all_both P (x ∷ xs) ys first second = (first.0, all_both P xs ys first.1 second)
+
+-- nothing can be wrong with a form of this rule by itself, and it mentions no name with an owner
+abbrev pub is_easy : Rule → Bool
+is_easy rule.CreateTeams = false
+is_easy rule.Group = false
+is_easy rule.CurrentPlayer = false
+is_easy rule.CurrentTeam = false
+is_easy rule.Choice = false
+is_easy rule.Next = false
+is_easy rule.Reverse = false
+is_easy rule.Repeat = false
+is_easy rule.Location = false
+is_easy rule.Counter = false
+is_easy r = not (is_binder r)
+
+-- The parts of a form from this index on stand at these places in these roles, with as much around them as around the form.
+abbrev pub StandAt : Standing → Rule → Trees → ℕ → List (Place × Role) → Type 0
+StandAt at r parts k [] = Unit {0}
+StandAt at r parts k (s ∷ seats) =
+    (standing_in at r parts k ≡ Some (standing s.0 at.around s.1 parts (at.above ++ []))) × StandAt at r parts (k + 1) seats
+
+-- And nothing can be wrong with the form by itself.
+abbrev pub IsRow : Rule → List (Place × Role) → Type 0
+IsRow r seats = (is_easy r ≡ true) × ((at : Standing) (parts : Trees) → StandAt at r parts 0 seats)
+
+-- a head, and a part without a role
+abbrev pub head_seat : Keyword → Place × Role
+head_seat k = (place.Word k, no_role)
+
+abbrev pub plain_seat : Place → Place × Role
+plain_seat q = (q, no_role)
 
 -- A sheet, and all parts of a form.
 module _ (sheet : Sheet) (all : List Part) where
@@ -174,6 +206,32 @@ module _ (sheet : Sheet) (all : List Part) where
   sound_list place r around parts from to told outer inner role beside above plain =
       list_sound (standing place around role beside above) r parts from to told (outer place role beside above from plain)
       (inner place role beside above)
+
+  -- a form of which nothing is wanted by itself
+  pub easy_sound : (r : Rule) → is_easy r ≡ true → (around : Around) (parts : Trees) → FormSound r around parts
+  easy_sound rule.CreateTeams is around parts p role b a from plain = absurd cc
+  easy_sound rule.Group is around parts p role b a from plain = absurd cc
+  easy_sound rule.CurrentPlayer is around parts p role b a from plain = absurd cc
+  easy_sound rule.CurrentTeam is around parts p role b a from plain = absurd cc
+  easy_sound rule.Choice is around parts p role b a from plain = absurd cc
+  easy_sound rule.Next is around parts p role b a from plain = absurd cc
+  easy_sound rule.Reverse is around parts p role b a from plain = absurd cc
+  easy_sound rule.Repeat is around parts p role b a from plain = absurd cc
+  easy_sound rule.Location is around parts p role b a from plain = absurd cc
+  easy_sound rule.Counter is around parts p role b a from plain = absurd cc
+  easy_sound rule.Filter is around parts p role b a from plain = absurd cc
+  easy_sound rule.AnyOf is around parts p role b a from plain = absurd cc
+  easy_sound rule.Each is around parts p role b a from plain = absurd cc
+  easy_sound rule.ForAll is around parts p role b a from plain = absurd cc
+  easy_sound rule.ForAny is around parts p role b a from plain = absurd cc
+  easy_sound r is around parts p role b a from plain =
+      record { once = refl; known = refl; kind_fits = plain.other; shallow = refl; said = tt }
+
+  -- a part of a list whose standing is known, before others
+  pub told_then : (found : Option Standing) (at : Standing) (tree : Tree) (later : List Part) → found ≡ Some at
+      → AllSound (parts_at (Some at) tree) → AllSound later → AllSound (parts_at found tree ++ later)
+  told_then found at tree later is sound more =
+      all_join (parts_at found tree) later (subst (λ o. AllSound (parts_at o tree)) (sym is) sound) more
 
   -- parts of one place, behind the first ones
   pub rest_sound : (up : ℕ → ℕ) → ((k : ℕ) → up k + 1 ≡ up (suc k)) → (at : Standing) (r : Rule) (parts : Trees) (q : Place)

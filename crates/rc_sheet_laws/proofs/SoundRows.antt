@@ -1,5 +1,5 @@
 -- Lists of one form have no fault by themselves where their parts have none: the forms of cards, of numbers and of tests.
-use Rattle.std.proofs.Common.{◌≡◌, ℕ, zero, suc, Bool, true, false, not, cond, List, [], ◌∷◌, ◌++◌, Option, Some, is_some, slice_get, bytes_eq, nat_le, refl, sym, subst, ap, ap₂, ◌∙◌, arith}
+use Rattle.std.proofs.Common.{◌≡◌, ℕ, suc, Bool, true, false, not, cond, List, [], ◌∷◌, ◌++◌, Option, Some, is_some, slice_get, bytes_eq, nat_le, refl, sym, subst, ap, ap₂, ◌∙◌, arith}
 use Prim.Native.String.{String}
 use Rattle.std.specs.Prelude.{codes, ℤ, slice_index_or}
 use Rattle.std.specs.List.{list_any}
@@ -21,17 +21,16 @@ use Rattle.rc_grammar.specs.declared.grammar.Place.TheVariants as place
 use Rattle.rc_grammar.specs.declared.grammar.Rule.{Rule}
 use Rattle.rc_grammar.specs.declared.grammar.Rule.TheVariants as rule
 use Rattle.rc_semantics.specs.Classes.{bound_in}
-use Rattle.rc_semantics.specs.declared.role.Role.{Role}
 use Rattle.rc_semantics.specs.declared.role.Role.TheVariants.{No as no_role, UsedAttribute as used_attribute, UsedValue as used_value, UsedMap as used_map, SecondSide as second_side}
 use Rattle.rc_semantics.specs.declared.role.SideSort.{SideSort}
 use Rattle.rc_semantics.specs.declared.role.SideSort.TheVariants.{Number as number_side, Card as card_side, Value as value_side, Player as player_side, Team as team_side}
-use Rattle.rc_semantics.specs.SecondParts.{Part, parts_at, standing_in, is_binder, word_in, sort_over}
+use Rattle.rc_semantics.specs.SecondParts.{Standing, Part, parts_at, standing_in, is_binder, part_at, word_in, sort_over}
 use Rattle.rc_semantics.specs.SecondFaults.{side_of, side_of_sort, side_of_variable, differ, same_side, variable_in}
 use Rattle.rc_sheet.proofs.GoodParts.{Each}
 use Rattle.rc_sheet_laws.proofs.OneRows.{behind_word, row_two, row_three, three_parts}
 use Rattle.rc_sheet_laws.proofs.OneNames.{Apart, variable_word, held, owner_forms, more_apart}
 use Rattle.rc_sheet_laws.proofs.OneExpressions.{variable_unread}
-use Rattle.rc_sheet_laws.proofs.SoundParts.{standing, all_join, AllSound, Sound, sound_alone, plain_atom, constant_atom, plain_word, FormSound, sound_list, rest_sound, AreGiven}
+use Rattle.rc_sheet_laws.proofs.SoundParts.{standing, StandAt, IsRow, head_seat, plain_seat, all_join, AllSound, Sound, sound_alone, plain_atom, constant_atom, plain_word, FormSound, sound_list, easy_sound, told_then, rest_sound, AreGiven}
 use Rattle.rc_sheet_laws.proofs.SoundNames.{found_at, TakesLocs, TakesNums, fixed}
 
 -- PLACES
@@ -303,327 +302,120 @@ module _ (sheet : Sheet) (all : List Part) (given : AreGiven sheet all) where
   abbrev pub TestSound : Around → Tree → Type 0
   TestSound around tree = Sound sheet all place.Test around tree
 
+  -- FORMS BY THEIR SHAPES
+
+  -- a head
+  head_sound : (around : Around) (k : Keyword) (beside : Trees) (above : List (List ℕ)) (bytes : List ℕ) (f t : ℕ)
+      → AllSound sheet all (parts_at (Some (standing (place.Word k) around no_role beside above)) (word bytes f t))
+  head_sound around k beside above bytes f t = (fixed sheet all k around beside above bytes f, tt)
+
   -- `(top COLL)` and the like
-  pub top_sound : (q : Place) (around : Around) (f t from to : ℕ) (c : Tree)
-      → rule_of q (cons (word (codes "top") f t) (cons c nil)) ≡ Some rule.TopCard → Sound sheet all place.Collection around c
-      → Sound sheet all q around (list (cons (word (codes "top") f t) (cons c nil)) from to)
-  top_sound q around f t from to c told sound =
-      sound_list sheet all q rule.TopCard around (cons (word (codes "top") f t) (cons c nil)) from to told
-      (λ p r b a from plain. record { once = refl; known = refl; kind_fits = plain.other; shallow = refl; said = tt })
-      (λ p r b a. (fixed sheet all _ _ _ _ _ _, then place.Collection around _ _ c _ sound tt))
-
-  pub bottom_sound : (q : Place) (around : Around) (f t from to : ℕ) (c : Tree)
-      → rule_of q (cons (word (codes "bottom") f t) (cons c nil)) ≡ Some rule.BottomCard
-      → Sound sheet all place.Collection around c
-      → Sound sheet all q around (list (cons (word (codes "bottom") f t) (cons c nil)) from to)
-  bottom_sound q around f t from to c told sound =
-      sound_list sheet all q rule.BottomCard around (cons (word (codes "bottom") f t) (cons c nil)) from to told
-      (λ p r b a from plain. record { once = refl; known = refl; kind_fits = plain.other; shallow = refl; said = tt })
-      (λ p r b a. (fixed sheet all _ _ _ _ _ _, then place.Collection around _ _ c _ sound tt))
-
-  pub size_sound : (q : Place) (around : Around) (f t from to : ℕ) (c : Tree)
-      → rule_of q (cons (word (codes "size") f t) (cons c nil)) ≡ Some rule.Size → Sound sheet all place.Collection around c
-      → Sound sheet all q around (list (cons (word (codes "size") f t) (cons c nil)) from to)
-  size_sound q around f t from to c told sound =
-      sound_list sheet all q rule.Size around (cons (word (codes "size") f t) (cons c nil)) from to told
-      (λ p r b a from plain. record { once = refl; known = refl; kind_fits = plain.other; shallow = refl; said = tt })
-      (λ p r b a. (fixed sheet all _ _ _ _ _ _, then place.Collection around _ _ c _ sound tt))
-
-  pub not_sound : (q : Place) (around : Around) (f t from to : ℕ) (c : Tree)
-      → rule_of q (cons (word (codes "not") f t) (cons c nil)) ≡ Some rule.Not → Sound sheet all place.Test around c
-      → Sound sheet all q around (list (cons (word (codes "not") f t) (cons c nil)) from to)
-  not_sound q around f t from to c told sound =
-      sound_list sheet all q rule.Not around (cons (word (codes "not") f t) (cons c nil)) from to told
-      (λ p r b a from plain. record { once = refl; known = refl; kind_fits = plain.other; shallow = refl; said = tt })
-      (λ p r b a. (fixed sheet all _ _ _ _ _ _, then place.Test around _ _ c _ sound tt))
-
-  -- `(max COLL using MAP)` and the like
-  pub max_sound : (q : Place) (around : Around) (map f t from to : ℕ) (c u m : Tree)
-      → rule_of q (cons (word (codes "max") f t) (cons c (cons u (cons m nil)))) ≡ Some rule.MaxCard
-      → Sound sheet all place.Collection around c → Atom "using" u → Named sheet.names.maps map m → IsMap sheet map
-      → Sound sheet all q around (list (cons (word (codes "max") f t) (cons c (cons u (cons m nil)))) from to)
-  max_sound q around map f t from to c u m told sound using named is =
-      sound_list sheet all q rule.MaxCard around (cons (word (codes "max") f t) (cons c (cons u (cons m nil)))) from to told
-      (λ p r b a from plain. record { once = refl; known = refl; kind_fits = plain.other; shallow = refl; said = tt })
-      (λ p r b a. (
-        fixed sheet all _ _ _ _ _ _,
-        then place.Collection around _ _ c _ sound
-            (then (place.Word _) around _ _ u _ (fixed_tree "using" _ around u using)
-            (all_join sheet all _ [] (map_sound around map m _ _ named is) tt)),
-      ))
-
-  pub min_sound : (q : Place) (around : Around) (map f t from to : ℕ) (c u m : Tree)
-      → rule_of q (cons (word (codes "min") f t) (cons c (cons u (cons m nil)))) ≡ Some rule.MinCard
-      → Sound sheet all place.Collection around c → Atom "using" u → Named sheet.names.maps map m → IsMap sheet map
-      → Sound sheet all q around (list (cons (word (codes "min") f t) (cons c (cons u (cons m nil)))) from to)
-  min_sound q around map f t from to c u m told sound using named is =
-      sound_list sheet all q rule.MinCard around (cons (word (codes "min") f t) (cons c (cons u (cons m nil)))) from to told
-      (λ p r b a from plain. record { once = refl; known = refl; kind_fits = plain.other; shallow = refl; said = tt })
-      (λ p r b a. (
-        fixed sheet all _ _ _ _ _ _,
-        then place.Collection around _ _ c _ sound
-            (then (place.Word _) around _ _ u _ (fixed_tree "using" _ around u using)
-            (all_join sheet all _ [] (map_sound around map m _ _ named is) tt)),
-      ))
-
-  pub sum_sound : (q : Place) (around : Around) (map f t from to : ℕ) (c u m : Tree)
-      → rule_of q (cons (word (codes "sum") f t) (cons c (cons u (cons m nil)))) ≡ Some rule.Sum
-      → Sound sheet all place.Collection around c → Atom "using" u → Named sheet.names.maps map m → IsMap sheet map
-      → Sound sheet all q around (list (cons (word (codes "sum") f t) (cons c (cons u (cons m nil)))) from to)
-  sum_sound q around map f t from to c u m told sound using named is =
-      sound_list sheet all q rule.Sum around (cons (word (codes "sum") f t) (cons c (cons u (cons m nil)))) from to told
-      (λ p r b a from plain. record { once = refl; known = refl; kind_fits = plain.other; shallow = refl; said = tt })
-      (λ p r b a. (
-        fixed sheet all _ _ _ _ _ _,
-        then place.Collection around _ _ c _ sound
-            (then (place.Word _) around _ _ u _ (fixed_tree "using" _ around u using)
-            (all_join sheet all _ [] (map_sound around map m _ _ named is) tt)),
-      ))
-
-  pub points_sound : (q : Place) (around : Around) (map f t from to : ℕ) (c u m : Tree)
-      → rule_of q (cons (word (codes "points") f t) (cons c (cons u (cons m nil)))) ≡ Some rule.PointsOf
-      → Sound sheet all place.Card around c → Atom "using" u → Named sheet.names.maps map m → IsMap sheet map
-      → Sound sheet all q around (list (cons (word (codes "points") f t) (cons c (cons u (cons m nil)))) from to)
-  points_sound q around map f t from to c u m told sound using named is =
-      sound_list sheet all q rule.PointsOf around (cons (word (codes "points") f t) (cons c (cons u (cons m nil)))) from to told
-      (λ p r b a from plain. record { once = refl; known = refl; kind_fits = plain.other; shallow = refl; said = tt })
-      (λ p r b a. (
-        fixed sheet all _ _ _ _ _ _,
-        then place.Card around _ _ c _ sound
-            (then (place.Word _) around _ _ u _ (fixed_tree "using" _ around u using)
-            (all_join sheet all _ [] (map_sound around map m _ _ named is) tt)),
-      ))
+  pub one_sound : (text : String) (r : Rule) (k : Keyword) (u : Place) → IsRow r (head_seat k ∷ plain_seat u ∷ [])
+      → (q : Place) (around : Around) (f t from to : ℕ) (x : Tree)
+      → rule_of q (cons (word (codes text) f t) (cons x nil)) ≡ Some r → Sound sheet all u around x
+      → Sound sheet all q around (list (cons (word (codes text) f t) (cons x nil)) from to)
+  one_sound text r k u row q around f t from to x told sound =
+      let parts = cons (word (codes text) f t) (cons x nil) in
+      sound_list sheet all q r around parts from to told (easy_sound sheet all r row.0 around parts)
+      (λ p role b a.
+      let at = row.1 (standing p around role b a) parts in
+      told_then sheet all _ _ (word (codes text) f t) _ at.0 (head_sound around k parts (a ++ []) (codes text) f t)
+      (told_then sheet all _ _ x [] at.1.0 (sound_alone sheet all u around x parts (a ++ []) sound) tt))
 
   -- `(+ INT INT)` and the like
-  pub plus_sound : (q : Place) (around : Around) (f t from to : ℕ) (x y : Tree)
-      → rule_of q (cons (word (codes "+") f t) (cons x (cons y nil))) ≡ Some rule.Plus
-      → Sound sheet all place.Integer around x → Sound sheet all place.Integer around y
-      → Sound sheet all q around (list (cons (word (codes "+") f t) (cons x (cons y nil))) from to)
-  plus_sound q around f t from to x y told sound sound' =
-      sound_list sheet all q rule.Plus around (cons (word (codes "+") f t) (cons x (cons y nil))) from to told
-      (λ p r b a from plain. record { once = refl; known = refl; kind_fits = plain.other; shallow = refl; said = tt })
-      (λ p r b a. (
-        fixed sheet all _ _ _ _ _ _,
-        then place.Integer around _ _ x _ sound
-            (then place.Integer around _ _ y _ sound' tt),
-      ))
+  pub two_sound : (text : String) (r : Rule) (k : Keyword) (u v : Place) → IsRow r (head_seat k ∷ plain_seat u ∷ plain_seat v ∷ [])
+      → (q : Place) (around : Around) (f t from to : ℕ) (x y : Tree)
+      → rule_of q (cons (word (codes text) f t) (cons x (cons y nil))) ≡ Some r
+      → Sound sheet all u around x → Sound sheet all v around y
+      → Sound sheet all q around (list (cons (word (codes text) f t) (cons x (cons y nil))) from to)
+  two_sound text r k u v row q around f t from to x y told sound sound' =
+      let parts = cons (word (codes text) f t) (cons x (cons y nil)) in
+      sound_list sheet all q r around parts from to told (easy_sound sheet all r row.0 around parts)
+      (λ p role b a.
+      let at = row.1 (standing p around role b a) parts in
+      told_then sheet all _ _ (word (codes text) f t) _ at.0 (head_sound around k parts (a ++ []) (codes text) f t)
+      (told_then sheet all _ _ x _ at.1.0 (sound_alone sheet all u around x parts (a ++ []) sound)
+      (told_then sheet all _ _ y [] at.1.1.0 (sound_alone sheet all v around y parts (a ++ []) sound') tt)))
 
-  pub minus_sound : (q : Place) (around : Around) (f t from to : ℕ) (x y : Tree)
-      → rule_of q (cons (word (codes "-") f t) (cons x (cons y nil))) ≡ Some rule.Minus
-      → Sound sheet all place.Integer around x → Sound sheet all place.Integer around y
-      → Sound sheet all q around (list (cons (word (codes "-") f t) (cons x (cons y nil))) from to)
-  minus_sound q around f t from to x y told sound sound' =
-      sound_list sheet all q rule.Minus around (cons (word (codes "-") f t) (cons x (cons y nil))) from to told
-      (λ p r b a from plain. record { once = refl; known = refl; kind_fits = plain.other; shallow = refl; said = tt })
-      (λ p r b a. (
-        fixed sheet all _ _ _ _ _ _,
-        then place.Integer around _ _ x _ sound
-            (then place.Integer around _ _ y _ sound' tt),
-      ))
+  -- `(max COLL using MAP)` and the like
+  pub using_sound : (text : String) (r : Rule) (k k' : Keyword) (u : Place)
+      → IsRow r (head_seat k ∷ plain_seat u ∷ head_seat k' ∷ (place.Name, used_map) ∷ [])
+      → (q : Place) (around : Around) (map f t from to : ℕ) (c word_using m : Tree)
+      → rule_of q (cons (word (codes text) f t) (cons c (cons word_using (cons m nil)))) ≡ Some r
+      → Sound sheet all u around c → Atom "using" word_using → Named sheet.names.maps map m → IsMap sheet map
+      → Sound sheet all q around (list (cons (word (codes text) f t) (cons c (cons word_using (cons m nil)))) from to)
+  using_sound text r k k' u row q around map f t from to c word_using m told sound using named is =
+      let parts = cons (word (codes text) f t) (cons c (cons word_using (cons m nil))) in
+      sound_list sheet all q r around parts from to told (easy_sound sheet all r row.0 around parts)
+      (λ p role b a.
+      let at = row.1 (standing p around role b a) parts in
+      let fixed_word = sound_alone sheet all (place.Word k') around word_using parts (a ++ [])
+      (fixed_tree "using" k' around word_using using) in
+      told_then sheet all _ _ (word (codes text) f t) _ at.0 (head_sound around k parts (a ++ []) (codes text) f t)
+      (told_then sheet all _ _ c _ at.1.0 (sound_alone sheet all u around c parts (a ++ []) sound)
+      (told_then sheet all _ _ word_using _ at.1.1.0 fixed_word
+      (told_then sheet all _ _ m [] at.1.1.1.0 (map_sound around map m parts (a ++ []) named is) tt))))
 
-  pub times_sound : (q : Place) (around : Around) (f t from to : ℕ) (x y : Tree)
-      → rule_of q (cons (word (codes "*") f t) (cons x (cons y nil))) ≡ Some rule.Times
-      → Sound sheet all place.Integer around x → Sound sheet all place.Integer around y
-      → Sound sheet all q around (list (cons (word (codes "*") f t) (cons x (cons y nil))) from to)
-  times_sound q around f t from to x y told sound sound' =
-      sound_list sheet all q rule.Times around (cons (word (codes "*") f t) (cons x (cons y nil))) from to told
-      (λ p r b a from plain. record { once = refl; known = refl; kind_fits = plain.other; shallow = refl; said = tt })
-      (λ p r b a. (
-        fixed sheet all _ _ _ _ _ _,
-        then place.Integer around _ _ x _ sound
-            (then place.Integer around _ _ y _ sound' tt),
-      ))
+  -- `(= SIDE SIDE)` and the like, with two sides of one sort
+  pub sides_sound : (text : String) (r : Rule) (k : Keyword)
+      → IsRow r (head_seat k ∷ plain_seat place.Side ∷ (place.Side, second_side) ∷ [])
+      → (around : Around) (side : SideSort) (f t from to : ℕ) (x y : Tree)
+      → rule_of place.Test (cons (word (codes text) f t) (cons x (cons y nil))) ≡ Some r
+      → SideSound around side x → SideSound around side y
+      → TestSound around (list (cons (word (codes text) f t) (cons x (cons y nil))) from to)
+  sides_sound text r k row around side f t from to x y told sound sound' =
+      let parts = cons (word (codes text) f t) (cons x (cons y nil)) in
+      sound_list sheet all place.Test r around parts from to told (easy_sound sheet all r row.0 around parts)
+      (λ p role b a.
+      let at = row.1 (standing p around role b a) parts in
+      told_then sheet all _ _ (word (codes text) f t) _ at.0 (head_sound around k parts (a ++ []) (codes text) f t)
+      (told_then sheet all _ _ x _ at.1.0 (sound_alone sheet all place.Side around x parts (a ++ []) sound.0)
+      (told_then sheet all _ _ y [] at.1.1.0
+      (sound'.0 second_side parts (a ++ []) (record {
+        other = sides_same side (side_of around.scope x) (side_of around.scope y) sound.1 sound'.1;
+        named = λ bytes. refl;
+        placed = λ mention. refl;
+      })) tt)))
 
-  pub less_sound : (q : Place) (around : Around) (f t from to : ℕ) (x y : Tree)
-      → rule_of q (cons (word (codes "<") f t) (cons x (cons y nil))) ≡ Some rule.Less
-      → Sound sheet all place.Integer around x → Sound sheet all place.Integer around y
-      → Sound sheet all q around (list (cons (word (codes "<") f t) (cons x (cons y nil))) from to)
-  less_sound q around f t from to x y told sound sound' =
-      sound_list sheet all q rule.Less around (cons (word (codes "<") f t) (cons x (cons y nil))) from to told
-      (λ p r b a from plain. record { once = refl; known = refl; kind_fits = plain.other; shallow = refl; said = tt })
-      (λ p r b a. (
-        fixed sheet all _ _ _ _ _ _,
-        then place.Integer around _ _ x _ sound
-            (then place.Integer around _ _ y _ sound' tt),
-      ))
+  -- `(and BOOL BOOL+)` and the like
+  pub many_sound : (text : String) (r : Rule) (k : Keyword) (u : Place) → IsRow r (head_seat k ∷ [])
+      → ((at : Standing) (parts : Trees) (n : ℕ)
+      → standing_in at r parts (suc n) ≡ Some (standing u at.around no_role parts (at.above ++ [])))
+      → (q : Place) (around : Around) (f t from to : ℕ) (parts : Trees)
+      → rule_of q (cons (word (codes text) f t) parts) ≡ Some r → Each (Sound sheet all u around) parts
+      → Sound sheet all q around (list (cons (word (codes text) f t) parts) from to)
+  many_sound text r k u row stands_rest q around f t from to parts told each =
+      let whole = cons (word (codes text) f t) parts in
+      sound_list sheet all q r around whole from to told (easy_sound sheet all r row.0 around whole)
+      (λ p role b a.
+      let at = standing p around role b a in
+      told_then sheet all _ _ (word (codes text) f t) _ (row.1 at whole).0 (head_sound around k whole (a ++ []) (codes text) f t)
+      (rest_sound sheet all suc (λ n. omega arith) at r whole u around (a ++ []) (stands_rest at whole) 0 parts each))
 
-  pub less_equal_sound : (q : Place) (around : Around) (f t from to : ℕ) (x y : Tree)
-      → rule_of q (cons (word (codes "<=") f t) (cons x (cons y nil))) ≡ Some rule.LessOrEqual
-      → Sound sheet all place.Integer around x → Sound sheet all place.Integer around y
-      → Sound sheet all q around (list (cons (word (codes "<=") f t) (cons x (cons y nil))) from to)
-  less_equal_sound q around f t from to x y told sound sound' =
-      sound_list sheet all q rule.LessOrEqual around (cons (word (codes "<=") f t) (cons x (cons y nil))) from to told
-      (λ p r b a from plain. record { once = refl; known = refl; kind_fits = plain.other; shallow = refl; said = tt })
-      (λ p r b a. (
-        fixed sheet all _ _ _ _ _ _,
-        then place.Integer around _ _ x _ sound
-            (then place.Integer around _ _ y _ sound' tt),
-      ))
-
-  pub more_sound : (q : Place) (around : Around) (f t from to : ℕ) (x y : Tree)
-      → rule_of q (cons (word (codes ">") f t) (cons x (cons y nil))) ≡ Some rule.More
-      → Sound sheet all place.Integer around x → Sound sheet all place.Integer around y
-      → Sound sheet all q around (list (cons (word (codes ">") f t) (cons x (cons y nil))) from to)
-  more_sound q around f t from to x y told sound sound' =
-      sound_list sheet all q rule.More around (cons (word (codes ">") f t) (cons x (cons y nil))) from to told
-      (λ p r b a from plain. record { once = refl; known = refl; kind_fits = plain.other; shallow = refl; said = tt })
-      (λ p r b a. (
-        fixed sheet all _ _ _ _ _ _,
-        then place.Integer around _ _ x _ sound
-            (then place.Integer around _ _ y _ sound' tt),
-      ))
-
-  pub more_equal_sound : (q : Place) (around : Around) (f t from to : ℕ) (x y : Tree)
-      → rule_of q (cons (word (codes ">=") f t) (cons x (cons y nil))) ≡ Some rule.MoreOrEqual
-      → Sound sheet all place.Integer around x → Sound sheet all place.Integer around y
-      → Sound sheet all q around (list (cons (word (codes ">=") f t) (cons x (cons y nil))) from to)
-  more_equal_sound q around f t from to x y told sound sound' =
-      sound_list sheet all q rule.MoreOrEqual around (cons (word (codes ">=") f t) (cons x (cons y nil))) from to told
-      (λ p r b a from plain. record { once = refl; known = refl; kind_fits = plain.other; shallow = refl; said = tt })
-      (λ p r b a. (
-        fixed sheet all _ _ _ _ _ _,
-        then place.Integer around _ _ x _ sound
-            (then place.Integer around _ _ y _ sound' tt),
-      ))
-
-  -- two sides of one sort
-  pub equal_sound : (around : Around) (side : SideSort) (f t from to : ℕ) (x y : Tree) → SideSound around side x
-      → SideSound around side y
-      → TestSound around (list (cons (word (codes "=") f t) (cons x (cons y nil))) from to)
-  equal_sound around side f t from to x y sound sound' =
-      sound_list sheet all place.Test rule.Equal around (cons (word (codes "=") f t) (cons x (cons y nil))) from to refl
-      (λ p r b a from plain. record { once = refl; known = refl; kind_fits = plain.other; shallow = refl; said = tt })
-      (λ p r b a. (
-        fixed sheet all _ _ _ _ _ _,
-        then place.Side around _ _ x _ sound.0
-            (all_join sheet all _ [] (sound'.0 second_side _ _ (record {
-              other = sides_same side (side_of around.scope x) (side_of around.scope y) sound.1 sound'.1;
-              named = λ bytes. refl;
-              placed = λ mention. refl;
-            })) tt),
-      ))
-
-  pub not_equal_sound : (around : Around) (side : SideSort) (f t from to : ℕ) (x y : Tree) → SideSound around side x
-      → SideSound around side y
-      → TestSound around (list (cons (word (codes "!=") f t) (cons x (cons y nil))) from to)
-  not_equal_sound around side f t from to x y sound sound' =
-      sound_list sheet all place.Test rule.NotEqual around (cons (word (codes "!=") f t) (cons x (cons y nil))) from to refl
-      (λ p r b a from plain. record { once = refl; known = refl; kind_fits = plain.other; shallow = refl; said = tt })
-      (λ p r b a. (
-        fixed sheet all _ _ _ _ _ _,
-        then place.Side around _ _ x _ sound.0
-            (all_join sheet all _ [] (sound'.0 second_side _ _ (record {
-              other = sides_same side (side_of around.scope x) (side_of around.scope y) sound.1 sound'.1;
-              named = λ bytes. refl;
-              placed = λ mention. refl;
-            })) tt),
-      ))
-
-  -- `(union COLL COLL+)` and the like
-  pub union_sound : (q : Place) (around : Around) (f t from to : ℕ) (parts : Trees)
-      → rule_of q (cons (word (codes "union") f t) parts) ≡ Some rule.Union → Each (Sound sheet all place.Collection around) parts
-      → Sound sheet all q around (list (cons (word (codes "union") f t) parts) from to)
-  union_sound q around f t from to parts told each =
-      sound_list sheet all q rule.Union around (cons (word (codes "union") f t) parts) from to told
-      (λ p r b a from plain. record { once = refl; known = refl; kind_fits = plain.other; shallow = refl; said = tt })
-      (λ p r b a. (
-        fixed sheet all _ _ _ _ _ _,
-        rest_sound sheet all suc (λ k. omega arith) (standing p around r b a) rule.Union (cons (word (codes "union") f t) parts)
-            place.Collection around (a ++ []) (at_parts p r b a) 0 parts each,
-      ))
-    where
-      at_parts : (p : Place) (r : Role) (b : Trees) (a : List (List ℕ)) (k : ℕ)
-          → standing_in (standing p around r b a) rule.Union (cons (word (codes "union") f t) parts) (suc k)
-          ≡ Some (standing place.Collection around no_role (cons (word (codes "union") f t) parts) (a ++ []))
-      at_parts p r b a zero = refl
-      at_parts p r b a (suc k) = refl
-
-  pub and_sound : (q : Place) (around : Around) (f t from to : ℕ) (parts : Trees)
-      → rule_of q (cons (word (codes "and") f t) parts) ≡ Some rule.And → Each (Sound sheet all place.Test around) parts
-      → Sound sheet all q around (list (cons (word (codes "and") f t) parts) from to)
-  and_sound q around f t from to parts told each =
-      sound_list sheet all q rule.And around (cons (word (codes "and") f t) parts) from to told
-      (λ p r b a from plain. record { once = refl; known = refl; kind_fits = plain.other; shallow = refl; said = tt })
-      (λ p r b a. (
-        fixed sheet all _ _ _ _ _ _,
-        rest_sound sheet all suc (λ k. omega arith) (standing p around r b a) rule.And (cons (word (codes "and") f t) parts)
-            place.Test around (a ++ []) (λ k. refl) 0 parts each,
-      ))
-
-  pub or_sound : (q : Place) (around : Around) (f t from to : ℕ) (parts : Trees)
-      → rule_of q (cons (word (codes "or") f t) parts) ≡ Some rule.Or → Each (Sound sheet all place.Test around) parts
-      → Sound sheet all q around (list (cons (word (codes "or") f t) parts) from to)
-  or_sound q around f t from to parts told each =
-      sound_list sheet all q rule.Or around (cons (word (codes "or") f t) parts) from to told
-      (λ p r b a from plain. record { once = refl; known = refl; kind_fits = plain.other; shallow = refl; said = tt })
-      (λ p r b a. (
-        fixed sheet all _ _ _ _ _ _,
-        rest_sound sheet all suc (λ k. omega arith) (standing p around r b a) rule.Or (cons (word (codes "or") f t) parts)
-            place.Test around (a ++ []) (λ k. refl) 0 parts each,
-      ))
-
-  -- binders
-  pub filter_sound : (q : Place) (around : Around) (bound : ℕ) (sort : Sort) (bytes : List ℕ) (f t f' t' from to : ℕ) (c x : Tree)
-      → rule_of q (cons (word (codes "filter") f t) (cons c (cons (word bytes f' t') (cons x nil)))) ≡ Some rule.Filter
-      → Binds around bound bytes → sort_over c ≡ sort → Sound sheet all place.Collection around c
-      → Sound sheet all place.Test (behind sheet around bound sort) x
-      → Sound sheet all q around
-      (list (cons (word (codes "filter") f t) (cons c (cons (word bytes f' t') (cons x nil)))) from to)
-  filter_sound q around bound sort bytes f t f' t' from to c x told binds same sound sound' =
-      sound_list sheet all q rule.Filter around
-      (cons (word (codes "filter") f t) (cons c (cons (word bytes f' t') (cons x nil)))) from to told
-      (binder_form rule.Filter around (cons (word (codes "filter") f t) (cons c (cons (word bytes f' t') (cons x nil)))) refl
-      binds.fresh binds.room)
-      (λ p r b a. (
-        fixed sheet all _ _ _ _ _ _,
-        then place.Collection around _ _ c _ sound (
-          plain_atom sheet all _ bytes f' refl refl refl,
-          then place.Test (bound_in around bytes (sort_over c)) _ _ x _
-              (behind_sound place.Test around bound bytes (sort_over c) sort x binds same sound') tt,
-        ),
-      ))
-
-  pub for_all_sound : (q : Place) (around : Around) (bound : ℕ) (sort : Sort) (bytes : List ℕ) (f t f' t' from to : ℕ)
-      (c x : Tree)
-      → rule_of q (cons (word (codes "all") f t) (cons c (cons (word bytes f' t') (cons x nil)))) ≡ Some rule.ForAll
-      → Binds around bound bytes → sort_over c ≡ sort → Sound sheet all place.Members around c
-      → Sound sheet all place.Test (behind sheet around bound sort) x
-      → Sound sheet all q around
-      (list (cons (word (codes "all") f t) (cons c (cons (word bytes f' t') (cons x nil)))) from to)
-  for_all_sound q around bound sort bytes f t f' t' from to c x told binds same sound sound' =
-      sound_list sheet all q rule.ForAll around
-      (cons (word (codes "all") f t) (cons c (cons (word bytes f' t') (cons x nil)))) from to told
-      (binder_form rule.ForAll around (cons (word (codes "all") f t) (cons c (cons (word bytes f' t') (cons x nil)))) refl
-      binds.fresh binds.room)
-      (λ p r b a. (
-        fixed sheet all _ _ _ _ _ _,
-        then place.Members around _ _ c _ sound (
-          plain_atom sheet all _ bytes f' refl refl refl,
-          then place.Test (bound_in around bytes (sort_over c)) _ _ x _
-              (behind_sound place.Test around bound bytes (sort_over c) sort x binds same sound') tt,
-        ),
-      ))
-
-  pub for_any_sound : (q : Place) (around : Around) (bound : ℕ) (sort : Sort) (bytes : List ℕ) (f t f' t' from to : ℕ)
-      (c x : Tree)
-      → rule_of q (cons (word (codes "any") f t) (cons c (cons (word bytes f' t') (cons x nil)))) ≡ Some rule.ForAny
-      → Binds around bound bytes → sort_over c ≡ sort → Sound sheet all place.Members around c
-      → Sound sheet all place.Test (behind sheet around bound sort) x
-      → Sound sheet all q around
-      (list (cons (word (codes "any") f t) (cons c (cons (word bytes f' t') (cons x nil)))) from to)
-  for_any_sound q around bound sort bytes f t f' t' from to c x told binds same sound sound' =
-      sound_list sheet all q rule.ForAny around
-      (cons (word (codes "any") f t) (cons c (cons (word bytes f' t') (cons x nil)))) from to told
-      (binder_form rule.ForAny around (cons (word (codes "any") f t) (cons c (cons (word bytes f' t') (cons x nil)))) refl
-      binds.fresh binds.room)
-      (λ p r b a. (
-        fixed sheet all _ _ _ _ _ _,
-        then place.Members around _ _ c _ sound (
-          plain_atom sheet all _ bytes f' refl refl refl,
-          then place.Test (bound_in around bytes (sort_over c)) _ _ x _
-              (behind_sound place.Test around bound bytes (sort_over c) sort x binds same sound') tt,
-        ),
-      ))
+  -- `(filter COLL VAR BOOL)` and the like: what the variable runs over stands at one place, and the body at another
+  pub binder_sound : (text : String) (r : Rule) (k : Keyword) (u v : Place) → is_binder r ≡ true
+      → ((at : Standing) (parts : Trees) → StandAt at r parts 0 (head_seat k ∷ plain_seat u ∷ plain_seat place.Variable ∷ []))
+      → ((at : Standing) (parts : Trees)
+      → standing_in at r parts 3
+      ≡ Some (standing v (bound_in at.around (word_in 2 parts) (sort_over (part_at 1 parts))) no_role parts (at.above ++ [])))
+      → (q : Place) (around : Around) (bound : ℕ) (sort : Sort) (bytes : List ℕ) (f t f' t' from to : ℕ) (c x : Tree)
+      → rule_of q (cons (word (codes text) f t) (cons c (cons (word bytes f' t') (cons x nil)))) ≡ Some r
+      → Binds around bound bytes → sort_over c ≡ sort → Sound sheet all u around c
+      → Sound sheet all v (behind sheet around bound sort) x
+      → Sound sheet all q around (list (cons (word (codes text) f t) (cons c (cons (word bytes f' t') (cons x nil)))) from to)
+  binder_sound text r k u v is stand stands_body q around bound sort bytes f t f' t' from to c x told binds same sound sound' =
+      let parts = cons (word (codes text) f t) (cons c (cons (word bytes f' t') (cons x nil))) in
+      let inner = bound_in around bytes (sort_over c) in
+      sound_list sheet all q r around parts from to told (binder_form r around parts is binds.fresh binds.room)
+      (λ p role b a.
+      let at = stand (standing p around role b a) parts in
+      let variable = plain_atom sheet all (standing place.Variable around no_role parts (a ++ [])) bytes f' refl refl refl in
+      let body = behind_sound v around bound bytes (sort_over c) sort x binds same sound' in
+      told_then sheet all _ _ (word (codes text) f t) _ at.0 (head_sound around k parts (a ++ []) (codes text) f t)
+      (told_then sheet all _ _ c _ at.1.0 (sound_alone sheet all u around c parts (a ++ []) sound)
+      (told_then sheet all _ _ (word bytes f' t') _ at.1.1.0 (variable, tt)
+      (told_then sheet all _ _ x [] (stands_body (standing p around role b a) parts)
+      (sound_alone sheet all v inner x parts (a ++ []) body) tt))))
 
   -- `(attr CARD ATTR)`
   pub value_of_sound : (around : Around) (attr f t from to : ℕ) (c n : Tree) → Sound sheet all place.Card around c
