@@ -32,7 +32,7 @@ use Rattle.rc_sheet.proofs.GoodParts.{Each}
 use Rattle.rc_sheet_laws.proofs.OneRows.{behind_word, row_one, row_two, row_three, row_word, row_word_part, row_part, row_words, two_parts, first_part}
 use Rattle.rc_sheet_laws.proofs.OneNames.{Apart}
 use Rattle.rc_sheet_laws.proofs.OneEffects.{card_held}
-use Rattle.rc_sheet_laws.proofs.SoundParts.{standing, IsRow, head_seat, plain_seat, all_join, AllSound, Sound, plain_atom, list_sound, sound_list, rest_sound, AreGiven}
+use Rattle.rc_sheet_laws.proofs.SoundParts.{standing, IsRow, head_seat, plain_seat, all_join, AllSound, Sound, plain_atom, list_sound, sound_list, easy_sound, rest_sound, AreGiven}
 use Rattle.rc_sheet_laws.proofs.SoundNames.{owner_class, owner_place, fixed, owner_sound, Takes, loc_sound, num_sound}
 use Rattle.rc_sheet_laws.proofs.SoundRows.{locs_alone, nums_alone, range_sort, domain_sort, then, attr_sound, player_sound, bound_word, Binds, binds_so, behind_sound, behind_apart, binder_form, two_sound, many_sound, binder_sound}
 use Rattle.rc_sheet_laws.proofs.SoundExpressions.{card_sound, coll_sound, int_sound, test_sound, range_sound}
@@ -129,7 +129,7 @@ module _ (sheet : Sheet) (all : List Part) (given : AreGiven sheet all) where
       → Sound sheet all q around (list (cons (word (codes "if") f t) (cons x parts)) from to)
   if_sound q around f t from to x parts told sound each =
       sound_list sheet all q rule.If around (cons (word (codes "if") f t) (cons x parts)) from to told
-      (λ p r b a from plain. record { once = refl; known = refl; kind_fits = plain.other; shallow = refl; said = tt })
+      (easy_sound sheet all rule.If refl around _)
       (λ p r b a. (
         fixed sheet all _ _ _ _ _ _,
         then sheet all given place.Test around _ _ x _ sound
@@ -207,7 +207,7 @@ module _ (sheet : Sheet) (all : List Part) (given : AreGiven sheet all) where
         (card_held (sheet_naming sheet) around.scope card
         (λ c. rule_of place.Effect (cons (word (codes "move") f t) (cons c (cons s nil))) ≡ Some rule.Move) c here
         (λ rest from to. refl) (λ parts from to. refl))
-        (λ p r b a from plain. record { once = refl; known = refl; kind_fits = plain.other; shallow = refl; said = tt })
+        (easy_sound sheet all rule.Move refl around _)
         (λ p r b a. (
           fixed sheet all _ _ _ _ _ _,
           then sheet all given place.Card around _ _ c _ (card_sound sheet all given around card c alone here is.0).0
@@ -223,7 +223,7 @@ module _ (sheet : Sheet) (all : List Part) (given : AreGiven sheet all) where
         (λ l. EffectSound around (list (cons (word (codes "move") f t) (cons (word (codes "all") f' t') l)) from to)) parts more
         (λ c s here there. sound_list sheet all place.Effect rule.MoveAll around
         (cons (word (codes "move") f t) (cons (word (codes "all") f' t') (cons c (cons s nil)))) from to refl
-        (λ p r b a from plain. record { once = refl; known = refl; kind_fits = plain.other; shallow = refl; said = tt })
+        (easy_sound sheet all rule.MoveAll refl around _)
         (λ p r b a. (
           fixed sheet all _ _ _ _ _ _,
           (
@@ -238,7 +238,7 @@ module _ (sheet : Sheet) (all : List Part) (given : AreGiven sheet all) where
         (EffectSound around) tree stands
         (λ f t from to c s here there. sound_list sheet all place.Effect rule.Remember around
         (cons (word (codes "remember") f t) (cons c (cons s nil))) from to refl
-        (λ p r b a from plain. record { once = refl; known = refl; kind_fits = plain.other; shallow = refl; said = tt })
+        (easy_sound sheet all rule.Remember refl around _)
         (λ p r b a. (
           fixed sheet all _ _ _ _ _ _,
           then sheet all given place.Card around _ _ c _ (card_sound sheet all given around card c alone here is.0).0
@@ -249,7 +249,7 @@ module _ (sheet : Sheet) (all : List Part) (given : AreGiven sheet all) where
         row_one "forget" (StandsCard (sheet_naming sheet) around.scope card) (EffectSound around) tree stands
         (λ f t from to c here. sound_list sheet all place.Effect rule.Forget around
         (cons (word (codes "forget") f t) (cons c nil)) from to refl
-        (λ p r b a from plain. record { once = refl; known = refl; kind_fits = plain.other; shallow = refl; said = tt })
+        (easy_sound sheet all rule.Forget refl around _)
         (λ p r b a. (
           fixed sheet all _ _ _ _ _ _,
           then sheet all given place.Card around _ _ c _ (card_sound sheet all given around card c alone here is).0 tt,
@@ -258,7 +258,7 @@ module _ (sheet : Sheet) (all : List Part) (given : AreGiven sheet all) where
         row_one "shuffle" (StandsLoc (sheet_naming sheet) around.scope loc) (EffectSound around) tree stands
         (λ f t from to l here. sound_list sheet all place.Effect rule.Shuffle around
         (cons (word (codes "shuffle") f t) (cons l nil)) from to refl
-        (λ p r b a from plain. record { once = refl; known = refl; kind_fits = plain.other; shallow = refl; said = tt })
+        (easy_sound sheet all rule.Shuffle refl around _)
         (λ p r b a. (
           fixed sheet all _ _ _ _ _ _,
           all_join sheet all _ []
@@ -349,7 +349,7 @@ module _ (sheet : Sheet) (all : List Part) (given : AreGiven sheet all) where
       (Sound sheet all place.Domain around) tree stands
       (λ f t from to c n here named. sound_list sheet all place.Domain rule.Partition around
       (cons (word (codes "partition") f t) (cons c (cons n nil))) from to refl
-      (λ p r b a from plain. record { once = refl; known = refl; kind_fits = plain.other; shallow = refl; said = tt })
+      (easy_sound sheet all rule.Partition refl around _)
       (λ p r b a. (
         fixed sheet all _ _ _ _ _ _,
         then sheet all given place.Collection around _ _ c _ (coll_sound sheet all given around cards c alone here is.0).0

@@ -23,7 +23,7 @@ use Rattle.rc_sheet.proofs.FineDecks.{behind_at, none_before, next_front}
 use Rattle.rc_sheet.proofs.GoodParts.{Each}
 use Rattle.rc_sheet_laws.proofs.OneRows.{three_parts}
 use Rattle.rc_sheet_laws.proofs.OneNames.{Alone}
-use Rattle.rc_sheet_laws.proofs.SoundParts.{standing, all_join, AllSound, Sound, plain_atom, plain_word, list_sound, sound_list}
+use Rattle.rc_sheet_laws.proofs.SoundParts.{standing, all_join, AllSound, Sound, plain_atom, plain_word, list_sound, sound_list, easy_sound}
 
 -- WORDS OF NUMBERS
 
@@ -351,7 +351,7 @@ module _ (sheet : Sheet) (all : List Part) where
       made (word bytes f t) (list (cons first more) a b) (word points c d) from to named row literal =
           let parts = cons (word bytes f t) (cons (list (cons first more) a b) (cons (word points c d) nil)) in
           sound_list sheet all place.Entry rule.Entry around parts from to refl
-          (λ p r b a from plain. record { once = refl; known = refl; kind_fits = plain.other; shallow = refl; said = tt })
+          (easy_sound sheet all rule.Entry refl around _)
           (λ p r b' a'. (
             plain_atom sheet all (standing place.Name around no_role parts (a' ++ [])) bytes f refl refl refl,
             all_join sheet all

@@ -19,7 +19,7 @@ use Rattle.rc_semantics.specs.SecondParts.{Part, parts_at, parts_in, standing_in
 use Rattle.rc_sheet.proofs.GoodParts.{Each}
 use Rattle.rc_sheet_laws.proofs.OneRows.{behind_word, row_one, row_two, row_words, first_part}
 use Rattle.rc_sheet_laws.proofs.OneNames.{none_apart, one_apart}
-use Rattle.rc_sheet_laws.proofs.SoundParts.{standing, all_join, AllSound, Sound, sound_alone, plain_word, sound_list, rest_sound, AreGiven}
+use Rattle.rc_sheet_laws.proofs.SoundParts.{standing, all_join, AllSound, Sound, sound_alone, plain_word, sound_list, easy_sound, rest_sound, AreGiven}
 use Rattle.rc_sheet_laws.proofs.SoundNames.{fixed}
 use Rattle.rc_sheet_laws.proofs.SoundRows.{then}
 use Rattle.rc_sheet_laws.proofs.SoundExpressions.{int_sound, test_sound}
@@ -64,7 +64,7 @@ module _ (sheet : Sheet) (all : List Part) (given : AreGiven sheet all) where
       row_one "end" (StandsTest (sheet_naming sheet) [] t) (Sound sheet all place.End (within players teams)) tree stands
       (λ f g from to x here. sound_list sheet all place.End rule.End (within players teams)
       (cons (word (codes "end") f g) (cons x nil)) from to refl
-      (λ p r b a from plain. record { once = refl; known = refl; kind_fits = plain.other; shallow = refl; said = tt })
+      (easy_sound sheet all rule.End refl (within players teams) _)
       (λ p r b a. (
         fixed sheet all _ _ _ _ _ _,
         then sheet all given place.Test (within players teams) _ _ x _
@@ -108,7 +108,7 @@ module _ (sheet : Sheet) (all : List Part) (given : AreGiven sheet all) where
         let items = items_sound true teams body is' there.1 is.2 in
         let ends = end_sound true teams end e here is.0 in
         sound_list sheet all place.Item rule.PlayerStage (within players teams) whole from to refl
-        (λ p r b a from plain. record { once = refl; known = refl; kind_fits = plain.other; shallow = refl; said = tt })
+        (easy_sound sheet all rule.PlayerStage refl (within players teams) _)
         (λ p r b a. (
           fixed sheet all _ _ _ _ _ _,
           (
@@ -132,7 +132,7 @@ module _ (sheet : Sheet) (all : List Part) (given : AreGiven sheet all) where
         let items = items_sound players true body is' there.1 is.2 in
         let ends = end_sound players true end e here is.0 in
         sound_list sheet all place.Item rule.TeamStage (within players teams) whole from to refl
-        (λ p r b a from plain. record { once = refl; known = refl; kind_fits = plain.other; shallow = refl; said = tt })
+        (easy_sound sheet all rule.TeamStage refl (within players teams) _)
         (λ p r b a. (
           fixed sheet all _ _ _ _ _ _,
           (
@@ -171,7 +171,7 @@ module _ (sheet : Sheet) (all : List Part) (given : AreGiven sheet all) where
       (Sound sheet all place.Scoring outside) tree stands
       (λ f t from to b v here there. sound_list sheet all place.Scoring rule.Scoring outside
       (cons (word (codes "scoring") f t) (cons b (cons v nil))) from to refl
-      (λ p r b a from plain. record { once = refl; known = refl; kind_fits = plain.other; shallow = refl; said = tt })
+      (easy_sound sheet all rule.Scoring refl outside _)
       (λ p r b' a. (
         fixed sheet all _ _ _ _ _ _,
         then sheet all given place.Best scored _ _ b _ (best_sound scored sheet.best b here)

@@ -25,7 +25,7 @@ use Rattle.rc_semantics.specs.SecondFaults.{sorts_at, variable_in, is_unnamed, i
 use Rattle.rc_sheet_laws.proofs.OneRows.{three_parts}
 use Rattle.rc_sheet_laws.proofs.OneNames.{Apart, variable_word, owner_forms}
 use Rattle.rc_sheet_laws.proofs.OneExpressions.{last_false}
-use Rattle.rc_sheet_laws.proofs.SoundParts.{standing, all_join, none_of_two, IsSound, AllSound, Sound, sound_alone, atom_sound, plain_atom, constant_atom, list_sound, sound_list}
+use Rattle.rc_sheet_laws.proofs.SoundParts.{standing, all_join, none_of_two, IsSound, AllSound, Sound, sound_alone, atom_sound, plain_atom, constant_atom, list_sound, sound_list, easy_sound}
 
 -- VARIABLES
 
@@ -188,7 +188,7 @@ module _ (sheet : Sheet) (all : List Part) where
           sound_list sheet all q rule.TeamOf around
           (cons (word (codes "team") f t) (cons (word (codes "of") f' t') (cons player nil))) from to
           (takes.team_of f t f' t' player)
-          (λ p r b a from plain. record { once = refl; known = refl; kind_fits = plain.other; shallow = refl; said = tt })
+          (easy_sound sheet all rule.TeamOf refl around _)
           (λ p r b a. (
             fixed _ _ _ _ _ _,
             (

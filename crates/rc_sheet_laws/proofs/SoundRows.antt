@@ -423,7 +423,7 @@ module _ (sheet : Sheet) (all : List Part) (given : AreGiven sheet all) where
       → SideSound around value_side (list (cons (word (codes "attr") f t) (cons c (cons n nil))) from to)
   value_of_sound around attr f t from to c n sound named is = (
     sound_list sheet all place.Side rule.AttributeOf around (cons (word (codes "attr") f t) (cons c (cons n nil))) from to refl
-        (λ p r b a from plain. record { once = refl; known = refl; kind_fits = plain.other; shallow = refl; said = tt })
+        (easy_sound sheet all rule.AttributeOf refl around _)
         (λ p r b a. (
           fixed sheet all _ _ _ _ _ _,
           then place.Card around _ _ c _ sound
@@ -438,7 +438,7 @@ module _ (sheet : Sheet) (all : List Part) (given : AreGiven sheet all) where
       → TestSound around (list (cons (word (codes "is") f t) (cons c (cons n (cons v nil)))) from to)
   is_sound around attr value f t from to c n v sound named is named' is' =
       sound_list sheet all place.Test rule.Is around (cons (word (codes "is") f t) (cons c (cons n (cons v nil)))) from to refl
-      (λ p r b a from plain. record { once = refl; known = refl; kind_fits = plain.other; shallow = refl; said = tt })
+      (easy_sound sheet all rule.Is refl around _)
       (λ p r b a. (
         fixed sheet all _ _ _ _ _ _,
         then place.Card around _ _ c _ sound
