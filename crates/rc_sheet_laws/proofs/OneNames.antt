@@ -15,13 +15,14 @@ use Rattle.rc_sheet_model.specs.Naming.{Naming, Variable, Scope, class_of, Named
 use Rattle.rc_model.specs.Words.{is_variable}
 use Rattle.rc_sheet_model.specs.Naming.{kind_word as kind_bytes}
 use Rattle.rc_sheet_model.specs.StandsExpressions.{StandsOwner, StandsHolder, StandsLoc, StandsNum}
-use Rattle.rc_grammar.specs.Faults.{is_form_word, fits}
+use Rattle.rc_grammar.specs.Faults.{is_form_word, rule_of, count, fits}
 use Rattle.rc_naming.specs.Naming.{kind_by}
 use Rattle.rc_reading.specs.ReadNames.{◌>>=◌, ensure, both, sized, rule_at, name_at, binder_at, variable_in, player_at, team_of, owner_at, holder_at, is_loc_name, is_num_name, loc_parts, loc_at, num_parts, num_at, map_at}
 use Rattle.rc_sheet.proofs.Means.{Means, nothing, something, weaker, mapped, behind, both_mean}
 use Rattle.rc_sheet_laws.proofs.OneRows.{row_word, row_word_part, three_parts}
 use Rattle.rc_sheet.proofs.ReadsNames.{name_means, binder_means, variable_means, loc_name_means, num_name_means}
 use Rattle.rc_grammar.specs.declared.keyword.Keyword.TheVariants as keyword
+use Rattle.rc_grammar.specs.declared.grammar.Place.{Place}
 use Rattle.rc_grammar.specs.declared.grammar.Place.TheVariants as place
 use Rattle.rc_grammar.specs.declared.grammar.Rule.{Rule}
 use Rattle.rc_grammar.specs.declared.grammar.Rule.TheVariants as rule
@@ -262,43 +263,63 @@ one_holder scope team_of_current tree alone stands = owner_holds scope team_of_c
 one_holder scope (team_of_var var) tree alone stands = owner_holds scope (team_of_var var) tree alone stands
 one_holder scope (who_var var) tree alone stands = owner_holds scope (who_var var) tree alone stands
 
+-- a place takes lists that begin with a holder as forms of this rule
+abbrev pub TakesHeld : Place → Rule → Type 0
+TakesHeld q r =
+    (scope : Scope) (who : Who) (holder kind name : Tree) → StandsHolder scope who holder
+    → rule_at q (cons holder (cons kind (cons name nil))) ≡ Some r
+
+-- it does where it takes those that begin with `game`, with a variable and with a list
+takes_held : (q : Place) (r : Rule)
+    → ((f t : ℕ) (kind name : Tree) → rule_at q (cons (word (codes "game") f t) (cons kind (cons name nil))) ≡ Some r)
+    → ((rest : List ℕ) (f t : ℕ) (kind name : Tree)
+    → rule_at q (cons (word (39 ∷ rest) f t) (cons kind (cons name nil))) ≡ Some r)
+    → ((parts : Trees) (f t : ℕ) (kind name : Tree) → rule_at q (cons (list parts f t) (cons kind (cons name nil))) ≡ Some r)
+    → TakesHeld q r
+takes_held q r plain bound row scope who holder kind name stands =
+    held scope who (λ holder. rule_at q (cons holder (cons kind (cons name nil))) ≡ Some r) holder stands
+    (λ f t. plain f t kind name) (λ rest f t. bound rest f t kind name) (λ parts f t. row parts f t kind name)
+
 -- the rule of a location's form, and of a stored number's
-pub loc_rule_in_cards : (scope : Scope) (who : Who) (holder kind name : Tree) → StandsHolder scope who holder
-    → rule_at place.Collection (cons holder (cons kind (cons name nil))) ≡ Some rule.Location
-loc_rule_in_cards scope who holder kind name stands =
-    held scope who (λ holder. rule_at place.Collection (cons holder (cons kind (cons name nil))) ≡ Some rule.Location)
-    holder stands
-    (λ from to. refl) (λ rest from to. refl) (λ parts from to. refl)
+pub loc_rule_in_cards : TakesHeld place.Collection rule.Location
+loc_rule_in_cards =
+    takes_held place.Collection rule.Location (λ f t kind name. refl) (λ rest f t kind name. refl) (λ parts f t kind name. refl)
 
-pub loc_rule_in_domain : (scope : Scope) (who : Who) (holder kind name : Tree) → StandsHolder scope who holder
-    → rule_at place.Domain (cons holder (cons kind (cons name nil))) ≡ Some rule.Location
-loc_rule_in_domain scope who holder kind name stands =
-    held scope who (λ holder. rule_at place.Domain (cons holder (cons kind (cons name nil))) ≡ Some rule.Location) holder stands
-    (λ from to. refl) (λ rest from to. refl) (λ parts from to. refl)
+pub loc_rule_in_domain : TakesHeld place.Domain rule.Location
+loc_rule_in_domain =
+    takes_held place.Domain rule.Location (λ f t kind name. refl) (λ rest f t kind name. refl) (λ parts f t kind name. refl)
 
-pub loc_rule_alone : (scope : Scope) (who : Who) (holder kind name : Tree) → StandsHolder scope who holder
-    → rule_at place.Location (cons holder (cons kind (cons name nil))) ≡ Some rule.Location
-loc_rule_alone scope who holder kind name stands =
-    held scope who (λ holder. rule_at place.Location (cons holder (cons kind (cons name nil))) ≡ Some rule.Location) holder stands
-    (λ from to. refl) (λ rest from to. refl) (λ parts from to. refl)
+pub loc_rule_in_members : TakesHeld place.Members rule.Location
+loc_rule_in_members =
+    takes_held place.Members rule.Location (λ f t kind name. refl) (λ rest f t kind name. refl) (λ parts f t kind name. refl)
 
-pub num_rule_in_numbers : (scope : Scope) (who : Who) (holder kind name : Tree) → StandsHolder scope who holder
-    → rule_at place.Integer (cons holder (cons kind (cons name nil))) ≡ Some rule.Counter
-num_rule_in_numbers scope who holder kind name stands =
-    held scope who (λ holder. rule_at place.Integer (cons holder (cons kind (cons name nil))) ≡ Some rule.Counter) holder stands
-    (λ from to. refl) (λ rest from to. refl) (λ parts from to. refl)
+pub loc_rule_alone : TakesHeld place.Location rule.Location
+loc_rule_alone =
+    takes_held place.Location rule.Location (λ f t kind name. refl) (λ rest f t kind name. refl) (λ parts f t kind name. refl)
 
-pub num_rule_in_sides : (scope : Scope) (who : Who) (holder kind name : Tree) → StandsHolder scope who holder
-    → rule_at place.Side (cons holder (cons kind (cons name nil))) ≡ Some rule.Counter
-num_rule_in_sides scope who holder kind name stands =
-    held scope who (λ holder. rule_at place.Side (cons holder (cons kind (cons name nil))) ≡ Some rule.Counter) holder stands
-    (λ from to. refl) (λ rest from to. refl) (λ parts from to. refl)
+pub num_rule_in_numbers : TakesHeld place.Integer rule.Counter
+num_rule_in_numbers =
+    takes_held place.Integer rule.Counter (λ f t kind name. refl) (λ rest f t kind name. refl) (λ parts f t kind name. refl)
 
-pub num_rule_alone : (scope : Scope) (who : Who) (holder kind name : Tree) → StandsHolder scope who holder
-    → rule_at place.Counter (cons holder (cons kind (cons name nil))) ≡ Some rule.Counter
-num_rule_alone scope who holder kind name stands =
-    held scope who (λ holder. rule_at place.Counter (cons holder (cons kind (cons name nil))) ≡ Some rule.Counter) holder stands
-    (λ from to. refl) (λ rest from to. refl) (λ parts from to. refl)
+pub num_rule_in_sides : TakesHeld place.Side rule.Counter
+num_rule_in_sides =
+    takes_held place.Side rule.Counter (λ f t kind name. refl) (λ rest f t kind name. refl) (λ parts f t kind name. refl)
+
+pub num_rule_alone : TakesHeld place.Counter rule.Counter
+num_rule_alone =
+    takes_held place.Counter rule.Counter (λ f t kind name. refl) (λ rest f t kind name. refl) (λ parts f t kind name. refl)
+
+-- a list of so many parts as its rule wants is of that rule
+pub rule_told : (q : Place) (parts : Trees) (r : Rule) → rule_at q parts ≡ Some r → rule_of q parts ≡ Some r
+rule_told q parts r is = by (rule_of q parts) is
+  where
+    fit : (b : Bool) (found : Rule) → cond b (Some found) None ≡ Some r → Some found ≡ Some r
+    fit true found is = is
+    fit false found is = absurd cc
+
+    by : (found : Option Rule) → sized (count parts) found ≡ Some r → found ≡ Some r
+    by None is = absurd cc
+    by (Some found) is = fit (fits (count parts) found) found is
 
 -- A sheet, and a naming that a form is read by.
 module _ (sheet : Sheet) (told : Naming) where

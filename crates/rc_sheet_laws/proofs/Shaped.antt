@@ -20,7 +20,7 @@ use Rattle.rc_grammar.specs.Keyword.{text_of}
 use Rattle.rc_grammar.specs.Faults.{is_word, is_variable, is_kind, atom_kind, is_within, is_number, unless, faults, faults_at, faults_in, told_faults, lacks_players, rule_of, behind_front, or_behind, place_at, fits}
 use Rattle.rc_reading.specs.ReadNames.{sized, rule_at}
 use Rattle.rc_sheet_laws.proofs.OneRows.{three_parts}
-use Rattle.rc_sheet_laws.proofs.OneNames.{variable_word, owner_forms, held, loc_rule_in_cards, loc_rule_in_domain, loc_rule_alone, num_rule_in_numbers, num_rule_in_sides, num_rule_alone}
+use Rattle.rc_sheet_laws.proofs.OneNames.{variable_word, owner_forms, loc_rule_in_cards, loc_rule_in_domain, loc_rule_in_members, loc_rule_alone, num_rule_in_numbers, num_rule_in_sides, num_rule_alone}
 use Rattle.rc_grammar.specs.declared.fault.SheetFault.{SheetFault}
 use Rattle.rc_grammar.specs.declared.fault.SheetKind.{SheetKind}
 use Rattle.rc_grammar.specs.declared.fault.SheetKind.TheVariants.{Shape, Number}
@@ -274,12 +274,6 @@ holder_shaped scope (who_var var) tree stands = (owner_shaped scope (who_var var
 abbrev pub CardsShaped : Tree → Type 0
 CardsShaped tree =
     (faults place.Collection tree ≡ []) × (faults place.Members tree ≡ []) × (faults place.Domain tree ≡ [])
-
-loc_rule_in_members : (scope : Scope) (who : Who) (holder kind name : Tree) → StandsHolder scope who holder
-    → rule_at place.Members (cons holder (cons kind (cons name nil))) ≡ Some rule.Location
-loc_rule_in_members scope who holder kind name stands =
-    held scope who (λ holder. rule_at place.Members (cons holder (cons kind (cons name nil))) ≡ Some rule.Location) holder stands
-    (λ from to. refl) (λ rest from to. refl) (λ parts from to. refl)
 
 pub home_shaped : (naming : Naming) (scope : Scope) (who : Who) (number : ℕ) (tree : Tree)
     → Row (StandsHolder scope who ▸ KindOf naming number ▸ Named naming.names.locs number ▸ End) tree

@@ -30,11 +30,11 @@ use Rattle.rc_semantics.specs.SecondParts.{Part, parts_at, sort_over}
 use Rattle.rc_semantics.specs.SecondFaults.{is_unnamed, is_in_stage, is_other_side}
 use Rattle.rc_sheet.proofs.GoodParts.{Each}
 use Rattle.rc_sheet_laws.proofs.OneRows.{behind_word, row_one, row_two, row_three, row_word, row_word_part, row_part, row_words, two_parts, first_part}
-use Rattle.rc_sheet_laws.proofs.OneNames.{Apart}
+use Rattle.rc_sheet_laws.proofs.OneNames.{Apart, loc_rule_alone, num_rule_alone}
 use Rattle.rc_sheet_laws.proofs.OneEffects.{card_held}
 use Rattle.rc_sheet_laws.proofs.SoundParts.{standing, IsRow, head_seat, plain_seat, all_join, AllSound, Sound, plain_atom, list_sound, sound_list, easy_sound, rest_sound, AreGiven}
 use Rattle.rc_sheet_laws.proofs.SoundNames.{owner_class, owner_place, fixed, owner_sound, Takes, loc_sound, num_sound}
-use Rattle.rc_sheet_laws.proofs.SoundRows.{locs_alone, nums_alone, range_sort, domain_sort, then, attr_sound, player_sound, bound_word, Binds, binds_so, behind_sound, behind_apart, binder_form, two_sound, many_sound, binder_sound}
+use Rattle.rc_sheet_laws.proofs.SoundRows.{range_sort, domain_sort, then, attr_sound, player_sound, bound_word, Binds, binds_so, behind_sound, behind_apart, binder_form, two_sound, many_sound, binder_sound}
 use Rattle.rc_sheet_laws.proofs.SoundExpressions.{card_sound, coll_sound, int_sound, test_sound, range_sound}
 
 -- the kind of a location tells whether it holds references
@@ -96,7 +96,7 @@ module _ (sheet : Sheet) (all : List Part) (given : AreGiven sheet all) where
       (let whole = cons (word (codes "top") f t) (cons l nil) in (
         plain_atom sheet all (standing (place.Word keyword.Top) around role whole (above ++ [])) (codes "top") f refl
             (bears.named (codes "top")) (bears.other (place.Word keyword.Top) around whole (above ++ [])),
-        all_join sheet all _ [] (loc_sound sheet all place.Location around loc l role whole (above ++ []) locs_alone alone
+        all_join sheet all _ [] (loc_sound sheet all place.Location around loc l role whole (above ++ []) loc_rule_alone alone
             (bears.other place.Location around whole (above ++ [])) takes here is.0.0) tt,
       )))
   spot_sound around references bottom loc role tree bears takes alone stands is =
@@ -108,7 +108,7 @@ module _ (sheet : Sheet) (all : List Part) (given : AreGiven sheet all) where
       (let whole = cons (word (codes "bottom") f t) (cons l nil) in (
         plain_atom sheet all (standing (place.Word keyword.Bottom) around role whole (above ++ [])) (codes "bottom") f refl
             (bears.named (codes "bottom")) (bears.other (place.Word keyword.Bottom) around whole (above ++ [])),
-        all_join sheet all _ [] (loc_sound sheet all place.Location around loc l role whole (above ++ []) locs_alone alone
+        all_join sheet all _ [] (loc_sound sheet all place.Location around loc l role whole (above ++ []) loc_rule_alone alone
             (bears.other place.Location around whole (above ++ [])) takes here is.0.0) tt,
       )))
 
@@ -192,7 +192,7 @@ module _ (sheet : Sheet) (all : List Part) (given : AreGiven sheet all) where
       row_two text (StandsNum (sheet_naming sheet) around.scope num) (StandsInt (sheet_naming sheet) around.scope value)
       (EffectSound around) tree stands
       (λ f t from to n v here there. two_sound sheet all given text r k place.Counter place.Integer row place.Effect around f t
-      from to n v (told f t n v) (num_sound sheet all place.Counter around num n nums_alone alone here is)
+      from to n v (told f t n v) (num_sound sheet all place.Counter around num n num_rule_alone alone here is)
       (int_sound sheet all given around value v alone there is').0)
 
   mutual
@@ -262,7 +262,7 @@ module _ (sheet : Sheet) (all : List Part) (given : AreGiven sheet all) where
         (λ p r b a. (
           fixed sheet all _ _ _ _ _ _,
           all_join sheet all _ []
-              (loc_sound sheet all place.Location around loc l card_location _ _ locs_alone alone refl
+              (loc_sound sheet all place.Location around loc l card_location _ _ loc_rule_alone alone refl
               (takes_cards around loc is) here
               is.0.0) tt,
         )))

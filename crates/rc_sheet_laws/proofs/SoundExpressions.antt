@@ -23,10 +23,10 @@ use Rattle.rc_semantics.specs.SecondParts.{Standing, Part, standing_in, is_binde
 use Rattle.rc_semantics.specs.SecondFaults.{side_of, side_of_form}
 use Rattle.rc_sheet.proofs.GoodParts.{Each}
 use Rattle.rc_sheet_laws.proofs.OneRows.{behind_word, row_one, row_two, row_three, three_parts}
-use Rattle.rc_sheet_laws.proofs.OneNames.{Apart}
+use Rattle.rc_sheet_laws.proofs.OneNames.{Apart, loc_rule_in_cards, loc_rule_in_domain, loc_rule_in_members, num_rule_in_numbers, num_rule_in_sides, rule_told}
 use Rattle.rc_sheet_laws.proofs.SoundParts.{standing, StandAt, IsRow, head_seat, plain_seat, Sound, constant_atom, plain_word, AreGiven}
 use Rattle.rc_sheet_laws.proofs.SoundNames.{side_place, var_sound, owner_sound, plain_loc, num_sound}
-use Rattle.rc_sheet_laws.proofs.SoundRows.{locs_in_cards, locs_in_domain, locs_in_members, nums_in_numbers, nums_in_sides, cards_sort, range_sort, var_side, literal_constant, side_of_class, owner_side, bound_word, Binds, binds_so, behind_apart, CollSound, SideSound, CardSound, IntSound, TestSound, one_sound, two_sound, using_sound, sides_sound, many_sound, binder_sound, value_of_sound, is_sound, literal_side, player_sound}
+use Rattle.rc_sheet_laws.proofs.SoundRows.{cards_sort, range_sort, var_side, literal_constant, side_of_class, owner_side, bound_word, Binds, binds_so, behind_apart, CollSound, SideSound, CardSound, IntSound, TestSound, one_sound, two_sound, using_sound, sides_sound, many_sound, binder_sound, value_of_sound, is_sound, literal_side, player_sound}
 
 -- A sheet, and all parts of a form, which give what the sheet's setup gives.
 module _ (sheet : Sheet) (all : List Part) (given : AreGiven sheet all) where
@@ -224,9 +224,9 @@ module _ (sheet : Sheet) (all : List Part) (given : AreGiven sheet all) where
       var_sound sheet all place.Members around group_sort var tree alone (λ bytes. refl) stands,
     )
     coll_sound around (cards_in loc) tree alone stands is = (
-      plain_loc sheet all place.Collection around loc tree locs_in_cards alone stands is.0,
-      plain_loc sheet all place.Domain around loc tree locs_in_domain alone stands is.0,
-      plain_loc sheet all place.Members around loc tree locs_in_members alone stands is.0,
+      plain_loc sheet all place.Collection around loc tree loc_rule_in_cards alone stands is.0,
+      plain_loc sheet all place.Domain around loc tree loc_rule_in_domain alone stands is.0,
+      plain_loc sheet all place.Members around loc tree loc_rule_in_members alone stands is.0,
     )
     coll_sound around (filtered cards bound t) tree alone stands is =
         row_three "filter" (StandsColl (sheet_naming sheet) around.scope cards) (Binder (sheet_naming sheet) bound)
@@ -276,12 +276,14 @@ module _ (sheet : Sheet) (all : List Part) (given : AreGiven sheet all) where
         )
     int_sound around (literal value) (list parts from to) alone stands is = absurd stands
     int_sound around (number num) tree alone stands is = (
-      num_sound sheet all place.Integer around num tree nums_in_numbers alone stands is.0,
+      num_sound sheet all place.Integer around num tree num_rule_in_numbers alone stands is.0,
       (
-        num_sound sheet all place.Side around num tree nums_in_sides alone stands is.0,
+        num_sound sheet all place.Side around num tree num_rule_in_sides alone stands is.0,
         three_parts (StandsHolder around.scope num.who) (Atom "sto") (Named sheet.names.nums num.name)
             (λ tree. side_of around.scope tree ≡ Some number_side) tree stands.0
-            (λ holder kind name from to holds k n. ap side_of_form (nums_in_sides around.scope num.who holder kind name holds)),
+            (λ holder kind name from to holds k n. ap side_of_form
+            (rule_told place.Side (cons holder (cons kind (cons name nil))) rule.Counter
+            (num_rule_in_sides around.scope num.who holder kind name holds))),
       ),
     )
     int_sound around (size_of cards) tree alone stands is =

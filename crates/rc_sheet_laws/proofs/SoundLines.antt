@@ -20,10 +20,9 @@ use Rattle.rc_semantics.specs.SecondFaults.{leaves_out, is_game}
 use Rattle.rc_sheet.proofs.Among.{Among, one_of_all}
 use Rattle.rc_sheet.proofs.GoodParts.{Each}
 use Rattle.rc_sheet_laws.proofs.OneRows.{behind_word, row_words, row_word_part, two_parts}
-use Rattle.rc_sheet_laws.proofs.OneNames.{Alone, none_apart}
+use Rattle.rc_sheet_laws.proofs.OneNames.{Alone, none_apart, loc_rule_alone}
 use Rattle.rc_sheet_laws.proofs.SoundParts.{standing, all_join, AllSound, Sound, sound_alone, plain_atom, list_sound, sound_list, rest_sound, none_of_two}
 use Rattle.rc_sheet_laws.proofs.SoundNames.{fixed, Takes, loc_sound}
-use Rattle.rc_sheet_laws.proofs.SoundRows.{locs_alone}
 use Rattle.rc_sheet_laws.proofs.SoundEffects.{mem_told}
 use Rattle.rc_sheet_laws.proofs.SoundFaces.{Worded, worded_none, literal_sound, groups_sound, entries_sound}
 use Rattle.rc_sheet.proofs.FineDecks.{none_before}
@@ -193,7 +192,7 @@ module _ (sheet : Sheet) (all : List Part) where
         (
           fixed sheet all _ _ _ _ _ _,
           all_join sheet all _ _
-              (loc_sound sheet all place.Location outside loc l deck_location whole [] locs_alone none_apart refl
+              (loc_sound sheet all place.Location outside loc l deck_location whole [] loc_rule_alone none_apart refl
               (takes_deck loc line refl refl is) (here, is.2, refl) tt)
               (all_join sheet all _ [] (deck_tree alone line whole d is there) tt),
         ),

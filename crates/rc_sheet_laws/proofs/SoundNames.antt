@@ -23,7 +23,7 @@ use Rattle.rc_semantics.specs.SecondParts.{Standing, Part, atom, parts_at}
 use Rattle.rc_semantics.specs.SecondNames.{some_of, mention_of, OwnedMention}
 use Rattle.rc_semantics.specs.SecondFaults.{sorts_at, variable_in, is_unnamed, is_other_sort, is_other_side, is_misplaced}
 use Rattle.rc_sheet_laws.proofs.OneRows.{three_parts}
-use Rattle.rc_sheet_laws.proofs.OneNames.{Apart, variable_word, owner_forms}
+use Rattle.rc_sheet_laws.proofs.OneNames.{Apart, TakesHeld, variable_word, owner_forms, rule_told}
 use Rattle.rc_sheet_laws.proofs.OneExpressions.{last_false}
 use Rattle.rc_sheet_laws.proofs.SoundParts.{standing, all_join, none_of_two, IsSound, AllSound, Sound, sound_alone, atom_sound, plain_atom, constant_atom, list_sound, sound_list, easy_sound}
 
@@ -104,19 +104,6 @@ holder_class scope current_team tree stands = owner_class scope current_team tre
 holder_class scope team_of_current tree stands = owner_class scope team_of_current tree stands
 holder_class scope (team_of_var var) tree stands = owner_class scope (team_of_var var) tree stands
 holder_class scope (who_var var) tree stands = owner_class scope (who_var var) tree stands
-
--- LOCATIONS AND STORED NUMBERS
-
--- the form of a location, and of a number, at a place
-abbrev pub TakesLocs : Place → Type 0
-TakesLocs q =
-    (scope : Scope) (who : Who) (holder kind name : Tree) → StandsHolder scope who holder
-    → rule_of q (cons holder (cons kind (cons name nil))) ≡ Some rule.Location
-
-abbrev pub TakesNums : Place → Type 0
-TakesNums q =
-    (scope : Scope) (who : Who) (holder kind name : Tree) → StandsHolder scope who holder
-    → rule_of q (cons holder (cons kind (cons name nil))) ≡ Some rule.Counter
 
 -- A sheet, and all parts of a form.
 module _ (sheet : Sheet) (all : List Part) where
@@ -226,7 +213,7 @@ module _ (sheet : Sheet) (all : List Part) where
       → mention.class ≡ class_of loc.who → is_misplaced role mention ≡ false
 
   pub loc_sound : (q : Place) (around : Around) (loc : Loc) (tree : Tree) (role : Role) (beside : Trees)
-      (above : List (List ℕ)) → TakesLocs q → Apart around.scope
+      (above : List (List ℕ)) → TakesHeld q rule.Location → Apart around.scope
       → is_other_side (standing q around role beside above) role ≡ false → Takes role loc
       → StandsLoc (sheet_naming sheet) around.scope loc tree → IsHolder around loc.who
       → AllSound sheet all (parts_at (Some (standing q around role beside above)) tree)
@@ -245,7 +232,7 @@ module _ (sheet : Sheet) (all : List Part) where
       made holder (word kind f t) (word name f' t') from to holds k n =
           let parts = cons holder (cons (word kind f t) (cons (word name f' t') nil)) in
           list_sound sheet all (standing q around role beside above) rule.Location parts from to
-          (fits around.scope loc.who holder (word kind f t) (word name f' t') holds)
+          (rule_told q parts rule.Location (fits around.scope loc.who holder (word kind f t) (word name f' t') holds))
           (record {
             once = refl;
             known = refl;
@@ -268,13 +255,13 @@ module _ (sheet : Sheet) (all : List Part) where
           ))
 
   -- at a place of which nothing more is wanted
-  pub plain_loc : (q : Place) (around : Around) (loc : Loc) (tree : Tree) → TakesLocs q → Apart around.scope
+  pub plain_loc : (q : Place) (around : Around) (loc : Loc) (tree : Tree) → TakesHeld q rule.Location → Apart around.scope
       → StandsLoc (sheet_naming sheet) around.scope loc tree → IsHolder around loc.who → Sound sheet all q around tree
   plain_loc q around loc tree fits alone stands is role beside above plain =
       loc_sound q around loc tree role beside above fits alone plain.other (λ mention k class. plain.placed mention) stands is
 
   -- NUM
-  pub num_sound : (q : Place) (around : Around) (num : Num) (tree : Tree) → TakesNums q → Apart around.scope
+  pub num_sound : (q : Place) (around : Around) (num : Num) (tree : Tree) → TakesHeld q rule.Counter → Apart around.scope
       → StandsNum (sheet_naming sheet) around.scope num tree → IsHolder around num.who → Sound sheet all q around tree
   num_sound q around num tree fits alone stands is =
       three_parts (StandsHolder around.scope num.who) (Atom "sto") (Named sheet.names.nums num.name)
@@ -289,7 +276,7 @@ module _ (sheet : Sheet) (all : List Part) where
       made holder (word kind f t) (word name f' t') from to holds k n =
           let parts = cons holder (cons (word kind f t) (cons (word name f' t') nil)) in
           sound_list sheet all q rule.Counter around parts from to
-          (fits around.scope num.who holder (word kind f t) (word name f' t') holds)
+          (rule_told q parts rule.Counter (fits around.scope num.who holder (word kind f t) (word name f' t') holds))
           (λ p r b a from plain. record {
             once = refl;
             known = refl;

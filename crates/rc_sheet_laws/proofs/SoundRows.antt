@@ -31,45 +31,7 @@ use Rattle.rc_sheet_laws.proofs.OneRows.{behind_word, row_two, row_three, three_
 use Rattle.rc_sheet_laws.proofs.OneNames.{Apart, variable_word, held, owner_forms, more_apart}
 use Rattle.rc_sheet_laws.proofs.OneExpressions.{variable_unread}
 use Rattle.rc_sheet_laws.proofs.SoundParts.{standing, StandAt, IsRow, head_seat, plain_seat, all_join, AllSound, Sound, sound_alone, plain_atom, constant_atom, plain_word, FormSound, sound_list, easy_sound, told_then, rest_sound, AreGiven}
-use Rattle.rc_sheet_laws.proofs.SoundNames.{found_at, TakesLocs, TakesNums, fixed}
-
--- PLACES
-
--- what tells a holder tells the form of a location, and of a stored number
-pub locs_in_cards : TakesLocs place.Collection
-locs_in_cards scope who holder kind name stands =
-    held scope who (λ holder. rule_of place.Collection (cons holder (cons kind (cons name nil))) ≡ Some rule.Location) holder
-    stands (λ from to. refl) (λ rest from to. refl) (λ parts from to. refl)
-
-pub locs_in_domain : TakesLocs place.Domain
-locs_in_domain scope who holder kind name stands =
-    held scope who (λ holder. rule_of place.Domain (cons holder (cons kind (cons name nil))) ≡ Some rule.Location) holder
-    stands (λ from to. refl) (λ rest from to. refl) (λ parts from to. refl)
-
-pub locs_in_members : TakesLocs place.Members
-locs_in_members scope who holder kind name stands =
-    held scope who (λ holder. rule_of place.Members (cons holder (cons kind (cons name nil))) ≡ Some rule.Location) holder
-    stands (λ from to. refl) (λ rest from to. refl) (λ parts from to. refl)
-
-pub locs_alone : TakesLocs place.Location
-locs_alone scope who holder kind name stands =
-    held scope who (λ holder. rule_of place.Location (cons holder (cons kind (cons name nil))) ≡ Some rule.Location) holder
-    stands (λ from to. refl) (λ rest from to. refl) (λ parts from to. refl)
-
-pub nums_in_numbers : TakesNums place.Integer
-nums_in_numbers scope who holder kind name stands =
-    held scope who (λ holder. rule_of place.Integer (cons holder (cons kind (cons name nil))) ≡ Some rule.Counter) holder
-    stands (λ from to. refl) (λ rest from to. refl) (λ parts from to. refl)
-
-pub nums_in_sides : TakesNums place.Side
-nums_in_sides scope who holder kind name stands =
-    held scope who (λ holder. rule_of place.Side (cons holder (cons kind (cons name nil))) ≡ Some rule.Counter) holder
-    stands (λ from to. refl) (λ rest from to. refl) (λ parts from to. refl)
-
-pub nums_alone : TakesNums place.Counter
-nums_alone scope who holder kind name stands =
-    held scope who (λ holder. rule_of place.Counter (cons holder (cons kind (cons name nil))) ≡ Some rule.Counter) holder
-    stands (λ from to. refl) (λ rest from to. refl) (λ parts from to. refl)
+use Rattle.rc_sheet_laws.proofs.SoundNames.{found_at, fixed}
 
 -- SORTS
 
