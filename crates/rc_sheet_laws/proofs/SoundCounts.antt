@@ -1,11 +1,11 @@
 -- What the lines of a setup give that stand for a well formed sheet's: its players, one line of teams at most, and its cards.
-use Rattle.std.proofs.Common.{◌≡◌, ℕ, suc, ◌+◌, ◌*◌, ◌≤◌, Bool, true, false, cond, List, [], ◌∷◌, ◌++◌, inl, inr, length, map, flat_map, Option, Some, None, option_map, pos, refl, ap, ap₂, ◌∙◌, arith, unwrap_or}
+use Rattle.std.proofs.Common.{◌≡◌, ℕ, suc, ◌+◌, ◌*◌, ◌≤◌, Bool, true, false, cond, List, [], ◌∷◌, ◌++◌, inl, inr, length, map, flat_map, Option, Some, None, option_map, pos, refl, subst, ap, ap₂, ◌∙◌, arith, unwrap_or}
 use Prim.Native.String.{String}
 use Rattle.std.specs.Prelude.{codes, nat_abs, slice_index_or}
 use Rattle.std.specs.List.{AllZip}
 use Rattle.std.proofs.lemmas.Grind.{flat_map-append}
 use Rattle.rc_model.specs.Tree.{Tree, word, list, Trees, nil, cons}
-use Rattle.rc_model.specs.Deck.{Groups, no_group, group, Branches, no_branch, branch, Entry, face_count, branch_count}
+use Rattle.rc_model.specs.Deck.{Groups, no_group, group, Branches, no_branch, branch, face_count, branch_count}
 use Rattle.rc_sheet_model.specs.Sheet.{Teams, DeckLine, Sheet}
 use Rattle.rc_sheet_model.specs.Rows.{◌▸◌, End, AtLeast, Row, Atom}
 use Rattle.rc_sheet_model.specs.Rows.{Some as Full}
@@ -18,6 +18,7 @@ use Rattle.rc_sheet_model.specs.WellFormed.{team_count as team_count_of}
 use Rattle.rc_grammar.specs.Faults.{count}
 use Rattle.rc_grammar.specs.declared.keyword.Keyword.TheVariants as keyword
 use Rattle.rc_grammar.specs.declared.grammar.Place.TheVariants as place
+use Rattle.rc_grammar.specs.declared.grammar.Rule.{Rule}
 use Rattle.rc_grammar.specs.declared.grammar.Rule.TheVariants as rule
 use Rattle.rc_semantics.specs.declared.role.Role.TheVariants.{No as no_role}
 use Rattle.rc_semantics.specs.SecondParts.{Standing, Part, form, parts_at, parts_in, parts_of, part_at, standing_alone}
@@ -121,56 +122,47 @@ module _ (X : Type 0) (gives : Part → List X) (of_lines : OfLines gives) (oute
       (ap₂ ◌++◌ (of_lines.atoms (standing (place.Word keyword.Setup) outside no_role setup []) (codes "setup") c)
       (lines_give X gives g whole setup 0 lines each))))
 
-  -- lines by their forms
-  players_form : (g : Tree → List X) (n : ℕ) (tree : Tree) → StandsPlayers n tree
-      → ((f t f' t' from to : ℕ) (a : Tree) (beside : Trees) → Literal (pos n) a →
+  -- what a line that begins with these words gives
+  abbrev GivesSo : (Tree → List X) → String → String → Rule → Type 0
+  GivesSo g first second r =
+      (f t f' t' from to : ℕ) (more beside : Trees) →
+      let parts = cons (word (codes first) f t) (cons (word (codes second) f' t') more) in
+      gives (form (standing place.Line outside no_role beside []) r parts from) ≡ g (list parts from to)
+
+  -- what all lines of a setup give, by the forms of lines
+  setup_gives : (sheet : Sheet) (g : Tree → List X) (lines : Trees) → StandsSetup (sheet_naming sheet) sheet lines
+      → ((f t f' t' from to : ℕ) (a : Tree) (beside : Trees) → Literal (pos sheet.players) a →
       let parts = cons (word (codes "create") f t) (cons (word (codes "players") f' t') (cons a nil)) in
       gives (form (standing place.Line outside no_role beside []) rule.CreatePlayers parts from) ≡ g (list parts from to))
-      → LineGives X gives g tree
-  players_form g n tree stands each =
-      row_word_part "create" "players" (Literal (pos n)) (LineGives X gives g) tree stands
-      (λ f t f' t' from to a here beside.
-      line_gives gives of_lines (standing place.Line outside no_role beside []) rule.CreatePlayers
+      → GivesSo g "create" "teams" rule.CreateTeams → GivesSo g "create" "deck" rule.CreateDeck
+      → GivesSo g "put" "points" rule.PutPoints → Each (LineGives X gives g) lines
+  setup_gives sheet g lines setup players teams decks points =
+      let at : Trees → Standing = λ beside. standing place.Line outside no_role beside [] in
+      each_line (LineGives X gives g) lines setup.lines_alone
+      (of_pairs StandsPlayers (LineGives X gives g) (sheet.players ∷ []) _ setup.players
+      (λ n tree is stands. row_word_part "create" "players" (Literal (pos n)) (LineGives X gives g) tree stands
+      (λ f t f' t' from to a here beside. line_gives gives of_lines (at beside) rule.CreatePlayers
       (cons (word (codes "create") f t) (cons (word (codes "players") f' t') (cons a nil))) from to refl refl refl
-      ∙ each f t f' t' from to a beside here)
-
-  teams_form : (g : Tree → List X) (teams : Teams) (tree : Tree) → StandsTeams teams tree
-      → ((f t f' t' from to : ℕ) (more beside : Trees) →
-      let parts = cons (word (codes "create") f t) (cons (word (codes "teams") f' t') more) in
-      gives (form (standing place.Line outside no_role beside []) rule.CreateTeams parts from) ≡ g (list parts from to))
-      → LineGives X gives g tree
-  teams_form g teams tree stands each =
-      row_words "create" "teams" _ (LineGives X gives g) tree stands
-      (λ f t f' t' from to more here beside.
-      line_gives gives of_lines (standing place.Line outside no_role beside []) rule.CreateTeams
+      ∙ players f t f' t' from to a beside (subst (λ m. Literal (pos m) a) (one_of n sheet.players is) here))))
+      (of_pairs StandsTeams (LineGives X gives g) (team_lines sheet.teams) _ setup.teams
+      (λ line tree is stands. row_words "create" "teams" _ (LineGives X gives g) tree stands
+      (λ f t f' t' from to more here beside. line_gives gives of_lines (at beside) rule.CreateTeams
       (cons (word (codes "create") f t) (cons (word (codes "teams") f' t') more)) from to refl refl refl
-      ∙ each f t f' t' from to more beside)
-
-  deck_form : (naming : Naming) (g : Tree → List X) (line : DeckLine) (tree : Tree) → StandsDeck naming line tree
-      → ((f t f' t' from to : ℕ) (more beside : Trees) →
-      let parts = cons (word (codes "create") f t) (cons (word (codes "deck") f' t') more) in
-      StandsDeck naming line (list parts from to)
-      → gives (form (standing place.Line outside no_role beside []) rule.CreateDeck parts from) ≡ g (list parts from to))
-      → LineGives X gives g tree
-  deck_form naming g line tree stands each =
-      row_words "create" "deck" _ (λ tree. StandsDeck naming line tree → LineGives X gives g tree) tree stands.0
-      (λ f t f' t' from to more here stands beside.
-      line_gives gives of_lines (standing place.Line outside no_role beside []) rule.CreateDeck
+      ∙ teams f t f' t' from to more beside)))
+      (of_pairs (StandsDeck (sheet_naming sheet)) (LineGives X gives g) sheet.decks _ setup.decks
+      (λ line tree is stands. row_words "create" "deck" _ (LineGives X gives g) tree stands.0
+      (λ f t f' t' from to more here beside. line_gives gives of_lines (at beside) rule.CreateDeck
       (cons (word (codes "create") f t) (cons (word (codes "deck") f' t') more)) from to refl refl refl
-      ∙ each f t f' t' from to more beside stands)
-      stands
-
-  map_form : (naming : Naming) (g : Tree → List X) (line : ℕ × List Entry) (tree : Tree) → StandsMap naming line tree
-      → ((f t f' t' from to : ℕ) (more beside : Trees) →
-      let parts = cons (word (codes "put") f t) (cons (word (codes "points") f' t') more) in
-      gives (form (standing place.Line outside no_role beside []) rule.PutPoints parts from) ≡ g (list parts from to))
-      → LineGives X gives g tree
-  map_form naming g line tree stands each =
-      row_words "put" "points" _ (LineGives X gives g) tree stands
-      (λ f t f' t' from to more here beside.
-      line_gives gives of_lines (standing place.Line outside no_role beside []) rule.PutPoints
+      ∙ decks f t f' t' from to more beside)))
+      (of_pairs (StandsMap (sheet_naming sheet)) (LineGives X gives g) (numbered sheet.points) _ setup.points
+      (λ line tree is stands. row_words "put" "points" _ (LineGives X gives g) tree stands
+      (λ f t f' t' from to more here beside. line_gives gives of_lines (at beside) rule.PutPoints
       (cons (word (codes "put") f t) (cons (word (codes "points") f' t') more)) from to refl refl refl
-      ∙ each f t f' t' from to more beside)
+      ∙ points f t f' t' from to more beside)))
+    where
+      one_of : (n m : ℕ) → Among n (m ∷ []) → n ≡ m
+      one_of n m (inl is) = is
+      one_of n m (inr none) = absurd none
 
 -- PLAYERS
 
@@ -191,25 +183,12 @@ players_counted sheet tree stands =
     let h : Tree → List ℕ = λ tree. sheet.players ∷ [] in
     let g : Tree → List ℕ = λ tree. cond (begins_with "create" "players" tree) (h tree) [] in
     form_gives ℕ players_in players_of_lines players_outer g a b c d e f from to lines rest
-    (each_line (LineGives ℕ players_in g) lines setup.lines_alone
-    (of_pairs StandsPlayers (LineGives ℕ players_in g) (sheet.players ∷ []) _ setup.players
-    (λ n tree is stands. players_form ℕ players_in players_of_lines players_outer g n tree stands
-    (λ f t f' t' from to x beside literal. ap (λ m. m ∷ []) (number_said n x literal ∙ one_of n sheet.players is))))
-    (of_pairs StandsTeams (LineGives ℕ players_in g) (team_lines sheet.teams) _ setup.teams
-    (λ teams tree is stands. teams_form ℕ players_in players_of_lines players_outer g teams tree stands
-    (λ f t f' t' from to more beside. refl)))
-    (of_pairs (StandsDeck (sheet_naming sheet)) (LineGives ℕ players_in g) sheet.decks _ setup.decks
-    (λ line tree is stands. deck_form ℕ players_in players_of_lines players_outer (sheet_naming sheet) g line tree stands
-    (λ f t f' t' from to more beside stands. refl)))
-    (of_pairs (StandsMap (sheet_naming sheet)) (LineGives ℕ players_in g) (numbered sheet.points) _ setup.points
-    (λ line tree is stands. map_form ℕ players_in players_of_lines players_outer (sheet_naming sheet) g line tree stands
-    (λ f t f' t' from to more beside. refl))))
+    (setup_gives ℕ players_in players_of_lines players_outer sheet g lines setup
+    (λ f t f' t' from to x beside literal. ap (λ m. m ∷ []) (number_said sheet.players x literal))
+    (λ f t f' t' from to more beside. refl) (λ f t f' t' from to more beside. refl)
+    (λ f t f' t' from to more beside. refl))
     ∙ of_kind "create" "players" h lines
     ∙ same_one sheet.players (lines_with "create" "players" lines) setup.players)
-  where
-    one_of : (n m : ℕ) → Among n (m ∷ []) → n ≡ m
-    one_of n m (inl is) = is
-    one_of n m (inr none) = absurd none
 
 -- TEAMS
 
@@ -235,20 +214,9 @@ teams_counted sheet tree stands =
       lines_with "create" "teams" lines,
       setup.teams,
       form_gives Trees teams_in teams_of_lines teams_outer g a b c d e f from to lines rest
-          (each_line (LineGives Trees teams_in g) lines setup.lines_alone
-          (of_pairs StandsPlayers (LineGives Trees teams_in g) (sheet.players ∷ []) _ setup.players
-          (λ n tree is stands. players_form Trees teams_in teams_of_lines teams_outer g n tree stands
-          (λ f t f' t' from to x beside literal. refl)))
-          (of_pairs StandsTeams (LineGives Trees teams_in g) (team_lines sheet.teams) _ setup.teams
-          (λ teams tree is stands. teams_form Trees teams_in teams_of_lines teams_outer g teams tree stands
-          (λ f t f' t' from to more beside. refl)))
-          (of_pairs (StandsDeck (sheet_naming sheet)) (LineGives Trees teams_in g) sheet.decks _ setup.decks
-          (λ line tree is stands. deck_form Trees teams_in teams_of_lines teams_outer (sheet_naming sheet) g line tree stands
-          (λ f t f' t' from to more beside stands. refl)))
-          (of_pairs (StandsMap (sheet_naming sheet)) (LineGives Trees teams_in g) (numbered sheet.points) _
-          setup.points
-          (λ line tree is stands. map_form Trees teams_in teams_of_lines teams_outer (sheet_naming sheet) g line tree stands
-          (λ f t f' t' from to more beside. refl))))
+          (setup_gives Trees teams_in teams_of_lines teams_outer sheet g lines setup
+          (λ f t f' t' from to x beside literal. refl) (λ f t f' t' from to more beside. refl)
+          (λ f t f' t' from to more beside. refl) (λ f t f' t' from to more beside. refl))
           ∙ of_kind "create" "teams" (λ tree. parts_of_list tree) lines,
     ))
 
@@ -355,18 +323,8 @@ cards_counted sheet tree stands =
     (λ a b c d e f from to lines rest setup items.
     let g : Tree → List ℕ = λ tree. cond (begins_with "create" "deck" tree) (cards_of_tree tree) [] in
     form_gives ℕ cards_in cards_of_lines cards_outer g a b c d e f from to lines rest
-    (each_line (LineGives ℕ cards_in g) lines setup.lines_alone
-    (of_pairs StandsPlayers (LineGives ℕ cards_in g) (sheet.players ∷ []) _ setup.players
-    (λ n tree is stands. players_form ℕ cards_in cards_of_lines cards_outer g n tree stands
-    (λ f t f' t' from to x beside literal. refl)))
-    (of_pairs StandsTeams (LineGives ℕ cards_in g) (team_lines sheet.teams) _ setup.teams
-    (λ teams tree is stands. teams_form ℕ cards_in cards_of_lines cards_outer g teams tree stands
-    (λ f t f' t' from to more beside. refl)))
-    (of_pairs (StandsDeck (sheet_naming sheet)) (LineGives ℕ cards_in g) sheet.decks _ setup.decks
-    (λ line tree is stands. deck_form ℕ cards_in cards_of_lines cards_outer (sheet_naming sheet) g line tree stands
-    (λ f t f' t' from to more beside stands. refl)))
-    (of_pairs (StandsMap (sheet_naming sheet)) (LineGives ℕ cards_in g) (numbered sheet.points) _ setup.points
-    (λ line tree is stands. map_form ℕ cards_in cards_of_lines cards_outer (sheet_naming sheet) g line tree stands
-    (λ f t f' t' from to more beside. refl))))
+    (setup_gives ℕ cards_in cards_of_lines cards_outer sheet g lines setup
+    (λ f t f' t' from to x beside literal. refl) (λ f t f' t' from to more beside. refl)
+    (λ f t f' t' from to more beside. refl) (λ f t f' t' from to more beside. refl))
     ∙ of_kind "create" "deck" cards_of_tree lines
     ∙ decks_count (sheet_naming sheet) sheet.decks (lines_with "create" "deck" lines) setup.decks)
