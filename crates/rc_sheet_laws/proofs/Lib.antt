@@ -5,7 +5,6 @@ mod OneEffects
 mod OneItems
 mod OneSetup
 pub mod OneSheet
-mod UnplacedTwice
 mod UnplacedForms
 mod UnplacedMentions
 mod UnplacedParts

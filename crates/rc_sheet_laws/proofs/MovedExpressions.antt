@@ -16,8 +16,9 @@ same_sort each_player = refl
 same_sort (each_card cards) = refl
 same_sort (each_group cards attr) = refl
 
-pub one_sort : (domain other : Domain) → domain_unplaced other ≡ domain_unplaced domain → sort_of domain ≡ sort_of other
-one_sort domain other same = sym (same_sort domain) ∙ ap sort_of (sym same) ∙ same_sort other
+pub one_sort : (domain other : Domain) → domain_unplaced other ≡ domain_unplaced domain
+    → sort_of (domain_unplaced domain) ≡ sort_of other
+one_sort domain other same = ap sort_of (sym same) ∙ same_sort other
 
 -- OWNERS
 
@@ -57,7 +58,7 @@ module _ (naming : Naming) where
 
   -- a location has the offset of its form
   pub loc_moves : (scope : Scope) (loc : Loc)
-      → Moves (StandsLoc naming scope loc) (StandsLoc naming scope) (λ again. loc_unplaced again ≡ loc_unplaced loc)
+      → Moves (StandsLoc naming scope (loc_unplaced loc)) (StandsLoc naming scope) (λ again. loc_unplaced again ≡ loc_unplaced loc)
   loc_moves scope loc = record {
     of = λ form other same stands. record {
       again = record { who = loc.who; name = loc.name; at = start_of other };
@@ -84,19 +85,19 @@ module _ (naming : Naming) where
   -- what a variable runs over that is bound in the parts behind it
   pub ranged_moves : {B : Type 0} {P : Trees → Type 0} {Same : B → Type 0} (head : String) (domain : Domain) (var : ℕ)
       (Range : Domain → Tree → Type 0) (Q : Sort → B → Trees → Type 0)
-      → Moves (Range domain) Range (λ again. domain_unplaced again ≡ domain_unplaced domain)
-      → AllMove P (Q (sort_of domain)) Same
-      → Moves (Row (Atom head ▸ Range domain ▸ Binder naming var ▸ P))
+      → Moves (Range (domain_unplaced domain)) Range (λ again. domain_unplaced again ≡ domain_unplaced domain)
+      → AllMove P (Q (sort_of (domain_unplaced domain))) Same
+      → Moves (Row (Atom head ▸ Range (domain_unplaced domain) ▸ Binder naming var ▸ P))
       (λ (both : Domain × B). Row (Atom head ▸ Range both.0 ▸ Binder naming var ▸ Q (sort_of both.0) both.1))
       (λ both. (domain_unplaced both.0 ≡ domain_unplaced domain) × Same both.1)
   ranged_moves {B = B} {P = P} {Same = Same} head domain var Range Q first rest = record { of = of }
     where
-      all : Moves (Row (Atom head ▸ Range domain ▸ Binder naming var ▸ P))
-          (λ (both : Domain × B). Row (Atom head ▸ Range both.0 ▸ Binder naming var ▸ Q (sort_of domain) both.1))
+      all : Moves (Row (Atom head ▸ Range (domain_unplaced domain) ▸ Binder naming var ▸ P))
+          (λ (both : Domain × B). Row (Atom head ▸ Range both.0 ▸ Binder naming var ▸ Q (sort_of (domain_unplaced domain)) both.1))
           (λ both. (domain_unplaced both.0 ≡ domain_unplaced domain) × Same both.1)
       all = around_kept head first word_keeps rest
 
-      of : (form other : Tree) → SameForm form other → Row (Atom head ▸ Range domain ▸ Binder naming var ▸ P) form
+      of : (form other : Tree) → SameForm form other → Row (Atom head ▸ Range (domain_unplaced domain) ▸ Binder naming var ▸ P) form
           → Again (λ (both : Domain × B). Row (Atom head ▸ Range both.0 ▸ Binder naming var ▸ Q (sort_of both.0) both.1))
           (λ both. (domain_unplaced both.0 ≡ domain_unplaced domain) × Same both.1) other
       of form other same stands =
@@ -110,7 +111,7 @@ module _ (naming : Naming) where
 
   mutual
     pub card_moves : (scope : Scope) (card : CardExpr)
-        → Moves (StandsCard naming scope card) (StandsCard naming scope) (λ again. card_unplaced again ≡ card_unplaced card)
+        → Moves (StandsCard naming scope (card_unplaced card)) (StandsCard naming scope) (λ again. card_unplaced again ≡ card_unplaced card)
     card_moves scope (card_var var) = still (card_var var) refl word_keeps
     card_moves scope (top_card cards) = made top_card (one_moves "top" (coll_moves scope cards)) (λ a same. ap top_card same)
     card_moves scope (bottom_card cards) =
@@ -121,7 +122,7 @@ module _ (naming : Naming) where
         made (λ a. min_card a map) (headed "min" (coll_moves scope cards) (with_map map)) (λ a same. ap (λ c. min_card c map) same)
 
     pub coll_moves : (scope : Scope) (cards : CollExpr)
-        → Moves (StandsColl naming scope cards) (StandsColl naming scope) (λ again. coll_unplaced again ≡ coll_unplaced cards)
+        → Moves (StandsColl naming scope (coll_unplaced cards)) (StandsColl naming scope) (λ again. coll_unplaced again ≡ coll_unplaced cards)
     coll_moves scope (group_var var) = still (group_var var) refl word_keeps
     coll_moves scope (cards_in loc) = made cards_in (loc_moves scope loc) (λ a same. ap cards_in same)
     coll_moves scope (filtered cards var t) =
@@ -133,14 +134,14 @@ module _ (naming : Naming) where
         made union_of (row_moves (behind_kept word_keeps (least_moves 2 (colls_move scope parts)))) (λ a same. ap union_of same)
 
     colls_move : (scope : Scope) (parts : CollExprs)
-        → AllMove (StandColls naming scope parts) (StandColls naming scope) (λ again. colls_unplaced again ≡ colls_unplaced parts)
+        → AllMove (StandColls naming scope (colls_unplaced parts)) (StandColls naming scope) (λ again. colls_unplaced again ≡ colls_unplaced parts)
     colls_move scope no_coll = all_made (λ one. no_coll) (kept end_keeps) (λ one same. refl)
     colls_move scope (coll cards parts) =
         all_made (λ both. coll both.0 both.1) (part_moves (coll_moves scope cards) (colls_move scope parts))
         (λ both same. ap₂ coll same.0 same.1)
 
     pub int_moves : (scope : Scope) (int : IntExpr)
-        → Moves (StandsInt naming scope int) (StandsInt naming scope) (λ again. int_unplaced again ≡ int_unplaced int)
+        → Moves (StandsInt naming scope (int_unplaced int)) (StandsInt naming scope) (λ again. int_unplaced again ≡ int_unplaced int)
     int_moves scope (literal value) = still (literal value) refl word_keeps
     int_moves scope (number num) = still (number num) refl (num_keeps scope num)
     int_moves scope (size_of cards) = made size_of (one_moves "size" (coll_moves scope cards)) (λ a same. ap size_of same)
@@ -161,7 +162,7 @@ module _ (naming : Naming) where
 
     -- a test of two parts of one kind
     pub test_moves : (scope : Scope) (t : Test)
-        → Moves (StandsTest naming scope t) (StandsTest naming scope) (λ again. test_unplaced again ≡ test_unplaced t)
+        → Moves (StandsTest naming scope (test_unplaced t)) (StandsTest naming scope) (λ again. test_unplaced again ≡ test_unplaced t)
     test_moves scope (eq_int a b) =
         made (λ both. eq_int both.0 both.1) (two_move "=" (int_moves scope a) (int_moves scope b))
         (λ both same. ap₂ eq_int same.0 same.1)
@@ -210,31 +211,31 @@ module _ (naming : Naming) where
         made (λ both. all_of both.0 var both.1)
         (ranged_moves "all" domain var (StandsRange naming scope)
         (λ sort t. StandsTest naming (bind naming scope var sort) t ▸ End) (range_moves scope domain)
-        (before_kept (test_moves (bind naming scope var (sort_of domain)) t) end_keeps))
+        (before_kept (test_moves (bind naming scope var (sort_of (domain_unplaced domain))) t) end_keeps))
         (λ both same. ap₂ (λ d t. all_of d var t) same.0 same.1)
     test_moves scope (any_of domain var t) =
         made (λ both. any_of both.0 var both.1)
         (ranged_moves "any" domain var (StandsRange naming scope)
         (λ sort t. StandsTest naming (bind naming scope var sort) t ▸ End) (range_moves scope domain)
-        (before_kept (test_moves (bind naming scope var (sort_of domain)) t) end_keeps))
+        (before_kept (test_moves (bind naming scope var (sort_of (domain_unplaced domain))) t) end_keeps))
         (λ both same. ap₂ (λ d t. any_of d var t) same.0 same.1)
 
     tests_move : (scope : Scope) (tests : Tests)
-        → AllMove (StandTests naming scope tests) (StandTests naming scope) (λ again. tests_unplaced again ≡ tests_unplaced tests)
+        → AllMove (StandTests naming scope (tests_unplaced tests)) (StandTests naming scope) (λ again. tests_unplaced again ≡ tests_unplaced tests)
     tests_move scope no_test = all_made (λ one. no_test) (kept end_keeps) (λ one same. refl)
     tests_move scope (test t tests) =
         all_made (λ both. test both.0 both.1) (part_moves (test_moves scope t) (tests_move scope tests))
         (λ both same. ap₂ test same.0 same.1)
 
     pub range_moves : (scope : Scope) (domain : Domain)
-        → Moves (StandsRange naming scope domain) (StandsRange naming scope)
+        → Moves (StandsRange naming scope (domain_unplaced domain)) (StandsRange naming scope)
         (λ again. domain_unplaced again ≡ domain_unplaced domain)
     range_moves scope each_player = still each_player refl word_keeps
     range_moves scope (each_card cards) = made each_card (coll_moves scope cards) (λ a same. ap each_card same)
     range_moves scope (each_group cards attr) = record { of = λ form other same stands. absurd stands }
 
   pub domain_moves : (scope : Scope) (domain : Domain)
-      → Moves (StandsDomain naming scope domain) (StandsDomain naming scope)
+      → Moves (StandsDomain naming scope (domain_unplaced domain)) (StandsDomain naming scope)
       (λ again. domain_unplaced again ≡ domain_unplaced domain)
   domain_moves scope each_player = still each_player refl word_keeps
   domain_moves scope (each_card cards) = made each_card (coll_moves scope cards) (λ a same. ap each_card same)

@@ -7,7 +7,7 @@ use Rattle.rc_sheet_model.specs.Naming.{Naming, Scope, bind, sort_of}
 use Rattle.rc_sheet_model.specs.StandsExpressions.{StandsRange, StandsDomain}
 use Rattle.rc_sheet_model.specs.StandsEffects.{StandsSpot, StandsEffect, StandEffects}
 use Rattle.rc_sheet_model.specs.StandsItems.{StandsAlt, StandAlts, StandsClass, StandsItem, StandItems}
-use Rattle.rc_ast.specs.Unplaced.{loc_unplaced, effect_unplaced, effects_unplaced, alt_unplaced, item_unplaced, items_unplaced}
+use Rattle.rc_ast.specs.Unplaced.{loc_unplaced, domain_unplaced, effect_unplaced, effects_unplaced, alt_unplaced, item_unplaced, items_unplaced}
 use Rattle.rc_sheet_laws.proofs.Moved.{Keeps, Moves, AllMove, word_keeps, row_keeps, part_keeps, end_keeps, still, made, all_made, kept, row_moves, behind_kept, before_kept, least_moves, one_moves, part_moves, two_move}
 use Rattle.rc_sheet_laws.proofs.MovedExpressions.{owner_keeps, loc_moves, num_keeps, ranged_moves, card_moves, coll_moves, int_moves, test_moves, range_moves, domain_moves}
 
@@ -18,13 +18,13 @@ class_keeps team_class = word_keeps
 
 module _ (naming : Naming) where
   spot_moves : (scope : Scope) (end : Place) (loc : Loc)
-      → Moves (StandsSpot naming scope end loc) (StandsSpot naming scope end) (λ again. loc_unplaced again ≡ loc_unplaced loc)
+      → Moves (StandsSpot naming scope end (loc_unplaced loc)) (StandsSpot naming scope end) (λ again. loc_unplaced again ≡ loc_unplaced loc)
   spot_moves scope top loc = one_moves "top" (loc_moves naming scope loc)
   spot_moves scope bottom loc = one_moves "bottom" (loc_moves naming scope loc)
 
   mutual
     effect_moves : (scope : Scope) (e : Effect)
-        → Moves (StandsEffect naming scope e) (StandsEffect naming scope) (λ again. effect_unplaced again ≡ effect_unplaced e)
+        → Moves (StandsEffect naming scope (effect_unplaced e)) (StandsEffect naming scope) (λ again. effect_unplaced again ≡ effect_unplaced e)
     effect_moves scope (move card end loc) =
         made (λ both. move both.0 end both.1) (two_move "move" (card_moves naming scope card) (spot_moves scope end loc))
         (λ both same. ap₂ (λ c l. move c end l) same.0 same.1)
@@ -67,7 +67,7 @@ module _ (naming : Naming) where
         made (λ both. for_each both.0 var both.1)
         (ranged_moves naming "all" domain var (StandsRange naming scope)
         (λ sort effects. Some (StandEffects naming (bind naming scope var sort) effects)) (range_moves naming scope domain)
-        (least_moves 1 (effects_move (bind naming scope var (sort_of domain)) effects)))
+        (least_moves 1 (effects_move (bind naming scope var (sort_of (domain_unplaced domain))) effects)))
         (λ both same. ap₂ (λ d e. for_each d var e) same.0 same.1)
     effect_moves scope (next_is who) =
         still (next_is who) refl
@@ -75,7 +75,7 @@ module _ (naming : Naming) where
     effect_moves scope turn_round = still turn_round refl (row_keeps (part_keeps word_keeps (part_keeps word_keeps end_keeps)))
 
     effects_move : (scope : Scope) (effects : Effects)
-        → AllMove (StandEffects naming scope effects) (StandEffects naming scope)
+        → AllMove (StandEffects naming scope (effects_unplaced effects)) (StandEffects naming scope)
         (λ again. effects_unplaced again ≡ effects_unplaced effects)
     effects_move scope no_effect = all_made (λ one. no_effect) (kept end_keeps) (λ one same. refl)
     effects_move scope (effect e effects) =
@@ -83,7 +83,7 @@ module _ (naming : Naming) where
         (λ both same. ap₂ effect same.0 same.1)
 
   alt_moves : (alt : Alt) (scope : Scope)
-      → Moves (StandsAlt naming scope alt) (StandsAlt naming scope) (λ again. alt_unplaced again ≡ alt_unplaced alt)
+      → Moves (StandsAlt naming scope (alt_unplaced alt)) (StandsAlt naming scope) (λ again. alt_unplaced again ≡ alt_unplaced alt)
   alt_moves (do_alt effects) scope =
       made do_alt (row_moves (behind_kept word_keeps (least_moves 1 (effects_move scope effects)))) (λ a same. ap do_alt same)
   alt_moves (if_alt guard effects) scope =
@@ -95,18 +95,18 @@ module _ (naming : Naming) where
       made (λ both. any_alt both.0 var both.1)
       (ranged_moves naming "any" domain var (StandsDomain naming scope)
       (λ sort alt. StandsAlt naming (bind naming scope var sort) alt ▸ End) (domain_moves naming scope domain)
-      (before_kept (alt_moves alt (bind naming scope var (sort_of domain))) end_keeps))
+      (before_kept (alt_moves alt (bind naming scope var (sort_of (domain_unplaced domain)))) end_keeps))
       (λ both same. ap₂ (λ d a. any_alt d var a) same.0 same.1)
 
   alts_move : (alts : List Alt)
-      → AllMove (StandAlts naming alts) (StandAlts naming) (λ again. map alt_unplaced again ≡ map alt_unplaced alts)
+      → AllMove (StandAlts naming (map alt_unplaced alts)) (StandAlts naming) (λ again. map alt_unplaced again ≡ map alt_unplaced alts)
   alts_move [] = all_made (λ one. []) (kept end_keeps) (λ one same. refl)
   alts_move (alt ∷ alts) =
       all_made (λ both. both.0 ∷ both.1) (part_moves (alt_moves alt []) (alts_move alts)) (λ both same. ap₂ ◌∷◌ same.0 same.1)
 
   mutual
     item_moves : (i : SheetItem)
-        → Moves (StandsItem naming i) (StandsItem naming) (λ again. item_unplaced again ≡ item_unplaced i)
+        → Moves (StandsItem naming (item_unplaced i)) (StandsItem naming) (λ again. item_unplaced again ≡ item_unplaced i)
     item_moves (do_item effects) =
         made do_item (row_moves (behind_kept word_keeps (least_moves 1 (effects_move [] effects)))) (λ a same. ap do_item same)
     item_moves (stage place class end body) =
@@ -120,7 +120,7 @@ module _ (naming : Naming) where
 
     -- with nothing behind them
     body_moves : (items : SheetItems)
-        → AllMove (StandItems naming items End) (λ again. StandItems naming again End)
+        → AllMove (StandItems naming (items_unplaced items) End) (λ again. StandItems naming again End)
         (λ again. items_unplaced again ≡ items_unplaced items)
     body_moves no_item = all_made (λ one. no_item) (kept end_keeps) (λ one same. refl)
     body_moves (item i items) =
@@ -130,7 +130,7 @@ module _ (naming : Naming) where
   -- and with parts behind them
   pub items_move : {B : Type 0} {P : Trees → Type 0} {Q : B → Trees → Type 0} {Same : B → Type 0} (items : SheetItems)
       → AllMove P Q Same
-      → AllMove (StandItems naming items P) (λ (both : SheetItems × B). StandItems naming both.0 (Q both.1))
+      → AllMove (StandItems naming (items_unplaced items) P) (λ (both : SheetItems × B). StandItems naming both.0 (Q both.1))
       (λ both. (items_unplaced both.0 ≡ items_unplaced items) × Same both.1)
   items_move no_item rest = all_made (λ b. (no_item, b)) rest (λ b same. (refl, same))
   items_move (item i items) rest =

@@ -9,7 +9,7 @@ use Rattle.rc_sheet_model.specs.StandsSetup.{StandsSetup}
 use Rattle.rc_sheet_model.specs.StandsExpressions.{StandsInt}
 use Rattle.rc_sheet_model.specs.StandsItems.{StandItems}
 use Rattle.rc_sheet_model.specs.Stands.{StandsBest, StandsScoring, Stands}
-use Rattle.rc_ast.specs.Unplaced.{items_unplaced, int_unplaced}
+use Rattle.rc_ast.specs.Unplaced.{items_unplaced, int_unplaced, unplaced}
 use Rattle.rc_sheet_laws.proofs.Moved.{Keeps, Moves, word_keeps, row_keeps, part_keeps, end_keeps, least_keeps, row_moves, behind_kept, before_kept, least_moves}
 use Rattle.rc_sheet_laws.proofs.MovedExpressions.{int_moves}
 use Rattle.rc_sheet_laws.proofs.MovedItems.{items_move}
@@ -55,15 +55,15 @@ module _ (sheet : Sheet) where
   abbrev naming : Naming
   naming = sheet_naming sheet
 
-  scoring_moves : Moves (StandsScoring sheet)
+  scoring_moves : Moves (StandsScoring (unplaced sheet))
       (λ again. Row (Atom "scoring" ▸ StandsBest sheet.best ▸ StandsInt naming self_scope again ▸ End))
       (λ again. int_unplaced again ≡ int_unplaced sheet.score)
   scoring_moves =
       row_moves (behind_kept word_keeps (behind_kept (best_keeps sheet.best)
       (before_kept (int_moves naming self_scope sheet.score) end_keeps)))
 
-  -- a setup of the sheet is one of a sheet with another body
-  other_setup : (items : SheetItems) (score : IntExpr) (lines : Trees) → StandsSetup naming sheet lines
+  -- a setup of the sheet without its offsets is one of a sheet with another body
+  other_setup : (items : SheetItems) (score : IntExpr) (lines : Trees) → StandsSetup naming (unplaced sheet) lines
       → StandsSetup naming (with_body sheet items score) lines
   other_setup items score lines stands = record {
     lines_alone = stands.lines_alone;
@@ -84,15 +84,15 @@ module _ (sheet : Sheet) where
   abbrev StandsWith : SheetItems × IntExpr → Tree → Type 0
   StandsWith body =
       Row (Atom "game"
-      ▸ Row (Atom "setup" ▸ Some (StandsSetup naming sheet))
+      ▸ Row (Atom "setup" ▸ Some (StandsSetup naming (unplaced sheet)))
       ▸ AtLeast 2 (StandItems naming body.0
       (Row (Atom "scoring" ▸ StandsBest sheet.best ▸ StandsInt naming self_scope body.1 ▸ End) ▸ End)))
 
-  body_moves : Moves (Stands sheet) StandsWith
+  body_moves : Moves (Stands (unplaced sheet)) StandsWith
       (λ body. (items_unplaced body.0 ≡ items_unplaced sheet.items) × (int_unplaced body.1 ≡ int_unplaced sheet.score))
   body_moves =
       row_moves (behind_kept word_keeps
-      (behind_kept (row_keeps (part_keeps word_keeps (least_keeps 1 (setup_keeps naming sheet))))
+      (behind_kept (row_keeps (part_keeps word_keeps (least_keeps 1 (setup_keeps naming (unplaced sheet)))))
       (least_moves 2 (items_move naming sheet.items (before_kept scoring_moves end_keeps)))))
 
   stands_with : (items : SheetItems) (score : IntExpr) (form : Tree) → StandsWith (items, score) form
@@ -105,7 +105,7 @@ module _ (sheet : Sheet) where
   stands_with items score (list (cons game (cons (list (cons setup lines) start end) parts)) from to) stands =
       (stands.0, ((stands.1.0.0, (stands.1.0.1.0, other_setup items score lines stands.1.0.1.1)), stands.1.1))
 
-  pub sheet_moves : (form other : Tree) → SameForm form other → Stands sheet form → Placed other
+  pub sheet_moves : (form other : Tree) → SameForm form other → Stands (unplaced sheet) form → Placed other
   sheet_moves form other same stands =
       let found = body_moves.of form other same stands in
       record {

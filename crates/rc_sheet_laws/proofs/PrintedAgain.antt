@@ -13,7 +13,7 @@ use Rattle.rc_sheet_model.specs.Stands.{Stands}
 use Rattle.rc_sheet_model.specs.Sight.{IsInSight}
 use Rattle.rc_sheet_model.specs.Printing.{sheet_form, printed_sheet}
 use Rattle.rc_sheet_model.specs.WellFormed.{IsWellFormed}
-use Rattle.rc_ast.specs.Unplaced.{unplaced, int_unplaced, items_unplaced, IsBare, AreBare}
+use Rattle.rc_ast.specs.Unplaced.{unplaced, IsBare, AreBare}
 use Rattle.rc_ast.proofs.CopiedSheet.{sheet_copied}
 use Rattle.rc_semantics.specs.SecondFaults.{sheet_fault}
 use Rattle.rc_naming.specs.Naming.{naming_of}
@@ -25,7 +25,6 @@ use Rattle.rc_sheet_laws.proofs.SoundSheet.{no_fault}
 use Rattle.rc_sheet_laws.proofs.LineFeeds.{with_feed, without_feed}
 use Rattle.rc_sheet_laws.proofs.MovedSheet.{with_body, same_opened, sheet_moves}
 use Rattle.rc_sheet_laws.proofs.MovedWell.{still_well}
-use Rattle.rc_sheet_laws.proofs.UnplacedTwice.{items_twice, int_twice}
 use Rattle.rc_sheet_laws.proofs.UnplacedForms.{form_alike}
 use Rattle.rc_sheet_laws.proofs.UnplacedSight.{still_in_sight}
 
@@ -90,12 +89,6 @@ module _ (sheet : Sheet) (formed : IsWellFormed sheet) where
   pub spells_again : SpellsAgain (sheet_form sheet) (printed_sheet sheet)
   spells_again = SpellsAgain-printed (sheet_form sheet) is_printed.opened (bare_atoms (sheet_form sheet) is_printed.bare)
 
-  -- the sheet without its offsets is well formed
-  unplaced_well : IsWellFormed (unplaced sheet)
-  unplaced_well =
-      still_well sheet (items_unplaced sheet.items) (int_unplaced sheet.score) (items_twice sheet.items) (int_twice sheet.score)
-      formed (sheet_form sheet, is_printed.stands, is_printed.opened)
-
   -- the sheet of a form that is the printed one but for offsets
   record IsPlaced (form : Tree) : Type 0 where
     again : Sheet
@@ -106,17 +99,14 @@ module _ (sheet : Sheet) (formed : IsWellFormed sheet) where
 
   is_placed : (form : Tree) → SameForm (sheet_form sheet) form → IsPlaced form
   is_placed form same =
-      let found = sheet_moves (unplaced sheet) (sheet_form sheet) form same is_printed.stands in
+      let found = sheet_moves sheet (sheet_form sheet) form same is_printed.stands in
       let opened = same_opened most_open (sheet_form sheet) form same is_printed.opened in
       record {
-        again = with_body (unplaced sheet) found.items found.score;
+        again = with_body sheet found.items found.score;
         stands = found.stands;
-        well = still_well (unplaced sheet) found.items found.score found.same_items found.same_score unplaced_well
-            (form, found.stands, opened);
-        equal = ap₂ (with_body sheet) (found.same_items ∙ items_twice sheet.items) (found.same_score ∙ int_twice sheet.score);
-        seen = λ seen.
-            still_in_sight (unplaced sheet) found.items found.score found.same_items
-            (still_in_sight sheet (items_unplaced sheet.items) (int_unplaced sheet.score) (items_twice sheet.items) seen);
+        well = still_well sheet found.items found.score found.same_items found.same_score formed (form, found.stands, opened);
+        equal = ap₂ (with_body sheet) found.same_items found.same_score;
+        seen = still_in_sight sheet found.items found.score found.same_items;
       }
 
   pub reads_back : (forms : List Tree) (rest : ℕ) → Spelled (printed_sheet sheet) 1 forms rest → IsReadBack sheet forms
