@@ -7,7 +7,7 @@ use Rattle.rc_grammar.specs.declared.fault.SheetFault.{SheetFault}
 use Rattle.rc_semantics.specs.SecondFaults.{sheet_fault}
 use Rattle.rc_sheet_model.specs.Sheet.{Sheet}
 use Rattle.rc_sheet_model.specs.Sight.{unseen_offsets, IsInSight, IsUnseen}
-use Rattle.rc_sheet.proofs.OneSheet.{one_well_formed}
+use Rattle.rc_sheet_laws.proofs.OneSheet.{one_well_formed}
 use Rattle.rc_house.specs.declared.status.SourceKind.{SourceKind}
 use Rattle.rc_house.specs.Status.{sheet_kind}
 use Rattle.rc_house.specs.Accepted.{IsSheetOf, IsAccepted, HasPartFault, HasFirstFault}

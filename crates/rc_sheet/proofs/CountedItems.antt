@@ -4,7 +4,7 @@ use Rattle.rc_model.specs.Tree.{Trees}
 use Rattle.rc_sheet_model.specs.Sheet.{SheetItems}
 use Rattle.rc_sheet_model.specs.Mentions.{stages_in, sites_in}
 use Rattle.rc_sheet_model.specs.Naming.{Naming}
-use Rattle.rc_sheet.specs.ReadItems.{Begun, items_at}
+use Rattle.rc_reading.specs.ReadItems.{Begun, items_at}
 use Rattle.rc_sheet.proofs.Means.{Means, weaker}
 use Rattle.rc_sheet.proofs.MentionedStages.{IsRun}
 use Rattle.rc_sheet.proofs.MentionedStages.{items_count as items_run}

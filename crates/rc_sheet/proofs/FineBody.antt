@@ -18,8 +18,8 @@ use Rattle.rc_grammar.specs.declared.keyword.Keyword.TheVariants as keyword
 use Rattle.rc_grammar.specs.declared.grammar.Place.TheVariants as place
 use Rattle.rc_grammar.specs.declared.grammar.Rule.TheVariants as rule
 use Rattle.rc_grammar.specs.declared.fault.SheetKind.TheVariants.{Shape}
-use Rattle.rc_sheet.specs.ReadNames.{◌>>=◌, ensure}
-use Rattle.rc_sheet.specs.ReadItems.{none_begun, items_at, best_at, score_rule, score_at, but_last, last_of, body_at}
+use Rattle.rc_reading.specs.ReadNames.{◌>>=◌, ensure}
+use Rattle.rc_reading.specs.ReadItems.{none_begun, items_at, best_at, score_rule, score_at, but_last, last_of, body_at}
 use Rattle.rc_sheet.proofs.Fine.{Given, IsFine}
 use Rattle.rc_sheet.proofs.Finds.{Finds, finds, finds_if, implies, makes, follows_this, finds_both, finds_meaning, whether, where_true, ensures_so}
 use Rattle.rc_sheet.proofs.GoodParts.{◌▹◌, Each, each_by_parts, three_and_more, IsGood, IsGoodForm, GoodAt, AreGood, good_form, no_list}

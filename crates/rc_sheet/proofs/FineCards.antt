@@ -19,9 +19,9 @@ use Rattle.rc_semantics.specs.SecondParts.{Part, atom, form, parts_of}
 use Rattle.rc_semantics.specs.SecondNames.{some_of, faces_of, cards_in, written_faces, written_branches}
 use Rattle.rc_semantics.specs.SecondFaults.{card_count, second_faults}
 use Rattle.rc_naming.specs.Naming.{naming_of}
-use Rattle.rc_sheet.specs.ReadNames.{loc_at}
-use Rattle.rc_sheet.specs.ReadSetup.{face_words, home_of, deck_at}
-use Rattle.rc_sheet.specs.ReadSheet.{setup_form_at, sheet_at}
+use Rattle.rc_reading.specs.ReadNames.{loc_at}
+use Rattle.rc_reading.specs.ReadSetup.{face_words, home_of, deck_at}
+use Rattle.rc_reading.specs.ReadSheet.{setup_form_at, sheet_at}
 use Rattle.rc_sheet.proofs.Means.{Means, nothing, something, means_so, weaker, mapped, behind, either, anything}
 use Rattle.rc_sheet.proofs.FineCounts.{IsWatched, stays_within, watched_part}
 use Rattle.rc_sheet.proofs.Faultless.{each_faultless}

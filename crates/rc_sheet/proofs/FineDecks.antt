@@ -32,9 +32,9 @@ use Rattle.rc_setup.specs.Reading.{unless_nil, plain, read_groups, read_group, r
 use Rattle.rc_setup.specs.Reading.{both as both_read}
 use Rattle.rc_setup.specs.Reading.{is_word as is_read_word}
 use Rattle.rc_naming.specs.Naming.{naming_of}
-use Rattle.rc_sheet.specs.ReadNames.{loc_at}
-use Rattle.rc_sheet.specs.ReadSetup.{Setup, face_words, home_of, deck_at}
-use Rattle.rc_sheet.specs.ReadSheet.{setup_form_at, sheet_at, sheet_with}
+use Rattle.rc_reading.specs.ReadNames.{loc_at}
+use Rattle.rc_reading.specs.ReadSetup.{Setup, face_words, home_of, deck_at}
+use Rattle.rc_reading.specs.ReadSheet.{setup_form_at, sheet_at, sheet_with}
 use Rattle.rc_sheet.proofs.Means.{Means, nothing, something, means_if, means_so, weaker, mapped, behind, either, place_passes, anything}
 use Rattle.rc_sheet.proofs.ReadsNames.{loc_means}
 use Rattle.rc_sheet.proofs.Bodies.{standing_at}

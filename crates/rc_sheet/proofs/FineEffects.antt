@@ -15,8 +15,8 @@ use Rattle.rc_grammar.specs.declared.grammar.Place.TheVariants as place
 use Rattle.rc_grammar.specs.declared.grammar.Rule.{Rule}
 use Rattle.rc_grammar.specs.declared.grammar.Rule.TheVariants as rule
 use Rattle.rc_grammar.specs.declared.fault.SheetKind.TheVariants.{Shape}
-use Rattle.rc_sheet.specs.ReadExpressions.{coll_rule}
-use Rattle.rc_sheet.specs.ReadEffects.{spot_rule, spot_at, effect_at, effect_rule, effects_at, domain_rule, domain_at, alt_at, alt_rule, alts_at}
+use Rattle.rc_reading.specs.ReadExpressions.{coll_rule}
+use Rattle.rc_reading.specs.ReadEffects.{spot_rule, spot_at, effect_at, effect_rule, effects_at, domain_rule, domain_at, alt_at, alt_rule, alts_at}
 use Rattle.rc_sheet.proofs.Fine.{Given}
 use Rattle.rc_sheet.proofs.Finds.{Finds, finds, implies, makes, follows, finds_both, joins}
 use Rattle.rc_sheet.proofs.GoodParts.{◌▹◌, Each, by_parts, each_by_parts}

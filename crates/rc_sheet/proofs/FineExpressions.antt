@@ -24,8 +24,8 @@ use Rattle.rc_grammar.specs.declared.grammar.Place.TheVariants as place
 use Rattle.rc_grammar.specs.declared.grammar.Rule.{Rule}
 use Rattle.rc_grammar.specs.declared.grammar.Rule.TheVariants as rule
 use Rattle.rc_grammar.specs.declared.fault.SheetKind.TheVariants.{Shape, Number}
-use Rattle.rc_sheet.specs.ReadNames.{◌>>=◌, both, place_in, variable_in, owner_rule}
-use Rattle.rc_sheet.specs.ReadExpressions.{Side, number_side, card_side, value_side, owner_side, side_of_sort, variable_side, side_word, equal_test, side_by, card_at, card_rule, coll_at, coll_rule, colls_at, int_at, int_rule, side_at, value_parts, test_at, test_rule, tests_at, range_at}
+use Rattle.rc_reading.specs.ReadNames.{◌>>=◌, both, place_in, variable_in, owner_rule}
+use Rattle.rc_reading.specs.ReadExpressions.{Side, number_side, card_side, value_side, owner_side, side_of_sort, variable_side, side_word, equal_test, side_by, card_at, card_rule, coll_at, coll_rule, colls_at, int_at, int_rule, side_at, value_parts, test_at, test_rule, tests_at, range_at}
 use Rattle.rc_sheet.proofs.Fine.{Given}
 use Rattle.rc_sheet.proofs.Finds.{Finds, finds, finds_if, implies, makes, follows, follows_this, finds_both, joins, where_true, whether}
 use Rattle.rc_sheet.proofs.GoodParts.{◌▹◌, Each, by_parts, good_form}

@@ -14,10 +14,10 @@ use Rattle.rc_grammar.specs.Faults.{atom_faults, rule_of, count}
 use Rattle.rc_grammar.specs.declared.grammar.Place.TheVariants as place
 use Rattle.rc_grammar.specs.declared.grammar.Rule.{Rule}
 use Rattle.rc_grammar.specs.declared.grammar.Rule.TheVariants as rule
-use Rattle.rc_sheet.specs.ReadNames.{ensure}
-use Rattle.rc_sheet.specs.ReadExpressions.{test_at}
-use Rattle.rc_sheet.specs.ReadEffects.{effects_at}
-use Rattle.rc_sheet.specs.ReadItems.{Begun, with_stage, with_site, stage_of, end_rule, end_at, item_at, item_rule, items_at}
+use Rattle.rc_reading.specs.ReadNames.{ensure}
+use Rattle.rc_reading.specs.ReadExpressions.{test_at}
+use Rattle.rc_reading.specs.ReadEffects.{effects_at}
+use Rattle.rc_reading.specs.ReadItems.{Begun, with_stage, with_site, stage_of, end_rule, end_at, item_at, item_rule, items_at}
 use Rattle.rc_sheet.proofs.Fine.{Given}
 use Rattle.rc_sheet.proofs.Finds.{Finds, finds, makes, follows, follows_this, finds_both, ensures_so}
 use Rattle.rc_sheet.proofs.GoodParts.{◌▹◌, Each, by_parts, each_by_parts, one_and_more, three_and_more, list_finds}

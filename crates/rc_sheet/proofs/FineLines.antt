@@ -21,9 +21,9 @@ use Rattle.rc_semantics.specs.SecondParts.{Standing, Part, atom, form, parts_at,
 use Rattle.rc_semantics.specs.SecondNames.{players_in, teams_in, cards_in}
 use Rattle.rc_semantics.specs.SecondFaults.{faults_of, faults_behind, second_faults}
 use Rattle.rc_naming.specs.Naming.{naming_of}
-use Rattle.rc_sheet.specs.ReadNames.{◌>>=◌, ensure, rule_at}
-use Rattle.rc_sheet.specs.ReadSetup.{Setup, Lines, no_line, count_at, teams_at, deck_at, points_at, players_line, teams_line, deck_line, points_line, line_rule, line_at, lines_at, setup_of, setup_at}
-use Rattle.rc_sheet.specs.ReadSheet.{setup_rule, setup_form_at}
+use Rattle.rc_reading.specs.ReadNames.{◌>>=◌, ensure, rule_at}
+use Rattle.rc_reading.specs.ReadSetup.{Setup, Lines, no_line, count_at, teams_at, deck_at, points_at, players_line, teams_line, deck_line, points_line, line_rule, line_at, lines_at, setup_of, setup_at}
+use Rattle.rc_reading.specs.ReadSheet.{setup_rule, setup_form_at}
 use Rattle.rc_sheet.proofs.Means.{Means, nothing, something, means_if, weaker, behind, ensured, sized_is}
 use Rattle.rc_sheet.proofs.Shapes.{none_in_both, shape_of, line_place}
 use Rattle.rc_sheet.proofs.Bodies.{standing_at, all_pass}

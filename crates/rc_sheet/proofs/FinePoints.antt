@@ -21,9 +21,9 @@ use Rattle.rc_grammar.specs.declared.grammar.Place.TheVariants as place
 use Rattle.rc_semantics.specs.SecondFaults.{second_faults}
 use Rattle.rc_naming.specs.Naming.{naming_of}
 use Rattle.rc_sheet_model.specs.Naming.{Naming}
-use Rattle.rc_sheet.specs.ReadNames.{ensure, name_at}
-use Rattle.rc_sheet.specs.ReadSetup.{face_words, points_at}
-use Rattle.rc_sheet.specs.ReadSheet.{setup_form_at, sheet_at}
+use Rattle.rc_reading.specs.ReadNames.{ensure, name_at}
+use Rattle.rc_reading.specs.ReadSetup.{face_words, points_at}
+use Rattle.rc_reading.specs.ReadSheet.{setup_form_at, sheet_at}
 use Rattle.rc_sheet.proofs.Means.{Means, nothing, something, means_so, weaker, behind, either, anything}
 use Rattle.rc_sheet.proofs.FineLines.{setup_in, setup_keeps}
 use Rattle.rc_sheet.proofs.SheetSetup.{by_setup}

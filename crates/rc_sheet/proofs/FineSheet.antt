@@ -13,10 +13,10 @@ use Rattle.rc_semantics.specs.SecondFaults.{stage_count, choice_count}
 use Rattle.rc_grammar.specs.Faults.{faults, count}
 use Rattle.rc_grammar.specs.declared.grammar.Place.TheVariants as place
 use Rattle.rc_grammar.specs.declared.grammar.Rule.TheVariants as rule
-use Rattle.rc_sheet.specs.ReadNames.{◌>>=◌, sized}
-use Rattle.rc_sheet.specs.ReadItems.{body_at}
-use Rattle.rc_sheet.specs.ReadSetup.{Setup}
-use Rattle.rc_sheet.specs.ReadSheet.{setup_form_at, game_parts, game_rule, sheet_at, sheet_with}
+use Rattle.rc_reading.specs.ReadNames.{◌>>=◌, sized}
+use Rattle.rc_reading.specs.ReadItems.{body_at}
+use Rattle.rc_reading.specs.ReadSetup.{Setup}
+use Rattle.rc_reading.specs.ReadSheet.{setup_form_at, game_parts, game_rule, sheet_at, sheet_with}
 use Rattle.rc_sheet.proofs.Fine.{Given, IsFine}
 use Rattle.rc_sheet.proofs.Finds.{Finds, finds, finds_if, found_as, follows}
 use Rattle.rc_sheet.proofs.GoodParts.{IsGood, sized_finds}

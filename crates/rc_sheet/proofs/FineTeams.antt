@@ -22,9 +22,9 @@ use Rattle.rc_semantics.specs.SecondParts.{Standing, Part, atom, form, parts_at,
 use Rattle.rc_semantics.specs.SecondNames.{some_of, number_by, number_at, players_in, player_count, teams_in, numbers_in, team_players, member_by, members_in}
 use Rattle.rc_semantics.specs.SecondFaults.{is_in_first_teams, is_unbound, is_unnamed, is_no_player, is_player_again, leaves_out, faults_of, faults_behind, second_faults}
 use Rattle.rc_naming.specs.Naming.{naming_of}
-use Rattle.rc_sheet.specs.ReadNames.{rule_at}
-use Rattle.rc_sheet.specs.ReadSetup.{within, count_at, members_at, team_rule, team_at, teams_at}
-use Rattle.rc_sheet.specs.ReadSheet.{setup_form_at, sheet_at}
+use Rattle.rc_reading.specs.ReadNames.{rule_at}
+use Rattle.rc_reading.specs.ReadSetup.{within, count_at, members_at, team_rule, team_at, teams_at}
+use Rattle.rc_reading.specs.ReadSheet.{setup_form_at, sheet_at}
 use Rattle.rc_sheet.proofs.Means.{Means, nothing, something, means_if, means_so, weaker, behind, either, paired, anything}
 use Rattle.rc_sheet.proofs.Shapes.{none_in_both, no_list_at}
 use Rattle.rc_sheet.proofs.Bodies.{standing_at}

@@ -23,7 +23,7 @@ use Rattle.rc_setup.specs.Naming.{number_of}
 use Rattle.rc_setup.specs.Reading.{unless_nil, plain, read_groups, read_group, read_branches, read_branch, read_deck, read_values, read_value_list, unclamped, read_points, entry_with, read_entry, read_all_entries, read_entries}
 use Rattle.rc_setup.specs.Reading.{both as both_read}
 use Rattle.rc_setup.specs.Reading.{is_word as is_read_word}
-use Rattle.rc_sheet.specs.ReadSetup.{face_words}
+use Rattle.rc_reading.specs.ReadSetup.{face_words}
 use Rattle.rc_sheet.proofs.Bodies.{standing_at}
 use Rattle.rc_sheet.proofs.GivenFaces.{branch_behind, deck_behind}
 use Rattle.rc_sheet.proofs.Fine.{Given, IsNamed, HasNumber}

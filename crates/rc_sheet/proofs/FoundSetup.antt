@@ -23,10 +23,10 @@ use Rattle.rc_semantics.specs.SecondParts.{Standing, Part, form, parts_at, parts
 use Rattle.rc_semantics.specs.SecondNames.{some_of, players_in, teams_in, maps_in, mention_of}
 use Rattle.rc_semantics.specs.SecondFaults.{is_twice, is_game, is_misplaced, faults_of, faults_behind, second_faults}
 use Rattle.rc_naming.specs.Naming.{naming_of}
-use Rattle.rc_sheet.specs.ReadNames.{◌>>=◌, ensure, rule_at, name_at, owner_at, holder_at, is_loc_name, loc_parts, loc_rule, loc_at}
-use Rattle.rc_sheet.specs.ReadSetup.{Setup, Lines, no_line, within, count_at, members_at, team_rule, team_at, teams_at, face_words, home_of, deck_at, points_at, players_line, teams_line, deck_line, points_line, line_rule, line_at, lines_at, setup_of, setup_at}
+use Rattle.rc_reading.specs.ReadNames.{◌>>=◌, ensure, rule_at, name_at, owner_at, holder_at, is_loc_name, loc_parts, loc_rule, loc_at}
+use Rattle.rc_reading.specs.ReadSetup.{Setup, Lines, no_line, within, count_at, members_at, team_rule, team_at, teams_at, face_words, home_of, deck_at, points_at, players_line, teams_line, deck_line, points_line, line_rule, line_at, lines_at, setup_of, setup_at}
 use Rattle.rc_setup.specs.Reading.{read_deck}
-use Rattle.rc_sheet.specs.ReadSheet.{setup_rule, setup_form_at, sheet_with}
+use Rattle.rc_reading.specs.ReadSheet.{setup_rule, setup_form_at, sheet_with}
 use Rattle.rc_sheet.proofs.Means.{Means, nothing, something, anything, behind}
 use Rattle.rc_sheet.proofs.Shapes.{none_in_both, shape_of, line_place, three_only, four_only}
 use Rattle.rc_sheet.proofs.Faultless.{faultless}

@@ -18,8 +18,8 @@ use Rattle.rc_semantics.specs.SecondParts.{parts_of}
 use Rattle.rc_semantics.specs.SecondNames.{attributes_in, values_in, maps_in}
 use Rattle.rc_semantics.specs.SecondFaults.{second_faults}
 use Rattle.rc_naming.specs.Naming.{naming_of}
-use Rattle.rc_sheet.specs.ReadSetup.{Setup}
-use Rattle.rc_sheet.specs.ReadSheet.{setup_form_at, sheet_with}
+use Rattle.rc_reading.specs.ReadSetup.{Setup}
+use Rattle.rc_reading.specs.ReadSheet.{setup_form_at, sheet_with}
 use Rattle.rc_sheet.proofs.Means.{Means, weaker}
 use Rattle.rc_sheet.proofs.Among.{Among, among_either, named_among, one_of_all}
 use Rattle.rc_sheet.proofs.FoundNames.{get_among}

@@ -1,128 +1,70 @@
 pub mod Accepted
-pub mod AlternativeLemmas
-pub mod Counts
-pub mod EffectLemmas
-pub mod Forms
-pub mod InTurn
-pub mod ItemLemmas
-pub mod Lists
-pub mod Parts
-pub mod Numbers
-pub mod Places
-pub mod Faces
-pub mod Sheets
 pub mod Means
 pub mod Among
 pub mod Shapes
 pub mod Bodies
-pub mod Gathered
-pub mod Used
-pub mod GivenNames
+mod Gathered
+mod Used
+mod GivenNames
 pub mod Silent
-pub mod GivenFaces
-pub mod Entries
+mod GivenFaces
+mod Entries
 pub mod Lands
 pub mod Lines
-pub mod Setups
+mod Setups
 pub mod Whole
 pub mod Faultless
-pub mod Agreed
-pub mod FoundFaces
+mod Agreed
+mod FoundFaces
 pub mod FoundNames
-pub mod FoundSetup
-pub mod Bound
-pub mod Room
-pub mod Fine
-pub mod AllFine
+mod FoundSetup
+mod Bound
+mod Room
+mod Fine
+mod AllFine
 pub mod FewNames
-pub mod FewOwned
-pub mod Finds
+mod FewOwned
+mod Finds
 pub mod GoodParts
-pub mod GoodForms
-pub mod FineNames
-pub mod FineExpressions
-pub mod FineEffects
-pub mod FineItems
-pub mod CountedItems
-pub mod FineBody
-pub mod FineCounts
-pub mod FineSheet
+mod GoodForms
+mod FineNames
+mod FineExpressions
+mod FineEffects
+mod FineItems
+mod CountedItems
+mod FineBody
+mod FineCounts
+mod FineSheet
 pub mod FineLines
-pub mod SheetSetup
-pub mod FinePoints
-pub mod FineCards
+mod SheetSetup
+mod FinePoints
+mod FineCards
 pub mod TeamNumbers
-pub mod FineTeams
+mod FineTeams
 pub mod FineDecks
 pub mod MapsInTurn
-pub mod GivenSetup
+mod GivenSetup
 pub mod ReadsNames
-pub mod ReadsExpressions
-pub mod ReadsEffects
-pub mod ReadsItems
-pub mod ReadsFaces
-pub mod ReadsSetup
+mod ReadsExpressions
+mod ReadsEffects
+mod ReadsItems
+mod ReadsFaces
+mod ReadsSetup
 pub mod ReadsSheet
-pub mod OneRows
-pub mod OneNames
-pub mod OneExpressions
-pub mod OneEffects
-pub mod OneItems
-pub mod OneSetup
-pub mod OneSheet
-pub mod Readings
-pub mod Sizes
 pub mod Mentioned
-pub mod MentionedRows
-pub mod MentionedForms
+mod MentionedRows
+mod MentionedForms
 pub mod MentionedSetup
 pub mod MentionedSheet
 pub mod MentionedStages
-pub mod MentionedNumbers
-pub mod Shallow
-pub mod SetupCounts
-pub mod PlayersAndTeams
-pub mod ReadLimits
+mod MentionedNumbers
+mod Shallow
+mod SetupCounts
+mod PlayersAndTeams
+mod ReadLimits
 pub mod OwnedNames
-pub mod Within
-pub mod WellFormed
-pub mod ShapedParts
-pub mod PlainWords
-pub mod SomePlayers
-pub mod UnplacedTwice
-pub mod UnplacedForms
-pub mod UnplacedMentions
-pub mod UnplacedParts
-pub mod UnplacedSight
-pub mod Moved
-pub mod MovedExpressions
-pub mod MovedItems
-pub mod MovedSetup
-pub mod MovedSheet
-pub mod MovedWell
-pub mod LineFeeds
-pub mod PrintedAgain
-pub mod SoundParts
-pub mod SoundNames
-pub mod SoundRows
-pub mod SoundExpressions
-pub mod SoundEffects
-pub mod SoundItems
-pub mod SoundWhole
-pub mod SoundFaces
-pub mod SoundLines
-pub mod SoundGiven
-pub mod SoundCounts
-pub mod SoundSheet
-pub mod SoundStages
-pub mod SoundOwned
-pub mod SoundMaps
-pub mod SoundTeams
-pub mod SoundMembers
-pub mod Shaped
-pub mod ShapedExpressions
-pub mod ShapedEffects
-pub mod ShapedItems
-pub mod ShapedTeams
-pub mod ShapedSetup
-pub mod ShapedSheet
+mod Within
+mod WellFormed
+mod ShapedParts
+mod PlainWords
+mod SomePlayers

@@ -9,9 +9,9 @@ use Rattle.rc_sheet_model.specs.Naming.{Naming, sheet_naming}
 use Rattle.rc_sheet_model.specs.Stands.{Stands}
 use Rattle.rc_naming.specs.Naming.{naming_of}
 use Rattle.rc_naming.proofs.Whole.{loc_numbers, num_numbers}
-use Rattle.rc_sheet.specs.ReadNames.{rule_at}
-use Rattle.rc_sheet.specs.ReadItems.{body_at}
-use Rattle.rc_sheet.specs.ReadSheet.{setup_form_at, game_parts, game_rule, sheet_at, sheet_with}
+use Rattle.rc_reading.specs.ReadNames.{rule_at}
+use Rattle.rc_reading.specs.ReadItems.{body_at}
+use Rattle.rc_reading.specs.ReadSheet.{setup_form_at, game_parts, game_rule, sheet_at, sheet_with}
 use Rattle.rc_sheet.proofs.Means.{Means, nothing, something, means_so, behind, anything}
 use Rattle.rc_sheet.proofs.ReadsSheet.{sheet_means}
 use Rattle.rc_sheet.proofs.Mentioned.{attrs, values, maps, locs, nums, vars}

@@ -8,9 +8,9 @@ use Rattle.rc_sheet_model.specs.Mentions.{stages_in_item, stages_in, sites_in_it
 use Rattle.rc_model.specs.Numbers.{below}
 use Rattle.rc_sheet_model.specs.Naming.{Naming}
 use Rattle.rc_grammar.specs.Faults.{count}
-use Rattle.rc_sheet.specs.ReadNames.{◌>>=◌, ensure, rule_at}
-use Rattle.rc_sheet.specs.ReadEffects.{effects_at, alts_at}
-use Rattle.rc_sheet.specs.ReadItems.{Begun, none_begun, with_stage, with_site, stage_of, choice_of, end_at, item_at, item_rule, items_at, score_at, but_last, last_of, body_at}
+use Rattle.rc_reading.specs.ReadNames.{◌>>=◌, ensure, rule_at}
+use Rattle.rc_reading.specs.ReadEffects.{effects_at, alts_at}
+use Rattle.rc_reading.specs.ReadItems.{Begun, none_begun, with_stage, with_site, stage_of, choice_of, end_at, item_at, item_rule, items_at, score_at, but_last, last_of, body_at}
 use Rattle.rc_sheet.proofs.Means.{Means, nothing, something, weaker, mapped, behind, both_mean, ensured, anything}
 use Rattle.rc_grammar.specs.declared.grammar.Place.TheVariants as place
 use Rattle.rc_grammar.specs.declared.grammar.Rule.{Rule}

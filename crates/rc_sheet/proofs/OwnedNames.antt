@@ -19,7 +19,7 @@ use Rattle.rc_semantics.specs.SecondFaults.{location_count, number_count, second
 use Rattle.rc_naming.specs.Mentions.{loc_mention, deck_location, all_locations, all_numbers}
 use Rattle.rc_naming.specs.Naming.{kind_by, firsts, loc_names, num_names}
 use Rattle.rc_naming.specs.Naming.{naming_of}
-use Rattle.rc_sheet.specs.ReadSheet.{sheet_at}
+use Rattle.rc_reading.specs.ReadSheet.{sheet_at}
 use Rattle.rc_sheet.proofs.Lines.{in_lines}
 use Rattle.rc_sheet.proofs.Whole.{sheet_only, locations_give, gives_mentions}
 use Rattle.rc_sheet.proofs.FewOwned.{locations_watched, numbers_watched}

@@ -21,7 +21,7 @@ use Rattle.rc_semantics.specs.SecondNames.{attributes_in, value_by, values_in, m
 use Rattle.rc_semantics.specs.SecondFaults.{second_faults}
 use Rattle.rc_naming.specs.Naming.{naming_of}
 use Rattle.rc_form.specs.SameForm.{IsOfAtoms, AreOfAtoms}
-use Rattle.rc_sheet.specs.ReadSheet.{sheet_at}
+use Rattle.rc_reading.specs.ReadSheet.{sheet_at}
 use Rattle.rc_sheet.proofs.Among.{Among, among_left, among_right, among_either, one_of_all, map_among}
 use Rattle.rc_sheet.proofs.Shapes.{none_in_both, shape_of, place_within, atom_only, taken}
 use Rattle.rc_sheet.proofs.Bodies.{is_body_rule, IsBody, body_rule, body_inner, standing_at}

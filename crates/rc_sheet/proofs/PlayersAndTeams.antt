@@ -15,9 +15,9 @@ use Rattle.rc_grammar.specs.declared.grammar.Rule.TheVariants as rule
 use Rattle.rc_semantics.specs.Classes.{owner_count as owner_count_by}
 use Rattle.rc_semantics.specs.SecondParts.{Standing, Part, form, parts_of}
 use Rattle.rc_semantics.specs.SecondNames.{number_at, players_in, player_count, teams_in, teams_by, team_count as team_count_by}
-use Rattle.rc_sheet.specs.ReadNames.{ensure}
-use Rattle.rc_sheet.specs.ReadSetup.{Lines, within, count_at, team_at, teams_at, deck_at, points_at, players_line, teams_line, deck_line, points_line, line_rule}
-use Rattle.rc_sheet.specs.ReadSheet.{sheet_at}
+use Rattle.rc_reading.specs.ReadNames.{ensure}
+use Rattle.rc_reading.specs.ReadSetup.{Lines, within, count_at, team_at, teams_at, deck_at, points_at, players_line, teams_line, deck_line, points_line, line_rule}
+use Rattle.rc_reading.specs.ReadSheet.{sheet_at}
 use Rattle.rc_sheet.proofs.Means.{Means, nothing, something, means_if, means_so, behind, either, ensured, paired, anything}
 use Rattle.rc_sheet.proofs.ReadsSetup.{listed, none_listed}
 use Rattle.rc_sheet.proofs.SetupCounts.{is_below, is_line_rule, sheet_adds}

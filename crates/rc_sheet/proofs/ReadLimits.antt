@@ -9,11 +9,11 @@ use Rattle.rc_grammar.specs.Faults.{count}
 use Rattle.rc_grammar.specs.declared.grammar.Place.TheVariants as place
 use Rattle.rc_grammar.specs.declared.grammar.Rule.{Rule}
 use Rattle.rc_grammar.specs.declared.grammar.Rule.TheVariants as rule
-use Rattle.rc_sheet.specs.ReadNames.{◌>>=◌, ensure, rule_at}
-use Rattle.rc_sheet.specs.ReadEffects.{effects_at, alts_at}
-use Rattle.rc_sheet.specs.ReadItems.{Begun, none_begun, with_stage, with_site, stage_of, choice_of, end_at, item_at, item_rule, items_at, score_at, but_last, last_of, body_at}
-use Rattle.rc_sheet.specs.ReadSetup.{Lines, no_line, count_at, teams_at, deck_at, points_at, players_line, teams_line, deck_line, points_line, line_rule, line_at, lines_at, setup_of}
-use Rattle.rc_sheet.specs.ReadSheet.{setup_rule, setup_form_at, game_parts, game_rule, sheet_at, sheet_with}
+use Rattle.rc_reading.specs.ReadNames.{◌>>=◌, ensure, rule_at}
+use Rattle.rc_reading.specs.ReadEffects.{effects_at, alts_at}
+use Rattle.rc_reading.specs.ReadItems.{Begun, none_begun, with_stage, with_site, stage_of, choice_of, end_at, item_at, item_rule, items_at, score_at, but_last, last_of, body_at}
+use Rattle.rc_reading.specs.ReadSetup.{Lines, no_line, count_at, teams_at, deck_at, points_at, players_line, teams_line, deck_line, points_line, line_rule, line_at, lines_at, setup_of}
+use Rattle.rc_reading.specs.ReadSheet.{setup_rule, setup_form_at, game_parts, game_rule, sheet_at, sheet_with}
 use Rattle.rc_sheet.proofs.Means.{Means, nothing, something, means_if, means_so, weaker, mapped, behind, both_mean, ensured, anything}
 use Rattle.rc_sheet.proofs.CountedItems.{CountedItems, items_count}
 use Rattle.rc_sheet.proofs.PlayersAndTeams.{IsBetween, count_counts}

@@ -12,8 +12,8 @@ use Rattle.rc_sheet_model.specs.Naming.{Naming, Named, Literal}
 use Rattle.rc_sheet_model.specs.StandsSetup.{StandsGroups, StandsBranches, StandValues, StandEntries}
 use Rattle.rc_setup.specs.Naming.{number_of}
 use Rattle.rc_setup.specs.Reading.{both, unless_nil, plain, read_groups, read_group, read_branch_list, read_branches, read_branch, is_word, read_deck, unclamped, read_values, read_value_list, read_points, entry_with, read_entry, read_all_entries, read_entries}
-use Rattle.rc_sheet.specs.ReadSetup.{face_words}
-use Rattle.rc_sheet.proofs.Faces.{number_of_name}
+use Rattle.rc_reading.specs.ReadSetup.{face_words}
+use Rattle.rc_reading.proofs.Faces.{number_of_name}
 use Rattle.rc_sheet.proofs.Means.{Means, nothing, something, weaker, mapped, either}
 use Rattle.rc_sheet.proofs.ReadsNames.{name_means}
 

@@ -11,10 +11,10 @@ use Rattle.rc_sheet_model.specs.StandsExpressions.{StandsTest, StandsInt}
 use Rattle.rc_sheet_model.specs.StandsItems.{StandAlts, StandsClass, StandsItem, StandItems}
 use Rattle.rc_sheet_model.specs.Stands.{StandsBest}
 use Rattle.rc_grammar.specs.Faults.{is_form_word, count}
-use Rattle.rc_sheet.specs.ReadNames.{◌>>=◌, ensure, rule_at}
-use Rattle.rc_sheet.specs.ReadExpressions.{test_at}
-use Rattle.rc_sheet.specs.ReadEffects.{effects_at}
-use Rattle.rc_sheet.specs.ReadItems.{Begun, none_begun, with_stage, with_site, stage_of, choice_of, end_rule, end_at, item_at, item_rule, items_at, best_at, score_rule, score_at, but_last, last_of, body_at}
+use Rattle.rc_reading.specs.ReadNames.{◌>>=◌, ensure, rule_at}
+use Rattle.rc_reading.specs.ReadExpressions.{test_at}
+use Rattle.rc_reading.specs.ReadEffects.{effects_at}
+use Rattle.rc_reading.specs.ReadItems.{Begun, none_begun, with_stage, with_site, stage_of, choice_of, end_rule, end_at, item_at, item_rule, items_at, best_at, score_rule, score_at, but_last, last_of, body_at}
 use Rattle.rc_sheet.proofs.Means.{Means, nothing, something, means_if, weaker, mapped, behind, both_mean, either, ensured}
 use Rattle.rc_sheet.proofs.ReadsNames.{word_form, Told, told_at, least_left}
 use Rattle.rc_sheet.proofs.ReadsExpressions.{int_means, test_means}

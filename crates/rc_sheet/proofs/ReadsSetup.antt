@@ -16,8 +16,8 @@ use Rattle.rc_sheet_model.specs.StandsExpressions.{StandsHolder}
 use Rattle.rc_sheet_model.specs.StandsSetup.{StandsPlayers, StandsTeam, StandTeams, StandsTeams, StandsGroups, StandsDeck, StandEntries, StandsMap, begins_with, lines_with, are_lines, team_lines, numbered, StandsSetup}
 use Rattle.rc_grammar.specs.Keyword.{text_of}
 use Rattle.rc_setup.specs.Reading.{read_deck, read_entries}
-use Rattle.rc_sheet.specs.ReadNames.{ensure, rule_at, name_at, loc_at}
-use Rattle.rc_sheet.specs.ReadSetup.{Setup, Lines, no_line, within, count_at, members_at, team_rule, team_at, teams_at, face_words, home_of, deck_at, points_at, players_line, teams_line, deck_line, points_line, line_rule, line_at, lines_at, setup_of, setup_at, setup_in}
+use Rattle.rc_reading.specs.ReadNames.{ensure, rule_at, name_at, loc_at}
+use Rattle.rc_reading.specs.ReadSetup.{Setup, Lines, no_line, within, count_at, members_at, team_rule, team_at, teams_at, face_words, home_of, deck_at, points_at, players_line, teams_line, deck_line, points_line, line_rule, line_at, lines_at, setup_of, setup_at, setup_in}
 use Rattle.rc_sheet.proofs.Means.{Means, nothing, something, means_if, weaker, behind, either, ensured, paired}
 use Rattle.rc_sheet.proofs.ReadsNames.{Told, told_at, name_means, loc_means}
 use Rattle.rc_sheet.proofs.ReadsFaces.{some_part, deck_tree_means, entries_mean}

@@ -7,10 +7,10 @@ use Rattle.rc_sheet_model.specs.Rows.{Some as Full}
 use Rattle.rc_sheet_model.specs.Naming.{Naming}
 use Rattle.rc_sheet_model.specs.StandsSetup.{StandsSetup}
 use Rattle.rc_sheet_model.specs.Stands.{Stands}
-use Rattle.rc_sheet.specs.ReadNames.{rule_at}
-use Rattle.rc_sheet.specs.ReadSetup.{setup_at, setup_in}
-use Rattle.rc_sheet.specs.ReadItems.{body_at}
-use Rattle.rc_sheet.specs.ReadSheet.{setup_rule, setup_form_at, game_parts, game_rule, sheet_at, sheet_with}
+use Rattle.rc_reading.specs.ReadNames.{rule_at}
+use Rattle.rc_reading.specs.ReadSetup.{setup_at, setup_in}
+use Rattle.rc_reading.specs.ReadItems.{body_at}
+use Rattle.rc_reading.specs.ReadSheet.{setup_rule, setup_form_at, game_parts, game_rule, sheet_at, sheet_with}
 use Rattle.rc_sheet.proofs.Means.{Means, nothing, something, weaker, behind}
 use Rattle.rc_sheet.proofs.ReadsNames.{Told, told_at}
 use Rattle.rc_sheet.proofs.ReadsItems.{body_means}

@@ -14,10 +14,10 @@ use Rattle.rc_grammar.specs.declared.grammar.Place.TheVariants as place
 use Rattle.rc_grammar.specs.declared.grammar.Rule.{Rule}
 use Rattle.rc_grammar.specs.declared.grammar.Rule.TheVariants as rule
 use Rattle.rc_semantics.specs.SecondParts.{Standing, Part, atom, form, parts_at, parts_in, parts_of, with_form, standing_in, standing_alone}
-use Rattle.rc_sheet.specs.ReadNames.{rule_at}
-use Rattle.rc_sheet.specs.ReadItems.{body_at}
-use Rattle.rc_sheet.specs.ReadSetup.{Setup, Lines, no_line, line_rule, line_at, lines_at, setup_of}
-use Rattle.rc_sheet.specs.ReadSheet.{setup_rule, setup_form_at, game_parts, game_rule, sheet_at, sheet_with}
+use Rattle.rc_reading.specs.ReadNames.{rule_at}
+use Rattle.rc_reading.specs.ReadItems.{body_at}
+use Rattle.rc_reading.specs.ReadSetup.{Setup, Lines, no_line, line_rule, line_at, lines_at, setup_of}
+use Rattle.rc_reading.specs.ReadSheet.{setup_rule, setup_form_at, game_parts, game_rule, sheet_at, sheet_with}
 use Rattle.rc_sheet.proofs.Means.{Means, nothing, something, means_if, weaker, behind, anything, sized_is}
 use Rattle.rc_sheet.proofs.Bodies.{is_body, all_pass, standing_at}
 use Rattle.rc_sheet.proofs.Lands.{never, never_roles}

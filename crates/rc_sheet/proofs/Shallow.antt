@@ -6,7 +6,7 @@ use Rattle.rc_sheet_model.specs.Sheet.{Sheet}
 use Rattle.rc_sheet_model.specs.Limits.{most_open}
 use Rattle.rc_sheet_model.specs.Naming.{Naming}
 use Rattle.rc_sheet_model.specs.WellFormed.{IsShallow}
-use Rattle.rc_sheet.specs.ReadSheet.{sheet_at}
+use Rattle.rc_reading.specs.ReadSheet.{sheet_at}
 use Rattle.rc_sheet.proofs.Means.{means_so}
 use Rattle.rc_sheet.proofs.ReadsSheet.{sheet_means}
 

@@ -6,10 +6,10 @@ use Rattle.rc_sheet_model.specs.Naming.{Naming}
 use Rattle.rc_grammar.specs.declared.grammar.Place.TheVariants as place
 use Rattle.rc_grammar.specs.declared.grammar.Rule.{Rule}
 use Rattle.rc_grammar.specs.declared.grammar.Rule.TheVariants as rule
-use Rattle.rc_sheet.specs.ReadNames.{rule_at}
-use Rattle.rc_sheet.specs.ReadItems.{body_at}
-use Rattle.rc_sheet.specs.ReadSetup.{Setup}
-use Rattle.rc_sheet.specs.ReadSheet.{setup_form_at, game_parts, game_rule, sheet_at, sheet_with}
+use Rattle.rc_reading.specs.ReadNames.{rule_at}
+use Rattle.rc_reading.specs.ReadItems.{body_at}
+use Rattle.rc_reading.specs.ReadSetup.{Setup}
+use Rattle.rc_reading.specs.ReadSheet.{setup_form_at, game_parts, game_rule, sheet_at, sheet_with}
 use Rattle.rc_sheet.proofs.Means.{Means, nothing, something, means_if, means_so, behind, anything}
 use Rattle.rc_sheet.proofs.FineLines.{setup_in}
 

@@ -9,7 +9,7 @@ use Rattle.rc_grammar.specs.Faults.{faults}
 use Rattle.rc_grammar.specs.declared.grammar.Place.TheVariants as place
 use Rattle.rc_semantics.specs.SecondFaults.{second_faults}
 use Rattle.rc_naming.specs.Naming.{naming_of}
-use Rattle.rc_sheet.specs.ReadSheet.{sheet_at}
+use Rattle.rc_reading.specs.ReadSheet.{sheet_at}
 use Rattle.rc_sheet.proofs.FineSheet.{HasFineBody}
 use Rattle.rc_sheet.proofs.FineTeams.{teams_are_a_partition}
 use Rattle.rc_sheet.proofs.FineCards.{sheet_has_cards}

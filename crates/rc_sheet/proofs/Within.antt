@@ -9,7 +9,7 @@ use Rattle.rc_grammar.specs.Faults.{faults}
 use Rattle.rc_grammar.specs.declared.grammar.Place.TheVariants as place
 use Rattle.rc_semantics.specs.SecondFaults.{second_faults}
 use Rattle.rc_naming.specs.Naming.{naming_of}
-use Rattle.rc_sheet.specs.ReadSheet.{sheet_at}
+use Rattle.rc_reading.specs.ReadSheet.{sheet_at}
 use Rattle.rc_sheet.proofs.Means.{means_so}
 use Rattle.rc_sheet.proofs.MentionedNumbers.{sheet_reads}
 use Rattle.rc_sheet.proofs.FewNames.{few_attributes, few_values, few_maps}

@@ -10,14 +10,13 @@ ghost use Rattle.rc_sheet_model.specs.WellFormed.{IsWellFormed};
 ghost use Rattle.rc_naming.specs.Naming.{naming_of};
 ghost use Rattle.rc_semantics.specs.SecondFaults.{sheet_fault};
 ghost use Rattle.rc_semantics.specs.Checks.{IfSheetFault};
-ghost use Rattle.rc_sheet.specs.ReadSheet.{sheet_at};
+ghost use Rattle.rc_reading.specs.ReadSheet.{sheet_at};
 
-use crate::fail::ReadFail;
-use crate::reader::Reader;
 use rc_ast::Sheet;
 use rc_form::Form;
 use rc_grammar::check_shape;
 use rc_naming::naming_of;
+use rc_reading::{ReadFail, Reader};
 use rc_semantics::{SheetFail, check_semantics};
 use std::alloc::Global;
 

@@ -1,21 +1,15 @@
 //! Laws of sheets and their forms. No function here does anything.
 
-mod faults;
 mod limits;
 mod names;
-mod one_sheet;
-mod printing;
 mod reading;
 mod setup;
 
-pub use faults::{a_sheet_has_its_shape, a_sheet_has_no_fault, a_sheet_has_no_second_fault};
 pub use limits::{
     players_and_teams_are_counted, sheet_has_words, sheet_is_shallow, sheet_is_within_limits,
     stages_and_choices_are_few,
 };
 pub use names::{mentions_stand, names_are_few, what_is_read_is_numbered};
-pub use one_sheet::a_form_has_one_sheet;
-pub use printing::{printed_sheet_reads_back, written_sheet_reads_back};
 pub use reading::{
     body_stands, effects_stand, expressions_stand, names_stand, setup_stands, sheet_stands,
 };

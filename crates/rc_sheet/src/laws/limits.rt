@@ -13,7 +13,7 @@ ghost use Rattle.rc_semantics.specs.SecondParts.{parts_of};
 ghost use Rattle.rc_semantics.specs.SecondNames.{player_count, team_count};
 ghost use Rattle.rc_form.specs.Form.{IsPrintable};
 ghost use Rattle.rc_form.specs.SameForm.{IsOfAtoms};
-ghost use Rattle.rc_sheet.specs.ReadSheet.{sheet_at};
+ghost use Rattle.rc_reading.specs.ReadSheet.{sheet_at};
 
 /// A sheet that is read is shallow where its form is, so where its form may be printed.
 pub fn sheet_is_shallow()

@@ -15,7 +15,7 @@ ghost use Rattle.rc_sheet_model.specs.FormMentions as form;
 ghost use Rattle.rc_sheet_model.specs.Numbering.{mentioned, IsNumbered};
 ghost use Rattle.rc_sheet_model.specs.Stands.{Stands};
 ghost use Rattle.rc_naming.specs.Naming.{naming_of};
-ghost use Rattle.rc_sheet.specs.ReadSheet as reading;
+ghost use Rattle.rc_reading.specs.ReadSheet as reading;
 
 /// A form without a fault mentions few names of each kind; of locations and of stored numbers, where it has a player and a team.
 pub fn names_are_few()

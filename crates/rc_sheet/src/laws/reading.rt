@@ -9,12 +9,12 @@ ghost use Rattle.rc_sheet_model.specs.StandsEffects as effects;
 ghost use Rattle.rc_sheet_model.specs.StandsItems as items;
 ghost use Rattle.rc_sheet_model.specs.Stands.{Stands, StandsBest};
 ghost use Rattle.rc_sheet_model.specs.StandsSetup.{StandsSetup};
-ghost use Rattle.rc_sheet.specs.ReadSetup as setup_reading;
-ghost use Rattle.rc_sheet.specs.ReadSheet as sheet_reading;
-ghost use Rattle.rc_sheet.specs.ReadNames as names;
-ghost use Rattle.rc_sheet.specs.ReadExpressions as reading;
-ghost use Rattle.rc_sheet.specs.ReadEffects as effect_reading;
-ghost use Rattle.rc_sheet.specs.ReadItems as item_reading;
+ghost use Rattle.rc_reading.specs.ReadSetup as setup_reading;
+ghost use Rattle.rc_reading.specs.ReadSheet as sheet_reading;
+ghost use Rattle.rc_reading.specs.ReadNames as names;
+ghost use Rattle.rc_reading.specs.ReadExpressions as reading;
+ghost use Rattle.rc_reading.specs.ReadEffects as effect_reading;
+ghost use Rattle.rc_reading.specs.ReadItems as item_reading;
 
 /// Names, variables, owners, holders, locations and stored numbers that are read stand for their forms.
 pub fn names_stand()

@@ -1,7 +1,7 @@
 use Rattle.std.proofs.Common.{◌∙◌, ap, ◌≤◌, length, sym, subst, arith}
 use Rattle.rc_form.specs.Form.{tree_of}
 use Rattle.rc_ast.specs.Sheet.{sheet_seen}
-use Rattle.rc_sheet.specs.ReadSheet.{sheet_at}
+use Rattle.rc_reading.specs.ReadSheet.{sheet_at}
 use Rattle.rc_sheet.proofs.Accepted.{printable, stands_read, well_read, none_read, few_attrs, few_values, few_maps, few_locs, few_nums, is_read}
 use Rattle.rc_sheet.proofs.accepting.sheet_of_faultless.Goals as goal
 

@@ -5,8 +5,8 @@ use Rattle.rc_grammar.specs.Faults.{faults}
 use Rattle.rc_grammar.specs.declared.grammar.Place.TheVariants as place
 use Rattle.rc_semantics.specs.SecondFaults.{second_faults}
 use Rattle.rc_naming.specs.Naming.{naming_of}
-use Rattle.rc_sheet.specs.ReadSetup.{Setup}
-use Rattle.rc_sheet.specs.ReadSheet.{setup_form_at, sheet_with}
+use Rattle.rc_reading.specs.ReadSetup.{Setup}
+use Rattle.rc_reading.specs.ReadSheet.{setup_form_at, sheet_with}
 use Rattle.rc_sheet.proofs.Means.{means_so}
 use Rattle.rc_sheet.proofs.Fine.{given_of}
 use Rattle.rc_sheet.proofs.FineNames.{Gives}

@@ -1,0 +1,14 @@
+mod AlternativeLemmas
+mod Counts
+mod EffectLemmas
+mod Forms
+mod InTurn
+mod ItemLemmas
+mod Lists
+mod Parts
+mod Numbers
+mod Places
+pub mod Faces
+mod Sheets
+mod Readings
+mod Sizes

@@ -1,0 +1,109 @@
+-- What is read off a list, by the form that it has, and the parts of lists.
+use denote.Param.Weighed.{most}
+use Rattle.std.proofs.Common.{◌≡◌, ℕ, max, ◌+◌, ◌-◌, ◌<◌, ◌≤◌, List, [], ◌∷◌, length, get_or, take, drop, Vec, Option, Some, Result, Ok, Err, sym, ap, ◌∙◌, arith}
+use Rattle.std.specs.Prelude.{option_map}
+use Rattle.std.proofs.lemmas.List.{take_all}
+use Rattle.std.specs.Global.{Global}
+use Rattle.rc_model.specs.Tree.{Tree, list, Trees, nil, cons}
+use Rattle.rc_form.specs.Form.{tree_of, trees_of, packed}
+use Rattle.rc_form.specs.declared.form.Form.{Form}
+use Rattle.rc_form.specs.declared.form.Form.TheVariants.{List as ListOf}
+use Rattle.rc_form.specs.declared.form.Form.TheViews.{sized-List}
+use Rattle.rc_form.proofs.form.Form.TheLaws.{the_size}
+use Rattle.rc_form.specs.declared.form.Span.{Span}
+use Rattle.rc_setup.proofs.FormLemmas.{tree_of_list}
+use Rattle.rc_sheet_model.specs.Sheet.{card_sort, CollExpr, filtered, Test, Domain}
+use Rattle.rc_sheet_model.specs.Naming.{Naming, Scope, bind, sort_of}
+use Rattle.rc_grammar.specs.declared.grammar.Place.{Place}
+use Rattle.rc_grammar.specs.declared.grammar.Rule.{Rule}
+use Rattle.rc_reading.specs.ReadNames.{◌>>=◌, rule_at, binder_at}
+use Rattle.rc_reading.specs.ReadExpressions.{coll_at, test_at, range_at}
+use Rattle.rc_reading.specs.ReadParts.{filter_parts, quantified}
+use Rattle.rc_reading.specs.Gives.{Gives}
+use Rattle.rc_reading.specs.declared.fail.ReadFail.{ReadFail}
+use Rattle.rc_reading.specs.declared.fail.ReadFail.TheVariants.{Meaningless, Memory}
+
+-- what gives a reading gives an equal one
+pub gives_same : {X Y : Type 0} (view : X → Y) (result : Result X ReadFail) (reading other : Option Y)
+    → other ≡ reading → Gives view result reading → Gives view result other
+gives_same view (Ok x) reading other same gives = same ∙ gives
+gives_same view (Err Memory) reading other same gives = tt
+gives_same view (Err Meaningless) reading other same gives = same ∙ gives
+
+-- What is read off a list is what its form says, which is read off its parts: `rules` as the reading has it, `forms` as the
+-- reader takes it apart.
+pub list_gives : {X Y : Type 0} (view : X → Y) (reading : Tree → Option Y) (place : Place)
+    (rules forms : ℕ → Rule → Trees → Option Y)
+    → ((parts : Trees) (from to : ℕ) → reading (list parts from to) ≡ (rule_at place parts >>= λ rule. rules from rule parts))
+    → ((from : ℕ) (rule : Rule) (parts : Trees) → rules from rule parts ≡ forms from rule parts)
+    → (form : Form) (items : Vec Form Global) (span : Span) (rule : Rule) (parts : List Form) (result : Result X ReadFail)
+    → form ≡ ListOf items span → parts ≡ items.items → rule_at place (packed (trees_of parts)) ≡ Some rule
+    → Gives view result (forms span.from rule (packed (trees_of parts))) → Gives view result (reading (tree_of form))
+list_gives view reading place rules forms opens same form items span rule parts result is parts_is has gives =
+    let trees : Trees = packed (trees_of items.items) in
+    let found = ap (λ forms. rule_at place (packed (trees_of forms))) (sym parts_is) ∙ has in
+    let opened = ap reading (tree_of_list form items span is) ∙ opens trees span.from span.to in
+    let first = ap (λ found. found >>= λ rule. rules span.from rule trees) found in
+    let last = same span.from rule trees ∙ ap (λ parts. forms span.from rule (packed (trees_of parts))) (sym parts_is) in
+    gives_same view result _ _ (opened ∙ first ∙ last) gives
+
+-- the parts of a list are less deep than the list
+pub parts_fall : (form : Form) (items : Vec Form Global) (span : Span) (parts : List Form) → form ≡ ListOf items span
+    → parts ≡ items.items → most the_size parts < the_size form
+parts_fall form items span parts is parts_is =
+    let depth : the_size (ListOf items span) ≡ max (most the_size items.items) 0 + 1 = sized-List items span in
+    let same : the_size form ≡ the_size (ListOf items span) = ap the_size is in
+    let parts_same : most the_size parts ≡ most the_size items.items = ap (most the_size) parts_is in
+    omega arith
+
+-- the trees of four parts
+pub four_parts : (forms : List Form) (b c d : Form) → 4 ≤ length forms → length forms < 5
+    → b ≡ get_or forms 1 b → c ≡ get_or forms 2 c → d ≡ get_or forms 3 d
+    → packed (trees_of forms) ≡ cons (tree_of (get_or forms 0 b)) (cons (tree_of b) (cons (tree_of c) (cons (tree_of d) nil)))
+four_parts [] b c d most least b_is c_is d_is = absurd (omega arith)
+four_parts (a ∷ []) b c d most least b_is c_is d_is = absurd (omega arith)
+four_parts (a ∷ b' ∷ []) b c d most least b_is c_is d_is = absurd (omega arith)
+four_parts (a ∷ b' ∷ c' ∷ []) b c d most least b_is c_is d_is = absurd (omega arith)
+four_parts (a ∷ b' ∷ c' ∷ d' ∷ []) b c d most least b_is c_is d_is = cc
+four_parts (a ∷ b' ∷ c' ∷ d' ∷ e ∷ forms) b c d most least b_is c_is d_is = absurd (omega arith)
+
+-- the cards that pass a test
+pub filter_said : (naming : Naming) (scope inner : Scope) (forms : List Form) (cards variable t : Form) (found : CollExpr)
+    (bound : ℕ) (passes : Test) → 4 ≤ length forms → length forms < 5
+    → cards ≡ get_or forms 1 cards → variable ≡ get_or forms 2 variable → t ≡ get_or forms 3 t
+    → coll_at naming scope (tree_of cards) ≡ Some found → binder_at naming.names.vars scope (tree_of variable) ≡ Some bound
+    → inner ≡ bind naming scope bound card_sort → test_at naming inner (tree_of t) ≡ Some passes
+    → filter_parts naming scope (packed (trees_of forms)) ≡ Some (filtered found bound passes)
+filter_said naming scope inner forms cards variable t found bound passes most least cards_is variable_is t_is has binds is says =
+    let last : CollExpr → ℕ → Option CollExpr =
+    λ cards bound. option_map (λ t. filtered cards bound t) (test_at naming (bind naming scope bound card_sort) (tree_of t)) in
+    ap (filter_parts naming scope) (four_parts forms cards variable t most least cards_is variable_is t_is)
+    ∙ ap (λ cards. cards >>= λ cards. binder_at naming.names.vars scope (tree_of variable) >>= last cards) has
+    ∙ ap (λ bound. bound >>= last found) binds
+    ∙ ap (option_map (λ t. filtered found bound t)) (ap (λ scope. test_at naming scope (tree_of t)) (sym is) ∙ says)
+
+-- a test for each of a domain
+pub quantified_said : (naming : Naming) (scope inner : Scope) (forms : List Form) (range variable t : Form) (domain : Domain)
+    (bound : ℕ) (holds : Test) → 4 ≤ length forms → length forms < 5
+    → range ≡ get_or forms 1 range → variable ≡ get_or forms 2 variable → t ≡ get_or forms 3 t
+    → range_at naming scope (tree_of range) ≡ Some domain → binder_at naming.names.vars scope (tree_of variable) ≡ Some bound
+    → inner ≡ bind naming scope bound (sort_of domain) → test_at naming inner (tree_of t) ≡ Some holds
+    → quantified naming scope (packed (trees_of forms)) ≡ Some (domain, bound, holds)
+quantified_said naming scope inner forms range v t domain bound holds most least range_is v_is t_is has binds is says =
+    let said = test_at naming in
+    let last : Domain → ℕ → Option (Domain × ℕ × Test) =
+    λ domain bound. option_map (λ t. (domain, bound, t)) (said (bind naming scope bound (sort_of domain)) (tree_of t)) in
+    ap (quantified naming scope) (four_parts forms range v t most least range_is v_is t_is)
+    ∙ ap (λ domain. domain >>= λ domain. binder_at naming.names.vars scope (tree_of v) >>= last domain) has
+    ∙ ap (λ bound. bound >>= last domain) binds
+    ∙ ap (option_map (λ t. (domain, bound, t))) (ap (λ scope. said scope (tree_of t)) (sym is) ∙ says)
+
+-- what is read off the parts behind a head
+pub behind_head : {Y : Type 0} (reading all : Trees → Option Y)
+    → ((head : Tree) (parts : Trees) → reading (cons head parts) ≡ all parts)
+    → (forms : List Form) → 1 ≤ length forms
+    → reading (packed (trees_of forms)) ≡ all (packed (trees_of (take (length forms - 1) (drop 1 forms))))
+behind_head reading all behind [] some = absurd (omega arith)
+behind_head reading all behind (head ∷ forms) some =
+    let rest : take (length (head ∷ forms) - 1) (drop 1 (head ∷ forms)) ≡ forms = take_all _ forms (omega arith) in
+    behind (tree_of head) (packed (trees_of forms)) ∙ ap (λ forms. all (packed (trees_of forms))) (sym rest)

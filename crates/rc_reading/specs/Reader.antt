@@ -1,0 +1,42 @@
+-- The fields of a reader and of a scope.
+use Rattle.std.specs.Prelude.{◌≡◌, ◌≤◌, ℕ, List, length, map, position, bytes_eq}
+use Rattle.std.specs.Map.{lookup}
+use Rattle.rc_sheet_model.specs.Naming.{Naming}
+use Rattle.rc_sheet_model.specs.Naming.{Variable as PureVariable}
+use Rattle.rc_sheet_model.specs.Naming.{Scope as PureScope}
+use Rattle.rc_ast.specs.Names.{names_seen, sort_seen, loc_name_seen, num_name_seen}
+use Rattle.rc_reading.specs.declared.scope.Variable.{Variable}
+use Rattle.rc_reading.specs.declared.scope.Scope.TheInside.{Inside as ScopeFields}
+use Rattle.rc_reading.specs.declared.reader.Reader.TheInside.{Inside as Fields}
+
+abbrev pub variable_seen : Variable → PureVariable
+variable_seen variable = record { word = variable.word; sort = sort_seen variable.sort }
+
+abbrev pub scope_seen : ScopeFields → PureScope
+scope_seen scope = map variable_seen scope.variables.items
+
+-- `'SELF` and four more at most
+pub record IsScope (scope : ScopeFields) : Type 0 where
+  pub few : length scope.variables.items ≤ 5
+
+abbrev pub naming_seen : Fields → Naming
+naming_seen reader =
+    record {
+      names = names_seen reader.names;
+      locs = map loc_name_seen reader.locs.items;
+      nums = map num_name_seen reader.nums.items;
+    }
+
+-- entries give each of these words its first place, and no other word a number
+abbrev pub Numbers : List (List ℕ) → List (List ℕ × ℕ) → Type 0
+Numbers words entries = (word : List ℕ) → lookup (bytes_eq word) entries ≡ position (bytes_eq word) words
+
+-- there are few names of each kind, but of variables, and each variable is found
+pub record IsReader (reader : Fields) : Type 0 where
+  pub attrs : length reader.names.attrs.items ≤ 256
+  pub values : length reader.names.values.items ≤ 256
+  pub maps : length reader.names.maps.items ≤ 256
+  pub locs : length reader.names.locs.items ≤ 256
+  pub nums : length reader.names.nums.items ≤ 256
+  pub vars : length reader.names.vars.items ≤ 4294967295
+  pub numbers : Numbers reader.names.vars.items reader.variables.entries

@@ -1,0 +1,253 @@
+//! Effects.
+ghost use Rattle.std.specs.Prelude.{◌≡◌, IsTrue, IfOk, Option, length, option_map};
+ghost use Rattle.rc_form.specs.Form.{tree_of, trees_of, packed};
+ghost use Rattle.rc_sheet_model.specs.Sheet.{when, repeat, for_each, Effects};
+ghost use Rattle.rc_sheet_model.specs.Naming as model;
+ghost use Rattle.rc_ast.specs.Names.{loc_seen};
+ghost use Rattle.rc_ast.specs.Expressions.{domain_seen};
+ghost use Rattle.rc_ast.specs.Effects.{end_seen, effect_seen, effects_seen};
+ghost use Rattle.rc_grammar.specs.Faults.{fits};
+ghost use Rattle.rc_reading.specs.ReadNames.{both, binder_at};
+ghost use Rattle.rc_reading.specs.ReadExpressions.{int_at, test_at, range_at};
+ghost use Rattle.rc_reading.specs.ReadEffects as reading;
+ghost use Rattle.rc_reading.specs.Gives.{Gives};
+
+use crate::expressions::sort_of;
+use crate::fail::ReadFail;
+use crate::names::rule_at;
+use crate::owners::owner_at;
+use crate::reader::Reader;
+use crate::scope::Scope;
+use rc_ast::{Domain, Effect, End, Loc};
+use rc_form::Form;
+use rc_grammar::{Place, Rule};
+use std::alloc::Global;
+
+impl Reader {
+    /// An end of a location.
+    pub(crate) fn spot(&self, scope: &Scope, form: &Form) -> Result<(End, Loc), ReadFail>
+        ensures { Gives (λ spot. (end_seen spot.0, loc_seen spot.1)) result
+            (reading.spot_at self.now scope.now (tree_of form.now)) }
+    {
+        match form {
+            Form::Atom { .. } => Err(ReadFail::Meaningless),
+            Form::List { items, .. } => {
+                let rule = rule_at(Place::Spot, items)?;
+                self.spot_list(scope, rule, items)
+            }
+        }
+    }
+
+    /// The end of a location that a list of this form says.
+    fn spot_list(&self, scope: &Scope, rule: Rule, parts: &[Form]) -> Result<(End, Loc), ReadFail>
+        requires { IsTrue (fits (length parts.now) rule) }
+        ensures { Gives (λ spot. (end_seen spot.0, loc_seen spot.1)) result
+            (reading.spot_rule self.now scope.now rule (packed (trees_of parts.now))) }
+    {
+        match rule {
+            Rule::TopOf => {
+                let loc = self.location(scope, &parts[1])?;
+                Ok((End::Top, loc))
+            }
+            Rule::BottomOf => {
+                let loc = self.location(scope, &parts[1])?;
+                Ok((End::Bottom, loc))
+            }
+            _ => Err(ReadFail::Meaningless),
+        }
+    }
+
+    /// The effect on numbers or on stages that a list of this form says.
+    fn number_effect(
+        &self,
+        alloc: Global,
+        scope: &Scope,
+        rule: Rule,
+        parts: &[Form],
+    ) -> Result<Effect, ReadFail>
+        requires { IsTrue (fits (length parts.now) rule) }
+        ensures { Gives effect_seen result (reading.number_rule self.now scope.now rule (packed (trees_of parts.now))) }
+    {
+        match rule {
+            Rule::Set => {
+                let num = self.counter(scope, &parts[1])?;
+                let value = self.integer(alloc, scope, &parts[2])?;
+                Ok(Effect::Set(num, value))
+            }
+            Rule::Increase => {
+                let num = self.counter(scope, &parts[1])?;
+                let value = self.integer(alloc, scope, &parts[2])?;
+                Ok(Effect::Inc(num, value))
+            }
+            Rule::Decrease => {
+                let num = self.counter(scope, &parts[1])?;
+                let value = self.integer(alloc, scope, &parts[2])?;
+                Ok(Effect::Dec(num, value))
+            }
+            Rule::Next => {
+                let who = owner_at(scope, &parts[2])?;
+                Ok(Effect::Next(who))
+            }
+            Rule::Reverse => Ok(Effect::Reverse),
+            _ => Err(ReadFail::Meaningless),
+        }
+    }
+
+    /// The effect that a list of this form says, which has no effects in it.
+    fn plain_effect(
+        &self,
+        alloc: Global,
+        scope: &Scope,
+        rule: Rule,
+        parts: &[Form],
+    ) -> Result<Effect, ReadFail>
+        requires { IsTrue (fits (length parts.now) rule) }
+        ensures { Gives effect_seen result (reading.plain_rule self.now scope.now rule (packed (trees_of parts.now))) }
+    {
+        match rule {
+            Rule::Move => {
+                let card = self.card(alloc, scope, &parts[1])?;
+                let (end, loc) = self.spot(scope, &parts[2])?;
+                Ok(Effect::Move(card, end, loc))
+            }
+            Rule::MoveAll => {
+                let cards = self.collection(alloc, scope, &parts[2])?;
+                let (end, loc) = self.spot(scope, &parts[3])?;
+                Ok(Effect::MoveAll(cards, end, loc))
+            }
+            Rule::Remember => {
+                let card = self.card(alloc, scope, &parts[1])?;
+                let (end, loc) = self.spot(scope, &parts[2])?;
+                Ok(Effect::Remember(card, end, loc))
+            }
+            Rule::Forget => {
+                let card = self.card(alloc, scope, &parts[1])?;
+                Ok(Effect::Forget(card))
+            }
+            Rule::Shuffle => {
+                let loc = self.location(scope, &parts[1])?;
+                Ok(Effect::Shuffle(loc))
+            }
+            _ => self.number_effect(alloc, scope, rule, parts),
+        }
+    }
+
+    /// These effects, where they were read, if a test holds.
+    fn when(
+        &self,
+        alloc: Global,
+        scope: &Scope,
+        test: &Form,
+        effects: Result<Vec<Effect>, ReadFail>,
+    ) -> Result<Effect, ReadFail>
+        ensures { (read : Option Effects) → Gives (λ all. effects_seen all.items) effects read
+            → Gives effect_seen result (option_map (λ p. when p.0 p.1)
+            (both (test_at self.now scope.now (tree_of test.now)) read)) }
+    {
+        let test = self.test(alloc, scope, test)?;
+        Ok(Effect::when(test, effects?))
+    }
+
+    /// These effects, where they were read, so many times.
+    fn repeated(
+        &self,
+        alloc: Global,
+        scope: &Scope,
+        count: &Form,
+        effects: Result<Vec<Effect>, ReadFail>,
+    ) -> Result<Effect, ReadFail>
+        ensures { (read : Option Effects) → Gives (λ all. effects_seen all.items) effects read
+            → Gives effect_seen result (option_map (λ p. repeat p.0 p.1)
+            (both (int_at self.now scope.now (tree_of count.now)) read)) }
+    {
+        let count = self.integer(alloc, scope, count)?;
+        Ok(Effect::repeated(count, effects?))
+    }
+
+    /// Players or cards, the number of the variable that runs over them, and the scope behind it.
+    fn members(
+        &self,
+        alloc: Global,
+        scope: &Scope,
+        range: &Form,
+        variable: &Form,
+    ) -> Result<(Domain, u32, Scope), ReadFail>
+        ensures given { Gives (λ all. (domain_seen all.0, all.1)) result
+            (both (range_at self.now scope.now (tree_of range.now))
+            (binder_at self.now.names.vars scope.now (tree_of variable.now))) }
+        ensures inner { IfOk result (λ all. all.2 ≡ model.bind self.now scope.now all.1 (model.sort_of (domain_seen all.0))) }
+    {
+        let domain = self.range(alloc, scope, range)?;
+        let (bound, inner) = self.bind(alloc, scope, variable, sort_of(&domain))?;
+        Ok((domain, bound, inner))
+    }
+
+    /// An effect.
+    #[cycle(effects)]
+    pub(crate) fn effect(
+        &self,
+        alloc: Global,
+        scope: &Scope,
+        form: &Form,
+    ) -> Result<Effect, ReadFail>
+        ensures { Gives effect_seen result (reading.effect_at self.now scope.now (tree_of form.now)) }
+    {
+        match form {
+            Form::Atom { .. } => Err(ReadFail::Meaningless),
+            Form::List { items, .. } => self.effect_list(alloc, scope, items),
+        }
+    }
+
+    /// The effect that a list of these parts says.
+    #[cycle(effects)]
+    fn effect_list(&self, alloc: Global, scope: &Scope, parts: &[Form]) -> Result<Effect, ReadFail>
+        ensures { Gives effect_seen result (reading.effect_of_list self.now scope.now (packed (trees_of parts.now))) }
+    {
+        match rule_at(Place::Effect, parts)? {
+            Rule::If => {
+                let effects = self.effects(alloc, scope, &parts[2..]);
+                self.when(alloc, scope, &parts[1], effects)
+            }
+            Rule::Repeat => {
+                let effects = self.effects(alloc, scope, &parts[2..]);
+                self.repeated(alloc, scope, &parts[1], effects)
+            }
+            Rule::Each => {
+                let (domain, bound, inner) = self.members(alloc, scope, &parts[1], &parts[2])?;
+                let effects = self.effects(alloc, &inner, &parts[3..]);
+                for_each(domain, bound, effects)
+            }
+            rule => self.plain_effect(alloc, scope, rule, parts),
+        }
+    }
+
+    /// Effects, one after the other.
+    #[cycle(effects)]
+    pub(crate) fn effects(
+        &self,
+        alloc: Global,
+        scope: &Scope,
+        forms: &[Form],
+    ) -> Result<Vec<Effect>, ReadFail>
+        ensures { Gives (λ all. effects_seen all.items) result
+            (reading.effects_at self.now scope.now (packed (trees_of forms.now))) }
+    {
+        let mut all = Vec::new(alloc);
+        for form in forms {
+            all.push(self.effect(alloc, scope, form)?)?;
+        }
+        Ok(all)
+    }
+}
+
+/// These effects, where they were read, for each of a domain.
+fn for_each(
+    domain: Domain,
+    bound: u32,
+    effects: Result<Vec<Effect>, ReadFail>,
+) -> Result<Effect, ReadFail>
+    ensures { (read : Option Effects) → Gives (λ all. effects_seen all.items) effects read
+        → Gives effect_seen result (option_map (λ effects. for_each (domain_seen domain) bound effects) read) }
+{
+    Ok(Effect::for_each(domain, bound, effects?))
+}

@@ -1,0 +1,569 @@
+//! Expressions and tests.
+ghost use Rattle.std.specs.Prelude.{◌≡◌, ◌≤◌, IsTrue, length};
+ghost use Rattle.rc_form.specs.Form.{tree_of, trees_of, packed};
+ghost use Rattle.rc_ast.specs.Expressions.{card_seen, coll_seen, colls_seen, int_seen, test_seen, tests_seen, domain_seen};
+ghost use Rattle.rc_ast.specs.Names.{sort_seen};
+ghost use Rattle.rc_grammar.specs.Faults.{fits};
+ghost use Rattle.rc_reading.specs.ReadExpressions as reading;
+ghost use Rattle.rc_reading.specs.ReadParts as behind;
+ghost use Rattle.rc_reading.specs.Sides.{side_seen};
+ghost use Rattle.rc_reading.specs.Gives.{Gives};
+ghost use Rattle.rc_sheet_model.specs.Naming as model;
+
+use crate::fail::ReadFail;
+use crate::names::rule_at;
+use crate::owners::owner_rule;
+use crate::reader::Reader;
+use crate::scope::Scope;
+use crate::sides::{Side, equal_test, side_word};
+use rc_ast::{CardExpr, CollExpr, Domain, IntExpr, Sort, Test};
+use rc_form::{Form, integer};
+use rc_grammar::{Keyword, Place, Rule, is_form_word};
+use std::alloc::Global;
+
+impl Reader {
+    /// A card.
+    #[cycle(reading)]
+    pub(crate) fn card(
+        &self,
+        alloc: Global,
+        scope: &Scope,
+        form: &Form,
+    ) -> Result<CardExpr, ReadFail>
+        ensures { Gives card_seen result (reading.card_at self.now scope.now (tree_of form.now)) }
+    {
+        match form {
+            Form::Atom { word, .. } => {
+                let var = scope.variable(Sort::Card, word.bytes())?;
+                Ok(CardExpr::Var(var))
+            }
+            Form::List { items, .. } => {
+                let parts = items.as_slice();
+                let rule = rule_at(Place::Card, parts)?;
+                self.card_list(alloc, scope, rule, parts)
+            }
+        }
+    }
+
+    /// The card of a list of this form.
+    #[cycle(reading)]
+    fn card_list(
+        &self,
+        alloc: Global,
+        scope: &Scope,
+        rule: Rule,
+        parts: &[Form],
+    ) -> Result<CardExpr, ReadFail>
+        requires { IsTrue (fits (length parts.now) rule) }
+        ensures { Gives card_seen result (behind.card_form self.now scope.now rule (packed (trees_of parts.now))) }
+    {
+        match rule {
+            Rule::TopCard => {
+                let cards = self.one_collection(alloc, scope, parts)?;
+                Ok(CardExpr::Top(Box::new(alloc, cards)?))
+            }
+            Rule::BottomCard => {
+                let cards = self.one_collection(alloc, scope, parts)?;
+                Ok(CardExpr::Bottom(Box::new(alloc, cards)?))
+            }
+            Rule::MaxCard => {
+                let (cards, map) = self.collection_and_map(alloc, scope, parts)?;
+                Ok(CardExpr::Max(Box::new(alloc, cards)?, map))
+            }
+            Rule::MinCard => {
+                let (cards, map) = self.collection_and_map(alloc, scope, parts)?;
+                Ok(CardExpr::Min(Box::new(alloc, cards)?, map))
+            }
+            _ => Err(ReadFail::Meaningless),
+        }
+    }
+
+    /// The card behind a head, and a point map.
+    #[cycle(reading)]
+    fn card_and_map(
+        &self,
+        alloc: Global,
+        scope: &Scope,
+        parts: &[Form],
+    ) -> Result<(CardExpr, u16), ReadFail>
+        requires { length parts.now ≡ 4 }
+        ensures { Gives (λ two. (card_seen two.0, two.1)) result
+            (behind.card_and_map self.now scope.now (packed (trees_of parts.now))) }
+    {
+        let [_, card, using, map] = parts else {
+            return Err(ReadFail::Meaningless);
+        };
+        let card = self.card(alloc, scope, card)?;
+        let map = self.map(using, map)?;
+        Ok((card, map))
+    }
+
+    /// The card behind a head, and an attribute.
+    #[cycle(reading)]
+    fn card_and_attr(
+        &self,
+        alloc: Global,
+        scope: &Scope,
+        parts: &[Form],
+    ) -> Result<(CardExpr, u16), ReadFail>
+        requires { length parts.now ≡ 3 }
+        ensures { Gives (λ two. (card_seen two.0, two.1)) result
+            (behind.card_and_attr self.now scope.now (packed (trees_of parts.now))) }
+    {
+        let [_, card, attr] = parts else {
+            return Err(ReadFail::Meaningless);
+        };
+        let card = self.card(alloc, scope, card)?;
+        let attr = self.attr(attr)?;
+        Ok((card, attr))
+    }
+
+    /// A list of cards.
+    #[cycle(reading)]
+    pub(crate) fn collection(
+        &self,
+        alloc: Global,
+        scope: &Scope,
+        form: &Form,
+    ) -> Result<CollExpr, ReadFail>
+        ensures { Gives coll_seen result (reading.coll_at self.now scope.now (tree_of form.now)) }
+    {
+        match form {
+            Form::Atom { word, .. } => {
+                let var = scope.variable(Sort::Group, word.bytes())?;
+                Ok(CollExpr::Var(var))
+            }
+            Form::List { items, span } => {
+                let parts = items.as_slice();
+                let rule = rule_at(Place::Collection, parts)?;
+                self.collection_form(alloc, scope, span.from, rule, parts)
+            }
+        }
+    }
+
+    /// The cards of a list of this form, which begins here.
+    #[tactic(auto, using(crate::proofs::Forms::coll_forms))]
+    pub(crate) fn collection_list(
+        &self,
+        alloc: Global,
+        scope: &Scope,
+        from: u32,
+        rule: Rule,
+        parts: &[Form],
+    ) -> Result<CollExpr, ReadFail>
+        requires { IsTrue (fits (length parts.now) rule) }
+        ensures { Gives coll_seen result (reading.coll_rule self.now scope.now from rule (packed (trees_of parts.now))) }
+    {
+        self.collection_form(alloc, scope, from, rule, parts)
+    }
+
+    /// The cards of a list of this form, which begins here.
+    #[cycle(reading)]
+    fn collection_form(
+        &self,
+        alloc: Global,
+        scope: &Scope,
+        from: u32,
+        rule: Rule,
+        parts: &[Form],
+    ) -> Result<CollExpr, ReadFail>
+        requires { IsTrue (fits (length parts.now) rule) }
+        ensures { Gives coll_seen result (behind.coll_form self.now scope.now from rule (packed (trees_of parts.now))) }
+    {
+        match rule {
+            Rule::Location => {
+                let loc = self.location_parts(scope, from, parts)?;
+                Ok(CollExpr::Loc(loc))
+            }
+            Rule::Filter => self.filter(alloc, scope, parts),
+            Rule::Union => {
+                let cards = self.collections(alloc, scope, parts)?;
+                Ok(CollExpr::union_of(cards))
+            }
+            _ => Err(ReadFail::Meaningless),
+        }
+    }
+
+    /// The cards behind a head.
+    #[cycle(reading)]
+    fn one_collection(
+        &self,
+        alloc: Global,
+        scope: &Scope,
+        parts: &[Form],
+    ) -> Result<CollExpr, ReadFail>
+        requires { length parts.now ≡ 2 }
+        ensures { Gives coll_seen result (behind.one_coll self.now scope.now (packed (trees_of parts.now))) }
+    {
+        let [_, cards] = parts else {
+            return Err(ReadFail::Meaningless);
+        };
+        self.collection(alloc, scope, cards)
+    }
+
+    /// The cards behind a head, and a point map.
+    #[cycle(reading)]
+    fn collection_and_map(
+        &self,
+        alloc: Global,
+        scope: &Scope,
+        parts: &[Form],
+    ) -> Result<(CollExpr, u16), ReadFail>
+        requires { length parts.now ≡ 4 }
+        ensures { Gives (λ two. (coll_seen two.0, two.1)) result
+            (behind.coll_and_map self.now scope.now (packed (trees_of parts.now))) }
+    {
+        let [_, cards, using, map] = parts else {
+            return Err(ReadFail::Meaningless);
+        };
+        let cards = self.collection(alloc, scope, cards)?;
+        let map = self.map(using, map)?;
+        Ok((cards, map))
+    }
+
+    /// The cards behind a head that pass a test.
+    #[cycle(reading)]
+    fn filter(&self, alloc: Global, scope: &Scope, parts: &[Form]) -> Result<CollExpr, ReadFail>
+        requires { length parts.now ≡ 4 }
+        ensures { Gives coll_seen result (behind.filter_parts self.now scope.now (packed (trees_of parts.now))) }
+    {
+        let [_, cards, variable, test] = parts else {
+            return Err(ReadFail::Meaningless);
+        };
+        let cards = self.collection(alloc, scope, cards)?;
+        let (bound, inner) = self.bind(alloc, scope, variable, Sort::Card)?;
+        let test = self.test(alloc, &inner, test)?;
+        Ok(CollExpr::Filter(Box::new(alloc, cards)?, bound, Box::new(alloc, test)?))
+    }
+
+    /// The lists of cards behind a head.
+    #[cycle(reading)]
+    fn collections(
+        &self,
+        alloc: Global,
+        scope: &Scope,
+        parts: &[Form],
+    ) -> Result<Vec<CollExpr>, ReadFail>
+        requires { 1 ≤ length parts.now }
+        ensures { Gives (λ all. colls_seen all.items) result
+            (behind.colls_behind self.now scope.now (packed (trees_of parts.now))) }
+    {
+        let [_, forms @ ..] = parts else {
+            return Err(ReadFail::Meaningless);
+        };
+        let mut all = Vec::new(alloc);
+        for form in forms {
+            all.push(self.collection(alloc, scope, form)?)?;
+        }
+        Ok(all)
+    }
+
+    /// A number.
+    #[cycle(reading)]
+    pub(crate) fn integer(
+        &self,
+        alloc: Global,
+        scope: &Scope,
+        form: &Form,
+    ) -> Result<IntExpr, ReadFail>
+        ensures { Gives int_seen result (reading.int_at self.now scope.now (tree_of form.now)) }
+    {
+        match form {
+            Form::Atom { word, .. } => match integer(word.bytes()) {
+                Some(value) => Ok(IntExpr::Lit(value)),
+                None => Err(ReadFail::Meaningless),
+            },
+            Form::List { items, .. } => {
+                let parts = items.as_slice();
+                let rule = rule_at(Place::Integer, parts)?;
+                self.integer_list(alloc, scope, rule, parts)
+            }
+        }
+    }
+
+    /// The number of a list of this form.
+    #[cycle(reading)]
+    fn integer_list(
+        &self,
+        alloc: Global,
+        scope: &Scope,
+        rule: Rule,
+        parts: &[Form],
+    ) -> Result<IntExpr, ReadFail>
+        requires { IsTrue (fits (length parts.now) rule) }
+        ensures { Gives int_seen result (behind.int_form self.now scope.now rule (packed (trees_of parts.now))) }
+    {
+        match rule {
+            Rule::Counter => Ok(IntExpr::Num(self.counter_parts(scope, parts)?)),
+            Rule::Size => {
+                let cards = self.one_collection(alloc, scope, parts)?;
+                Ok(IntExpr::Size(Box::new(alloc, cards)?))
+            }
+            Rule::Sum => {
+                let (cards, map) = self.collection_and_map(alloc, scope, parts)?;
+                Ok(IntExpr::Sum(Box::new(alloc, cards)?, map))
+            }
+            Rule::PointsOf => {
+                let (card, map) = self.card_and_map(alloc, scope, parts)?;
+                Ok(IntExpr::Points(Box::new(alloc, card)?, map))
+            }
+            Rule::Plus => {
+                let (a, b) = self.two_integers(alloc, scope, parts)?;
+                Ok(IntExpr::Add(Box::new(alloc, a)?, Box::new(alloc, b)?))
+            }
+            Rule::Minus => {
+                let (a, b) = self.two_integers(alloc, scope, parts)?;
+                Ok(IntExpr::Sub(Box::new(alloc, a)?, Box::new(alloc, b)?))
+            }
+            Rule::Times => {
+                let (a, b) = self.two_integers(alloc, scope, parts)?;
+                Ok(IntExpr::Mul(Box::new(alloc, a)?, Box::new(alloc, b)?))
+            }
+            _ => Err(ReadFail::Meaningless),
+        }
+    }
+
+    /// The two numbers behind a head.
+    #[cycle(reading)]
+    fn two_integers(
+        &self,
+        alloc: Global,
+        scope: &Scope,
+        parts: &[Form],
+    ) -> Result<(IntExpr, IntExpr), ReadFail>
+        requires { length parts.now ≡ 3 }
+        ensures { Gives (λ two. (int_seen two.0, int_seen two.1)) result
+            (behind.two_ints self.now scope.now (packed (trees_of parts.now))) }
+    {
+        let [_, a, b] = parts else {
+            return Err(ReadFail::Meaningless);
+        };
+        let a = self.integer(alloc, scope, a)?;
+        let b = self.integer(alloc, scope, b)?;
+        Ok((a, b))
+    }
+
+    /// A test.
+    #[cycle(reading)]
+    pub(crate) fn test(&self, alloc: Global, scope: &Scope, form: &Form) -> Result<Test, ReadFail>
+        ensures { Gives test_seen result (reading.test_at self.now scope.now (tree_of form.now)) }
+    {
+        match form {
+            Form::Atom { .. } => Err(ReadFail::Meaningless),
+            Form::List { items, .. } => {
+                let parts = items.as_slice();
+                let rule = rule_at(Place::Test, parts)?;
+                self.test_list(alloc, scope, rule, parts)
+            }
+        }
+    }
+
+    /// The test of a list of this form.
+    #[cycle(reading)]
+    fn test_list(
+        &self,
+        alloc: Global,
+        scope: &Scope,
+        rule: Rule,
+        parts: &[Form],
+    ) -> Result<Test, ReadFail>
+        requires { IsTrue (fits (length parts.now) rule) }
+        ensures { Gives test_seen result (behind.test_form self.now scope.now rule (packed (trees_of parts.now))) }
+    {
+        match rule {
+            Rule::Equal => self.equality(alloc, scope, parts),
+            Rule::NotEqual => {
+                let test = self.equality(alloc, scope, parts)?;
+                Ok(Test::Ne(Box::new(alloc, test)?))
+            }
+            Rule::Less | Rule::LessOrEqual | Rule::More | Rule::MoreOrEqual => {
+                let (a, b) = self.two_integers(alloc, scope, parts)?;
+                order_test(alloc, rule, a, b)
+            }
+            Rule::Is => self.value_test(alloc, scope, parts),
+            Rule::And => Ok(Test::and_of(self.tests(alloc, scope, parts)?)),
+            Rule::Or => Ok(Test::or_of(self.tests(alloc, scope, parts)?)),
+            Rule::Not => {
+                let test = self.one_test(alloc, scope, parts)?;
+                Ok(Test::Not(Box::new(alloc, test)?))
+            }
+            Rule::ForAll => {
+                let (domain, bound, test) = self.quantified(alloc, scope, parts)?;
+                Ok(Test::All(domain, bound, Box::new(alloc, test)?))
+            }
+            Rule::ForAny => {
+                let (domain, bound, test) = self.quantified(alloc, scope, parts)?;
+                Ok(Test::Any(domain, bound, Box::new(alloc, test)?))
+            }
+            _ => Err(ReadFail::Meaningless),
+        }
+    }
+
+    /// Whether the card behind a head has a value.
+    #[cycle(reading)]
+    fn value_test(&self, alloc: Global, scope: &Scope, parts: &[Form]) -> Result<Test, ReadFail>
+        requires { length parts.now ≡ 4 }
+        ensures { Gives test_seen result (behind.is_parts self.now scope.now (packed (trees_of parts.now))) }
+    {
+        let [_, card, attr, value] = parts else {
+            return Err(ReadFail::Meaningless);
+        };
+        let card = self.card(alloc, scope, card)?;
+        let attr = self.attr(attr)?;
+        let value = self.value(value)?;
+        Ok(Test::Is(Box::new(alloc, card)?, attr, value))
+    }
+
+    /// The test behind a head.
+    #[cycle(reading)]
+    fn one_test(&self, alloc: Global, scope: &Scope, parts: &[Form]) -> Result<Test, ReadFail>
+        requires { length parts.now ≡ 2 }
+        ensures { Gives test_seen result (behind.one_test self.now scope.now (packed (trees_of parts.now))) }
+    {
+        let [_, test] = parts else {
+            return Err(ReadFail::Meaningless);
+        };
+        self.test(alloc, scope, test)
+    }
+
+    /// The tests behind a head.
+    #[cycle(reading)]
+    fn tests(&self, alloc: Global, scope: &Scope, parts: &[Form]) -> Result<Vec<Test>, ReadFail>
+        requires { 1 ≤ length parts.now }
+        ensures { Gives (λ all. tests_seen all.items) result
+            (behind.tests_behind self.now scope.now (packed (trees_of parts.now))) }
+    {
+        let [_, forms @ ..] = parts else {
+            return Err(ReadFail::Meaningless);
+        };
+        let mut all = Vec::new(alloc);
+        for form in forms {
+            all.push(self.test(alloc, scope, form)?)?;
+        }
+        Ok(all)
+    }
+
+    /// What a variable behind a head runs over, the number of its word, and a test for it.
+    #[cycle(reading)]
+    fn quantified(
+        &self,
+        alloc: Global,
+        scope: &Scope,
+        parts: &[Form],
+    ) -> Result<(Domain, u32, Test), ReadFail>
+        requires { length parts.now ≡ 4 }
+        ensures { Gives (λ found. (domain_seen found.0, found.1, test_seen found.2)) result
+            (behind.quantified self.now scope.now (packed (trees_of parts.now))) }
+    {
+        let [_, range, variable, test] = parts else {
+            return Err(ReadFail::Meaningless);
+        };
+        let domain = self.range(alloc, scope, range)?;
+        let (bound, inner) = self.bind(alloc, scope, variable, sort_of(&domain))?;
+        let test = self.test(alloc, &inner, test)?;
+        Ok((domain, bound, test))
+    }
+
+    /// The players, or cards.
+    #[cycle(reading)]
+    pub(crate) fn range(
+        &self,
+        alloc: Global,
+        scope: &Scope,
+        form: &Form,
+    ) -> Result<Domain, ReadFail>
+        ensures { Gives domain_seen result (reading.range_at self.now scope.now (tree_of form.now)) }
+    {
+        if is_form_word(Keyword::Player, form) {
+            return Ok(Domain::Players);
+        }
+        let cards = self.collection(alloc, scope, form)?;
+        Ok(Domain::Coll(cards))
+    }
+
+    /// The equality of the two sides behind a head.
+    #[cycle(reading)]
+    fn equality(&self, alloc: Global, scope: &Scope, parts: &[Form]) -> Result<Test, ReadFail>
+        requires { length parts.now ≡ 3 }
+        ensures { Gives test_seen result (behind.equality self.now scope.now (packed (trees_of parts.now))) }
+    {
+        let [_, a, b] = parts else {
+            return Err(ReadFail::Meaningless);
+        };
+        let a = self.side(alloc, scope, a)?;
+        let b = self.side(alloc, scope, b)?;
+        equal_test(alloc, a, b)
+    }
+
+    /// A side of an equation.
+    #[cycle(reading)]
+    fn side(&self, alloc: Global, scope: &Scope, form: &Form) -> Result<Side, ReadFail>
+        ensures { Gives side_seen result (reading.side_at self.now scope.now (tree_of form.now)) }
+    {
+        match form {
+            Form::Atom { word, .. } => side_word(scope, word.bytes()),
+            Form::List { items, .. } => {
+                let parts = items.as_slice();
+                let rule = rule_at(Place::Side, parts)?;
+                self.side_list(alloc, scope, rule, parts)
+            }
+        }
+    }
+
+    /// The side of a list of this form.
+    #[cycle(reading)]
+    fn side_list(
+        &self,
+        alloc: Global,
+        scope: &Scope,
+        rule: Rule,
+        parts: &[Form],
+    ) -> Result<Side, ReadFail>
+        requires { IsTrue (fits (length parts.now) rule) }
+        ensures { Gives side_seen result (behind.side_form self.now scope.now rule (packed (trees_of parts.now))) }
+    {
+        match rule {
+            Rule::TopCard | Rule::BottomCard | Rule::MaxCard | Rule::MinCard => {
+                let card = self.card_list(alloc, scope, rule, parts)?;
+                Ok(Side::Card(card))
+            }
+            Rule::AttributeOf => {
+                let (card, attr) = self.card_and_attr(alloc, scope, parts)?;
+                Ok(Side::Value(card, attr))
+            }
+            Rule::CurrentPlayer | Rule::CurrentTeam | Rule::TeamOf => {
+                let who = owner_rule(scope, rule, parts)?;
+                Ok(Side::Owner(who))
+            }
+            _ => {
+                let value = self.integer_list(alloc, scope, rule, parts)?;
+                Ok(Side::Number(value))
+            }
+        }
+    }
+}
+
+/// The test of which of two numbers is less.
+fn order_test(alloc: Global, rule: Rule, a: IntExpr, b: IntExpr) -> Result<Test, ReadFail>
+    ensures { Gives test_seen result (behind.order_test rule (int_seen a) (int_seen b)) }
+{
+    let (a, b) = (Box::new(alloc, a)?, Box::new(alloc, b)?);
+    match rule {
+        Rule::Less => Ok(Test::Less(a, b)),
+        Rule::LessOrEqual => Ok(Test::LessEq(a, b)),
+        Rule::More => Ok(Test::More(a, b)),
+        Rule::MoreOrEqual => Ok(Test::MoreEq(a, b)),
+        _ => Err(ReadFail::Meaningless),
+    }
+}
+
+/// What a variable stands for that runs over this domain.
+pub fn sort_of(domain: &Domain) -> Sort
+    ensures { sort_seen result ≡ model.sort_of (domain_seen domain.now) }
+{
+    match domain {
+        Domain::Players => Sort::Player,
+        Domain::Coll(_) => Sort::Card,
+        Domain::Parts(_, _) => Sort::Group,
+    }
+}

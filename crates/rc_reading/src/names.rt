@@ -1,0 +1,118 @@
+//! Names, whose numbers are known, and the forms of lists.
+ghost use Rattle.std.specs.Prelude.{◌≡◌, ◌<◌, ◌≤◌, IsTrue, IfOk, IfSome, length, position, bytes_eq};
+ghost use Rattle.rc_form.specs.Form.{tree_of, trees_of, packed};
+ghost use Rattle.rc_grammar.specs.Faults.{fits};
+ghost use Rattle.rc_ast.specs.Names.{sort_seen};
+ghost use Rattle.rc_sheet_model.specs.Naming as model;
+ghost use Rattle.rc_reading.specs.ReadNames as reading;
+ghost use Rattle.rc_reading.specs.Gives.{Gives};
+
+use crate::fail::ReadFail;
+use crate::reader::Reader;
+use crate::scope::Scope;
+use rc_ast::{Sort, Word};
+use rc_form::Form;
+use rc_grammar::{Keyword, Place, Rule, is_form_word, is_variable, rule_of};
+use std::alloc::Global;
+
+/// The most binders around one place.
+const MOST_BINDERS: usize = 4;
+
+/// The form that a list has at a place, which has as many parts.
+#[tactic(auto, using(crate::proofs::Counts::count_packed))]
+pub fn rule_at(place: Place, parts: &[Form]) -> Result<Rule, ReadFail>
+    ensures given { Gives (λ rule. rule) result (reading.rule_at place (packed (trees_of parts.now))) }
+    ensures sized { IfOk result (λ rule. IsTrue (fits (length parts.now) rule)) }
+{
+    match rule_of(place, parts) {
+        Some(rule) if rule.fits(parts.len()) => Ok(rule),
+        _ => Err(ReadFail::Meaningless),
+    }
+}
+
+/// The place of a word among these.
+fn place_of(words: &[Word], word: &[u8]) -> Option<usize>
+    ensures place { result ≡ position (bytes_eq word.now) words.now }
+    ensures within { IfSome result (λ place. place < length words.now) }
+{
+    words.iter().position(|other| word == other.bytes())
+}
+
+/// The number of a plain word among these, where it is one.
+#[tactic(auto, unfolding(crate::specs::ReadNames::name_at))]
+pub fn number_in(words: &[Word], form: &Form) -> Option<u16>
+    requires few { length words.now ≤ 256 }
+    ensures { result ≡ reading.name_at words.now (tree_of form.now) }
+{
+    let Form::Atom { word, .. } = form else {
+        return None;
+    };
+    if is_variable(word.bytes()) {
+        return None;
+    }
+    let place = place_of(words, word.bytes())?;
+    Some(place as u16)
+}
+
+/// The number of a plain word among these.
+pub fn name_at(words: &[Word], form: &Form) -> Result<u16, ReadFail>
+    requires few { length words.now ≤ 256 }
+    ensures { Gives (λ number. number) result (reading.name_at words.now (tree_of form.now)) }
+{
+    match number_in(words, form) {
+        Some(number) => Ok(number),
+        None => Err(ReadFail::Meaningless),
+    }
+}
+
+impl Reader {
+    /// The number of an attribute.
+    pub(crate) fn attr(&self, form: &Form) -> Result<u16, ReadFail>
+        ensures { Gives (λ number. number) result (reading.name_at self.now.names.attrs (tree_of form.now)) }
+    {
+        name_at(&self.names.attrs, form)
+    }
+
+    /// The number of a value.
+    pub(crate) fn value(&self, form: &Form) -> Result<u16, ReadFail>
+        ensures { Gives (λ number. number) result (reading.name_at self.now.names.values (tree_of form.now)) }
+    {
+        name_at(&self.names.values, form)
+    }
+
+    /// The number of a point map behind the word `using`.
+    #[tactic(auto, unfolding(crate::specs::ReadNames::map_at))]
+    pub(crate) fn map(&self, word: &Form, name: &Form) -> Result<u16, ReadFail>
+        ensures { Gives (λ number. number) result (reading.map_at self.now (tree_of word.now) (tree_of name.now)) }
+    {
+        if !is_form_word(Keyword::Using, word) {
+            return Err(ReadFail::Meaningless);
+        }
+        name_at(&self.names.maps, name)
+    }
+
+    /// The number of a binder's variable, and the scope behind the binder.
+    #[tactic(auto, unfolding(crate::specs::ReadNames::binder_at))]
+    pub(crate) fn bind(
+        &self,
+        alloc: Global,
+        scope: &Scope,
+        form: &Form,
+        sort: Sort,
+    ) -> Result<(u32, Scope), ReadFail>
+        ensures given { Gives (λ bound. bound.0) result (reading.binder_at self.now.names.vars scope.now (tree_of form.now)) }
+        ensures inner { IfOk result (λ bound. bound.1 ≡ model.bind self.now scope.now bound.0 (sort_seen sort)) }
+    {
+        let Form::Atom { word, .. } = form else {
+            return Err(ReadFail::Meaningless);
+        };
+        if !is_variable(word.bytes()) || scope.len() > MOST_BINDERS {
+            return Err(ReadFail::Meaningless);
+        }
+        let Some(number) = self.variable(word) else {
+            return Err(ReadFail::Meaningless);
+        };
+        let inner = scope.with(alloc, &self.names.vars[number as usize], sort)?;
+        Ok((number, inner))
+    }
+}

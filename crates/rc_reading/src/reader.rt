@@ -1,0 +1,70 @@
+//! A reader of forms, which knows the names of the sheet.
+ghost use Rattle.std.specs.Prelude.{◌≡◌, ◌≤◌, ◌<◌, length, position, bytes_eq, IfOk, IfSome, IfNone};
+
+use crate::variables::numbers_of;
+use indexmap::IndexMap;
+use rc_ast::{LocName, Names, NumName};
+use rc_form::Word;
+use rc_naming::Naming;
+use std::alloc::{AllocError, Global};
+use std::marker::Model;
+
+/// The most variables of a sheet, which a number of 32 bits counts.
+const MOST_VARIABLES: usize = u32::MAX as usize;
+
+/// A reader of forms: the names of the sheet, each numbered by its place.
+#[derive(Drop)]
+pub struct Reader {
+    pub(crate) names: Names,
+    pub(crate) locs: Vec<LocName>,
+    pub(crate) nums: Vec<NumName>,
+    variables: IndexMap<Word, u32>,
+}
+
+impl Model for Reader {
+    ghost use Rattle.rc_sheet_model.specs.Naming.{Naming};
+
+    ghost Value = { Naming };
+
+    ghost use Rattle.rc_reading.specs.Reader.{naming_seen, IsReader};
+
+    ghost view = { naming_seen };
+
+    ghost invariant = { IsReader };
+}
+
+impl Reader {
+    ghost use Rattle.rc_naming.specs.Naming.{naming_seen};
+
+    /// A reader with these names. There is none with more variables than a number of 32 bits counts, which are more than memory
+    /// holds. The only error is want of memory.
+    pub fn new(alloc: Global, naming: Naming) -> Result<Option<Reader>, AllocError>
+        requires attrs { length naming.names.attrs.items ≤ 256 }
+        requires values { length naming.names.values.items ≤ 256 }
+        requires maps { length naming.names.maps.items ≤ 256 }
+        requires locs { length naming.names.locs.items ≤ 256 }
+        requires nums { length naming.names.nums.items ≤ 256 }
+        ensures some { IfOk result (λ made. IfSome made (λ reader. reader ≡ naming_seen naming)) }
+        ensures none { IfOk result (λ made. IfNone made (4294967295 < length naming.names.vars.items)) }
+    {
+        if naming.names.vars.len() > MOST_VARIABLES {
+            return Ok(None);
+        }
+        let variables = numbers_of(alloc, &naming.names.vars)?;
+        Ok(Some(Reader {
+            names: naming.names,
+            locs: naming.locs,
+            nums: naming.nums,
+            variables,
+        }))
+    }
+
+    /// The number of the variable with this word.
+    #[tactic(auto, using(crate::proofs::Numbers::found))]
+    pub(crate) fn variable(&self, word: &Word) -> Option<u32>
+        ensures number { result ≡ position (bytes_eq word.now) self.now.names.vars }
+        ensures within { IfSome result (λ number. number < length self.now.names.vars) }
+    {
+        self.variables.get(word).copied()
+    }
+}
