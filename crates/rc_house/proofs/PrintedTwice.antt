@@ -7,7 +7,7 @@ use Rattle.rc_form.proofs.SpellingLaws.{read-Spelled, Spelled-unique}
 use Rattle.rc_sheet_model.specs.Sheet.{Sheet}
 use Rattle.rc_sheet_model.specs.Sight.{IsInSight}
 use Rattle.rc_sheet_model.specs.Printing.{printed_sheet}
-use Rattle.rc_sheet.proofs.PrintedAgain.{line_spelled, line_reads_back}
+use Rattle.rc_sheet_laws.proofs.PrintedAgain.{line_spelled, line_reads_back}
 use Rattle.rc_house.specs.declared.command.Command.TheVariants as command
 use Rattle.rc_house.specs.Accepted.{HasSheetWith, IsSheetOf, IsAccepted}
 use Rattle.rc_house.specs.Command.{text, HasAnswer, HasFirstForm}
