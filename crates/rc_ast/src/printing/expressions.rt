@@ -237,24 +237,10 @@ pub fn push_test(
         ++ 32 ∷ printed (test_form (naming_seen sheet.now) (bound_seen sheet.now bound.now) (test_seen test.now))) }
 {
     match test {
-        Test::EqInt(a, b) => {
-            open_with_int(out, sheet, bound, "=", a)?;
-            close_with_int(out, sheet, bound, b)
+        Test::EqInt(..) | Test::EqCard(..) | Test::EqAttr(..) | Test::EqWho(..) => {
+            push_sides(out, sheet, bound, "=", test)
         }
-        Test::EqCard(a, b) => {
-            out.open_part("=")?;
-            push_card(out, sheet, bound, a)?;
-            push_card(out, sheet, bound, b)?;
-            out.close()
-        }
-        Test::EqAttr(a, attr, b, other) => {
-            out.open_part("=")?;
-            push_attr_of(out, sheet, bound, a, *attr)?;
-            push_attr_of(out, sheet, bound, b, *other)?;
-            out.close()
-        }
-        Test::EqWho(a, b) => push_owners(out, sheet, bound, "=", *a, *b),
-        Test::Ne(inner) => push_unequal(out, sheet, bound, inner),
+        Test::Ne(inner) => push_sides(out, sheet, bound, "!=", inner),
         Test::Less(a, b) => {
             open_with_int(out, sheet, bound, "<", a)?;
             close_with_int(out, sheet, bound, b)
@@ -296,36 +282,40 @@ pub fn push_test(
     }
 }
 
-/// Adds the test for inequality that stands against this one for equality.
+/// Adds what a test for equality compares, behind a head.
 #[cycle(expressions)]
-fn push_unequal(
+fn push_sides(
     out: &mut Printer,
     sheet: &Sheet,
     bound: &[Variable],
+    head: &str,
     test: &Test,
 ) -> Result<(), AllocError>
     ensures { OnOk result (out.new.bytes.items ≡ out.old.bytes.items
-        ++ 32 ∷ printed (row (keyword "!=" ∷ sides (naming_seen sheet.now) (bound_seen sheet.now bound.now) (test_seen test.now)))) }
+        ++ 32 ∷ printed (row (atom head.now ∷ sides (naming_seen sheet.now) (bound_seen sheet.now bound.now) (test_seen test.now)))) }
 {
     match test {
         Test::EqInt(a, b) => {
-            open_with_int(out, sheet, bound, "!=", a)?;
+            open_with_int(out, sheet, bound, head, a)?;
             close_with_int(out, sheet, bound, b)
         }
         Test::EqCard(a, b) => {
-            out.open_part("!=")?;
+            out.open_part(head)?;
             push_card(out, sheet, bound, a)?;
             push_card(out, sheet, bound, b)?;
             out.close()
         }
         Test::EqAttr(a, attr, b, other) => {
-            out.open_part("!=")?;
+            out.open_part(head)?;
             push_attr_of(out, sheet, bound, a, *attr)?;
             push_attr_of(out, sheet, bound, b, *other)?;
             out.close()
         }
-        Test::EqWho(a, b) => push_owners(out, sheet, bound, "!=", *a, *b),
-        _ => out.keyword(" (!=)"),
+        Test::EqWho(a, b) => push_owners(out, sheet, bound, head, *a, *b),
+        _ => {
+            out.open_part(head)?;
+            out.close()
+        }
     }
 }
 
