@@ -9,4 +9,4 @@ pub mod CopiedItems
 pub mod CopiedSetup
 pub mod CopiedSheet
 pub mod Added
-pub mod PrintedBytes
+pub mod Rows

@@ -6,11 +6,27 @@ ghost use Rattle.rc_deck.specs.Points.{entry_of};
 ghost use Rattle.rc_sheet_model.specs.Printing.{packed, named, group_form, branch_form, group_forms, branch_forms, entry_form};
 ghost use Rattle.rc_ast.specs.Printing.{naming_seen};
 
-use super::expressions::{push_attr, push_value};
 use super::printer::Printer;
+use super::words::push_named;
 use crate::Sheet;
 use rc_deck::{Branch, Group, PointEntry};
 use std::alloc::AllocError;
+
+/// Adds the word of an attribute.
+fn push_attr(out: &mut Printer, sheet: &Sheet, attr: u16) -> Result<(), AllocError>
+    ensures { OnOk result (out.new.bytes.items ≡ out.old.bytes.items
+        ++ printed (named (naming_seen sheet.now).names.attrs attr)) }
+{
+    push_named(out, &sheet.names.attrs, usize::from(attr))
+}
+
+/// Adds the word of a value.
+fn push_value(out: &mut Printer, sheet: &Sheet, value: u16) -> Result<(), AllocError>
+    ensures { OnOk result (out.new.bytes.items ≡ out.old.bytes.items
+        ++ printed (named (naming_seen sheet.now).names.values value)) }
+{
+    push_named(out, &sheet.names.values, usize::from(value))
+}
 
 #[cycle(decks)]
 fn push_group(out: &mut Printer, sheet: &Sheet, group: &Group) -> Result<(), AllocError>

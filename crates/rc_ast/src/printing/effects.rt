@@ -1,17 +1,19 @@
-//! Prints effects.
-ghost use Rattle.std.specs.Prelude.{◌≡◌, ◌++◌, OnOk};
+//! Prints effects, each with a space before it.
+ghost use Rattle.std.specs.Prelude.{◌≡◌, ◌∷◌, ◌++◌, [], OnOk};
 ghost use Rattle.rc_model.specs.Tree.{printed, printed_behind};
-ghost use Rattle.rc_sheet_model.specs.Printing.{packed, spot_form, effect_form, effect_forms};
-ghost use Rattle.rc_ast.specs.Names.{loc_seen};
+ghost use Rattle.rc_sheet_model.specs.Printing.{packed, atom, row, card_form, num_form, int_form, spot_form, effect_form, effect_forms};
+ghost use Rattle.rc_ast.specs.Names.{loc_seen, num_seen};
+ghost use Rattle.rc_ast.specs.Expressions.{card_seen, int_seen};
 ghost use Rattle.rc_ast.specs.Effects.{end_seen, effect_seen, effects_seen};
 ghost use Rattle.rc_ast.specs.Printing.{naming_seen, bound_seen};
 
 use super::expressions::{push_card, push_coll, push_domain, push_int, push_test};
-use super::printer::{Printer, row};
+use super::printer::Printer;
 use super::words::{Variable, behind, push_binder, push_loc, push_num, push_who};
-use crate::{Effect, End, Loc, Sheet};
+use crate::{CardExpr, Effect, End, IntExpr, Loc, Num, Sheet};
 use std::alloc::AllocError;
 
+/// Adds an end of a location.
 fn push_spot(
     out: &mut Printer,
     sheet: &Sheet,
@@ -20,12 +22,61 @@ fn push_spot(
     loc: &Loc,
 ) -> Result<(), AllocError>
     ensures { OnOk result (out.new.bytes.items ≡ out.old.bytes.items
-        ++ printed (spot_form (naming_seen sheet.now) (bound_seen sheet.now bound.now) (end_seen end) (loc_seen loc.now))) }
+        ++ 32 ∷ printed (spot_form (naming_seen sheet.now) (bound_seen sheet.now bound.now) (end_seen end) (loc_seen loc.now))) }
 {
     match end {
-        End::Top => row!(out, "top", push_loc(out, sheet, bound, loc)),
-        End::Bottom => row!(out, "bottom", push_loc(out, sheet, bound, loc)),
+        End::Top => {
+            out.open_part("top")?;
+            push_loc(out, sheet, bound, loc)?;
+            out.close()
+        }
+        End::Bottom => {
+            out.open_part("bottom")?;
+            push_loc(out, sheet, bound, loc)?;
+            out.close()
+        }
     }
+}
+
+/// Adds what happens to a card at an end of a location.
+fn push_placed(
+    out: &mut Printer,
+    sheet: &Sheet,
+    bound: &[Variable],
+    head: &str,
+    card: &CardExpr,
+    end: End,
+    loc: &Loc,
+) -> Result<(), AllocError>
+    ensures { OnOk result (out.new.bytes.items ≡ out.old.bytes.items
+        ++ 32 ∷ printed (row (atom head.now
+        ∷ card_form (naming_seen sheet.now) (bound_seen sheet.now bound.now) (card_seen card.now)
+        ∷ spot_form (naming_seen sheet.now) (bound_seen sheet.now bound.now) (end_seen end) (loc_seen loc.now) ∷ []))) }
+{
+    out.open_part(head)?;
+    push_card(out, sheet, bound, card)?;
+    push_spot(out, sheet, bound, end, loc)?;
+    out.close()
+}
+
+/// Adds what happens to a number that the game keeps.
+fn push_change(
+    out: &mut Printer,
+    sheet: &Sheet,
+    bound: &[Variable],
+    head: &str,
+    num: &Num,
+    value: &IntExpr,
+) -> Result<(), AllocError>
+    ensures { OnOk result (out.new.bytes.items ≡ out.old.bytes.items
+        ++ 32 ∷ printed (row (atom head.now
+        ∷ num_form (naming_seen sheet.now) (bound_seen sheet.now bound.now) (num_seen num.now)
+        ∷ int_form (naming_seen sheet.now) (bound_seen sheet.now bound.now) (int_seen value.now) ∷ []))) }
+{
+    out.open_part(head)?;
+    push_num(out, sheet, bound, num)?;
+    push_int(out, sheet, bound, value)?;
+    out.close()
 }
 
 #[cycle(effects)]
@@ -35,85 +86,63 @@ fn push_effect(
     bound: &[Variable],
     effect: &Effect,
 ) -> Result<(), AllocError>
-    ensures { OnOk result (out.new.bytes.items
-        ≡ out.old.bytes.items
-        ++ printed (effect_form (naming_seen sheet.now) (bound_seen sheet.now bound.now) (effect_seen effect.now))) }
+    ensures { OnOk result (out.new.bytes.items ≡ out.old.bytes.items
+        ++ 32 ∷ printed (effect_form (naming_seen sheet.now) (bound_seen sheet.now bound.now) (effect_seen effect.now))) }
 {
     match effect {
-        Effect::Move(card, end, loc) => row!(
-            out,
-            "move",
-            push_card(out, sheet, bound, card),
-            push_spot(out, sheet, bound, *end, loc)
-        ),
-        Effect::MoveAll(cards, end, loc) => row!(
-            out,
-            "move",
-            out.keyword("all"),
-            push_coll(out, sheet, bound, cards),
-            push_spot(out, sheet, bound, *end, loc)
-        ),
-        Effect::Remember(card, end, loc) => row!(
-            out,
-            "remember",
-            push_card(out, sheet, bound, card),
-            push_spot(out, sheet, bound, *end, loc)
-        ),
-        Effect::Forget(card) => row!(out, "forget", push_card(out, sheet, bound, card)),
-        Effect::Shuffle(loc) => row!(out, "shuffle", push_loc(out, sheet, bound, loc)),
-        Effect::Set(num, value) => row!(
-            out,
-            "set",
-            push_num(out, sheet, bound, num),
-            push_int(out, sheet, bound, value)
-        ),
-        Effect::Inc(num, value) => row!(
-            out,
-            "inc",
-            push_num(out, sheet, bound, num),
-            push_int(out, sheet, bound, value)
-        ),
-        Effect::Dec(num, value) => row!(
-            out,
-            "dec",
-            push_num(out, sheet, bound, num),
-            push_int(out, sheet, bound, value)
-        ),
+        Effect::Move(card, end, loc) => push_placed(out, sheet, bound, "move", card, *end, loc),
+        Effect::MoveAll(cards, end, loc) => {
+            out.open_part("move all")?;
+            push_coll(out, sheet, bound, cards)?;
+            push_spot(out, sheet, bound, *end, loc)?;
+            out.close()
+        }
+        Effect::Remember(card, end, loc) => {
+            push_placed(out, sheet, bound, "remember", card, *end, loc)
+        }
+        Effect::Forget(card) => {
+            out.open_part("forget")?;
+            push_card(out, sheet, bound, card)?;
+            out.close()
+        }
+        Effect::Shuffle(loc) => {
+            out.open_part("shuffle")?;
+            push_loc(out, sheet, bound, loc)?;
+            out.close()
+        }
+        Effect::Set(num, value) => push_change(out, sheet, bound, "set", num, value),
+        Effect::Inc(num, value) => push_change(out, sheet, bound, "inc", num, value),
+        Effect::Dec(num, value) => push_change(out, sheet, bound, "dec", num, value),
         Effect::If(test, effects) => {
-            out.open("if")?;
-            out.space()?;
+            out.open_part("if")?;
             push_test(out, sheet, bound, test)?;
             push_effects(out, sheet, bound, effects)?;
             out.close()
         }
         Effect::Repeat(times, effects) => {
-            out.open("repeat")?;
-            out.space()?;
+            out.open_part("repeat")?;
             push_int(out, sheet, bound, times)?;
             push_effects(out, sheet, bound, effects)?;
             out.close()
         }
         Effect::Each(domain, var, effects) => {
             let within = behind(out, sheet, bound, *var)?;
-            out.open("all")?;
-            out.space()?;
+            out.open_part("all")?;
             push_domain(out, sheet, bound, domain)?;
-            out.space()?;
             push_binder(out, sheet, *var)?;
             push_effects(out, sheet, &within, effects)?;
             out.close()
         }
-        Effect::Next(who) => row!(
-            out,
-            "cycle",
-            out.keyword("next"),
-            push_who(out, sheet, bound, *who)
-        ),
-        Effect::Reverse => row!(out, "cycle", out.keyword("reverse")),
+        Effect::Next(who) => {
+            out.open_part("cycle next")?;
+            out.space()?;
+            push_who(out, sheet, bound, *who)?;
+            out.close()
+        }
+        Effect::Reverse => out.keyword(" (cycle reverse)"),
     }
 }
 
-/// Adds each with a space before it.
 #[cycle(effects)]
 pub fn push_effects(
     out: &mut Printer,
@@ -126,7 +155,6 @@ pub fn push_effects(
         (effects_seen effects.now.items)))) }
 {
     for effect in effects {
-        out.space()?;
         push_effect(out, sheet, bound, effect)?;
     }
     Ok(())

@@ -1,5 +1,5 @@
-//! Prints alternatives and items.
-ghost use Rattle.std.specs.Prelude.{◌≡◌, ◌++◌, [], map, OnOk};
+//! Prints alternatives and items, each with a space before it.
+ghost use Rattle.std.specs.Prelude.{◌≡◌, ◌∷◌, ◌++◌, [], map, OnOk};
 ghost use Rattle.rc_model.specs.Tree.{printed, printed_behind};
 ghost use Rattle.rc_sheet_model.specs.Printing.{packed, alt_form, class_form, item_form, item_forms};
 ghost use Rattle.rc_ast.specs.Names.{class_seen};
@@ -8,7 +8,7 @@ ghost use Rattle.rc_ast.specs.Printing.{naming_seen, bound_seen};
 
 use super::effects::push_effects;
 use super::expressions::{push_domain, push_test};
-use super::printer::{Printer, row};
+use super::printer::Printer;
 use super::words::{Variable, behind, push_binder};
 use crate::{Alt, Class, Sheet, SheetItem};
 use std::alloc::AllocError;
@@ -19,65 +19,60 @@ fn push_alt(
     bound: &[Variable],
     alt: &Alt,
 ) -> Result<(), AllocError>
-    ensures { OnOk result (out.new.bytes.items
-        ≡ out.old.bytes.items ++ printed (alt_form (naming_seen sheet.now) (bound_seen sheet.now bound.now) (alt_seen alt.now))) }
+    ensures { OnOk result (out.new.bytes.items ≡ out.old.bytes.items
+        ++ 32 ∷ printed (alt_form (naming_seen sheet.now) (bound_seen sheet.now bound.now) (alt_seen alt.now))) }
 {
     match alt {
         Alt::Do(effects) => {
-            out.open("do")?;
+            out.open_part("do")?;
             push_effects(out, sheet, bound, effects)?;
             out.close()
         }
         Alt::If(guard, effects) => {
-            out.open("if")?;
-            out.space()?;
+            out.open_part("if")?;
             push_test(out, sheet, bound, guard)?;
             push_effects(out, sheet, bound, effects)?;
             out.close()
         }
         Alt::Any(domain, var, inner) => {
             let within = behind(out, sheet, bound, *var)?;
-            row!(
-                out,
-                "any",
-                push_domain(out, sheet, bound, domain),
-                push_binder(out, sheet, *var),
-                push_alt(out, sheet, &within, inner)
-            )
+            out.open_part("any")?;
+            push_domain(out, sheet, bound, domain)?;
+            push_binder(out, sheet, *var)?;
+            push_alt(out, sheet, &within, inner)?;
+            out.close()
         }
     }
 }
 
-/// Adds each with a space before it.
 fn push_alts(out: &mut Printer, sheet: &Sheet, alts: &Vec<Alt>) -> Result<(), AllocError>
     ensures { OnOk result (out.new.bytes.items ≡ out.old.bytes.items
         ++ printed_behind (packed (map (alt_form (naming_seen sheet.now) []) (alts_seen alts.now.items)))) }
 {
     for alt in alts {
-        out.space()?;
         push_alt(out, sheet, &[], alt)?;
     }
     Ok(())
 }
 
 fn push_class(out: &mut Printer, class: Class) -> Result<(), AllocError>
-    ensures { OnOk result (out.new.bytes.items ≡ out.old.bytes.items ++ printed (class_form (class_seen class))) }
+    ensures { OnOk result (out.new.bytes.items ≡ out.old.bytes.items ++ 32 ∷ printed (class_form (class_seen class))) }
 {
     match class {
-        Class::Game => out.keyword("game"),
-        Class::Player => out.keyword("player"),
-        Class::Team => out.keyword("team"),
+        Class::Game => out.keyword(" game"),
+        Class::Player => out.keyword(" player"),
+        Class::Team => out.keyword(" team"),
     }
 }
 
 #[cycle(items)]
 fn push_item(out: &mut Printer, sheet: &Sheet, item: &SheetItem) -> Result<(), AllocError>
     ensures { OnOk result (out.new.bytes.items ≡ out.old.bytes.items
-        ++ printed (item_form (naming_seen sheet.now) (item_seen item.now))) }
+        ++ 32 ∷ printed (item_form (naming_seen sheet.now) (item_seen item.now))) }
 {
     match item {
         SheetItem::Do(effects) => {
-            out.open("do")?;
+            out.open_part("do")?;
             push_effects(out, sheet, &[], effects)?;
             out.close()
         }
@@ -87,25 +82,22 @@ fn push_item(out: &mut Printer, sheet: &Sheet, item: &SheetItem) -> Result<(), A
             body,
             ..
         } => {
-            out.open("stage")?;
-            out.space()?;
+            out.open_part("stage")?;
             push_class(out, *class)?;
-            out.keyword(" (end")?;
-            out.space()?;
+            out.open_part("end")?;
             push_test(out, sheet, &[], end)?;
             out.close()?;
             push_items(out, sheet, body)?;
             out.close()
         }
         SheetItem::Choice { alts, .. } => {
-            out.open("choice")?;
+            out.open_part("choice")?;
             push_alts(out, sheet, alts)?;
             out.close()
         }
     }
 }
 
-/// Adds each with a space before it.
 #[cycle(items)]
 pub fn push_items(
     out: &mut Printer,
@@ -116,7 +108,6 @@ pub fn push_items(
         ++ printed_behind (packed (item_forms (naming_seen sheet.now) (items_seen items.now.items)))) }
 {
     for item in items {
-        out.space()?;
         push_item(out, sheet, item)?;
     }
     Ok(())

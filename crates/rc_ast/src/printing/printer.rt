@@ -12,20 +12,6 @@ pub struct Printer {
     pub bytes: Vec<u8>,
 }
 
-/// Writes a row: its head, its other parts with a space before each, and what the parts leave open.
-macro_rules! row {
-    ($out:ident, $head:literal $(, $part:expr)*) => {{
-        $out.open($head)?;
-        $(
-            $out.space()?;
-            $part?;
-        )*
-        $out.close()
-    }};
-}
-
-pub(crate) use row;
-
 impl Printer {
     /// Adds bytes.
     pub fn add(&mut self, bytes: &[u8]) -> Result<(), AllocError>
@@ -47,6 +33,14 @@ impl Printer {
     {
         self.bytes.push(b'(')?;
         self.bytes.extend_from_slice(head.as_bytes())
+    }
+
+    /// Opens a list that begins with an atom, with a space before it.
+    pub fn open_part(&mut self, head: &str) -> Result<(), AllocError>
+        ensures { OnOk result (self.new.bytes.items ≡ self.old.bytes.items ++ 32 ∷ 40 ∷ head.now) }
+    {
+        self.space()?;
+        self.open(head)
     }
 
     /// Opens a list.

@@ -8,7 +8,7 @@ ghost use Rattle.rc_ast.specs.Sheet.{teams_seen, deck_line_seen};
 ghost use Rattle.rc_ast.specs.Printing.{naming_seen};
 
 use super::decks::{push_entries, push_groups};
-use super::printer::{Printer, row};
+use super::printer::Printer;
 use super::words::{push_kind, push_named};
 use crate::{DeckLine, Sheet, Teams};
 use rc_deck::PointMap;
@@ -17,12 +17,12 @@ use std::alloc::AllocError;
 pub fn push_players(out: &mut Printer, players: u8) -> Result<(), AllocError>
     ensures { OnOk result (out.new.bytes.items ≡ out.old.bytes.items ++ printed (players_form players)) }
 {
-    row!(
-        out,
-        "create",
-        out.keyword("players"),
-        out.number(i64::from(players))
-    )
+    out.open("create")?;
+    out.space()?;
+    out.keyword("players")?;
+    out.space()?;
+    out.number(i64::from(players))?;
+    out.close()
 }
 
 /// Adds a team's players with a space between them.

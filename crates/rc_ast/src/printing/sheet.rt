@@ -6,7 +6,7 @@ ghost use Rattle.rc_ast.specs.Sheet.{sheet_seen, best_seen};
 
 use super::expressions::push_int;
 use super::items::push_items;
-use super::printer::{Printer, row};
+use super::printer::Printer;
 use super::setup::{push_decks, push_maps, push_players, push_teams};
 use super::words::Variable;
 use crate::{Best, Sheet};
@@ -61,10 +61,9 @@ fn push_best(out: &mut Printer, best: Best) -> Result<(), AllocError>
 fn push_scoring(out: &mut Printer, sheet: &Sheet) -> Result<(), AllocError>
     ensures { OnOk result (out.new.bytes.items ≡ out.old.bytes.items ++ printed (scoring_form (sheet_seen sheet.now))) }
 {
-    row!(
-        out,
-        "scoring",
-        push_best(out, sheet.best),
-        push_int(out, sheet, &[Variable::Own], &sheet.score)
-    )
+    out.open("scoring")?;
+    out.space()?;
+    push_best(out, sheet.best)?;
+    push_int(out, sheet, &[Variable::Own], &sheet.score)?;
+    out.close()
 }

@@ -5,7 +5,7 @@ ghost use Rattle.rc_sheet_model.specs.Printing.{keyword, row, named, binding, wh
 ghost use Rattle.rc_ast.specs.Names.{who_seen, loc_seen, num_seen};
 ghost use Rattle.rc_ast.specs.Printing.{naming_seen, bound_seen};
 
-use super::printer::{Printer, row};
+use super::printer::Printer;
 use crate::{Loc, LocKind, Num, Sheet, Who, Word};
 use std::alloc::AllocError;
 
@@ -18,6 +18,14 @@ pub fn push_named(out: &mut Printer, words: &[Word], place: usize) -> Result<(),
     } else {
         Ok(())
     }
+}
+
+/// Adds a space and the word of this number.
+pub fn push_word(out: &mut Printer, words: &[Word], place: usize) -> Result<(), AllocError>
+    ensures { OnOk result (out.new.bytes.items ≡ out.old.bytes.items ++ 32 ∷ printed (named words.now place)) }
+{
+    out.space()?;
+    push_named(out, words, place)
 }
 
 /// A variable in scope: the player whose score is told, or one that a binder names.
@@ -54,25 +62,19 @@ pub fn push_variable(
     if usize::from(place) < bound.len() {
         match bound[usize::from(place)] {
             Variable::Own => out.keyword("'SELF"),
-            Variable::Named(var) => push_binder(out, sheet, var),
+            Variable::Named(var) => push_named(out, &sheet.names.vars, var as usize),
         }
     } else {
         Ok(())
     }
 }
 
-/// Adds the word of a variable where it is bound.
+/// Adds a space and the word of a variable where it is bound.
 pub fn push_binder(out: &mut Printer, sheet: &Sheet, var: u32) -> Result<(), AllocError>
-    ensures { OnOk result (out.new.bytes.items ≡ out.old.bytes.items ++ printed (named (naming_seen sheet.now).names.vars var)) }
-{
-    push_named(out, &sheet.names.vars, var as usize)
-}
-
-fn push_current_player(out: &mut Printer) -> Result<(), AllocError>
     ensures { OnOk result (out.new.bytes.items ≡ out.old.bytes.items
-        ++ printed (row (keyword "current" ∷ keyword "player" ∷ []))) }
+        ++ 32 ∷ printed (named (naming_seen sheet.now).names.vars var)) }
 {
-    row!(out, "current", out.keyword("player"))
+    push_word(out, &sheet.names.vars, var as usize)
 }
 
 pub fn push_who(
@@ -86,15 +88,14 @@ pub fn push_who(
 {
     match who {
         Who::Game => out.keyword("game"),
-        Who::CurrentPlayer => push_current_player(out),
-        Who::CurrentTeam => row!(out, "current", out.keyword("team")),
-        Who::TeamOfCurrent => row!(out, "team", out.keyword("of"), push_current_player(out)),
-        Who::TeamOfVar(var) => row!(
-            out,
-            "team",
-            out.keyword("of"),
-            push_variable(out, sheet, bound, var)
-        ),
+        Who::CurrentPlayer => out.keyword("(current player)"),
+        Who::CurrentTeam => out.keyword("(current team)"),
+        Who::TeamOfCurrent => out.keyword("(team of (current player))"),
+        Who::TeamOfVar(var) => {
+            out.keyword("(team of ")?;
+            push_variable(out, sheet, bound, var)?;
+            out.close()
+        }
         Who::Var(var) => push_variable(out, sheet, bound, var),
     }
 }
@@ -114,38 +115,37 @@ pub fn push_kind(out: &mut Printer, sheet: &Sheet, name: u16) -> Result<(), Allo
     }
 }
 
+/// Adds a space and a location.
 pub fn push_loc(
     out: &mut Printer,
     sheet: &Sheet,
     bound: &[Variable],
     loc: &Loc,
 ) -> Result<(), AllocError>
-    ensures { OnOk result (out.new.bytes.items
-        ≡ out.old.bytes.items ++ printed (loc_form (naming_seen sheet.now) (bound_seen sheet.now bound.now) (loc_seen loc.now))) }
+    ensures { OnOk result (out.new.bytes.items ≡ out.old.bytes.items
+        ++ 32 ∷ printed (loc_form (naming_seen sheet.now) (bound_seen sheet.now bound.now) (loc_seen loc.now))) }
 {
-    out.begin()?;
+    out.keyword(" (")?;
     push_who(out, sheet, bound, loc.who)?;
     out.space()?;
     push_kind(out, sheet, loc.name)?;
-    out.space()?;
-    push_named(out, &sheet.names.locs, usize::from(loc.name))?;
+    push_word(out, &sheet.names.locs, usize::from(loc.name))?;
     out.close()
 }
 
+/// Adds a space and a number that the game keeps.
 pub fn push_num(
     out: &mut Printer,
     sheet: &Sheet,
     bound: &[Variable],
     num: &Num,
 ) -> Result<(), AllocError>
-    ensures { OnOk result (out.new.bytes.items
-        ≡ out.old.bytes.items ++ printed (num_form (naming_seen sheet.now) (bound_seen sheet.now bound.now) (num_seen num.now))) }
+    ensures { OnOk result (out.new.bytes.items ≡ out.old.bytes.items
+        ++ 32 ∷ printed (num_form (naming_seen sheet.now) (bound_seen sheet.now bound.now) (num_seen num.now))) }
 {
-    out.begin()?;
+    out.keyword(" (")?;
     push_who(out, sheet, bound, num.who)?;
-    out.space()?;
-    out.keyword("sto")?;
-    out.space()?;
-    push_named(out, &sheet.names.nums, usize::from(num.name))?;
+    out.keyword(" sto")?;
+    push_word(out, &sheet.names.nums, usize::from(num.name))?;
     out.close()
 }

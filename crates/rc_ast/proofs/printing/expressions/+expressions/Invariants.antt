@@ -6,8 +6,8 @@ use Rattle.rc_ast.specs.Printing.{naming_seen, bound_seen}
 use Rattle.rc_ast.proofs.printing.expressions.+expressions.Given as goal
 
 -- what is printed and what is left are the whole
-abbrev pub invariant-push_colls-loop-cards : goal.invariant-push_colls-loop-cards
-invariant-push_colls-loop-cards l =
+abbrev pub invariant-push_union-loop-cards : goal.invariant-push_union-loop-cards
+invariant-push_union-loop-cards l =
     l.out.bytes.items ++ printed_behind (packed (coll_forms (naming_seen l.sheet) (bound_seen l.sheet l.bound)
     (colls_seen (drop l.cards-index l.cards-items))))
     ≡ l.initial.out.bytes.items ++ printed_behind (packed (coll_forms (naming_seen l.sheet) (bound_seen l.sheet l.bound)

@@ -1,13 +1,19 @@
-use Rattle.std.proofs.Common.{ℕ, List, [], ◌∷◌, ◌++◌, codes, sym, ap, ◌∙◌}
+use Rattle.std.proofs.Common.{◌≡◌, ℕ, List, [], ◌∷◌, ◌++◌, codes, sym, ap, ◌∙◌, append_assoc, append-nil}
 use Rattle.rc_model.specs.Tree.{Tree, printed, printed_behind}
 use Rattle.rc_sheet_model.specs.Printing.{packed, item_forms, setup_forms, scoring_form}
 use Rattle.rc_ast.specs.Items.{items_seen}
 use Rattle.rc_ast.specs.Sheet.{sheet_seen}
 use Rattle.rc_ast.specs.Printing.{naming_seen}
 use Rattle.rc_ast.proofs.Added.{start, then}
-use Rattle.rc_ast.proofs.PrintedBytes.{whole_sheet}
 use Rattle.rc_ast.proofs.FormLemmas.{printed_behind-append}
 use Rattle.rc_ast.proofs.printing.sheet.print_sheet.Goals as goal
+
+-- the bytes of a whole sheet, where o, s and e are a parenthesis that opens, a space and a parenthesis that closes: these are
+-- variables, since their bytes would hide what is to be joined
+whole_sheet : (o s e game setup lines items scoring : List ℕ)
+    → ((((((o ++ (game ++ (s ++ (o ++ setup)))) ++ lines) ++ e) ++ items) ++ s) ++ scoring) ++ e
+    ≡ o ++ ((game ++ (s ++ ((o ++ ((setup ++ lines) ++ e)) ++ (items ++ (s ++ (scoring ++ [])))))) ++ e)
+whole_sheet o s e game setup lines items scoring = simp (append_assoc, append-nil)
 
 pub returns : goal.returns
 returns c =
