@@ -8,8 +8,6 @@ mod game;
 mod play;
 mod printing;
 mod running;
-#[cfg(test)]
-mod sight_tests;
 mod small_text;
 mod status;
 mod table_examples;

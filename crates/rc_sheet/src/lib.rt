@@ -19,8 +19,6 @@ mod setup;
 #[cfg(test)]
 mod setup_tests;
 mod sheet;
-#[cfg(test)]
-mod sheet_tests;
 mod sides;
 #[cfg(test)]
 mod tests;
