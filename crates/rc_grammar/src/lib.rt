@@ -8,8 +8,6 @@ mod grammar;
 mod keyword;
 mod laws;
 mod shape;
-#[cfg(test)]
-mod tests;
 
 pub use atoms::{is_variable, is_word};
 pub use choice::{is_form_word, rule_of};

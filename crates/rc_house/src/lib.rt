@@ -9,8 +9,6 @@ mod laws;
 mod play;
 mod printing;
 mod running;
-#[cfg(test)]
-mod sight_tests;
 mod small_text;
 mod status;
 mod table_examples;

@@ -164,6 +164,3 @@ fn picks_of(alloc: Global, plays: &[Play]) -> Result<Vec<Pick>, AllocError>
 {
     plays.iter().map(|play| play.pick).collect(alloc)
 }
-
-#[cfg(test)]
-mod tests;

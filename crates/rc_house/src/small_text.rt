@@ -11,8 +11,6 @@ mod parts;
 mod paths;
 mod plan;
 mod sheet;
-#[cfg(test)]
-mod tests;
 
 use crate::game::SmallGame;
 use rc_form::Form;

@@ -6,8 +6,6 @@
 
 mod accepting;
 mod laws;
-#[cfg(test)]
-mod sheet_tests;
 
 pub use accepting::sheet_of;
 pub use laws::{
