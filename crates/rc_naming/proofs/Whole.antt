@@ -2,16 +2,16 @@
 use Rattle.std.proofs.Common.{◌≡◌, ℕ, ◌+◌, ◌≤◌, List, [], ◌∷◌, ◌++◌, length, map, flat_map, refl, sym, ap, ◌∙◌, subst}
 use Rattle.std.specs.List.{range_with_len}
 use Rattle.std.proofs.lemmas.List.{append-nil, length-map}
-use Rattle.rc_model.specs.Tree.{Tree, Trees}
-use Rattle.rc_sheet_model.specs.Sheet.{Names, LocName, NumName}
+use Rattle.rc_model.specs.Tree.{Tree}
+use Rattle.rc_sheet_model.specs.Sheet.{LocName, NumName}
 use Rattle.rc_model.specs.Numbers.{below}
 use Rattle.rc_model.specs.Words.{different}
 use Rattle.rc_sheet_model.specs.Naming.{Naming}
-use Rattle.rc_sheet_model.specs.FormMentions.{setup_lines, body, deck_lines, points_lines, all_gathered, names_of, attr_mentions, value_mentions, map_mentions, loc_mentions, num_mentions, var_mentions, all_var_words}
+use Rattle.rc_sheet_model.specs.FormMentions.{setup_lines, body, deck_lines, all_gathered, names_of, attr_mentions, value_mentions, map_mentions, var_mentions}
 use Rattle.rc_semantics.specs.SecondNames.{OwnedMention}
-use Rattle.rc_naming.specs.Mentions.{Mentions, loc_mention, deck_location, all_locations, all_numbers, mentions_of}
+use Rattle.rc_naming.specs.Mentions.{loc_mention, deck_location, all_locations, all_numbers, mentions_of}
 use Rattle.rc_naming.specs.Naming.{naming_of, loc_names, num_names, firsts}
-use Rattle.rc_naming.specs.Known.{with_all, with_words, with_mentions, none, joined, decks_in, all_points_in, body_in, naming_by}
+use Rattle.rc_naming.specs.Known.{with_all, with_mentions, none, joined, decks_in, all_points_in, body_in, naming_by}
 use Rattle.rc_naming.proofs.Firsts.{words_added, mentions_added, names_added}
 use Rattle.rc_naming.proofs.Gathered.{location_words, number_words}
 use Rattle.rc_naming.proofs.Steps.{with_all-joined}
@@ -128,18 +128,3 @@ pub num_numbers : (form : Tree) → map (λ num. num.name) (naming_of form).nums
 num_numbers form =
     num_numbers_from 0 (firsts (all_numbers form))
     ∙ ap below (as_many (firsts (all_numbers form)) (names_of form).nums (nums_in_order form))
-
--- where few are known, there are few names
-pub locs_told : (form : Tree) (known : Mentions) (most : ℕ) → known ≡ with_all none (mentions_of form)
-    → length known.locs ≤ most → length (names_of form).locs ≤ most
-locs_told form known most is few =
-    subst (λ n. n ≤ most)
-    (as_many known.locs (names_of form).locs (ap (λ k. map (λ mention. mention.name) k.locs) is ∙ locs_known form))
-    few
-
-pub nums_told : (form : Tree) (known : Mentions) (most : ℕ) → known ≡ with_all none (mentions_of form)
-    → length known.nums ≤ most → length (names_of form).nums ≤ most
-nums_told form known most is few =
-    subst (λ n. n ≤ most)
-    (as_many known.nums (names_of form).nums (ap (λ k. map (λ mention. mention.name) k.nums) is ∙ nums_known form))
-    few
