@@ -4,7 +4,6 @@ pub mod Expressions
 pub mod Effects
 pub mod Items
 pub mod Sheet
-pub mod Examples
 pub mod Printing
 pub mod Unplaced
 pub mod Respelled

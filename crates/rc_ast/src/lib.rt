@@ -12,8 +12,6 @@ mod laws;
 mod names;
 mod printing;
 mod sheet;
-#[cfg(test)]
-mod tests;
 mod unplaced_examples;
 mod word;
 

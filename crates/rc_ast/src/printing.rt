@@ -8,8 +8,6 @@ mod laws;
 mod printer;
 mod setup;
 mod sheet;
-#[cfg(test)]
-mod tests;
 mod words;
 
 pub use laws::printed_form_stands;

@@ -10,8 +10,6 @@ mod face;
 mod listing;
 mod memory;
 mod scoring;
-#[cfg(test)]
-mod tests;
 mod tree;
 
 pub use counting::count_of;

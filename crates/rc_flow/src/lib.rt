@@ -10,7 +10,5 @@ mod check;
 mod expressions;
 mod first;
 mod location;
-#[cfg(test)]
-mod tests;
 
 pub use check::{Checked, Unseen, check_sight};

@@ -18,6 +18,3 @@ pub use literal::{integer, natural};
 pub use print::{FormMemory, print_form, printed_form_reads_back};
 pub use reading::{Forms, read_forms, texts_are_spelled_or_faulty};
 pub use word::Word;
-
-#[cfg(test)]
-mod tests;

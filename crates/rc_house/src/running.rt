@@ -5,9 +5,6 @@ ghost use Rattle.rc_house.specs.Port.{NoCountFell, Took, port, ports};
 ghost use Rattle.rc_house.specs.Outcome.{Outcome, Ends};
 ghost use Rattle.rc_house.specs.Running.{ReadsAnswer, ReadsNone, Delivers};
 
-#[cfg(test)]
-mod tests;
-
 use crate::answer::{Answer, answer_to};
 use crate::command::{Command, command_of};
 use crate::status::Status;

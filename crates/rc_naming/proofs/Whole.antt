@@ -101,18 +101,3 @@ pub num_numbers : (form : Tree) → map (λ num. num.name) (naming_of form).nums
 num_numbers form =
     num_numbers_from 0 (firsts (all_numbers form))
     ∙ ap below (as_many (firsts (all_numbers form)) (names_of form).nums (nums_in_order form))
-
--- where few are known, there are few names
-pub locs_told : (form : Tree) (known : Mentions) (most : ℕ) → known ≡ with_all none (mentions_of form)
-    → length known.locs ≤ most → length (names_of form).locs ≤ most
-locs_told form known most is few =
-    subst (λ n. n ≤ most)
-    (as_many known.locs (names_of form).locs (ap (λ k. map (λ mention. mention.name) k.locs) is ∙ locs_known form))
-    few
-
-pub nums_told : (form : Tree) (known : Mentions) (most : ℕ) → known ≡ with_all none (mentions_of form)
-    → length known.nums ≤ most → length (names_of form).nums ≤ most
-nums_told form known most is few =
-    subst (λ n. n ≤ most)
-    (as_many known.nums (names_of form).nums (ap (λ k. map (λ mention. mention.name) k.nums) is ∙ nums_known form))
-    few

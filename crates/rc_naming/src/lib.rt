@@ -11,8 +11,6 @@ mod naming_examples;
 mod numbering;
 mod setup;
 mod sheet_parts;
-#[cfg(test)]
-mod tests;
 mod uses;
 mod walk;
 

@@ -16,8 +16,6 @@ mod plain;
 mod room;
 mod sink;
 mod source;
-#[cfg(test)]
-mod tests;
 mod whole;
 
 pub use adapters::{StdSink, StdSource};

@@ -19,8 +19,6 @@ mod second_part_examples;
 mod sides;
 mod standing;
 mod summary;
-#[cfg(test)]
-mod tests;
 mod walk;
 mod whole;
 

@@ -1,6 +1,6 @@
 -- Slices of two or three parts.
 use Rattle.std.proofs.Common.{◌≡◌, ℕ, ◌<◌, ◌≤◌, List, [], ◌∷◌, length, get_or, None, Option, refl, sym, ap, ◌∙◌, arith}
-use Rattle.rc_model.specs.Tree.{list, count}
+use Rattle.rc_model.specs.Tree.{list}
 use Rattle.rc_model.specs.DeckText.{in_entry, DeckNames}
 use Rattle.rc_form.specs.declared.form.Form.{Form}
 use Rattle.rc_form.specs.Form.{trees_of, packed}
@@ -53,8 +53,3 @@ unless_nil_some (form ∷ forms) found some = refl
 pub unless_nil_none : {A : Type 0} (forms : List Form) (found : Option A) → length forms ≡ 0 → unless_nil (packed (trees_of forms)) found ≡ None
 unless_nil_none [] found none = refl
 unless_nil_none (form ∷ forms) found none = absurd (omega arith)
-
--- a list has as many parts as forms
-pub count_of_packed : (forms : List Form) → count (packed (trees_of forms)) ≡ length forms
-count_of_packed [] = refl
-count_of_packed (form ∷ forms) = let rest = count_of_packed forms in omega arith

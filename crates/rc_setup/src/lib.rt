@@ -8,8 +8,6 @@ mod laws;
 mod mentions;
 mod naming;
 mod points_reading;
-#[cfg(test)]
-mod tests;
 mod tree_reading;
 mod worth;
 

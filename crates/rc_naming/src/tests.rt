@@ -1,4 +1,0 @@
-//! Forms whose names are numbered by hand.
-mod setups;
-mod table;
-mod uses;

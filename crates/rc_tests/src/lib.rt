@@ -1,0 +1,14 @@
+//! Tests of public calls, which show what no contract says: that a call succeeds where there is memory, and what stands
+//! outside of all contracts. What the program shows on a text stands in the folder `cases` in place of a test.
+#![tactic(auto)]
+
+#[cfg(test)]
+mod deck;
+#[cfg(test)]
+mod form;
+#[cfg(test)]
+mod house;
+#[cfg(test)]
+mod names;
+#[cfg(test)]
+mod outside;
