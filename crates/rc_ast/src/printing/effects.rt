@@ -1,16 +1,16 @@
 //! Prints effects, each with a space before it.
 ghost use Rattle.std.specs.Prelude.{◌≡◌, ◌∷◌, ◌++◌, [], OnOk};
 ghost use Rattle.rc_model.specs.Tree.{printed, printed_behind};
-ghost use Rattle.rc_sheet_model.specs.Printing.{packed, atom, row, card_form, num_form, int_form, spot_form, effect_form, effect_forms};
+ghost use Rattle.rc_sheet_model.specs.Printing.{packed, atom, keyword, row, named, binding, card_form, num_form, int_form, test_form, domain_form, spot_form, effect_form, effect_forms};
 ghost use Rattle.rc_ast.specs.Names.{loc_seen, num_seen};
-ghost use Rattle.rc_ast.specs.Expressions.{card_seen, int_seen};
+ghost use Rattle.rc_ast.specs.Expressions.{card_seen, int_seen, test_seen, domain_seen};
 ghost use Rattle.rc_ast.specs.Effects.{end_seen, effect_seen, effects_seen};
 ghost use Rattle.rc_ast.specs.Printing.{naming_seen, bound_seen};
 
 use super::expressions::{push_card, push_coll, push_domain, push_int, push_test};
 use super::printer::Printer;
 use super::words::{Variable, behind, push_binder, push_loc, push_num, push_who};
-use crate::{CardExpr, Effect, End, IntExpr, Loc, Num, Sheet};
+use crate::{CardExpr, Domain, Effect, End, IntExpr, Loc, Num, Sheet, Test};
 use std::alloc::AllocError;
 
 /// Adds an end of a location.
@@ -113,26 +113,9 @@ fn push_effect(
         Effect::Set(num, value) => push_change(out, sheet, bound, "set", num, value),
         Effect::Inc(num, value) => push_change(out, sheet, bound, "inc", num, value),
         Effect::Dec(num, value) => push_change(out, sheet, bound, "dec", num, value),
-        Effect::If(test, effects) => {
-            out.open_part("if")?;
-            push_test(out, sheet, bound, test)?;
-            push_effects(out, sheet, bound, effects)?;
-            out.close()
-        }
-        Effect::Repeat(times, effects) => {
-            out.open_part("repeat")?;
-            push_int(out, sheet, bound, times)?;
-            push_effects(out, sheet, bound, effects)?;
-            out.close()
-        }
-        Effect::Each(domain, var, effects) => {
-            let within = behind(out, sheet, bound, *var)?;
-            out.open_part("all")?;
-            push_domain(out, sheet, bound, domain)?;
-            push_binder(out, sheet, *var)?;
-            push_effects(out, sheet, &within, effects)?;
-            out.close()
-        }
+        Effect::If(test, effects) => push_guarded(out, sheet, bound, effects, test),
+        Effect::Repeat(times, effects) => push_repeated(out, sheet, bound, effects, times),
+        Effect::Each(domain, var, effects) => push_each(out, sheet, bound, effects, domain, *var),
         Effect::Next(who) => {
             out.open_part("cycle next")?;
             out.space()?;
@@ -141,6 +124,70 @@ fn push_effect(
         }
         Effect::Reverse => out.keyword(" (cycle reverse)"),
     }
+}
+
+/// Adds effects that a test guards.
+#[cycle(effects)]
+pub fn push_guarded(
+    out: &mut Printer,
+    sheet: &Sheet,
+    bound: &[Variable],
+    effects: &Vec<Effect>,
+    guard: &Test,
+) -> Result<(), AllocError>
+    ensures { OnOk result (out.new.bytes.items ≡ out.old.bytes.items
+        ++ 32 ∷ printed (row (keyword "if"
+        ∷ test_form (naming_seen sheet.now) (bound_seen sheet.now bound.now) (test_seen guard.now)
+        ∷ effect_forms (naming_seen sheet.now) (bound_seen sheet.now bound.now) (effects_seen effects.now.items)))) }
+{
+    out.open_part("if")?;
+    push_test(out, sheet, bound, guard)?;
+    push_effects(out, sheet, bound, effects)?;
+    out.close()
+}
+
+#[cycle(effects)]
+fn push_repeated(
+    out: &mut Printer,
+    sheet: &Sheet,
+    bound: &[Variable],
+    effects: &Vec<Effect>,
+    times: &IntExpr,
+) -> Result<(), AllocError>
+    ensures { OnOk result (out.new.bytes.items ≡ out.old.bytes.items
+        ++ 32 ∷ printed (row (keyword "repeat"
+        ∷ int_form (naming_seen sheet.now) (bound_seen sheet.now bound.now) (int_seen times.now)
+        ∷ effect_forms (naming_seen sheet.now) (bound_seen sheet.now bound.now) (effects_seen effects.now.items)))) }
+{
+    out.open_part("repeat")?;
+    push_int(out, sheet, bound, times)?;
+    push_effects(out, sheet, bound, effects)?;
+    out.close()
+}
+
+/// Adds effects that run over players or cards.
+#[cycle(effects)]
+fn push_each(
+    out: &mut Printer,
+    sheet: &Sheet,
+    bound: &[Variable],
+    effects: &Vec<Effect>,
+    domain: &Domain,
+    var: u32,
+) -> Result<(), AllocError>
+    ensures { OnOk result (out.new.bytes.items ≡ out.old.bytes.items
+        ++ 32 ∷ printed (row (keyword "all"
+        ∷ domain_form (naming_seen sheet.now) (bound_seen sheet.now bound.now) (domain_seen domain.now)
+        ∷ named (naming_seen sheet.now).names.vars var
+        ∷ effect_forms (naming_seen sheet.now) (binding (naming_seen sheet.now) (bound_seen sheet.now bound.now) var)
+        (effects_seen effects.now.items)))) }
+{
+    let within = behind(out, sheet, bound, var)?;
+    out.open_part("all")?;
+    push_domain(out, sheet, bound, domain)?;
+    push_binder(out, sheet, var)?;
+    push_effects(out, sheet, &within, effects)?;
+    out.close()
 }
 
 #[cycle(effects)]

@@ -6,7 +6,7 @@ ghost use Rattle.rc_ast.specs.Names.{class_seen};
 ghost use Rattle.rc_ast.specs.Items.{alt_seen, alts_seen, item_seen, items_seen};
 ghost use Rattle.rc_ast.specs.Printing.{naming_seen, bound_seen};
 
-use super::effects::push_effects;
+use super::effects::{push_effects, push_guarded};
 use super::expressions::{push_domain, push_test};
 use super::printer::Printer;
 use super::words::{Variable, behind, push_binder};
@@ -28,12 +28,7 @@ fn push_alt(
             push_effects(out, sheet, bound, effects)?;
             out.close()
         }
-        Alt::If(guard, effects) => {
-            out.open_part("if")?;
-            push_test(out, sheet, bound, guard)?;
-            push_effects(out, sheet, bound, effects)?;
-            out.close()
-        }
+        Alt::If(guard, effects) => push_guarded(out, sheet, bound, effects, guard),
         Alt::Any(domain, var, inner) => {
             let within = behind(out, sheet, bound, *var)?;
             out.open_part("any")?;

@@ -20,7 +20,7 @@ impl Printer {
         self.bytes.extend_from_slice(bytes)
     }
 
-    /// Adds an atom that is always the same.
+    /// Adds a text that is always the same.
     pub fn keyword(&mut self, text: &str) -> Result<(), AllocError>
         ensures { OnOk result (self.new.bytes.items ≡ self.old.bytes.items ++ text.now) }
     {
