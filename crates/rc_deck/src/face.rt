@@ -1,3 +1,4 @@
+//! What a card shows.
 ghost use Rattle.std.specs.Prelude.{◌≡◌, ◌≢◌, ◌++◌, ◌∷◌, [], ℕ, All, IfOk, IsNone, ◌↔◌};
 ghost use Rattle.rc_model.specs.Deck.{value_at};
 

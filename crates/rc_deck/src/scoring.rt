@@ -1,3 +1,4 @@
+//! What faces are worth.
 ghost use Rattle.std.specs.Prelude.{◌≡◌, ◌≤◌, ◌^◌, ◌==◌, ◌&&◌, All, vec_len, pos, neg_ℤ, ◌≤ℤ◌};
 ghost use Rattle.rc_model.specs.Deck.{points_of, fits_entry};
 ghost use Rattle.rc_model.specs.Clamp.{IsWithinClamp};

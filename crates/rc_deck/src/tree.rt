@@ -1,3 +1,5 @@
+//! Deck trees.
+
 /// A deck in short: the list of its groups. A face takes one branch of each, the first group varying slowest.
 #[derive(Debug, Drop)]
 pub struct DeckTree {
