@@ -1,3 +1,4 @@
+//! The standard library's readers and writers, as sources and sinks.
 ghost use Rattle.std.specs.Prelude.{◌≡◌, ◌<◌, ◌≤◌, None, length, IfOk, OnOk, OnErr};
 ghost use Rattle.std.specs.Io.KnownBytes.{ReadConsumes, WriteAppends};
 ghost use Rattle.rc_outside.specs.Adapted.{Adapted};

@@ -1,3 +1,4 @@
+//! Why a read or a write failed.
 ghost use Rattle.std.specs.Prelude.{Some, codes};
 ghost use Rattle.rc_outside.specs.ReadFail.{read_fail_text};
 

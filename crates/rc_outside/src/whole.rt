@@ -1,3 +1,4 @@
+//! Reading to the end, and writing a whole piece.
 ghost use Rattle.std.specs.Prelude.{◌≡◌, ℕ, ◌<◌, ◌≤◌, List, [], length, vec_len, IfSome, IfOk, IsOk, OnOk, OnErr};
 ghost use Rattle.rc_outside.specs.Faults.{Rose};
 ghost use Rattle.rc_outside.specs.Source.{Gave, IsAtEnd};
