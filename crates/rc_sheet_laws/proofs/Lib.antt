@@ -16,7 +16,7 @@ mod MovedSetup
 mod MovedSheet
 mod MovedWell
 mod LineFeeds
-mod PrintedAgain
+pub mod PrintedAgain
 mod SoundParts
 mod SoundNames
 mod SoundRows
