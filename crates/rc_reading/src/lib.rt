@@ -17,12 +17,8 @@ mod players;
 mod reader;
 mod scope;
 mod setup;
-#[cfg(test)]
-mod setup_tests;
 mod sheet;
 mod sides;
-#[cfg(test)]
-mod tests;
 mod variables;
 
 pub use fail::ReadFail;
