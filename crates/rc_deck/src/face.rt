@@ -35,13 +35,6 @@ impl Face {
         self.pairs.as_slice()
     }
 
-    /// Gives the pairs back. It takes no memory.
-    pub fn into_pairs(self) -> Vec<(u16, u16)>
-        ensures { result.items ≡ self }
-    {
-        self.pairs
-    }
-
     // This face and one more pair behind it.
     pub(crate) fn with(self, attr: u16, value: u16) -> Result<Face, Memory>
         ensures { IfOk result (λ f. f ≡ self ++ (attr, value) ∷ []) }

@@ -80,6 +80,15 @@ fn hearts(alloc: Global) -> Result<PointMap, Memory>
     Ok(PointMap { entries })
 }
 
+/// The first faces of the French deck, pair by pair.
+const FIRST: [[(u16, u16); 3]; 5] = [
+    [(RANK, 1), (COLOR, RED), (SUIT, HEARTS)],
+    [(RANK, 1), (COLOR, RED), (SUIT, DIAMONDS)],
+    [(RANK, 1), (COLOR, BLACK), (SUIT, CLUBS)],
+    [(RANK, 1), (COLOR, BLACK), (SUIT, SPADES)],
+    [(RANK, 2), (COLOR, RED), (SUIT, HEARTS)],
+];
+
 /// Whether the last face is the king of spades.
 fn ends_with_the_king_of_spades(faces: &[Face]) -> bool {
     let Some(last) = faces.last() else {
@@ -103,6 +112,17 @@ fn a_french_deck_has_52_faces(rt: HostRuntime) -> Result<(), Fail> {
         .filter(|face| points(&hearts, *face) == 1)
         .count();
     assert_eq!(rt; worths, 13);
+    Ok(())
+}
+
+#[test]
+fn faces_are_listed_with_the_first_group_slowest(rt: HostRuntime) -> Result<(), Fail> {
+    let tree = french_deck(rt.alloc())?;
+    let faces = faces_of(rt.alloc(), &tree)?;
+    assert!(rt; faces.len() >= FIRST.len());
+    for (face, expected) in faces.iter().zip(FIRST.iter()) {
+        assert_eq!(rt; face.pairs(), expected.as_slice());
+    }
     Ok(())
 }
 
