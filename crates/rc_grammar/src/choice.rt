@@ -98,13 +98,10 @@ fn begins(head: &Form, rule: Rule) -> bool
 fn may_begin(place: Place, head: &Form) -> bool
     ensures { result ≡ spec.may_begin place (tree_of head.now) }
 {
-    match head {
-        Form::Atom { word, .. } => match place {
-            Place::Word(keyword) => is_word(keyword, word.bytes()),
-            Place::Holder => atom_kind(place, word.bytes()).is_none(),
-            _ => true,
-        },
-        Form::List { .. } => place == Place::Holder,
+    match (place, head) {
+        (Place::Word(keyword), _) => is_form_word(keyword, head),
+        (Place::Holder, Form::Atom { word, .. }) => atom_kind(place, word.bytes()).is_none(),
+        _ => true,
     }
 }
 
