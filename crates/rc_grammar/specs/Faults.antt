@@ -84,8 +84,8 @@ abbrev pub is_form_word : Keyword → Tree → Bool
 is_form_word keyword (word bytes from to) = is_word keyword bytes
 is_form_word keyword (list parts from to) = false
 
--- a list may begin with this part, where this is the place of its first part: a fixed word with that word, an owner's place
--- with an owner's atom or any list, and any other place with any part
+-- A list may begin with this part, where this is the place of its first part. Where a word is fixed only that word may, and
+-- where a holder stands its atoms and any list. Elsewhere any part may, and is looked at with the others.
 abbrev pub may_begin : Place → Tree → Bool
 may_begin (place.Word keyword) tree = is_form_word keyword tree
 may_begin place.Holder (word bytes from to) = is_none (atom_kind place.Holder bytes)

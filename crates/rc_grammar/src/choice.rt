@@ -94,7 +94,8 @@ fn begins(head: &Form, rule: Rule) -> bool
     }
 }
 
-/// Whether a list may begin with this part, where this is the place of its first part.
+/// Whether a list may begin with this part, where this is the place of its first part. Fixed words and holders alone tell a
+/// form; any other part is looked at with those behind it.
 fn may_begin(place: Place, head: &Form) -> bool
     ensures { result ≡ spec.may_begin place (tree_of head.now) }
 {
