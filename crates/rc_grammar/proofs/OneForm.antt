@@ -12,7 +12,7 @@ use Rattle.rc_grammar.specs.declared.grammar.Place.{Place}
 use Rattle.rc_grammar.specs.declared.grammar.Place.TheVariants as place
 use Rattle.rc_grammar.specs.declared.grammar.Rule.{Rule}
 
--- what a list may begin with where this is the place of its first part: a fixed word, an owner, or anything else
+-- what a list may begin with where this is the place of its first part: a fixed word, a holder, or any part
 data Opening : Type 0 where
   fixed : Keyword → Opening
   owner : Opening
@@ -64,8 +64,7 @@ Opens owner (list parts from to) = Unit {0}
 Opens other head = Unit {0}
 
 opens : (p : Place) (head : Tree) → may_begin p head ≡ true → Opens (opening p) head
-opens (place.Word keyword) (word bytes from to) is = is
-opens (place.Word keyword) (list parts from to) is = is
+opens (place.Word keyword) head is = is
 opens place.Holder (word bytes from to) is = is
 opens place.Holder (list parts from to) is = tt
 opens place.Kind head is = tt

@@ -79,14 +79,17 @@ atom_kind place.Location bytes = Some Shape
 atom_kind place.Counter bytes = Some Shape
 atom_kind place.Test bytes = Some Shape
 
--- a list may begin with this part, where this is the place of its first part: a fixed word with that word, an owner's place
--- with any list too, and a name's place with any atom
+-- the tree is this word
+abbrev pub is_form_word : Keyword → Tree → Bool
+is_form_word keyword (word bytes from to) = is_word keyword bytes
+is_form_word keyword (list parts from to) = false
+
+-- A list may begin with this part, where this is the place of its first part. Where a word is fixed only that word may, and
+-- where a holder stands its atoms and any list. Elsewhere any part may, and is looked at with the others.
 abbrev pub may_begin : Place → Tree → Bool
-may_begin (place.Word keyword) (word bytes from to) = is_word keyword bytes
+may_begin (place.Word keyword) tree = is_form_word keyword tree
 may_begin place.Holder (word bytes from to) = is_none (atom_kind place.Holder bytes)
-may_begin place.Holder (list parts from to) = true
-may_begin place (word bytes from to) = true
-may_begin place (list parts from to) = false
+may_begin place tree = true
 
 -- the word behind a form's head, where both are fixed
 abbrev pub second_in : List Place → Option Keyword
@@ -106,11 +109,7 @@ fits_head (first ∷ places) tree = may_begin first tree
 abbrev pub begins : Tree → Rule → Bool
 begins head rule = fits_head (front_of rule) head
 
--- the tree is this word, and the part behind a head is
-abbrev pub is_form_word : Keyword → Tree → Bool
-is_form_word keyword (word bytes from to) = is_word keyword bytes
-is_form_word keyword (list parts from to) = false
-
+-- the part behind a head is this word
 abbrev pub is_told : Option Keyword → Trees → Bool
 is_told (Some keyword) (cons second parts) = is_form_word keyword second
 is_told (Some keyword) nil = false

@@ -94,17 +94,15 @@ fn begins(head: &Form, rule: Rule) -> bool
     }
 }
 
-/// Whether a list may begin with this part, where this is the place of its first part.
+/// Whether a list may begin with this part, where this is the place of its first part. Fixed words and holders alone tell a
+/// form; any other part is looked at with those behind it.
 fn may_begin(place: Place, head: &Form) -> bool
     ensures { result ≡ spec.may_begin place (tree_of head.now) }
 {
-    match head {
-        Form::Atom { word, .. } => match place {
-            Place::Word(keyword) => is_word(keyword, word.bytes()),
-            Place::Holder => atom_kind(place, word.bytes()).is_none(),
-            _ => true,
-        },
-        Form::List { .. } => place == Place::Holder,
+    match (place, head) {
+        (Place::Word(keyword), _) => is_form_word(keyword, head),
+        (Place::Holder, Form::Atom { word, .. }) => atom_kind(place, word.bytes()).is_none(),
+        _ => true,
     }
 }
 
