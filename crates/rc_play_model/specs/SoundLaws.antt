@@ -14,6 +14,7 @@ use Rattle.rc_play_model.specs.About.{About}
 use Rattle.rc_play_model.specs.Effects.{Dealing, Point, does}
 use Rattle.rc_play_model.specs.Stop.{Stopped}
 use Rattle.rc_play_model.specs.Play.{reached}
+use Rattle.rc_play_model.specs.Keyed.{dealing_of}
 use Rattle.rc_play_model.specs.RedrawLaws.{IsViewOfSound}
 
 -- a dealer gives each list an order of its places
@@ -47,3 +48,7 @@ ReachedViewsAreOfSound =
     (about : About) (dealing : Dealing ℕ) → about.shape ≡ shape_of about.sheet → IsWellFormed about.sheet → DealsOrders dealing →
     (items : List ℕ) (k seat : ℕ) (at : Stopped ℕ) → reached about dealing items k ≡ Some at →
     IsViewOfSound about.shape (view_of about.shape seat at.config.table at.config.control)
+
+-- the shuffles of each match are orders
+abbrev pub MatchesDealOrders : Type 0
+MatchesDealOrders = (deal : ℕ) → DealsOrders (dealing_of deal)

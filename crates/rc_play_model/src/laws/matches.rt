@@ -1,6 +1,6 @@
 //! Laws of matches by keys. No function here does anything: a crate above gets a law by calling its function.
 ghost use Rattle.rc_play_model.specs.StepLaws.{EveryMatchHasRecord};
-ghost use Rattle.rc_play_model.specs.MatchLaws.{EachMatchRecorded, MatchPicksAreTaken, AlikeSamePicks, DecisionsAtSite, EveryPickFits, MatchLeadsToEnd};
+ghost use Rattle.rc_play_model.specs.MatchLaws.{EachMatchRecorded, MatchPicksAreTaken, AlikeSamePicks, DecisionsAtSite, EveryPickFits, MatchLeadsToEnd, FrontsAreReached};
 
 /// Every match has a record, and a house text has one for each match.
 pub fn every_match_has_a_record()
@@ -23,8 +23,9 @@ pub fn decisions_stand_at_their_sites()
     ensures { DecisionsAtSite }
 {}
 
-/// Each pick is an item of its menu, and the items of a match lead to its end.
+/// Each pick is an item of its menu, the items of a match lead to its end, and those before a pick lead to its decision.
 pub fn picks_are_items()
     ensures item { EveryPickFits }
     ensures end { MatchLeadsToEnd }
+    ensures fronts { FrontsAreReached }
 {}

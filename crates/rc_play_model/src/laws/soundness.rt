@@ -1,5 +1,5 @@
 //! Laws of sound tables in matches. No function here does anything: a crate above gets a law by calling its function.
-ghost use Rattle.rc_play_model.specs.SoundLaws.{SheetsHaveHomes, OpeningIsSound, EffectsKeepSound, ReachedIsSound, ReachedViewsAreOfSound};
+ghost use Rattle.rc_play_model.specs.SoundLaws.{SheetsHaveHomes, OpeningIsSound, EffectsKeepSound, ReachedIsSound, ReachedViewsAreOfSound, MatchesDealOrders};
 
 /// The cards of a well formed sheet begin in locations of cards, and so the opening table is sound.
 pub fn opening_tables_are_sound()
@@ -16,4 +16,5 @@ pub fn effects_keep_tables_sound()
 pub fn tables_of_matches_are_sound()
     ensures tables { ReachedIsSound }
     ensures views { ReachedViewsAreOfSound }
+    ensures orders { MatchesDealOrders }
 {}
