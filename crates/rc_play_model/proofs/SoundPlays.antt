@@ -1,5 +1,5 @@
 -- Wherever a match of a well formed sheet stands, its table is sound.
-use Rattle.std.proofs.Common.{◌≡◌, ℕ, zero, suc, ◌<◌, nat_le, Bool, true, false, if◌then◌else◌, List, [], ◌∷◌, get_or, Option, Some, None, refl, sym, ap, subst, arith}
+use Rattle.std.proofs.Common.{◌≡◌, ℕ, zero, suc, ◌<◌, nat_le, Bool, true, false, List, [], ◌∷◌, get_or, Some, sym, ap, subst, arith}
 use Rattle.std.specs.List.{AllByRecursion}
 use Rattle.std.specs.List.Sorted.{IsPermutation}
 use Rattle.rc_model.specs.Numbers.{below}
@@ -14,11 +14,12 @@ use Rattle.rc_play_model.specs.Bound.{HasHomes}
 use Rattle.rc_play_model.specs.Menu.{Item, menu_from, alt_in, effects_of, bindings_of}
 use Rattle.rc_play_model.specs.About.{About, scene_at}
 use Rattle.rc_play_model.specs.Effects.{Dealing, Point}
-use Rattle.rc_play_model.specs.Step.{Stage, Part, todo, round, turn, todos, Config, Stop, decide, is_done, is_limit, Next, goes, stops, at_menu, at_round, first_step, start}
-use Rattle.rc_play_model.specs.Stop.{Stopped, stop_of}
-use Rattle.rc_play_model.specs.Decision.{choose_first, choose}
-use Rattle.rc_play_model.specs.Play.{from_stop, stop_behind, follow, reached}
-use Rattle.rc_play_model.proofs.StopFacts.{Of, Of-if, stop_of_has}
+use Rattle.rc_play_model.specs.Step.{Stage, Part, todo, round, turn, todos, Config, at_menu, at_round, first_step, start}
+use Rattle.rc_play_model.specs.Stop.{Stopped}
+use Rattle.rc_play_model.specs.Decision.{choose_first}
+use Rattle.rc_play_model.specs.Play.{reached}
+use Rattle.rc_play_model.proofs.StopFacts.{Of, Of-if}
+use Rattle.rc_play_model.proofs.KeptLemmas.{There, reached_holds}
 use Rattle.rc_play_model.proofs.CardLemmas.{append_each, item_binds}
 use Rattle.rc_play_model.proofs.EffectLemmas.{there, all_sound}
 use Rattle.rc_play_model.proofs.OpeningLemmas.{sheet_homes, opening_sound}
@@ -38,9 +39,6 @@ module _ {S : Type 0} (about : About) (dealing : Dealing S) (fits : about.shape 
   abbrev Holds : Config → Type 0
   Holds c = AreParts c.left × IsSound about.shape c.table
 
-  abbrev AtStop : Stop → Config → Type 0
-  AtStop stop c = Holds c
-
   item_parts : (around : Around) (items : SheetItems) → AreItems about.sheet around items → AreParts (todos (item_list items))
   item_parts around no_item is = tt
   item_parts around (item i items) is = ((around, is.0), item_parts around items is.1)
@@ -52,20 +50,20 @@ module _ {S : Type 0} (about : About) (dealing : Dealing S) (fits : about.shape 
   stage_parts around number team_class end body is = (in_stage team_class around, is.2)
 
   menu_holds : (k : S) (site : ℕ) (alts : List Alt) (rest : List Part) (table : Table) (control : Control) (items : List Item) →
-      IsPart (todo (choice site alts)) → AreParts rest → IsSound about.shape table → Of Holds AtStop (at_menu about dealing k site alts rest table control items)
+      IsPart (todo (choice site alts)) → AreParts rest → IsSound about.shape table → Of Holds (There Holds) (at_menu about dealing k site alts rest table control items)
   menu_holds k site alts rest table control [] is parts sound = (parts, sound)
   menu_holds k site alts rest table control (first ∷ items) is parts sound =
-      Of-if Holds AtStop (nat_le about.turns control.turn) _ _ (λ e. ((is, parts), sound)) (λ e. ((is, parts), sound))
+      Of-if Holds (There Holds) (nat_le about.turns control.turn) _ _ (λ e. ((is, parts), sound)) (λ e. ((is, parts), sound))
 
   round_holds : (k : S) (s : Stage) (rest : List Part) (table : Table) (control : Control) (b : Bool) → IsPart (round s) → AreParts rest →
-      IsSound about.shape table → Of Holds AtStop (at_round about dealing k s rest table control b)
+      IsSound about.shape table → Of Holds (There Holds) (at_round about dealing k s rest table control b)
   round_holds k s rest table control true is parts sound = (parts, sound)
   round_holds k s rest table control false is parts sound =
-      Of-if Holds AtStop (nat_le about.turns control.turn) _ _ (λ e. ((is, parts), sound))
+      Of-if Holds (There Holds) (nat_le about.turns control.turn) _ _ (λ e. ((is, parts), sound))
       (λ e. (append_each IsPart (todos (item_list s.body)) (turn s ∷ round s ∷ rest) (item_parts is.0 s.body is.1) (tt, (is, parts)), sound))
 
   first_holds : (k : S) (left : List Part) (table : Table) (control : Control) → AreParts left → IsSound about.shape table →
-      Of Holds AtStop (first_step about dealing k left table control)
+      Of Holds (There Holds) (first_step about dealing k left table control)
   first_holds k [] table control parts sound = (tt, sound)
   first_holds k (todo (do_item effects) ∷ rest) table control parts sound =
       (parts.1, all_sound about dealing fits orders parts.0.0 [] tt effects parts.0.1.1 (record { table = table; frames = control.frames; dealer = k }) sound)
@@ -75,10 +73,6 @@ module _ {S : Type 0} (about : About) (dealing : Dealing S) (fits : about.shape 
       menu_holds k site alts rest table control (menu_from (scene_at about table control.frames) alts) parts.0 parts.1 sound
   first_holds k (round s ∷ rest) table control parts sound = round_holds k s rest table control _ parts.0 parts.1 sound
   first_holds k (turn s ∷ rest) table control parts sound = (parts.1, sound)
-
-  stop_holds : (k : S) (c : Config) (at : Stopped S) → Holds c → stop_of about dealing k c ≡ Some at → Holds at.config
-  stop_holds k c at holds is =
-      stop_of_has about dealing Holds AtStop (λ k c holds. first_holds k c.left c.table c.control holds.0 holds.1) k c at holds is
 
   -- the effects of an alternative
   alt_formed : (around : Around) (alt : Alt) → IsAlt about.sheet around alt → (around' : Around) × AreEffects about.sheet around' (effects_of alt)
@@ -96,7 +90,7 @@ module _ {S : Type 0} (about : About) (dealing : Dealing S) (fits : about.shape 
   some_players = let e = ap (λ (s : Shape). s.players) fits in let some = formed.limits.some_players in omega (arith, e, some)
 
   choice_first : (k : S) (x : ℕ) (left : List Part) (table : Table) (control : Control) → AreParts left → IsSound about.shape table →
-      Of Holds AtStop (choose_first about dealing k x left table control)
+      Of Holds (There Holds) (choose_first about dealing k x left table control)
   choice_first k x [] table control parts sound = (parts, sound)
   choice_first k x (todo (do_item effects) ∷ rest) table control parts sound = (parts, sound)
   choice_first k x (todo (stage number class end body) ∷ rest) table control parts sound = (parts, sound)
@@ -115,33 +109,6 @@ module _ {S : Type 0} (about : About) (dealing : Dealing S) (fits : about.shape 
   choice_first k x (round s ∷ rest) table control parts sound = (parts, sound)
   choice_first k x (turn s ∷ rest) table control parts sound = (parts, sound)
 
-  behind_holds : (next : Next S) (at : Stopped S) → Of Holds AtStop next → stop_behind about dealing next ≡ Some at → Holds at.config
-  behind_holds (goes k c) at holds is = stop_holds k c at holds is
-  behind_holds (stops stop c) at holds is = absurd (cc)
-
-  choice_holds : (k : S) (x : ℕ) (c : Config) (at : Stopped S) → Holds c → stop_behind about dealing (choose about dealing k x c) ≡ Some at → Holds at.config
-  choice_holds k x c at holds is = behind_holds (choose about dealing k x c) at (choice_first k x c.left c.table c.control holds.0 holds.1) is
-
-  followed : (items : List ℕ) (o : Option (Stopped S)) (at : Stopped S) → ((at : Stopped S) → o ≡ Some at → Holds at.config) →
-      ((stop : Stop) (c : Config) (k : S) → Holds c → follow about dealing items stop c k ≡ Some at → Holds at.config) →
-      from_stop (follow about dealing items) o ≡ Some at → Holds at.config
-  followed items None at here rest is = absurd (cc)
-  followed items (Some before) at here rest is = rest before.stop before.config before.dealer (here before refl) is
-
-  chosen_if : (b : Bool) (o : Option (Stopped S)) (at : Stopped S) → (o ≡ Some at → Holds at.config) → (if b then o else None) ≡ Some at → Holds at.config
-  chosen_if true o at holds is = holds is
-  chosen_if false o at holds is = absurd (cc)
-
-  follow_holds : (items : List ℕ) (stop : Stop) (c : Config) (k : S) (at : Stopped S) → Holds c → follow about dealing items stop c k ≡ Some at → Holds at.config
-  follow_holds [] stop c k at holds is =
-      let same : record { stop = stop; config = c; dealer = k } ≡ at = cc in subst (λ (at : Stopped S). Holds at.config) same holds
-  follow_holds (x ∷ items) is_done c k at holds is = absurd (cc)
-  follow_holds (x ∷ items) is_limit c k at holds is = absurd (cc)
-  follow_holds (x ∷ items) (decide seat site) c k at holds is =
-      chosen_if _ (from_stop (follow about dealing items) (stop_behind about dealing (choose about dealing k x c))) at
-      (λ is. followed items (stop_behind about dealing (choose about dealing k x c)) at (λ next e. choice_holds k x c next holds e)
-      (λ stop c k holds is. follow_holds items stop c k at holds is) is) is
-
   start_holds : Holds (start about)
   start_holds = (
     item_parts outside about.sheet.items formed.items,
@@ -150,5 +117,5 @@ module _ {S : Type 0} (about : About) (dealing : Dealing S) (fits : about.shape 
 
   pub reached_sound : (items : List ℕ) (k : S) (at : Stopped S) → reached about dealing items k ≡ Some at → IsSound about.shape at.config.table
   reached_sound items k at is =
-      (followed items (stop_of about dealing k (start about)) at (λ first e. stop_holds k (start about) first start_holds e)
-      (λ stop c k holds is. follow_holds items stop c k at holds is) is).1
+      (reached_holds about dealing Holds (λ k c holds. first_holds k c.left c.table c.control holds.0 holds.1)
+      (λ k x c holds. choice_first k x c.left c.table c.control holds.0 holds.1) start_holds items k at is).1
