@@ -1,0 +1,72 @@
+-- The house text of a source: its tokens spell a sheet and a plan, each is read off its form, and the plan's matches are played.
+use Rattle.std.specs.Prelude.{ℕ, List, [], ◌∷◌, slice_index, codes, bytes_eq, Option, None, option_map, unwrap_or, Ok, if◌then◌else◌}
+use Rattle.rc_model.specs.Token.{tokens}
+use Rattle.rc_model.specs.Tree.{Tree, word, list, Trees, nil, cons}
+use Rattle.rc_model.specs.Literal.{natural}
+use Rattle.rc_form.specs.Read.{Reading, read}
+use Rattle.rc_naming.specs.Naming.{naming_of}
+use Rattle.rc_reading.specs.ReadSheet.{sheet_at}
+use Rattle.rc_play_model.specs.Plan.{Strategy, scripted, random, rollout, Deal, Plan}
+use Rattle.rc_play_model.specs.About.{about_of}
+use Rattle.rc_play_model.specs.Keyed.{keyed_house}
+
+-- the number that a word spells
+abbrev pub number_of : Tree → ℕ
+number_of (word bytes from to) = unwrap_or (natural bytes) 0
+number_of (list parts from to) = 0
+
+abbrev pub numbers_of : Trees → List ℕ
+numbers_of nil = []
+numbers_of (cons tree trees) = number_of tree ∷ numbers_of trees
+
+-- a strategy, by its head word and the numbers behind it
+abbrev pub strategy_of : Tree → List ℕ → Strategy
+strategy_of (word bytes from to) numbers =
+    if bytes_eq bytes (codes "random") then random (slice_index numbers 0)
+    else if bytes_eq bytes (codes "rollout") then rollout (slice_index numbers 0) (slice_index numbers 1)
+    else scripted numbers
+strategy_of (list parts from to) numbers = scripted []
+
+abbrev pub strategy_at : Tree → Strategy
+strategy_at (list (cons head parts) from to) = strategy_of head (numbers_of parts)
+strategy_at other = scripted []
+
+abbrev pub strategies_at : Trees → List Strategy
+strategies_at nil = []
+strategies_at (cons tree trees) = strategy_at tree ∷ strategies_at trees
+
+-- a match, by its two numbers
+abbrev pub deal_at : Tree → Deal
+deal_at (list (cons deal (cons seats parts)) from to) = record { deal = number_of deal; seats = number_of seats }
+deal_at other = record { deal = 0; seats = 0 }
+
+abbrev pub deals_at : Trees → List Deal
+deals_at nil = []
+deals_at (cons tree trees) = deal_at tree ∷ deals_at trees
+
+-- the parts of a list behind its head word
+abbrev pub behind_head : Tree → Trees
+behind_head (list (cons head parts) from to) = parts
+behind_head other = nil
+
+-- the plan that a form without a fault says, with its matches listed one by one
+abbrev pub plan_at : Trees → Plan
+plan_at (cons seats (cons matches (cons turns parts))) =
+    record {
+      strategies = strategies_at (behind_head seats);
+      matches = deals_at (behind_head matches);
+      turns = slice_index (numbers_of (behind_head turns)) 0;
+    }
+plan_at other = record { strategies = []; matches = []; turns = 0 }
+
+-- the house text of a sheet's form and a plan; nothing where no sheet is said
+abbrev pub house_with : Tree → Plan → Option (List ℕ)
+house_with sheet plan = option_map (λ s. keyed_house (about_of s plan.turns) plan) (sheet_at (naming_of sheet) sheet)
+
+abbrev pub house_by_forms : Reading → Option (List ℕ)
+house_by_forms (Ok ((sheet ∷ plan ∷ []), behind)) = house_with sheet (plan_at (behind_head plan))
+house_by_forms other = None
+
+-- the house text of a source
+abbrev pub house_of : List ℕ → Option (List ℕ)
+house_of source = house_by_forms (read 2 [] [] (tokens source))

@@ -1,0 +1,45 @@
+-- Statements of laws: of menus, views and alike states.
+use Rattle.std.specs.Prelude.{◌≡◌, ◌↔◌, ℕ, List}
+use Rattle.rc_sheet_model.specs.Sheet.{Alt, Sheet}
+use Rattle.rc_sheet_model.specs.Sight.{IsInSight}
+use Rattle.rc_play_model.specs.Control.{Control}
+use Rattle.rc_play_model.specs.Owners.{mover}
+use Rattle.rc_play_model.specs.Shape.{Shape, shape_of}
+use Rattle.rc_play_model.specs.Value.{Scene}
+use Rattle.rc_play_model.specs.Table.{Table}
+use Rattle.rc_play_model.specs.Scene.{CardValue, scene_of}
+use Rattle.rc_play_model.specs.Menu.{paths_of, menu_of}
+use Rattle.rc_play_model.specs.Offers.{AreOffers}
+use Rattle.rc_play_model.specs.View.{view_of, view_scene}
+use Rattle.rc_play_model.specs.Alike.{IsAlike}
+
+-- a menu is a function of what its mover sees
+abbrev pub MenuOfView : Type 0
+MenuOfView =
+    (sheet : Sheet) (shape : Shape) (table : Table) (control : Control) (site : ℕ) → shape ≡ shape_of sheet → IsInSight sheet →
+    menu_of (scene_of sheet shape table control.frames) site
+    ≡ menu_of (view_scene sheet shape (view_of shape (mover sheet control.frames) table control)) site
+
+-- where the mover's views are equal, the menus are
+abbrev pub EqualViewsEqualMenus : Type 0
+EqualViewsEqualMenus =
+    (sheet : Sheet) (shape : Shape) (table table' : Table) (control control' : Control) (site : ℕ) → shape ≡ shape_of sheet → IsInSight sheet →
+    view_of shape (mover sheet control.frames) table control ≡ view_of shape (mover sheet control.frames) table' control' →
+    menu_of (scene_of sheet shape table control.frames) site ≡ menu_of (scene_of sheet shape table' control'.frames) site
+
+-- the views of a seat are equal exactly where the states are alike to it
+abbrev pub EqualViewsAlike : Type 0
+EqualViewsAlike =
+    (shape : Shape) (seat : ℕ) (table table' : Table) (control control' : Control) →
+    IsAlike shape seat table table' control control' ↔ (view_of shape seat table control ≡ view_of shape seat table' control')
+
+-- where states are alike to the mover, the menus are equal
+abbrev pub AlikeEqualMenus : Type 0
+AlikeEqualMenus =
+    (sheet : Sheet) (shape : Shape) (table table' : Table) (control control' : Control) (site : ℕ) → shape ≡ shape_of sheet → IsInSight sheet →
+    IsAlike shape (mover sheet control.frames) table table' control control' →
+    menu_of (scene_of sheet shape table control.frames) site ≡ menu_of (scene_of sheet shape table' control'.frames) site
+
+-- what a menu lists of an alternative is what it offers
+abbrev pub ListsOffers : Type 0
+ListsOffers = (scene : Scene CardValue) (alts : List Alt) → AreOffers scene alts (paths_of scene alts)
