@@ -6,3 +6,4 @@ pub mod Collections
 pub mod References
 pub mod Effects
 pub mod Menus
+pub mod Draws

@@ -1,5 +1,6 @@
 -- The house text of a source: its tokens spell a sheet and a plan, each is read off its form, and the plan's matches are played.
-use Rattle.std.specs.Prelude.{ℕ, List, [], ◌∷◌, slice_index, codes, bytes_eq, Option, None, option_map, unwrap_or, Ok, if◌then◌else◌}
+use Rattle.std.specs.Prelude.{ℕ, ◌+◌, List, [], ◌∷◌, ◌++◌, map, slice_index, codes, bytes_eq, Option, None, option_map, unwrap_or, Ok, if◌then◌else◌}
+use Rattle.rc_model.specs.Numbers.{below}
 use Rattle.rc_model.specs.Token.{tokens}
 use Rattle.rc_model.specs.Tree.{Tree, word, list, Trees, nil, cons}
 use Rattle.rc_model.specs.Literal.{natural}
@@ -35,21 +36,23 @@ abbrev pub strategies_at : Trees → List Strategy
 strategies_at nil = []
 strategies_at (cons tree trees) = strategy_at tree ∷ strategies_at trees
 
--- a match, by its two numbers
-abbrev pub deal_at : Tree → Deal
-deal_at (list (cons deal (cons seats parts)) from to) = record { deal = number_of deal; seats = number_of seats }
-deal_at other = record { deal = 0; seats = 0 }
+-- the matches of a part: one, by its two numbers, or `from` two numbers on so many
+abbrev pub deals_of : Tree → List Deal
+deals_of (list (cons deal (cons seats nil)) from to) = record { deal = number_of deal; seats = number_of seats } ∷ []
+deals_of (list (cons head (cons deal (cons seats (cons count nil)))) from to) =
+    map (λ m. record { deal = number_of deal + m; seats = number_of seats + m }) (below (number_of count))
+deals_of other = []
 
 abbrev pub deals_at : Trees → List Deal
 deals_at nil = []
-deals_at (cons tree trees) = deal_at tree ∷ deals_at trees
+deals_at (cons tree trees) = deals_of tree ++ deals_at trees
 
 -- the parts of a list behind its head word
 abbrev pub behind_head : Tree → Trees
 behind_head (list (cons head parts) from to) = parts
 behind_head other = nil
 
--- the plan that a form without a fault says, with its matches listed one by one
+-- the plan that a form without a fault says
 abbrev pub plan_at : Trees → Plan
 plan_at (cons seats (cons matches (cons turns parts))) =
     record {

@@ -4,6 +4,7 @@
 
 mod collections;
 mod cycles;
+mod draws;
 mod effects;
 mod four_cards;
 mod menus;
@@ -16,6 +17,10 @@ pub use collections::{
 pub use cycles::{
     directions_turn, inner_stages_start_at_the_current_player, innermost_stage_turns,
     last_name_counts, names_keep_directions, names_pass_inner_stages, players_name_themselves,
+};
+pub use draws::{
+    matches_of_a_range, picks_by_turn, rollouts_take_the_first_largest, shuffles_by_deal,
+    shuffles_of_nothing_count,
 };
 pub use effects::{
     counts_are_taken_once, domains_are_taken_once, repeats_are_limited, tests_are_made_once,
