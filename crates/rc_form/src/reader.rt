@@ -5,7 +5,7 @@ ghost use Rattle.rc_model.specs.Token.{Token, opening, closing, is_part};
 use crate::fault::{FormFail, FormKind};
 use crate::form::{Form, Span, atom_form, list_form};
 use crate::lexer::{atom_end, may_stand_in_atom};
-use crate::word::{MOST_BYTES, Word};
+use rc_names::{MOST_BYTES, Word};
 use std::alloc::{AllocError, Global};
 
 /// The most lists that may be open at one place.
@@ -130,7 +130,7 @@ impl Reader {
             from: from as u32,
             to: to as u32,
         };
-        let word = Word::new(&text[from..to]);
+        let word = Word::of(&text[from..to]);
         match self.put(atom_form(word, span)) {
             Ok(()) => Ok(to),
             Err(_) => Err(FormFail::Memory),
