@@ -2,7 +2,6 @@
 ghost use Rattle.std.specs.Prelude.{◌≡◌, ◌<◌, ◌≤◌, IsTrue, IfOk, IfSome, length, position, bytes_eq};
 ghost use Rattle.rc_form.specs.Form.{tree_of, trees_of, packed};
 ghost use Rattle.rc_grammar.specs.Faults.{fits};
-ghost use Rattle.rc_ast.specs.Names.{sort_seen};
 ghost use Rattle.rc_sheet_model.specs.Naming as model;
 ghost use Rattle.rc_reading.specs.ReadNames as reading;
 ghost use Rattle.rc_reading.specs.Gives.{Gives};
@@ -101,7 +100,7 @@ impl Reader {
         sort: Sort,
     ) -> Result<(u32, Scope), ReadFail>
         ensures given { Gives (λ bound. bound.0) result (reading.binder_at self.now.names.vars scope.now (tree_of form.now)) }
-        ensures inner { IfOk result (λ bound. bound.1 ≡ model.bind self.now scope.now bound.0 (sort_seen sort)) }
+        ensures inner { IfOk result (λ bound. bound.1 ≡ model.bind self.now scope.now bound.0 sort) }
     {
         let Form::Atom { word, .. } = form else {
             return Err(ReadFail::Meaningless);

@@ -12,7 +12,7 @@ use Rattle.rc_sheet_model.specs.WellFormed.{team_count, owner_count}
 use Rattle.rc_grammar.specs.Faults.{count}
 use Rattle.rc_grammar.specs.declared.grammar.Rule.{Rule}
 use Rattle.rc_grammar.specs.declared.grammar.Rule.TheVariants as rule
-use Rattle.rc_semantics.specs.Classes.{owner_count as owner_count_by}
+use Rattle.rc_sheet_model.specs.WellFormed.{owner_count_by}
 use Rattle.rc_semantics.specs.SecondParts.{Standing, Part, form, parts_of}
 use Rattle.rc_semantics.specs.SecondNames.{number_at, players_in, player_count, teams_in, teams_by, team_count as team_count_by}
 use Rattle.rc_reading.specs.ReadNames.{ensure}

@@ -10,7 +10,7 @@ use Rattle.rc_sheet_model.specs.Naming.{Naming, Variable, Scope, class_of, Named
 use Rattle.rc_model.specs.Words.{is_variable}
 use Rattle.rc_sheet_model.specs.Naming.{kind_word as kind_bytes}
 use Rattle.rc_sheet_model.specs.StandsExpressions.{StandsOwner, StandsHolder, StandsLoc, StandsNum}
-use Rattle.rc_semantics.specs.Classes.{same_sort, same_class}
+use Rattle.rc_sheet_model.specs.Sheet.{same_sort, same_class}
 use Rattle.rc_grammar.specs.Grammar.{forms_of, front_of}
 use Rattle.rc_grammar.specs.Keyword.{text_of}
 use Rattle.rc_grammar.specs.Faults.{is_form_word, fits_head, begins, second_word, is_told, told_rule, plain_rule, or_else, rule_of, fits}

@@ -283,15 +283,18 @@ abbrev pub AreTeams : ℕ → Option Teams → Type 0
 AreTeams players None = ⊤
 AreTeams players (Some teams) = ArePartition players teams
 
--- how many owners there are of a class
+-- how many owners there are of a class where there are so many players and teams
+abbrev pub owner_count_by : ℕ → ℕ → Class → ℕ
+owner_count_by players teams game_class = 1
+owner_count_by players teams player_class = players
+owner_count_by players teams team_class = teams
+
 abbrev pub team_count : Sheet → Option Teams → ℕ
 team_count sheet None = sheet.players
 team_count sheet (Some teams) = length teams
 
 abbrev pub owner_count : Sheet → Class → ℕ
-owner_count sheet game_class = 1
-owner_count sheet player_class = sheet.players
-owner_count sheet team_class = team_count sheet sheet.teams
+owner_count sheet = owner_count_by sheet.players (team_count sheet sheet.teams)
 
 -- 1 to 64 bytes that may stand in an atom
 abbrev pub is_atom : List ℕ → Bool
