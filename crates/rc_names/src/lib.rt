@@ -2,7 +2,8 @@
 #![tactic(auto)]
 
 mod classes;
+pub mod limits;
 mod word;
 
 pub use classes::{Class, LocKind, Sort};
-pub use word::{MOST_BYTES, Word};
+pub use word::Word;

@@ -1,14 +1,12 @@
 //! The bytes of an atom.
 
+use crate::limits::MOST_BYTES;
 use std::marker::Model;
-
-/// The most bytes that an atom may have.
-pub const MOST_BYTES: usize = 64;
 
 /// 1 to 64 bytes that may stand in an atom. Contracts see the list of them.
 #[derive(Clone, Copy, PartialEq, Eq, Hash, Debug)]
 pub struct Word {
-    bytes: [u8; 64],
+    bytes: [u8; MOST_BYTES],
     count: usize,
 }
 

@@ -19,13 +19,8 @@ use crate::scope::Scope;
 use rc_ast::{Best, Class, IntExpr, SheetItem, Test};
 use rc_form::Form;
 use rc_grammar::{Keyword, Place, Rule, is_form_word};
+use rc_names::limits::{MOST_SITES, MOST_STAGES};
 use std::alloc::Global;
-
-/// How many stages a sheet may have.
-const MOST_STAGES: u16 = 256;
-
-/// How many choices a sheet may have.
-const MOST_SITES: u8 = 64;
 
 /// The items of a sheet, which scores are best, and the score.
 pub type Body = (Vec<SheetItem>, (Best, IntExpr));

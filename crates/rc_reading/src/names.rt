@@ -12,10 +12,8 @@ use crate::scope::Scope;
 use rc_ast::{Sort, Word};
 use rc_form::Form;
 use rc_grammar::{Keyword, Place, Rule, is_form_word, is_variable, rule_of};
+use rc_names::limits::MOST_VARIABLES;
 use std::alloc::Global;
-
-/// The most binders around one place.
-const MOST_BINDERS: usize = 4;
 
 /// The form that a list has at a place, which has as many parts.
 #[tactic(auto, using(crate::proofs::Counts::count_packed))]
@@ -105,7 +103,7 @@ impl Reader {
         let Form::Atom { word, .. } = form else {
             return Err(ReadFail::Meaningless);
         };
-        if !is_variable(word.bytes()) || scope.len() > MOST_BINDERS {
+        if !is_variable(word.bytes()) || scope.len() > MOST_VARIABLES as usize {
             return Err(ReadFail::Meaningless);
         }
         let Some(number) = self.variable(word) else {

@@ -17,12 +17,7 @@ use crate::whole::Whole;
 use rc_form::Form;
 use rc_grammar::{Rule, SheetKind};
 use rc_names::Class;
-
-/// The most binders around one place.
-const MOST_VARIABLES: u32 = 4;
-
-/// The most repeats around one place.
-const MOST_REPEATS: u32 = 2;
+use rc_names::limits::{MOST_REPEATS, MOST_VARIABLES};
 
 /// What is wrong with an atom.
 pub fn atom_kind<'a>(
