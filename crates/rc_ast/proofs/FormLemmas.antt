@@ -3,14 +3,13 @@ use Rattle.std.proofs.Common.{◌≡◌, ℕ, List, [], ◌∷◌, ◌++◌, Vec
 use Rattle.rc_model.specs.Tree.{Tree, printed, printed_behind}
 use Rattle.rc_sheet_model.specs.Naming.{Naming}
 use Rattle.rc_sheet_model.specs.Printing.{Bound, binding, packed, keyword, row, named, one, coll_form, coll_forms, int_form, test_form, test_forms, domain_form, effect_form, effect_forms, class_form, item_form, item_forms}
-use Rattle.rc_ast.specs.declared.names.Class.{Class}
+use Rattle.rc_sheet_model.specs.Sheet.{Class}
 use Rattle.rc_ast.specs.declared.expressions.CollExpr.{CollExpr, Union}
 use Rattle.rc_ast.specs.declared.expressions.IntExpr.{IntExpr}
 use Rattle.rc_ast.specs.declared.expressions.Test.{Test, And, Or}
 use Rattle.rc_ast.specs.declared.expressions.Domain.{Domain}
 use Rattle.rc_ast.specs.declared.effects.Effect.{Effect, If, Repeat, Each}
 use Rattle.rc_ast.specs.declared.items.SheetItem.{SheetItem, Stage}
-use Rattle.rc_ast.specs.Names.{class_seen}
 use Rattle.rc_ast.specs.Expressions.{coll_seen, colls_seen, int_seen, test_seen, tests_seen, domain_seen}
 use Rattle.rc_ast.specs.Effects.{effect_seen, effects_seen}
 use Rattle.rc_ast.specs.Items.{item_seen, items_seen}
@@ -60,7 +59,7 @@ module _ (naming : Naming) (bound : Bound) where
 pub stage_form : (naming : Naming) (i : SheetItem) (number : ℕ) (class : Class) (end : Test) (body : Vec SheetItem Global) →
     i ≡ Stage number class end body →
     item_form naming (item_seen i)
-    ≡ row (keyword "stage" ∷ class_form (class_seen class) ∷ one "end"
+    ≡ row (keyword "stage" ∷ class_form class ∷ one "end"
     (test_form naming [] (test_seen end)) ∷ item_forms naming (items_seen body.items))
 stage_form naming i number class end body is =
     ap (λ j. item_form naming (item_seen j)) is ∙ ap (item_form naming) (stage_seen number class end body)

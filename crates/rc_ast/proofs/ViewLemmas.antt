@@ -2,14 +2,13 @@
 use Rattle.std.proofs.Common.{◌≡◌, ℕ, ◌+◌, ◌<◌, List, length, get_or, drop, Vec, Global, refl, sym, ap, ◌∙◌}
 use Rattle.std.proofs.lemmas.List.{at_drop_more}
 use Rattle.rc_sheet_model.specs.Sheet.{coll, union_of, test, and_of, or_of, effect, when, repeat, for_each, item, stage}
-use Rattle.rc_ast.specs.declared.names.Class.{Class}
+use Rattle.rc_sheet_model.specs.Sheet.{Class}
 use Rattle.rc_ast.specs.declared.expressions.CollExpr.{CollExpr, Union, Union', Row_of-CollExpr, end_of-CollExpr, more_of-CollExpr, items-the_row-CollExpr, items_hidden-the_row-CollExpr-0}
 use Rattle.rc_ast.specs.declared.expressions.IntExpr.{IntExpr}
 use Rattle.rc_ast.specs.declared.expressions.Test.{Test, And, Or, And', Or', Row_of-Test, end_of-Test, more_of-Test, items-the_row-Test, items_hidden-the_row-Test-1}
 use Rattle.rc_ast.specs.declared.expressions.Domain.{Domain}
 use Rattle.rc_ast.specs.declared.effects.Effect.{Effect, If, Repeat, Each, If', Repeat', Each', Row_of-Effect, end_of-Effect, more_of-Effect, items-the_row-Effect, items_hidden-the_row-Effect-0}
 use Rattle.rc_ast.specs.declared.items.SheetItem.{SheetItem, Stage, Stage', Row_of-SheetItem, end_of-SheetItem, more_of-SheetItem, items-the_row-SheetItem, items_hidden-the_row-SheetItem-0}
-use Rattle.rc_ast.specs.Names.{class_seen}
 use Rattle.rc_ast.specs.Expressions.{coll_seen, colls_of_row, colls_seen, int_seen, test_seen, tests_of_row, tests_seen, domain_seen}
 use Rattle.rc_ast.specs.Effects.{effect_seen, effects_of_row, effects_seen}
 use Rattle.rc_ast.specs.Items.{item_seen, items_of_row, items_seen}
@@ -87,10 +86,10 @@ each_seen domain bound es =
     ap (for_each (domain_seen domain) bound) (effects_listed row.0 row.1 ∙ ap effects_seen (items_hidden-the_row-Effect-0 es))
 
 pub stage_seen : (number : ℕ) (class : Class) (end : Test) (is : Vec SheetItem Global) →
-    item_seen (Stage number class end is) ≡ stage number (class_seen class) (test_seen end) (items_seen is.items)
+    item_seen (Stage number class end is) ≡ stage number class (test_seen end) (items_seen is.items)
 stage_seen number class end is =
     let row = items_in (Stage number class end is) in
-    ap (stage number (class_seen class) (test_seen end)) (items_listed row.0 row.1 ∙ ap items_seen (items_hidden-the_row-SheetItem-0 is))
+    ap (stage number class (test_seen end)) (items_listed row.0 row.1 ∙ ap items_seen (items_hidden-the_row-SheetItem-0 is))
 
 -- the items of a vector from a place on are the item there and those behind it
 pub colls_seen-drop : (cs : List CollExpr) (i : ℕ) (c : CollExpr) → i < length cs → c ≡ get_or cs i c →

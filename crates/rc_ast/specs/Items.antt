@@ -5,7 +5,6 @@ use Rattle.rc_sheet_model.specs.Sheet.{Alt as PureAlt, SheetItem as PureItem}
 use Rattle.rc_sheet_model.specs.Lists.{items_from}
 use Rattle.rc_ast.specs.declared.items.Alt.{Alt, Do as DoAlt, If as IfAlt, Any'}
 use Rattle.rc_ast.specs.declared.items.SheetItem.{SheetItem, Do, Stage', Choice, Row_of-SheetItem, end_of-SheetItem, more_of-SheetItem}
-use Rattle.rc_ast.specs.Names.{class_seen}
 use Rattle.rc_ast.specs.Expressions.{test_seen, domain_seen}
 use Rattle.rc_ast.specs.Effects.{effects_seen}
 
@@ -21,7 +20,7 @@ alts_seen alts = map alt_seen alts
 abbrev mutual
   pub item_seen : SheetItem → PureItem
   item_seen (Do effects) = do_item (effects_seen effects.items)
-  item_seen (Stage' number class end shape row) = stage number (class_seen class) (test_seen end) (items_of_row row)
+  item_seen (Stage' number class end shape row) = stage number class (test_seen end) (items_of_row row)
   item_seen (Choice site alts) = choice site (alts_seen alts.items)
 
   pub items_of_row : {m : _} → Row_of-SheetItem m → SheetItems

@@ -1,4 +1,3 @@
-pub mod Word
 pub mod Names
 pub mod Expressions
 pub mod Effects

@@ -1,13 +1,7 @@
 -- Names, owners and locations as the pure trees have them.
-use Rattle.rc_sheet_model.specs.Sheet.{game_class, player_class, team_class, player_sort, card_sort, group_sort, vloc, iloc, hloc, mem, game, current_player, current_team, team_of_current, team_of_var, who_var}
-use Rattle.rc_sheet_model.specs.Sheet.{Names as PureNames, Class as PureClass, Sort as PureSort, LocKind as PureKind, LocName as PureLocName, NumName as PureNumName, Who as PureWho, Loc as PureLoc, Num as PureNum}
+use Rattle.rc_sheet_model.specs.Sheet.{game, current_player, current_team, team_of_current, team_of_var, who_var}
+use Rattle.rc_sheet_model.specs.Sheet.{Names as PureNames, LocName as PureLocName, NumName as PureNumName, Who as PureWho, Loc as PureLoc, Num as PureNum}
 use Rattle.rc_ast.specs.declared.names.Names.{Names}
-use Rattle.rc_ast.specs.declared.names.Class.{Class}
-use Rattle.rc_ast.specs.declared.names.Class.TheVariants.{Game as GameClass, Player as PlayerClass, Team as TeamClass}
-use Rattle.rc_ast.specs.declared.names.Sort.{Sort}
-use Rattle.rc_ast.specs.declared.names.Sort.TheVariants.{Player as PlayerSort, Card as CardSort, Group as GroupSort}
-use Rattle.rc_ast.specs.declared.names.LocKind.{LocKind}
-use Rattle.rc_ast.specs.declared.names.LocKind.TheVariants.{Vloc, Iloc, Hloc, Mem}
 use Rattle.rc_ast.specs.declared.names.LocName.{LocName}
 use Rattle.rc_ast.specs.declared.names.NumName.{NumName}
 use Rattle.rc_ast.specs.declared.expressions.Who.{Who}
@@ -26,27 +20,11 @@ names_seen names =
       vars = names.vars.items;
     }
 
-abbrev pub class_seen : Class → PureClass
-class_seen GameClass = game_class
-class_seen PlayerClass = player_class
-class_seen TeamClass = team_class
-
-abbrev pub sort_seen : Sort → PureSort
-sort_seen PlayerSort = player_sort
-sort_seen CardSort = card_sort
-sort_seen GroupSort = group_sort
-
-abbrev pub kind_seen : LocKind → PureKind
-kind_seen Vloc = vloc
-kind_seen Iloc = iloc
-kind_seen Hloc = hloc
-kind_seen Mem = mem
-
 abbrev pub loc_name_seen : LocName → PureLocName
-loc_name_seen name = record { name = name.name; kind = kind_seen name.kind; class = class_seen name.class }
+loc_name_seen name = record { name = name.name; kind = name.kind; class = name.class }
 
 abbrev pub num_name_seen : NumName → PureNumName
-num_name_seen name = record { name = name.name; class = class_seen name.class }
+num_name_seen name = record { name = name.name; class = name.class }
 
 abbrev pub who_seen : Who → PureWho
 who_seen Game = game

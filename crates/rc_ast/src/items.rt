@@ -1,7 +1,6 @@
 //! The stages and choices of a game.
 ghost use Rattle.std.specs.Prelude.{◌≡◌};
 ghost use Rattle.rc_sheet_model.specs.Sheet.{stage};
-ghost use Rattle.rc_ast.specs.Names.{class_seen};
 ghost use Rattle.rc_ast.specs.Expressions.{test_seen};
 ghost use Rattle.rc_ast.specs.Items.{item_seen, items_seen};
 
@@ -34,7 +33,7 @@ pub enum SheetItem {
 impl SheetItem {
     /// The items, round after round, until the test holds before a round.
     pub fn stage_of(number: u16, class: Class, end: Test, body: Vec<SheetItem>) -> SheetItem
-        ensures { item_seen result ≡ stage number (class_seen class) (test_seen end) (items_seen body.items) }
+        ensures { item_seen result ≡ stage number class (test_seen end) (items_seen body.items) }
     {
         SheetItem::Stage {
             number,

@@ -5,6 +5,7 @@ ghost use Rattle.rc_model.specs.Clamp.{IsWithinClamp};
 ghost use Rattle.rc_deck.specs.Points.{entries_of, entry_of, points_added};
 
 use crate::Face;
+use rc_names::limits::LARGEST_NUMBER;
 
 /// What faces are worth.
 #[derive(Debug, Drop)]
@@ -20,9 +21,6 @@ pub struct PointEntry {
     pub points: i64,
 }
 
-// The largest number of a game, and the least one's opposite.
-const LIMIT: i64 = 1_000_000_000;
-
 /// What a face is worth: the sum of the points of all entries that it fits, then clamped to -1,000,000,000 ..
 /// 1,000,000,000.
 ///
@@ -36,7 +34,7 @@ pub fn points(map: &PointMap, face: &Face) -> i64
     for entry in &map.entries {
         sum += added(entry, face);
     }
-    sum.clamp(-LIMIT, LIMIT)
+    sum.clamp(-LARGEST_NUMBER, LARGEST_NUMBER)
 }
 
 // What an entry adds to the sum.

@@ -4,4 +4,3 @@ pub mod Lexer
 pub mod Read
 pub mod Reader
 pub mod SameForm
-pub mod Word

@@ -2,7 +2,7 @@
 ghost use Rattle.std.specs.Prelude.{◌≡◌};
 ghost use Rattle.rc_form.specs.Form.{tree_of, atom_tree, list_tree};
 
-use crate::word::Word;
+use rc_names::Word;
 
 /// Where a form stands: the offset of its first byte, and the offset behind its last byte.
 #[derive(Clone, Copy, PartialEq, Eq, Debug)]

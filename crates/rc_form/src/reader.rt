@@ -5,11 +5,9 @@ ghost use Rattle.rc_model.specs.Token.{Token, opening, closing, is_part};
 use crate::fault::{FormFail, FormKind};
 use crate::form::{Form, Span, atom_form, list_form};
 use crate::lexer::{atom_end, may_stand_in_atom};
-use crate::word::{MOST_BYTES, Word};
+use rc_names::Word;
+use rc_names::limits::{MOST_BYTES, MOST_OPEN};
 use std::alloc::{AllocError, Global};
-
-/// The most lists that may be open at one place.
-const MOST_OPEN: usize = 64;
 
 /// A list whose `)` hasn't come yet.
 #[derive(Drop)]
@@ -130,7 +128,7 @@ impl Reader {
             from: from as u32,
             to: to as u32,
         };
-        let word = Word::new(&text[from..to]);
+        let word = Word::of(&text[from..to]);
         match self.put(atom_form(word, span)) {
             Ok(()) => Ok(to),
             Err(_) => Err(FormFail::Memory),

@@ -7,9 +7,7 @@ use crate::fault::SheetKind;
 use crate::grammar::Place;
 use crate::keyword::Keyword;
 use rc_form::integer;
-
-/// The largest number of a game, and the least one's opposite.
-const LIMIT: i64 = 1_000_000_000;
+use rc_names::limits::LARGEST_NUMBER;
 
 /// What is wrong with an atom at a place.
 pub fn atom_kind(place: Place, word: &[u8]) -> Option<SheetKind>
@@ -79,7 +77,7 @@ fn is_within(least: i64, most: i64, word: &[u8]) -> bool
 fn is_number(word: &[u8]) -> bool
     ensures { result ≡ spec.is_number word.now }
 {
-    is_within(-LIMIT, LIMIT, word)
+    is_within(-LARGEST_NUMBER, LARGEST_NUMBER, word)
 }
 
 /// The kind of what a test refuses.

@@ -12,3 +12,4 @@ pub mod Transcript
 pub mod SmallGame
 pub mod SmallText
 pub mod Examples
+pub mod Limits

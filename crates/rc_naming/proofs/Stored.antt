@@ -4,7 +4,7 @@ use Rattle.std.specs.List.{list_any}
 use Rattle.std.specs.Map.{keys_of}
 use Rattle.std.specs.HashMap.{HashMap, get_by}
 use Rattle.std.proofs.lemmas.Map.Made.{is_some-lookup}
-use Rattle.rc_form.specs.contracts.word.WordPartialEq.TheImpl.{eq-value}
+use Rattle.rc_names.specs.contracts.word.WordPartialEq.TheImpl.{eq-value}
 use Rattle.rc_setup.proofs.WordLemmas.{list_any_word}
 use Rattle.rc_naming.proofs.Firsts.{list_any-map}
 

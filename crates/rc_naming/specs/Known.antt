@@ -5,8 +5,7 @@ use Rattle.rc_model.specs.Tree.{Tree, word, list, Trees, nil, cons}
 use Rattle.rc_sheet_model.specs.Naming.{Naming, kind_word}
 use Rattle.rc_sheet_model.specs.StandsSetup.{begins_with, lines_with}
 use Rattle.rc_sheet_model.specs.FormMentions.{gathered, all_gathered, attr_word, value_word, map_word, group_attr_words, group_value_words, branch_attr_words, branch_value_words, deck_groups, points_map, points_entries, entry_attr_words, entry_value_words, words_of, all_var_words}
-use Rattle.rc_ast.specs.Names.{kind_seen, class_seen}
-use Rattle.rc_ast.specs.declared.names.Class.{Class}
+use Rattle.rc_sheet_model.specs.Sheet.{Class}
 use Rattle.rc_semantics.specs.SecondNames.{OwnedMention}
 use Rattle.rc_naming.specs.Mentions.{Mentions, loc_mention, num_mention, deck_location}
 use Rattle.rc_naming.specs.Naming.{loc_names, num_names}
@@ -207,10 +206,10 @@ naming_by known =
 -- what is known, as it is stored
 abbrev pub loc_seen : List ℕ × Located → OwnedMention
 loc_seen entry =
-    record { name = entry.0; kind = kind_word (kind_seen entry.1.kind); class = class_seen entry.1.class }
+    record { name = entry.0; kind = kind_word entry.1.kind; class = entry.1.class }
 
 abbrev pub num_seen : List ℕ × Class → OwnedMention
-num_seen entry = record { name = entry.0; kind = codes "sto"; class = class_seen entry.1 }
+num_seen entry = record { name = entry.0; kind = codes "sto"; class = entry.1 }
 
 abbrev pub known_seen : Fields → Mentions
 known_seen known =

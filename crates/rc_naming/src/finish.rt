@@ -7,7 +7,7 @@ ghost use Rattle.rc_naming.specs.Naming.{naming_seen, loc_names, num_names};
 use crate::known::Known;
 use crate::numbering::Naming;
 use crate::uses::Located;
-use indexmap::{IndexMap, IndexSet};
+use indexmap::IndexMap;
 use rc_ast::{Class, LocName, Names, NumName};
 use rc_form::Word;
 use std::alloc::{AllocError, Global};
@@ -20,12 +20,12 @@ impl Known {
         ensures { IfOk result (λ naming. naming_seen naming ≡ naming_by self.now) }
     {
         let names = Names {
-            attrs: words_of(alloc, self.attrs.as_slice())?,
-            values: words_of(alloc, self.values.as_slice())?,
-            maps: words_of(alloc, self.maps.as_slice())?,
-            locs: keys_of(alloc, &self.locs)?,
-            nums: keys_of(alloc, &self.nums)?,
-            vars: words_of(alloc, self.vars.as_slice())?,
+            attrs: Vec::from_slice(alloc, self.attrs.as_slice())?,
+            values: Vec::from_slice(alloc, self.values.as_slice())?,
+            maps: Vec::from_slice(alloc, self.maps.as_slice())?,
+            locs: Vec::from_slice(alloc, self.locs.keys().as_slice())?,
+            nums: Vec::from_slice(alloc, self.nums.keys().as_slice())?,
+            vars: Vec::from_slice(alloc, self.vars.as_slice())?,
         };
         Ok(Naming {
             names,
@@ -33,22 +33,6 @@ impl Known {
             nums: num_names(alloc, &self.nums)?,
         })
     }
-}
-
-fn words_of(alloc: Global, words: &[Word]) -> Result<Vec<rc_ast::Word>, AllocError>
-    ensures { IfOk result (λ copies. copies.items ≡ words.now) }
-{
-    let mut copies = Vec::with_capacity(alloc, words.len())?;
-    for word in words {
-        copies.push(rc_ast::Word::of(word.bytes()))?;
-    }
-    Ok(copies)
-}
-
-fn keys_of<V>(alloc: Global, entries: &IndexMap<Word, V>) -> Result<Vec<rc_ast::Word>, AllocError>
-    ensures { IfOk result (λ copies. copies.items ≡ map (λ e. e.0) entries.now.entries) }
-{
-    words_of(alloc, entries.keys().as_slice())
 }
 
 fn loc_names(alloc: Global, locs: &IndexMap<Word, Located>) -> Result<Vec<LocName>, AllocError>

@@ -3,7 +3,6 @@ ghost use Rattle.std.specs.Prelude.{◌≡◌, is_some, IfSome, option_map, opti
 ghost use Rattle.rc_form.specs.Form.{tree_of, trees_of, packed};
 ghost use Rattle.rc_sheet_model.specs.FormMentions as form_mentions;
 ghost use Rattle.rc_sheet_model.specs.Naming.{kind_word};
-ghost use Rattle.rc_ast.specs.Names.{class_seen, kind_seen};
 ghost use Rattle.rc_semantics.specs.Classes.{class_at};
 ghost use Rattle.rc_semantics.specs.SecondParts.{bytes_of};
 ghost use Rattle.rc_naming.specs.Mentions.{loc_mention, num_mention};
@@ -108,7 +107,7 @@ pub fn map_in(parts: &[Form]) -> Option<Word>
 
 /// Whose a location or a stored number with this holder is.
 fn class_of(holder: &Form) -> Class
-    ensures { class_seen result ≡ class_at (tree_of holder.now) }
+    ensures { result ≡ class_at (tree_of holder.now) }
 {
     match holder {
         Form::Atom { .. } => {
@@ -131,7 +130,7 @@ fn class_of(holder: &Form) -> Class
 /// The kind of locations whose word the form is.
 fn kind_of(form: &Form) -> Option<LocKind>
     ensures known { is_some result ≡ form_mentions.is_kind (tree_of form.now) }
-    ensures word { IfSome result (λ kind. kind_word (kind_seen kind) ≡ bytes_of (tree_of form.now)) }
+    ensures word { IfSome result (λ kind. kind_word kind ≡ bytes_of (tree_of form.now)) }
 {
     if is_form_word(Keyword::Vloc, form) {
         Some(LocKind::Vloc)

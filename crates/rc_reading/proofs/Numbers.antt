@@ -7,7 +7,7 @@ use Rattle.std.proofs.lemmas.Bool.{false≢true}
 use Rattle.std.proofs.lemmas.Iterator.Adapters.{position_from-zero}
 use Rattle.std.proofs.lemmas.List.Quantifiers.{position-Some}
 use Rattle.std.proofs.lemmas.Slice.Eq.{bytes_eq-Decides}
-use Rattle.rc_form.specs.contracts.word.WordPartialEq.TheImpl.{eq-value}
+use Rattle.rc_names.specs.contracts.word.WordPartialEq.TheImpl.{eq-value}
 use Rattle.rc_setup.proofs.WordLemmas.{word_eq}
 use Rattle.rc_reading.specs.Reader.{Numbers}
 

@@ -4,7 +4,7 @@ use Rattle.rc_model.specs.Literal.{integer}
 use Rattle.rc_model.specs.Tree.{Tree, word, list, Trees, nil, cons}
 use Rattle.rc_sheet_model.specs.Sheet.{Sort, player_sort, card_sort, group_sort, Who, who_var, CardExpr, card_var, top_card, bottom_card, max_card, min_card, CollExpr, group_var, cards_in, filtered, union_of, CollExprs, no_coll, coll, IntExpr, literal, number, size_of, sum_of, worth_of, add, subtract, multiply, Test, eq_int, eq_card, eq_attr, eq_who, ne, less, less_eq, more, more_eq, has_value, and_of, or_of, not_of, all_of, any_of, Tests, no_test, test, Domain, each_player, each_card}
 use Rattle.rc_sheet_model.specs.Naming.{Naming, Variable, Scope, bind, sort_of, class_of}
-use Rattle.rc_semantics.specs.Classes.{same_class}
+use Rattle.rc_sheet_model.specs.Sheet.{same_class}
 use Rattle.rc_grammar.specs.Faults.{is_variable, is_form_word}
 use Rattle.rc_reading.specs.ReadNames.{◌>>=◌, both, rule_at, name_at, binder_at, place_in, variable_in, owner_rule, loc_parts, num_parts, map_at}
 use Rattle.rc_grammar.specs.declared.keyword.Keyword.TheVariants as keyword

@@ -3,7 +3,7 @@
 use Rattle.std.specs.Prelude.{ℕ, ◌+◌, nat_lt, nat_le, List, [], if◌then◌else◌, Option, Some, None, option_map}
 use Rattle.rc_model.specs.Tree.{Tree, word, list, Trees, nil, cons}
 use Rattle.rc_sheet_model.specs.Sheet.{Class, player_class, team_class, Test, IntExpr, Best, highest, lowest, Alt, SheetItem, do_item, stage, choice, SheetItems, no_item, item}
-use Rattle.rc_sheet_model.specs.Limits.{most_stages, most_sites}
+use Rattle.rc_model.specs.Limits.{most_stages, most_sites}
 use Rattle.rc_sheet_model.specs.Naming.{Naming, self_scope}
 use Rattle.rc_grammar.specs.Faults.{is_form_word, count}
 use Rattle.rc_reading.specs.ReadNames.{◌>>=◌, ensure, both, rule_at}

@@ -3,9 +3,9 @@
 use Rattle.std.specs.Prelude.{ℕ, nat_le, Bool, false, ◌&&◌, if◌then◌else◌, List, length, slice_get, position, bytes_eq, Option, Some, None, option_map}
 use Rattle.rc_model.specs.Tree.{Tree, word, list, Trees, nil, cons}
 use Rattle.rc_sheet_model.specs.Sheet.{Class, Sort, player_sort, LocKind, vloc, iloc, hloc, mem, LocName, NumName, Who, game, current_player, current_team, team_of_current, team_of_var, who_var, Loc, Num}
-use Rattle.rc_sheet_model.specs.Limits.{most_variables}
+use Rattle.rc_model.specs.Limits.{most_variables}
 use Rattle.rc_sheet_model.specs.Naming.{Naming, Variable, Scope, class_of}
-use Rattle.rc_semantics.specs.Classes.{same_sort, same_class}
+use Rattle.rc_sheet_model.specs.Sheet.{same_sort, same_class}
 use Rattle.rc_grammar.specs.Faults.{is_variable, is_form_word, rule_of, fits, count}
 use Rattle.rc_grammar.specs.declared.keyword.Keyword.{Keyword}
 use Rattle.rc_grammar.specs.declared.keyword.Keyword.TheVariants as keyword

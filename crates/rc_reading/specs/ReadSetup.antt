@@ -5,7 +5,7 @@ use Rattle.rc_model.specs.Literal.{integer}
 use Rattle.rc_model.specs.Deck.{Entry}
 use Rattle.rc_model.specs.DeckText.{DeckNames}
 use Rattle.rc_sheet_model.specs.Sheet.{Teams, DeckLine, Sheet, Who, game}
-use Rattle.rc_sheet_model.specs.Limits.{most_players}
+use Rattle.rc_model.specs.Limits.{most_players}
 use Rattle.rc_sheet_model.specs.Naming.{Naming}
 use Rattle.rc_setup.specs.Reading.{read_deck, read_entries}
 use Rattle.rc_reading.specs.ReadNames.{◌>>=◌, both, ensure, rule_at, name_at, loc_at}

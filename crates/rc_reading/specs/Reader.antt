@@ -4,13 +4,13 @@ use Rattle.std.specs.Map.{lookup}
 use Rattle.rc_sheet_model.specs.Naming.{Naming}
 use Rattle.rc_sheet_model.specs.Naming.{Variable as PureVariable}
 use Rattle.rc_sheet_model.specs.Naming.{Scope as PureScope}
-use Rattle.rc_ast.specs.Names.{names_seen, sort_seen, loc_name_seen, num_name_seen}
+use Rattle.rc_ast.specs.Names.{names_seen, loc_name_seen, num_name_seen}
 use Rattle.rc_reading.specs.declared.scope.Variable.{Variable}
 use Rattle.rc_reading.specs.declared.scope.Scope.TheInside.{Inside as ScopeFields}
 use Rattle.rc_reading.specs.declared.reader.Reader.TheInside.{Inside as Fields}
 
 abbrev pub variable_seen : Variable → PureVariable
-variable_seen variable = record { word = variable.word; sort = sort_seen variable.sort }
+variable_seen variable = record { word = variable.word; sort = variable.sort }
 
 abbrev pub scope_seen : ScopeFields → PureScope
 scope_seen scope = map variable_seen scope.variables.items

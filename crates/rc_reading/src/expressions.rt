@@ -2,7 +2,6 @@
 ghost use Rattle.std.specs.Prelude.{◌≡◌, ◌≤◌, IsTrue, length};
 ghost use Rattle.rc_form.specs.Form.{tree_of, trees_of, packed};
 ghost use Rattle.rc_ast.specs.Expressions.{card_seen, coll_seen, colls_seen, int_seen, test_seen, tests_seen, domain_seen};
-ghost use Rattle.rc_ast.specs.Names.{sort_seen};
 ghost use Rattle.rc_grammar.specs.Faults.{fits};
 ghost use Rattle.rc_reading.specs.ReadExpressions as reading;
 ghost use Rattle.rc_reading.specs.ReadParts as behind;
@@ -559,7 +558,7 @@ fn order_test(alloc: Global, rule: Rule, a: IntExpr, b: IntExpr) -> Result<Test,
 
 /// What a variable stands for that runs over this domain.
 pub fn sort_of(domain: &Domain) -> Sort
-    ensures { sort_seen result ≡ model.sort_of (domain_seen domain.now) }
+    ensures { result ≡ model.sort_of (domain_seen domain.now) }
 {
     match domain {
         Domain::Players => Sort::Player,

@@ -2,7 +2,6 @@
 ghost use Rattle.std.specs.Prelude.{◌≡◌, IsTrue, Option, length, option_map};
 ghost use Rattle.rc_form.specs.Form.{tree_of, trees_of, packed};
 ghost use Rattle.rc_sheet_model.specs.Sheet.{stage, SheetItems};
-ghost use Rattle.rc_ast.specs.Names.{class_seen};
 ghost use Rattle.rc_ast.specs.Expressions.{int_seen, test_seen};
 ghost use Rattle.rc_ast.specs.Items.{items_seen};
 ghost use Rattle.rc_ast.specs.Sheet.{best_seen};
@@ -20,13 +19,8 @@ use crate::scope::Scope;
 use rc_ast::{Best, Class, IntExpr, SheetItem, Test};
 use rc_form::Form;
 use rc_grammar::{Keyword, Place, Rule, is_form_word};
+use rc_names::limits::{MOST_SITES, MOST_STAGES};
 use std::alloc::Global;
-
-/// How many stages a sheet may have.
-const MOST_STAGES: u16 = 256;
-
-/// How many choices a sheet may have.
-const MOST_SITES: u8 = 64;
 
 /// The items of a sheet, which scores are best, and the score.
 pub type Body = (Vec<SheetItem>, (Best, IntExpr));
@@ -130,7 +124,7 @@ impl Reader {
     ) -> Result<(SheetItem, Begun), ReadFail>
         ensures { (read : Option (SheetItems × reading.Begun)) → Gives items_read body read
             → Gives item_read result
-            (option_map (λ p. (stage number (class_seen class) p.0 p.1.0, p.1.1))
+            (option_map (λ p. (stage number class p.0 p.1.0, p.1.1))
             (both (reading.end_at self.now (tree_of end.now)) read)) }
     {
         let end = self.end(alloc, end)?;
@@ -183,7 +177,7 @@ impl Reader {
         body: &[Form],
     ) -> Result<(SheetItem, Begun), ReadFail>
         ensures { Gives item_read result
-            (reading.stage_of (begun_seen begun) (class_seen class) (reading.end_at self.now (tree_of end.now))
+            (reading.stage_of (begun_seen begun) class (reading.end_at self.now (tree_of end.now))
             (reading.items_at self.now (reading.with_stage (begun_seen begun)) (packed (trees_of body.now)))) }
     {
         if begun.stages >= MOST_STAGES {

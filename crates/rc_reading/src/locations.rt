@@ -1,9 +1,8 @@
 //! Locations and stored numbers.
 ghost use Rattle.std.specs.Prelude.{◌≡◌, length, slice_get};
 ghost use Rattle.rc_form.specs.Form.{tree_of, trees_of, packed};
-ghost use Rattle.rc_ast.specs.Names.{class_seen, kind_seen, who_seen, loc_seen, num_seen};
+ghost use Rattle.rc_ast.specs.Names.{who_seen, loc_seen, num_seen};
 ghost use Rattle.rc_sheet_model.specs.Naming as model;
-ghost use Rattle.rc_semantics.specs.Classes as classes;
 ghost use Rattle.rc_reading.specs.ReadNames as reading;
 ghost use Rattle.rc_reading.specs.Gives.{Gives};
 
@@ -59,10 +58,10 @@ impl Reader {
 
     /// Whether the locations of a name are of the kind that a word says, and of this class.
     fn has_location(&self, kind: &Form, class: Class, name: u16) -> bool
-        ensures { result ≡ reading.is_loc_name (tree_of kind.now) (class_seen class) (slice_get self.now.locs name) }
+        ensures { result ≡ reading.is_loc_name (tree_of kind.now) class (slice_get self.now.locs name) }
     {
         match self.locs.get(usize::from(name)) {
-            Some(loc) => is_form_word(kind_word(loc.kind), kind) && same_class(loc.class, class),
+            Some(loc) => is_form_word(kind_word(loc.kind), kind) && loc.class == class,
             None => false,
         }
     }
@@ -103,10 +102,10 @@ impl Reader {
 
     /// Whether the stored numbers of a name are of this class.
     fn has_counter(&self, class: Class, name: u16) -> bool
-        ensures { result ≡ reading.is_num_name (class_seen class) (slice_get self.now.nums name) }
+        ensures { result ≡ reading.is_num_name class (slice_get self.now.nums name) }
     {
         match self.nums.get(usize::from(name)) {
-            Some(num) => same_class(num.class, class),
+            Some(num) => num.class == class,
             None => false,
         }
     }
@@ -114,7 +113,7 @@ impl Reader {
 
 /// The word of a kind of locations.
 fn kind_word(kind: LocKind) -> Keyword
-    ensures { result ≡ reading.kind_keyword (kind_seen kind) }
+    ensures { result ≡ reading.kind_keyword kind }
 {
     match kind {
         LocKind::Vloc => Keyword::Vloc,
@@ -126,22 +125,11 @@ fn kind_word(kind: LocKind) -> Keyword
 
 /// Who an owner is one of.
 pub fn class_of(who: Who) -> Class
-    ensures { class_seen result ≡ model.class_of (who_seen who) }
+    ensures { result ≡ model.class_of (who_seen who) }
 {
     match who {
         Who::Game => Class::Game,
         Who::CurrentPlayer | Who::Var(_) => Class::Player,
         Who::CurrentTeam | Who::TeamOfCurrent | Who::TeamOfVar(_) => Class::Team,
-    }
-}
-
-/// Whether two classes are one.
-pub fn same_class(a: Class, b: Class) -> bool
-    ensures { result ≡ classes.same_class (class_seen a) (class_seen b) }
-{
-    match (a, b) {
-        (Class::Game, Class::Game) | (Class::Player, Class::Player) | (Class::Team, Class::Team) =>
-            true,
-        _ => false,
     }
 }

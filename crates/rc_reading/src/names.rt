@@ -2,7 +2,6 @@
 ghost use Rattle.std.specs.Prelude.{◌≡◌, ◌<◌, ◌≤◌, IsTrue, IfOk, IfSome, length, position, bytes_eq};
 ghost use Rattle.rc_form.specs.Form.{tree_of, trees_of, packed};
 ghost use Rattle.rc_grammar.specs.Faults.{fits};
-ghost use Rattle.rc_ast.specs.Names.{sort_seen};
 ghost use Rattle.rc_sheet_model.specs.Naming as model;
 ghost use Rattle.rc_reading.specs.ReadNames as reading;
 ghost use Rattle.rc_reading.specs.Gives.{Gives};
@@ -13,10 +12,8 @@ use crate::scope::Scope;
 use rc_ast::{Sort, Word};
 use rc_form::Form;
 use rc_grammar::{Keyword, Place, Rule, is_form_word, is_variable, rule_of};
+use rc_names::limits::MOST_VARIABLES;
 use std::alloc::Global;
-
-/// The most binders around one place.
-const MOST_BINDERS: usize = 4;
 
 /// The form that a list has at a place, which has as many parts.
 #[tactic(auto, using(crate::proofs::Counts::count_packed))]
@@ -101,12 +98,12 @@ impl Reader {
         sort: Sort,
     ) -> Result<(u32, Scope), ReadFail>
         ensures given { Gives (λ bound. bound.0) result (reading.binder_at self.now.names.vars scope.now (tree_of form.now)) }
-        ensures inner { IfOk result (λ bound. bound.1 ≡ model.bind self.now scope.now bound.0 (sort_seen sort)) }
+        ensures inner { IfOk result (λ bound. bound.1 ≡ model.bind self.now scope.now bound.0 sort) }
     {
         let Form::Atom { word, .. } = form else {
             return Err(ReadFail::Meaningless);
         };
-        if !is_variable(word.bytes()) || scope.len() > MOST_BINDERS {
+        if !is_variable(word.bytes()) || scope.len() > MOST_VARIABLES as usize {
             return Err(ReadFail::Meaningless);
         }
         let Some(number) = self.variable(word) else {

@@ -10,10 +10,11 @@ use crate::names::rule_at;
 use rc_ast::Teams;
 use rc_form::{Form, integer};
 use rc_grammar::{Place, Rule};
+use rc_names::limits::MOST_PLAYERS;
 use std::alloc::Global;
 
 /// The largest number that a player may have.
-const LAST_PLAYER: u8 = 7;
+const LAST_PLAYER: u8 = MOST_PLAYERS - 1;
 
 /// A number from one to another.
 #[tactic(auto, unfolding(crate::specs::ReadSetup::count_at))]

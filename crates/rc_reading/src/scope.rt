@@ -1,7 +1,5 @@
 //! The variables that are bound around a place of a form.
 ghost use Rattle.std.specs.Prelude.{◌≡◌, ◌<◌, ◌≤◌, IfSome, length, position, bytes_eq};
-ghost use Rattle.rc_ast.specs.Names.{sort_seen};
-ghost use Rattle.rc_semantics.specs.Classes as classes;
 ghost use Rattle.rc_reading.specs.ReadNames as reading;
 ghost use Rattle.rc_reading.specs.Gives.{Gives};
 
@@ -66,7 +64,7 @@ impl Scope {
     /// The scope with one more variable.
     pub fn with(&self, alloc: Global, word: &Word, sort: Sort) -> Result<Scope, ReadFail>
         requires room { length self.now ≤ 4 }
-        ensures scope { IfOk result (λ scope. scope ≡ self.now ++ record { word = word.now; sort = sort_seen sort } ∷ []) }
+        ensures scope { IfOk result (λ scope. scope ≡ self.now ++ record { word = word.now; sort = sort } ∷ []) }
         ensures memory { OnErr result (result ≡ Err Memory) }
     {
         let mut variables = Vec::from_slice(alloc, &self.variables)?;
@@ -93,7 +91,7 @@ impl Scope {
 
     /// What the variable in this place stands for.
     pub fn sort_at(&self, place: u8) -> Option<Sort>
-        ensures { option_map sort_seen result ≡ option_map (λ variable. variable.sort) (slice_get self.now place) }
+        ensures { result ≡ option_map (λ variable. variable.sort) (slice_get self.now place) }
     {
         Some(self.variables.get(usize::from(place))?.sort)
     }
@@ -101,7 +99,7 @@ impl Scope {
     /// The place of a variable, where it has this sort.
     #[tactic(auto, unfolding(crate::specs::ReadNames::variable_in))]
     pub fn variable(&self, sort: Sort, word: &[u8]) -> Result<u8, ReadFail>
-        ensures { Gives (λ place. place) result (reading.variable_in self.now (sort_seen sort) word.now) }
+        ensures { Gives (λ place. place) result (reading.variable_in self.now sort word.now) }
     {
         if !is_variable(word) {
             return Err(ReadFail::Meaningless);
@@ -117,10 +115,10 @@ impl Scope {
 
     /// Whether the variable in this place has this sort.
     fn has_sort(&self, place: u8, sort: Sort) -> bool
-        ensures { result ≡ reading.has_sort (sort_seen sort) (slice_get self.now place) }
+        ensures { result ≡ reading.has_sort sort (slice_get self.now place) }
     {
         match self.variables.get(usize::from(place)) {
-            Some(variable) => same_sort(variable.sort, sort),
+            Some(variable) => variable.sort == sort,
             None => false,
         }
     }
@@ -134,15 +132,4 @@ fn place_among(variables: &[Variable], word: &[u8]) -> Option<usize>
     variables
         .iter()
         .position(|variable| word == variable.word.bytes())
-}
-
-/// Whether two sorts are one.
-fn same_sort(a: Sort, b: Sort) -> bool
-    ensures { result ≡ classes.same_sort (sort_seen a) (sort_seen b) }
-{
-    match (a, b) {
-        (Sort::Player, Sort::Player) | (Sort::Card, Sort::Card) | (Sort::Group, Sort::Group) =>
-            true,
-        _ => false,
-    }
 }

@@ -14,10 +14,8 @@ use rc_ast::{DeckLine, Teams};
 use rc_deck::PointMap;
 use rc_form::Form;
 use rc_grammar::{Place, Rule};
+use rc_names::limits::MOST_PLAYERS;
 use std::alloc::Global;
-
-/// The most players of a sheet.
-const MOST_PLAYERS: u8 = 8;
 
 /// What a setup says.
 #[derive(Drop)]

@@ -6,7 +6,7 @@ ghost use Rattle.rc_reading.specs.Sides.{side_seen};
 ghost use Rattle.rc_reading.specs.Gives.{Gives};
 
 use crate::fail::ReadFail;
-use crate::locations::{class_of, same_class};
+use crate::locations::class_of;
 use crate::scope::Scope;
 use rc_ast::{CardExpr, IntExpr, Sort, Test, Who};
 use rc_form::integer;
@@ -71,7 +71,7 @@ pub fn equal_test(alloc: Global, a: Side, b: Side) -> Result<Test, ReadFail>
             let Side::Owner(b) = b else {
                 return Err(ReadFail::Meaningless);
             };
-            if !same_class(class_of(a), class_of(b)) {
+            if class_of(a) != class_of(b) {
                 return Err(ReadFail::Meaningless);
             }
             Ok(Test::EqWho(a, b))

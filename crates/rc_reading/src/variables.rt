@@ -7,13 +7,13 @@ use rc_form::Word;
 use std::alloc::{AllocError, Global};
 
 /// The number of each of these words, which is its first place. The time is linear in their number.
-pub fn numbers_of(alloc: Global, words: &[rc_ast::Word]) -> Result<IndexMap<Word, u32>, AllocError>
+pub fn numbers_of(alloc: Global, words: &[Word]) -> Result<IndexMap<Word, u32>, AllocError>
     requires few { length words.now ≤ 4294967295 }
     ensures { IfOk result (λ numbers. Numbers words.now numbers.entries) }
 {
     let mut numbers = IndexMap::with_capacity(alloc, words.len())?;
     for (place, word) in words.iter().enumerate() {
-        add_first(&mut numbers, Word::new(word.bytes()), place as u32)?;
+        add_first(&mut numbers, *word, place as u32)?;
     }
     Ok(numbers)
 }

@@ -5,8 +5,8 @@ use Rattle.std.specs.Option.{is_some}
 use Rattle.std.proofs.lemmas.Grind.{flat_map-append}
 use Rattle.std.proofs.lemmas.List.Sums.{fold-append}
 use Rattle.rc_model.specs.Tree.{Trees}
-use Rattle.rc_sheet_model.specs.Limits.{most_cards, most_locations, most_numbers, most_attrs, most_values, most_maps, most_stages, most_sites}
-use Rattle.rc_semantics.specs.Classes.{owner_count}
+use Rattle.rc_model.specs.Limits.{most_cards, most_locations, most_numbers, most_attrs, most_values, most_maps, most_stages, most_sites}
+use Rattle.rc_sheet_model.specs.WellFormed.{owner_count_by}
 use Rattle.rc_semantics.specs.SecondParts.{Role, given_value, Standing, Part, atom, form, part_at, word_in}
 use Rattle.rc_semantics.specs.SecondNames.{player_count, team_count, cards_in, faces_of, attributes_in, value_by, values_in, maps_in, mention_of, locations_in, numbers_of, first_mention, owned, firsts_from, stages_in, choices_in, different_count, OwnedMention}
 use Rattle.rc_semantics.specs.SecondFaults.{passes, card_count, attribute_count, value_count, map_count, stage_count, choice_count, location_count, number_count, atom_counts, counts_of, is_too_deep, is_too_many}
@@ -93,10 +93,10 @@ module _ (all : List Part) (whole : Whole) (knows : Knows all whole) (earlier : 
       ∙ ap (λ n. min (owned (player_count all) n (flat_map given earlier)) (most + 1)) knows.teams_known
 
   -- how many owners there are of a mention's class
-  owners_known : (mention : OwnedMention) → owners_of whole mention ≡ owner_count (player_count all) (team_count all) mention.class
+  owners_known : (mention : OwnedMention) → owners_of whole mention ≡ owner_count_by (player_count all) (team_count all) mention.class
   owners_known mention =
-      ap (λ n. owner_count n (teams_of whole) mention.class) knows.players_known
-      ∙ ap (λ n. owner_count (player_count all) n mention.class) knows.teams_known
+      ap (λ n. owner_count_by n (teams_of whole) mention.class) knows.players_known
+      ∙ ap (λ n. owner_count_by (player_count all) n mention.class) knows.teams_known
 
   -- the first mention of each name is that of the earlier parts
   abbrev FirstsOf : Owned → (Part → List OwnedMention) → Type 0
@@ -109,7 +109,7 @@ module _ (all : List Part) (whole : Whole) (knows : Knows all whole) (earlier : 
   owned_last given owned' part mention firsts gives =
       ap (owned (player_count all) (team_count all)) (given_last given part)
       ∙ ap (λ ms. owned (player_count all) (team_count all) (flat_map given earlier ++ ms)) gives
-      ∙ adds_last (λ m. owner_count (player_count all) (team_count all) m.class) mention (flat_map given earlier)
+      ∙ adds_last (λ m. owner_count_by (player_count all) (team_count all) m.class) mention (flat_map given earlier)
       ∙ ap (λ n. count_in given earlier + cond (is_some (first_mention mention.name (flat_map given earlier))) 0 n)
       (sym (owners_known mention))
       ∙ ap (λ found. count_in given earlier + cond (is_some found) 0 (owners_of whole mention)) (sym (firsts mention.name))

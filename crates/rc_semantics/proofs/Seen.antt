@@ -4,7 +4,7 @@ use Rattle.std.specs.List.{flat_map, fold, sum_by}
 use Rattle.std.proofs.lemmas.List.{append-nil}
 use Rattle.std.proofs.lemmas.Bool.{ne_eqb}
 use Rattle.rc_model.specs.Tree.{Trees}
-use Rattle.rc_sheet_model.specs.Limits.{most_cards, most_locations, most_numbers, most_stages, most_sites}
+use Rattle.rc_model.specs.Limits.{most_cards, most_locations, most_numbers, most_stages, most_sites}
 use Rattle.rc_semantics.specs.SecondParts.{Part, atom, form}
 use Rattle.rc_semantics.specs.SecondNames.{some_of, players_in, teams_in, cards_in, attributes_in, values_in, maps_in, member_by, members_in, locations_in, numbers_of, first_mention, firsts_from, stages_in, choices_in}
 use Rattle.rc_semantics.specs.Summary.{Whole, Summary, nothing_owned, nothing_seen, counted, owners_of, see, summary_of}

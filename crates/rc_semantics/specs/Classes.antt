@@ -9,18 +9,6 @@ use Rattle.rc_grammar.specs.declared.grammar.Place.TheVariants as place
 use Rattle.rc_grammar.specs.declared.grammar.Rule.{Rule}
 use Rattle.rc_grammar.specs.declared.grammar.Rule.TheVariants as rule
 
-abbrev pub same_sort : Sort → Sort → Bool
-same_sort player_sort player_sort = true
-same_sort card_sort card_sort = true
-same_sort group_sort group_sort = true
-same_sort sort sort' = false
-
-abbrev pub same_class : Class → Class → Bool
-same_class game_class game_class = true
-same_class player_class player_class = true
-same_class team_class team_class = true
-same_class class class' = false
-
 -- the class of an owner as it is written
 abbrev pub class_of_rule : Option Rule → Class
 class_of_rule (Some rule.CurrentPlayer) = player_class
@@ -29,12 +17,6 @@ class_of_rule found = team_class
 abbrev pub class_at : Tree → Class
 class_at (word bytes from to) = if is_word keyword.Game bytes then game_class else player_class
 class_at (list parts from to) = class_of_rule (rule_of place.Owner parts)
-
--- how many owners there are of a class
-abbrev pub owner_count : ℕ → ℕ → Class → ℕ
-owner_count players teams game_class = 1
-owner_count players teams player_class = players
-owner_count players teams team_class = teams
 
 -- what is around the body of a binder
 abbrev pub bound_in : Around → List ℕ → Sort → Around

@@ -5,11 +5,12 @@ use Rattle.std.specs.List.{list_any, list_all}
 use Rattle.rc_model.specs.Tree.{Tree, word, list, Trees}
 use Rattle.rc_sheet_model.specs.Sheet.{Class, game_class, player_class, team_class, Sort, player_sort, card_sort, group_sort}
 use Rattle.rc_model.specs.Numbers.{below}
-use Rattle.rc_sheet_model.specs.Limits.{most_cards, most_locations, most_numbers, most_attrs, most_values, most_maps, most_stages, most_sites, most_variables, most_repeats}
+use Rattle.rc_model.specs.Limits.{most_cards, most_locations, most_numbers, most_attrs, most_values, most_maps, most_stages, most_sites, most_variables, most_repeats}
 use Rattle.rc_sheet_model.specs.Naming.{Variable, Scope}
 use Rattle.rc_sheet_model.specs.WellFormed.{Around, is_among}
 use Rattle.rc_grammar.specs.Faults.{is_word, is_variable, rule_of, faults, first}
-use Rattle.rc_semantics.specs.Classes.{same_sort, same_class, class_at}
+use Rattle.rc_sheet_model.specs.Sheet.{same_sort, same_class}
+use Rattle.rc_semantics.specs.Classes.{class_at}
 use Rattle.rc_semantics.specs.SecondParts.{Role, used_attribute, used_value, used_map, given_value, deck_location, card_location, reference_location, second_side, Standing, Part, atom, form, parts_of, offset_of, is_binder, part_at, word_in}
 use Rattle.rc_semantics.specs.SecondNames.{some_of, is_named, number_by, players_in, player_count, teams_in, team_count, team_players, members_in, cards_in, attributes_in, values_in, maps_in, mention_of, locations_in, numbers_of, first_mention, owned, stages_in, choices_in, different_count, OwnedMention}
 pub use Rattle.rc_semantics.specs.declared.role.SideSort.{SideSort}

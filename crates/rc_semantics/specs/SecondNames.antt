@@ -6,7 +6,8 @@ use Rattle.rc_model.specs.Tree.{Tree, word, list, Trees, nil, cons}
 use Rattle.rc_sheet_model.specs.Sheet.{Class}
 use Rattle.rc_model.specs.Words.{different}
 use Rattle.rc_grammar.specs.Faults.{count}
-use Rattle.rc_semantics.specs.Classes.{class_at, owner_count}
+use Rattle.rc_sheet_model.specs.WellFormed.{owner_count_by}
+use Rattle.rc_semantics.specs.Classes.{class_at}
 use Rattle.rc_semantics.specs.SecondParts.{Role, given_value, Part, atom, form, part_at, word_in}
 use Rattle.rc_grammar.specs.declared.grammar.Place.{Place}
 use Rattle.rc_grammar.specs.declared.grammar.Place.TheVariants as place
@@ -143,7 +144,7 @@ firsts_from seen (mention ∷ mentions) =
 -- How many there are in all of the owners of these names: each name has one location, or one number, for each owner of its
 -- class.
 abbrev pub owned : ℕ → ℕ → List OwnedMention → ℕ
-owned players teams mentions = sum_by (λ mention. owner_count players teams mention.class) (firsts_from [] mentions)
+owned players teams mentions = sum_by (λ mention. owner_count_by players teams mention.class) (firsts_from [] mentions)
 
 -- stages and choices
 abbrev pub stages_in : Part → List ℕ

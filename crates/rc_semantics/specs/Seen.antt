@@ -2,21 +2,15 @@
 use Rattle.std.specs.Prelude.{ℕ, nat_lt, if◌then◌else◌, List, map, Option, Some, None}
 use Rattle.std.specs.Borrow.{Bor}
 use Rattle.rc_model.specs.Tree.{Tree, list, nil}
-use Rattle.rc_sheet_model.specs.Sheet.{game_class, player_class, team_class, player_sort, card_sort, group_sort}
-use Rattle.rc_sheet_model.specs.Sheet.{Class as PureClass, Sort as PureSort}
 use Rattle.rc_sheet_model.specs.Naming.{Variable as PureVariable}
 use Rattle.rc_sheet_model.specs.WellFormed.{Around as PureAround}
 use Rattle.rc_form.specs.Form.{tree_of, trees_of, packed}
 use Rattle.rc_form.specs.declared.form.Form.{Form}
 use Rattle.rc_semantics.specs.SecondNames.{OwnedMention}
 use Rattle.rc_semantics.specs.SecondParts.{Standing as PureStanding}
-use Rattle.rc_semantics.specs.declared.around.Sort.{Sort}
-use Rattle.rc_semantics.specs.declared.around.Sort.TheVariants.{Player as PlayerSort, Card as CardSort, Group as GroupSort}
 use Rattle.rc_semantics.specs.declared.around.Variable.{Variable}
 use Rattle.rc_semantics.specs.declared.around.Inner.{Inner}
 use Rattle.rc_semantics.specs.declared.around.Inner.TheVariants.{Same, All, Behind}
-use Rattle.rc_semantics.specs.declared.owned.Class.{Class}
-use Rattle.rc_semantics.specs.declared.owned.Class.TheVariants.{Game as GameClass, Player as PlayerClass, Team as TeamClass}
 use Rattle.rc_semantics.specs.declared.owned.Mention.{Mention}
 use Rattle.rc_semantics.specs.declared.standing.Standing.{Standing}
 
@@ -29,21 +23,11 @@ part_seen (Some part) = tree_of part.now
 abbrev pub words_seen : List (Bor (List ℕ)) → List (List ℕ)
 words_seen words = map (λ word. word.now) words
 
-abbrev pub sort_seen : Sort → PureSort
-sort_seen PlayerSort = player_sort
-sort_seen CardSort = card_sort
-sort_seen GroupSort = group_sort
-
-abbrev pub class_seen : Class → PureClass
-class_seen GameClass = game_class
-class_seen PlayerClass = player_class
-class_seen TeamClass = team_class
-
 abbrev pub variable_seen : Variable → PureVariable
-variable_seen variable = record { word = variable.word.now; sort = sort_seen variable.sort }
+variable_seen variable = record { word = variable.word.now; sort = variable.sort }
 
 abbrev pub mention_seen : Mention → OwnedMention
-mention_seen mention = record { name = mention.name.now; kind = mention.kind.now; class = class_seen mention.class }
+mention_seen mention = record { name = mention.name.now; kind = mention.kind.now; class = mention.class }
 
 -- what is around the part of a form at this index, where this is around the form
 abbrev pub inner_seen : PureAround → Inner → ℕ → PureAround

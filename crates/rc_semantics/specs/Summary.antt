@@ -5,10 +5,11 @@ use Rattle.std.specs.List.{list_all}
 use Rattle.rc_model.specs.Tree.{Trees}
 use Rattle.rc_model.specs.Words.{with_word}
 use Rattle.rc_model.specs.Numbers.{below}
-use Rattle.rc_sheet_model.specs.Limits.{most_cards, most_locations, most_numbers, most_attrs, most_values, most_maps, most_stages, most_sites}
+use Rattle.rc_model.specs.Limits.{most_cards, most_locations, most_numbers, most_attrs, most_values, most_maps, most_stages, most_sites}
 use Rattle.rc_sheet_model.specs.WellFormed.{is_among}
 use Rattle.rc_grammar.specs.Faults.{count}
-use Rattle.rc_semantics.specs.Classes.{class_at, owner_count}
+use Rattle.rc_sheet_model.specs.WellFormed.{owner_count_by}
+use Rattle.rc_semantics.specs.Classes.{class_at}
 use Rattle.rc_semantics.specs.SecondParts.{Role, used_attribute, used_value, used_map, given_value, Standing, Part, atom, form, offset_of, is_binder, part_at, word_in}
 use Rattle.rc_semantics.specs.SecondNames.{is_named, number_by, number_at, team_players, member_by, faces_of, mention_of, first_mention, OwnedMention}
 use Rattle.rc_semantics.specs.SecondFaults.{is_bound, is_unbound, is_in_stage, is_misused, is_other_side, is_other_mention, is_misplaced, is_too_deep}
@@ -139,7 +140,7 @@ is_mentioned mention owned = is_some (first_mention mention.name owned.firsts)
 
 -- how many owners there are of a mention's class
 abbrev pub owners_of : Whole → OwnedMention → ℕ
-owners_of whole mention = owner_count (players_of whole) (teams_of whole) mention.class
+owners_of whole mention = owner_count_by (players_of whole) (teams_of whole) mention.class
 
 -- how many locations, or numbers, a mention makes
 abbrev pub new_owned : Whole → OwnedMention → Owned → ℕ

@@ -4,22 +4,15 @@ ghost use Rattle.rc_form.specs.Form.{tree_of, trees_of, packed};
 ghost use Rattle.rc_semantics.specs.Classes as classes;
 ghost use Rattle.rc_semantics.specs.SecondFaults as faults;
 ghost use Rattle.rc_semantics.specs.SecondParts as parts_spec;
-ghost use Rattle.rc_semantics.specs.Seen.{part_seen, sort_seen, variable_seen, inner_seen};
+ghost use Rattle.rc_semantics.specs.Seen.{part_seen, variable_seen, inner_seen};
 
 use crate::fault::SheetFail;
 use crate::parts::{part_at, word_in};
 use rc_form::Form;
 use rc_grammar::{Keyword, Place, Rule, is_word, rule_of};
+use rc_names::Sort;
 use std::alloc::Global;
 use std::marker::Model;
-
-/// What a variable stands for.
-#[derive(Clone, Copy, PartialEq, Eq, Debug)]
-pub enum Sort {
-    Player,
-    Card,
-    Group,
-}
 
 /// A variable that is bound around a place.
 #[derive(Clone, Copy)]
@@ -59,7 +52,7 @@ pub enum Inner<'a> {
 }
 
 impl<'a> Around<'a> {
-    ghost use Rattle.rc_sheet_model.specs.Limits.{most_variables, most_repeats};
+    ghost use Rattle.rc_model.specs.Limits.{most_variables, most_repeats};
     ghost use Rattle.rc_sheet_model.specs.Sheet.{player_class, team_class};
     ghost use Rattle.rc_sheet_model.specs.WellFormed as model;
 
@@ -137,7 +130,7 @@ impl<'a> Around<'a> {
     /// What is around the body of a binder.
     fn bound_in(&self, alloc: Global, word: &'a [u8], sort: Sort) -> Result<Around<'a>, SheetFail>
         requires { self.now.binders < most_variables }
-        ensures around { IfOk result (λ around. around ≡ classes.bound_in self.now word.now (sort_seen sort)) }
+        ensures around { IfOk result (λ around. around ≡ classes.bound_in self.now word.now sort) }
         ensures memory { OnErr result (result ≡ Err SheetFail.Memory) }
     {
         let mut around = self.copied(alloc)?;
@@ -202,7 +195,7 @@ impl<'a> Around<'a> {
 
     /// What the variable with this word stands for, where it is in scope.
     pub fn sort_of(&self, word: &[u8]) -> Option<Sort>
-        ensures { option_map sort_seen result
+        ensures { result
             ≡ option_map (λ variable. variable.sort) (faults.variable_in self.now.scope word.now) }
     {
         sort_among(&self.scope, word)
@@ -231,7 +224,7 @@ impl<'a> Inner<'a> {
 
 /// What the first variable with this word stands for.
 fn sort_among(scope: &[Variable<'_>], word: &[u8]) -> Option<Sort>
-    ensures { option_map sort_seen result
+    ensures { result
         ≡ option_map (λ variable. variable.sort) (faults.variable_in (map variable_seen scope.now) word.now) }
 {
     for variable in scope {
@@ -244,7 +237,7 @@ fn sort_among(scope: &[Variable<'_>], word: &[u8]) -> Option<Sort>
 
 /// What a variable stands for that runs over this part.
 fn sort_over(part: Option<&Form>) -> Sort
-    ensures { sort_seen result ≡ parts_spec.sort_over (part_seen part.entry) }
+    ensures { result ≡ parts_spec.sort_over (part_seen part.entry) }
 {
     match part {
         Some(Form::Atom { word, .. }) if is_word(Keyword::Player, word.bytes()) => Sort::Player,

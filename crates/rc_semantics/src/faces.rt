@@ -6,9 +6,10 @@ ghost use Rattle.rc_semantics.specs.Seen.{part_seen};
 ghost use Rattle.rc_semantics.specs.Groups.{faces_by, branch_by};
 
 use rc_form::Form;
+use rc_names::limits::MOST_CARDS;
 
 /// More cards than a form may have. No count goes further.
-const TOO_MANY: u32 = 513;
+const TOO_MANY: u32 = MOST_CARDS as u32 + 1;
 
 /// The faces of a deck's tree.
 pub fn faces_of(deck: Option<&Form>) -> u32

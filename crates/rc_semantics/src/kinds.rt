@@ -3,12 +3,12 @@ ghost use Rattle.std.specs.Prelude.{◌≡◌, ◌||◌, ℕ, List, false, IfNon
 ghost use Rattle.rc_form.specs.Form.{trees_of, packed};
 ghost use Rattle.rc_semantics.specs.SecondFaults as faults;
 ghost use Rattle.rc_semantics.specs.SecondParts as parts_spec;
-ghost use Rattle.rc_semantics.specs.Seen.{class_seen, standing_seen};
+ghost use Rattle.rc_semantics.specs.Seen.{standing_seen};
 ghost use Rattle.rc_semantics.specs.Summary as spec;
 
 use crate::around::Around;
 use crate::names::Names;
-use crate::owned::{Class, class_at};
+use crate::owned::class_at;
 use crate::parts::{is_binder, misses_player, part_at, word_in};
 use crate::sides::{is_misused, is_other_side, is_unbound};
 use crate::standing::Standing;
@@ -16,12 +16,8 @@ use crate::summary::Summary;
 use crate::whole::Whole;
 use rc_form::Form;
 use rc_grammar::{Rule, SheetKind};
-
-/// The most binders around one place.
-const MOST_VARIABLES: u32 = 4;
-
-/// The most repeats around one place.
-const MOST_REPEATS: u32 = 2;
+use rc_names::Class;
+use rc_names::limits::{MOST_REPEATS, MOST_VARIABLES};
 
 /// What is wrong with an atom.
 pub fn atom_kind<'a>(
@@ -145,7 +141,7 @@ fn is_unknown_form<'a>(
 
 /// Whether a stage of this class is around.
 fn is_in_stage(around: &Around<'_>, class: Class) -> bool
-    ensures { result ≡ faults.is_in_stage around.now (class_seen class) }
+    ensures { result ≡ faults.is_in_stage around.now class }
 {
     match class {
         Class::Game => false,

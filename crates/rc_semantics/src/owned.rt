@@ -1,11 +1,12 @@
 //! Locations and stored numbers, by their names and owners.
 ghost use Rattle.std.specs.Prelude.{◌≡◌, ◌<◌, ◌+◌, ◌^◌, map, option_map, Err, OnOk, OnErr};
 ghost use Rattle.rc_form.specs.Form.{tree_of, trees_of, packed};
+ghost use Rattle.rc_sheet_model.specs.WellFormed as model;
 ghost use Rattle.rc_semantics.specs.Classes as classes;
 ghost use Rattle.rc_semantics.specs.SecondFaults as faults;
 ghost use Rattle.rc_semantics.specs.SecondNames as names;
 ghost use Rattle.rc_semantics.specs.Summary as spec;
-ghost use Rattle.rc_semantics.specs.Seen.{part_seen, class_seen, mention_seen};
+ghost use Rattle.rc_semantics.specs.Seen.{part_seen, mention_seen};
 
 use crate::fault::SheetFail;
 use crate::parts::{part_at, word_in};
@@ -13,16 +14,9 @@ use crate::role::Role;
 use crate::whole::Whole;
 use rc_form::Form;
 use rc_grammar::{Keyword, Place, Rule, is_word, rule_of};
+use rc_names::Class;
 use std::alloc::Global;
 use std::marker::Model;
-
-/// Who owns something: the game, a player or a team.
-#[derive(Clone, Copy, PartialEq, Eq, Debug)]
-pub enum Class {
-    Game,
-    Player,
-    Team,
-}
 
 /// A mention of a location or of a stored number: its name, the word of its kind, and the class of its owner as it is written.
 #[derive(Clone, Copy)]
@@ -45,7 +39,7 @@ pub fn mention_of<'a>(parts: &'a [Form]) -> Mention<'a>
 
 /// The class of an owner as it is written.
 pub fn class_at(part: Option<&Form>) -> Class
-    ensures { class_seen result ≡ classes.class_at (part_seen part.entry) }
+    ensures { result ≡ classes.class_at (part_seen part.entry) }
 {
     match part {
         Some(Form::Atom { word, .. }) if is_word(Keyword::Game, word.bytes()) => Class::Game,
@@ -159,7 +153,7 @@ fn first_among<'a>(mentions: &[Mention<'a>], name: &[u8]) -> Option<Mention<'a>>
 
 /// How many owners there are of a class.
 fn owners_of(whole: &Whole<'_>, class: Class) -> u64
-    ensures { result ≡ classes.owner_count (spec.players_of whole.now) (spec.teams_of whole.now) (class_seen class) }
+    ensures { result ≡ model.owner_count_by (spec.players_of whole.now) (spec.teams_of whole.now) class }
 {
     match class {
         Class::Game => 1,

@@ -1,17 +1,18 @@
 //! Variables at their places, and sides of equations.
 ghost use Rattle.std.specs.Prelude.{◌≡◌, ℕ, List, Some, option_map, option_and_then};
 ghost use Rattle.std.specs.List.{list_any};
-ghost use Rattle.rc_semantics.specs.Classes.{same_sort};
+ghost use Rattle.rc_sheet_model.specs.Sheet.{same_sort};
 ghost use Rattle.rc_semantics.specs.SecondFaults as faults;
 ghost use Rattle.rc_semantics.specs.SecondNames.{some_of};
-ghost use Rattle.rc_semantics.specs.Seen.{part_seen, sort_seen, standing_seen};
+ghost use Rattle.rc_semantics.specs.Seen.{part_seen, standing_seen};
 
-use crate::around::{Around, Sort};
+use crate::around::Around;
 use crate::parts::part_at;
 use crate::role::{Role, SideSort};
 use crate::standing::Standing;
 use rc_form::Form;
 use rc_grammar::{Place, Rule, is_variable, rule_of};
+use rc_names::Sort;
 
 /// Whether a variable that a place takes isn't in scope.
 pub fn is_unbound(at: &Standing<'_, '_>, word: &[u8]) -> bool
@@ -45,7 +46,7 @@ fn takes_variables(place: Place) -> bool
 
 /// Whether a place takes variables of this sort.
 fn takes_sort(place: Place, sort: Sort) -> bool
-    ensures { result ≡ list_any (same_sort (sort_seen sort)) (faults.sorts_at place) }
+    ensures { result ≡ list_any (same_sort sort) (faults.sorts_at place) }
 {
     match place {
         Place::Holder | Place::Owner | Place::Player => sort == Sort::Player,
@@ -94,7 +95,7 @@ fn side_of(around: &Around<'_>, part: Option<&Form>) -> Option<SideSort>
 
 /// What a variable of this sort is as a side.
 fn side_of_sort(sort: Option<Sort>) -> Option<SideSort>
-    ensures { result ≡ option_and_then faults.side_of_sort (option_map sort_seen sort) }
+    ensures { result ≡ option_and_then faults.side_of_sort sort }
 {
     match sort {
         Some(Sort::Player) => Some(SideSort::Player),

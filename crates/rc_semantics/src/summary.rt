@@ -16,23 +16,24 @@ use crate::standing::Standing;
 use crate::whole::Whole;
 use rc_form::Form;
 use rc_grammar::{Place, Rule};
+use rc_names::limits;
 use std::alloc::Global;
 use std::marker::Model;
 
 /// The most cards of a form.
-const MOST_CARDS: u64 = 512;
+const MOST_CARDS: u64 = limits::MOST_CARDS as u64;
 
 /// The most locations, and the most stored numbers, of all owners.
-const MOST_OWNED: u64 = 256;
+const MOST_OWNED: u64 = limits::MOST_OWNED as u64;
 
 /// The most attributes, values and point maps.
-const MOST_NAMES: u64 = 256;
+const MOST_NAMES: u64 = limits::MOST_NAMES as u64;
 
 /// The most stages.
-const MOST_STAGES: u64 = 256;
+const MOST_STAGES: u64 = limits::MOST_STAGES as u64;
 
 /// The most choices.
-const MOST_CHOICES: u64 = 64;
+const MOST_CHOICES: u64 = limits::MOST_SITES as u64;
 
 /// Whether a line of players stood, and a line of teams; whether just one line of teams did; the players in teams; the
 /// different point maps, attributes and values; locations and numbers; and how many cards, stages and choices there are,

@@ -7,7 +7,7 @@ use Rattle.std.proofs.Math.Seq.{take-append_seam}
 use Rattle.std.proofs.lemmas.Bool.{and_parts, and_from, eqb-true, eq-eqb, false≢true}
 use Rattle.std.proofs.lemmas.Slice.Eq.{bytes_eq-Decides}
 use Rattle.std.proofs.lemmas.Map.Keys.{apart_from_distinct}
-use Rattle.rc_form.specs.contracts.word.WordPartialEq.TheImpl.{eq-value}
+use Rattle.rc_names.specs.contracts.word.WordPartialEq.TheImpl.{eq-value}
 use Rattle.rc_setup.specs.Naming.{AllDiffer}
 
 -- the bytes of a word's field

@@ -12,13 +12,14 @@ ghost use Rattle.rc_setup.specs.Size.{count_of_parts};
 use crate::{Names, deck_of, entries_of, names_of};
 use rc_deck::{DeckTree, Face, Memory, PointMap, count_of, faces_of, points};
 use rc_form::Form;
+use rc_names::limits;
 use std::alloc::Global;
 
 /// The most cards of a deck.
-const MOST_CARDS: usize = 512;
+const MOST_CARDS: usize = limits::MOST_CARDS as usize;
 
 /// The most attributes, and the most values.
-const MOST_NAMES: usize = 256;
+const MOST_NAMES: usize = limits::MOST_NAMES as usize;
 
 /// What each card of a deck is worth, from the first to the last. `None` where the forms are no deck and entries, where the
 /// deck has more than 512 cards, where there are more than 256 attributes or values, or where a card has an attribute

@@ -30,7 +30,7 @@ use Rattle.rc_sheet.proofs.FewNames as few
 use Rattle.rc_sheet.proofs.SomePlayers.{some_players, some_teams}
 use Rattle.rc_sheet.proofs.FewNames.{few_attributes}
 use Rattle.rc_sheet.proofs.FewOwned.{few_locations, few_numbers}
-use Rattle.rc_sheet_model.specs.Limits.{most_attrs, most_values, most_maps, most_locations, most_numbers}
+use Rattle.rc_model.specs.Limits.{most_attrs, most_values, most_maps, most_locations, most_numbers}
 
 -- neither round finds a fault
 none_first : (xs ys : List SheetFault) → or_fault (first xs) (first ys) ≡ None → (xs ≡ []) × (ys ≡ [])

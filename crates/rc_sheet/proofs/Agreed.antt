@@ -4,7 +4,7 @@ use Rattle.std.proofs.lemmas.Bool.{and_parts, not-false}
 use Rattle.std.proofs.lemmas.List.{append-nil, append_assoc}
 use Rattle.std.proofs.lemmas.Grind.{flat_map-append}
 use Rattle.std.proofs.lemmas.Slice.Eq.{bytes_eq-Decides}
-use Rattle.rc_semantics.specs.Classes.{same_class}
+use Rattle.rc_sheet_model.specs.Sheet.{same_class}
 use Rattle.rc_semantics.specs.SecondParts.{Part}
 use Rattle.rc_semantics.specs.SecondNames.{first_mention, OwnedMention}
 use Rattle.rc_semantics.specs.SecondFaults.{differs_from, is_other_mention, faults_of, faults_behind}

@@ -8,7 +8,7 @@ use Rattle.std.proofs.lemmas.Grind.{flat_map-append}
 use Rattle.std.proofs.lemmas.Map.Made.{length-le_from_is_member}
 use Rattle.std.proofs.lemmas.Slice.Eq.{bytes_eq-Decides}
 use Rattle.rc_model.specs.Tree.{Tree}
-use Rattle.rc_sheet_model.specs.Limits.{most_attrs, most_values, most_maps}
+use Rattle.rc_model.specs.Limits.{most_attrs, most_values, most_maps}
 use Rattle.rc_model.specs.Words.{different, different_from}
 use Rattle.rc_sheet_model.specs.FormMentions.{attr_mentions, value_mentions, map_mentions, names_of}
 use Rattle.rc_grammar.specs.Faults.{faults}

@@ -6,13 +6,13 @@ use Rattle.std.proofs.lemmas.List.Sums.{sum_by-cons}
 use Rattle.std.proofs.lemmas.Grind.{flat_map-append}
 use Rattle.rc_model.specs.Tree.{Tree}
 use Rattle.rc_sheet_model.specs.Sheet.{Class, game_class, player_class, team_class}
-use Rattle.rc_sheet_model.specs.Limits.{most_locations, most_numbers}
+use Rattle.rc_model.specs.Limits.{most_locations, most_numbers}
 use Rattle.rc_model.specs.Words.{different}
 use Rattle.rc_sheet_model.specs.FormMentions.{names_of}
 use Rattle.rc_grammar.specs.Faults.{faults}
 use Rattle.rc_grammar.specs.declared.grammar.Place.TheVariants as place
 use Rattle.rc_grammar.specs.declared.grammar.Rule.TheVariants as rule
-use Rattle.rc_semantics.specs.Classes.{owner_count}
+use Rattle.rc_sheet_model.specs.WellFormed.{owner_count_by}
 use Rattle.rc_semantics.specs.SecondParts.{Part, atom, form, parts_of}
 use Rattle.rc_semantics.specs.SecondNames.{player_count, team_count, locations_in, numbers_of, firsts_from, owned, OwnedMention}
 use Rattle.rc_semantics.specs.SecondFaults.{location_count, number_count, second_faults}
@@ -48,18 +48,18 @@ numbers_watched all earlier (form at r parts from) is le =
     keeps_owned numbers_of (player_count all) (team_count all) most_numbers earlier (form at r parts from) refl le
 
 -- each name has an owner, where there are players and teams
-some_owner : (players teams : ℕ) (class : Class) → 1 ≤ players → 1 ≤ teams → 1 ≤ owner_count players teams class
+some_owner : (players teams : ℕ) (class : Class) → 1 ≤ players → 1 ≤ teams → 1 ≤ owner_count_by players teams class
 some_owner players teams game_class some many = omega arith
 some_owner players teams player_class some many = some
 some_owner players teams team_class some many = many
 
 no_more_names : (players teams : ℕ) (mentions : List OwnedMention) → 1 ≤ players → 1 ≤ teams
-    → length mentions ≤ sum_by (λ mention. owner_count players teams mention.class) mentions
+    → length mentions ≤ sum_by (λ mention. owner_count_by players teams mention.class) mentions
 no_more_names players teams [] some many = omega arith
 no_more_names players teams (mention ∷ mentions) some many =
     let here = some_owner players teams mention.class some many in
     let later = no_more_names players teams mentions some many in
-    let sum = sum_by-cons (λ mention. owner_count players teams mention.class) mention mentions in
+    let sum = sum_by-cons (λ mention. owner_count_by players teams mention.class) mention mentions in
     omega (arith, here, later, sum)
 
 -- there are no more names than owned ones

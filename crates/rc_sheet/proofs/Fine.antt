@@ -2,7 +2,7 @@
 use Rattle.std.proofs.Common.{◌≡◌, ℕ, true, false, ◌||◌, nat_le, List, length, flat_map, slice_get, position, bytes_eq, Some}
 use Rattle.rc_model.specs.Tree.{Tree, Trees}
 use Rattle.rc_sheet_model.specs.Sheet.{LocName, NumName}
-use Rattle.rc_sheet_model.specs.Limits.{most_variables, most_repeats}
+use Rattle.rc_model.specs.Limits.{most_variables, most_repeats}
 use Rattle.rc_sheet_model.specs.Naming.{Naming}
 use Rattle.rc_sheet_model.specs.Naming.{kind_word as kind_bytes}
 use Rattle.rc_semantics.specs.Classes.{class_at}

@@ -5,7 +5,7 @@ use Rattle.std.proofs.lemmas.List.Elements.{recursion_from_All}
 use Rattle.rc_model.specs.Tree.{Tree, word, list, Trees, nil, cons}
 use Rattle.rc_sheet_model.specs.Sheet.{IntExpr, Best, highest, lowest, SheetItems, Sheet}
 use Rattle.rc_sheet_model.specs.Lists.{item_list}
-use Rattle.rc_sheet_model.specs.Limits.{most_stages, most_sites}
+use Rattle.rc_model.specs.Limits.{most_stages, most_sites}
 use Rattle.rc_sheet_model.specs.Mentions.{sites_in}
 use Rattle.rc_sheet_model.specs.Mentions.{stages_in as stages_in_tree}
 use Rattle.rc_sheet_model.specs.Naming.{Naming, sheet_naming}

@@ -8,7 +8,7 @@ use Rattle.rc_model.specs.Tree.{Tree, word, list, Trees, nil, cons}
 use Rattle.rc_model.specs.Deck.{no_group, group, no_branch, branch, face_count, branch_count}
 use Rattle.rc_model.specs.DeckText.{DeckNames}
 use Rattle.rc_sheet_model.specs.Sheet.{DeckLine, Sheet}
-use Rattle.rc_sheet_model.specs.Limits.{most_cards}
+use Rattle.rc_model.specs.Limits.{most_cards}
 use Rattle.rc_sheet_model.specs.Naming.{Naming}
 use Rattle.rc_setup.specs.Naming.{number_of}
 use Rattle.rc_setup.specs.Reading.{unless_nil, plain, read_groups, read_group, read_branches, read_branch, is_word, read_deck}

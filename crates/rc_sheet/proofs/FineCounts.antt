@@ -2,7 +2,7 @@
 use Rattle.std.proofs.Common.{◌≡◌, ℕ, ◌≤◌, Bool, true, false, ◌||◌, ◌&&◌, nat_le, nat_lt, List, [], ◌∷◌, ◌++◌, length, flat_map, append_assoc, append-nil, refl, sym, subst, ap, arith, ltb-false, le-leb}
 use Rattle.std.proofs.lemmas.Bool.{or_parts}
 use Rattle.rc_model.specs.Tree.{Tree}
-use Rattle.rc_sheet_model.specs.Limits.{most_stages, most_sites}
+use Rattle.rc_model.specs.Limits.{most_stages, most_sites}
 use Rattle.rc_semantics.specs.SecondParts.{Part, atom, form, parts_of}
 use Rattle.rc_semantics.specs.SecondNames.{stages_in, choices_in}
 use Rattle.rc_semantics.specs.SecondFaults.{is_too_many, passes, stage_count, choice_count, faults_of, faults_behind, second_faults}

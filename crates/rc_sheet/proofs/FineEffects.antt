@@ -3,7 +3,7 @@ use Rattle.std.proofs.Common.{◌≡◌, ℕ, suc, ◌≤◌, ◌||◌, true, co
 use Rattle.rc_model.specs.Tree.{Tree, word, list, Trees, nil, cons}
 use Rattle.rc_sheet_model.specs.Sheet.{Class, game_class, player_class, team_class, Sort, card_sort, group_sort, End, top, bottom, Loc, Domain, each_player, each_card, each_group, move, move_all, remember, forget, shuffle, set_to, increase, decrease, when, repeat, next_is, turn_round, Effects, no_effect, effect, do_alt, if_alt, Sheet}
 use Rattle.rc_sheet_model.specs.Lists.{effect_list}
-use Rattle.rc_sheet_model.specs.Limits.{most_repeats}
+use Rattle.rc_model.specs.Limits.{most_repeats}
 use Rattle.rc_sheet_model.specs.Naming.{sort_of, sheet_naming}
 use Rattle.rc_sheet_model.specs.WellFormed.{Around, in_repeat, IsInStage, IsLoc, IsColl, IsRange, IsDomain, IsEffect, AreEffects, IsAlt, AreAlts}
 use Rattle.rc_semantics.specs.Classes.{bound_in}

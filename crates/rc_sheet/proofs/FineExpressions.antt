@@ -10,7 +10,7 @@ use Rattle.rc_sheet_model.specs.Lists.{coll_list, test_list}
 use Rattle.rc_model.specs.Clamp.{IsWithinClamp, largest_number}
 use Rattle.rc_sheet_model.specs.Naming.{Scope, sort_of, class_of, sheet_naming}
 use Rattle.rc_sheet_model.specs.WellFormed.{Around, is_equality, IsAttr, HasSort, IsOwner, IsCard, IsColl, AreColls, IsInt, IsTest, AreTests, IsRange}
-use Rattle.rc_semantics.specs.Classes.{same_sort, same_class}
+use Rattle.rc_sheet_model.specs.Sheet.{same_sort, same_class}
 use Rattle.rc_semantics.specs.SecondParts.{Standing, standing_in, sort_by_form, sort_over, bytes_of}
 use Rattle.rc_semantics.specs.SecondFaults.{sorts_at, same_side, side_of_variable, side_of_form, side_of, differ, is_other_side}
 use Rattle.rc_semantics.specs.SecondNames.{some_of}

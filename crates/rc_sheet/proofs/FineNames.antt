@@ -8,11 +8,12 @@ use Rattle.std.proofs.lemmas.Slice.Eq.{bytes_eq-Decides}
 use Rattle.std.proofs.Math.Bool.{or-false}
 use Rattle.rc_model.specs.Tree.{Tree, word, list, Trees, nil, cons}
 use Rattle.rc_sheet_model.specs.Sheet.{Class, game_class, player_class, team_class, Sort, player_sort, LocKind, vloc, iloc, hloc, mem, Who, game, current_player, current_team, who_var, Loc, Sheet}
-use Rattle.rc_sheet_model.specs.Limits.{most_variables}
+use Rattle.rc_model.specs.Limits.{most_variables}
 use Rattle.rc_sheet_model.specs.Naming.{Variable, Scope, class_of, sheet_naming}
 use Rattle.rc_sheet_model.specs.Naming.{kind_word as kind_bytes}
 use Rattle.rc_sheet_model.specs.WellFormed.{Around, IsAttr, IsValue, IsMap, HasSort, IsOwner, IsHolder, var_word, IsBinder, behind, is_mem, holds_references, IsLoc, IsNum}
-use Rattle.rc_semantics.specs.Classes.{same_sort, same_class, class_of_rule, class_at, bound_in}
+use Rattle.rc_sheet_model.specs.Sheet.{same_sort, same_class}
+use Rattle.rc_semantics.specs.Classes.{class_of_rule, class_at, bound_in}
 use Rattle.rc_semantics.specs.SecondParts.{Standing, part_at, bytes_of, word_in}
 use Rattle.rc_semantics.specs.SecondNames.{some_of, mention_of, OwnedMention}
 use Rattle.rc_semantics.specs.SecondFaults.{is_other_sort, is_misplaced, sorts_at}

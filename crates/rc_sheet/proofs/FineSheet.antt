@@ -5,7 +5,7 @@ use Rattle.std.specs.List.{All}
 use Rattle.rc_model.specs.Tree.{Tree, list, Trees, cons}
 use Rattle.rc_sheet_model.specs.Sheet.{SheetItems, no_item, Best, highest, IntExpr, literal, Sheet}
 use Rattle.rc_sheet_model.specs.Lists.{item_list}
-use Rattle.rc_sheet_model.specs.Limits.{most_stages, most_sites}
+use Rattle.rc_model.specs.Limits.{most_stages, most_sites}
 use Rattle.rc_sheet_model.specs.Naming.{Naming}
 use Rattle.rc_sheet_model.specs.WellFormed.{outside, scored, IsInt, AreItems}
 use Rattle.rc_semantics.specs.SecondParts.{standing_alone, parts_of}

@@ -9,7 +9,7 @@ use Rattle.std.proofs.lemmas.Grind.{flat_map-append}
 use Rattle.rc_model.specs.Tree.{Tree, word, list, Trees, nil, cons}
 use Rattle.rc_model.specs.Literal.{integer}
 use Rattle.rc_sheet_model.specs.Sheet.{Teams, Sheet}
-use Rattle.rc_sheet_model.specs.Limits.{most_players}
+use Rattle.rc_model.specs.Limits.{most_players}
 use Rattle.rc_sheet_model.specs.WellFormed.{is_among, ArePartition, AreTeams}
 use Rattle.rc_grammar.specs.Grammar.{forms_of}
 use Rattle.rc_grammar.specs.Faults.{faults, faults_at, faults_in, rule_of, place_at, count}

@@ -3,7 +3,7 @@ use Rattle.std.proofs.Common.{◌≡◌, ℕ, ◌+◌, nat_lt, nat_le, List, [],
 use Rattle.std.specs.List.{range_with_len}
 use Rattle.rc_model.specs.Tree.{Tree, word, list, Trees, nil, cons}
 use Rattle.rc_sheet_model.specs.Sheet.{Class, player_class, team_class, Test, Alt, SheetItem, stage, choice, SheetItems, no_item}
-use Rattle.rc_sheet_model.specs.Limits.{most_stages, most_sites}
+use Rattle.rc_model.specs.Limits.{most_stages, most_sites}
 use Rattle.rc_sheet_model.specs.Mentions.{stages_in_item, stages_in, sites_in_item, sites_in}
 use Rattle.rc_model.specs.Numbers.{below}
 use Rattle.rc_sheet_model.specs.Naming.{Naming}

@@ -6,13 +6,13 @@ use Rattle.std.proofs.lemmas.List.{append-nil}
 use Rattle.rc_model.specs.Tree.{Tree, Trees, nil, cons}
 use Rattle.rc_sheet_model.specs.StandsSetup.{begins_with, lines_with}
 use Rattle.rc_sheet_model.specs.Sheet.{Class, LocName, NumName, Sheet}
-use Rattle.rc_sheet_model.specs.Limits.{most_locations, most_numbers}
+use Rattle.rc_model.specs.Limits.{most_locations, most_numbers}
 use Rattle.rc_sheet_model.specs.Naming.{sheet_naming}
 use Rattle.rc_sheet_model.specs.FormMentions.{all_gathered}
 use Rattle.rc_sheet_model.specs.WellFormed.{owner_count}
 use Rattle.rc_grammar.specs.Faults.{faults}
 use Rattle.rc_grammar.specs.declared.grammar.Place.TheVariants as place
-use Rattle.rc_semantics.specs.Classes.{owner_count as owner_count_by}
+use Rattle.rc_sheet_model.specs.WellFormed.{owner_count_by}
 use Rattle.rc_semantics.specs.SecondParts.{parts_of}
 use Rattle.rc_semantics.specs.SecondNames.{player_count, team_count, locations_in, numbers_of, owned, OwnedMention}
 use Rattle.rc_semantics.specs.SecondFaults.{location_count, number_count, second_faults}

@@ -6,13 +6,13 @@ use Rattle.std.proofs.lemmas.List.{append-nil, map-append}
 use Rattle.rc_model.specs.Tree.{Tree, word, list, Trees, nil, cons}
 use Rattle.rc_model.specs.Literal.{integer}
 use Rattle.rc_sheet_model.specs.Sheet.{Teams, Class, game_class, player_class, team_class, Sheet}
-use Rattle.rc_sheet_model.specs.Limits.{most_players}
+use Rattle.rc_model.specs.Limits.{most_players}
 use Rattle.rc_sheet_model.specs.Naming.{Naming}
 use Rattle.rc_sheet_model.specs.WellFormed.{team_count, owner_count}
 use Rattle.rc_grammar.specs.Faults.{count}
 use Rattle.rc_grammar.specs.declared.grammar.Rule.{Rule}
 use Rattle.rc_grammar.specs.declared.grammar.Rule.TheVariants as rule
-use Rattle.rc_semantics.specs.Classes.{owner_count as owner_count_by}
+use Rattle.rc_sheet_model.specs.WellFormed.{owner_count_by}
 use Rattle.rc_semantics.specs.SecondParts.{Standing, Part, form, parts_of}
 use Rattle.rc_semantics.specs.SecondNames.{number_at, players_in, player_count, teams_in, teams_by, team_count as team_count_by}
 use Rattle.rc_reading.specs.ReadNames.{ensure}

@@ -3,7 +3,7 @@ use Rattle.std.proofs.Common.{ℕ, ◌≤◌, nat_lt, nat_le, List, [], ◌∷�
 use Rattle.rc_model.specs.Tree.{Tree, word, list, Trees, nil, cons}
 use Rattle.rc_sheet_model.specs.Sheet.{Class, player_class, team_class, Test, Alt, stage, choice, SheetItems, no_item, Sheet}
 use Rattle.rc_sheet_model.specs.Mentions.{stages_in, sites_in}
-use Rattle.rc_sheet_model.specs.Limits.{most_players, most_stages, most_sites}
+use Rattle.rc_model.specs.Limits.{most_players, most_stages, most_sites}
 use Rattle.rc_sheet_model.specs.Naming.{Naming}
 use Rattle.rc_grammar.specs.Faults.{count}
 use Rattle.rc_grammar.specs.declared.grammar.Place.TheVariants as place

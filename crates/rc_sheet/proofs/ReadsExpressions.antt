@@ -7,7 +7,7 @@ use Rattle.rc_sheet_model.specs.Rows.{◌▸◌, End, Row, Atom}
 use Rattle.rc_sheet_model.specs.Naming.{Naming, Variable, Scope, bind, sort_of, class_of, Named}
 use Rattle.rc_model.specs.Words.{is_variable}
 use Rattle.rc_sheet_model.specs.StandsExpressions.{StandsOwner, StandsCard, StandsColl, StandColls, StandsInt, StandsTest, StandTests, StandsRange}
-use Rattle.rc_semantics.specs.Classes.{same_class}
+use Rattle.rc_sheet_model.specs.Sheet.{same_class}
 use Rattle.rc_grammar.specs.Faults.{is_form_word}
 use Rattle.rc_reading.specs.ReadNames.{◌>>=◌, rule_at, name_at, binder_at, place_in, variable_in, loc_parts, num_parts}
 use Rattle.rc_reading.specs.ReadExpressions.{range_of, Side, number_side, card_side, value_side, owner_side, side_of_sort, variable_side, side_word, equal_test, side_by, card_at, card_rule, coll_at, coll_rule, colls_at, int_at, int_rule, side_at, value_parts, test_at, test_rule, tests_at, range_at}

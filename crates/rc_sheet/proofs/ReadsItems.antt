@@ -3,7 +3,7 @@ use Rattle.std.proofs.Common.{◌≡◌, ℕ, nat_lt, nat_le, List, [], Option, 
 use Rattle.std.proofs.lemmas.Option.{none-some, same_Some}
 use Rattle.rc_model.specs.Tree.{Tree, word, list, Trees, nil, cons}
 use Rattle.rc_sheet_model.specs.Sheet.{Class, player_class, team_class, Test, IntExpr, Best, highest, lowest, Alt, stage, choice, SheetItems, no_item, item}
-use Rattle.rc_sheet_model.specs.Limits.{most_stages, most_sites}
+use Rattle.rc_model.specs.Limits.{most_stages, most_sites}
 use Rattle.rc_sheet_model.specs.Rows.{◌▸◌, End, AtLeast, Row, Atom}
 use Rattle.rc_sheet_model.specs.Rows.{Some as SomeOf}
 use Rattle.rc_sheet_model.specs.Naming.{Naming, self_scope}

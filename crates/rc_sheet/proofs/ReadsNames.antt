@@ -5,12 +5,12 @@ use Rattle.std.proofs.lemmas.Slice.Eq.{bytes_eq-Decides}
 use Rattle.rc_model.specs.Tree.{Tree, word, list, Trees, nil, cons, count}
 use Rattle.rc_sheet_model.specs.Sheet.{Class, game_class, player_class, team_class, Sort, player_sort, card_sort, group_sort, LocKind, vloc, iloc, hloc, mem, LocName, NumName, Who, game, current_player, current_team, who_var}
 use Rattle.rc_sheet_model.specs.Rows.{◌▸◌, End, Row, Word, Atom}
-use Rattle.rc_sheet_model.specs.Limits.{most_variables}
+use Rattle.rc_model.specs.Limits.{most_variables}
 use Rattle.rc_sheet_model.specs.Naming.{Naming, Variable, Scope, class_of, Named, Binder, InScope}
 use Rattle.rc_model.specs.Words.{is_variable}
 use Rattle.rc_sheet_model.specs.Naming.{kind_word as kind_bytes}
 use Rattle.rc_sheet_model.specs.StandsExpressions.{StandsOwner, StandsHolder, StandsLoc, StandsNum}
-use Rattle.rc_semantics.specs.Classes.{same_sort, same_class}
+use Rattle.rc_sheet_model.specs.Sheet.{same_sort, same_class}
 use Rattle.rc_grammar.specs.Grammar.{forms_of, front_of}
 use Rattle.rc_grammar.specs.Keyword.{text_of}
 use Rattle.rc_grammar.specs.Faults.{is_form_word, fits_head, begins, second_word, is_told, told_rule, plain_rule, or_else, rule_of, fits}

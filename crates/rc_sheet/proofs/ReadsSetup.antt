@@ -8,7 +8,7 @@ use Rattle.rc_deck.proofs.Orders.{AllZip-append}
 use Rattle.rc_model.specs.Tree.{Tree, word, list, Trees, nil, cons, count}
 use Rattle.rc_model.specs.Literal.{integer}
 use Rattle.rc_sheet_model.specs.Sheet.{Teams, Sheet, game_class, Who, game}
-use Rattle.rc_sheet_model.specs.Limits.{most_players}
+use Rattle.rc_model.specs.Limits.{most_players}
 use Rattle.rc_sheet_model.specs.Rows.{◌▸◌, End, Row, Word, Atom}
 use Rattle.rc_sheet_model.specs.Rows.{Some as Full}
 use Rattle.rc_sheet_model.specs.Naming.{Naming, class_of, Named, Literal, KindOf, loc_class}

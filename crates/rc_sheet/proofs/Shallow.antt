@@ -3,7 +3,7 @@ use Rattle.std.proofs.Common.{◌≡◌, Some}
 use Rattle.rc_model.specs.Tree.{Tree, word, list, IsOpenAtMost}
 use Rattle.rc_form.specs.Form.{IsPrintable}
 use Rattle.rc_sheet_model.specs.Sheet.{Sheet}
-use Rattle.rc_sheet_model.specs.Limits.{most_open}
+use Rattle.rc_model.specs.Limits.{most_open}
 use Rattle.rc_sheet_model.specs.Naming.{Naming}
 use Rattle.rc_sheet_model.specs.WellFormed.{IsShallow}
 use Rattle.rc_reading.specs.ReadSheet.{sheet_at}

@@ -2,7 +2,7 @@
 use Rattle.std.proofs.Common.{◌≡◌, ◌≤◌, [], length, Some, sym, subst, ap}
 use Rattle.rc_model.specs.Tree.{Tree}
 use Rattle.rc_sheet_model.specs.Sheet.{Names, Sheet}
-use Rattle.rc_sheet_model.specs.Limits.{most_attrs, most_values, most_maps}
+use Rattle.rc_model.specs.Limits.{most_attrs, most_values, most_maps}
 use Rattle.rc_sheet_model.specs.FormMentions.{names_of}
 use Rattle.rc_sheet_model.specs.WellFormed.{IsWithinLimits}
 use Rattle.rc_grammar.specs.Faults.{faults}

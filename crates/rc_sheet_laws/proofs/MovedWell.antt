@@ -4,7 +4,7 @@ use Rattle.std.specs.Prelude.{sum_by}
 use mathlib.Core.Path.{transport}
 use Rattle.rc_sheet_model.specs.Sheet.{Teams, Class, game_class, player_class, team_class, SheetItems, IntExpr, Sheet}
 use Rattle.rc_sheet_model.specs.Lists.{item_list}
-use Rattle.rc_sheet_model.specs.Limits.{most_locations, most_numbers, most_stages, most_sites}
+use Rattle.rc_model.specs.Limits.{most_locations, most_numbers, most_stages, most_sites}
 use Rattle.rc_sheet_model.specs.Mentions.{Mention, attr_of, value_of, map_of, loc_of, num_of, var_of, in_setup, in_items, in_int, mentions, stages_in, sites_in}
 use Rattle.rc_model.specs.Words.{different}
 use Rattle.rc_model.specs.Numbers.{below}

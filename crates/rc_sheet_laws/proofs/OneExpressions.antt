@@ -13,7 +13,7 @@ use Rattle.rc_sheet_model.specs.Rows.{Some as Full}
 use Rattle.rc_sheet_model.specs.Naming.{Naming, Scope, bind, sort_of, class_of, Named, Binder, InScope, KindOf, sheet_naming}
 use Rattle.rc_sheet_model.specs.StandsExpressions.{StandsOwner, StandsHolder, StandsLoc, StandsNum, StandsCard, StandsColl, StandColls, StandsInt, StandsTest, StandTests, StandsRange}
 use Rattle.rc_sheet_model.specs.WellFormed.{Around, IsBinder, behind, IsCard, IsColl, AreColls, IsInt, IsTest, AreTests, IsRange}
-use Rattle.rc_semantics.specs.Classes.{same_class}
+use Rattle.rc_sheet_model.specs.Sheet.{same_class}
 use Rattle.rc_grammar.specs.Faults.{is_variable, is_form_word, count}
 use Rattle.rc_reading.specs.ReadNames.{◌>>=◌, both, rule_at, name_at, binder_at, place_in, variable_in, player_at, owner_rule, team_of, num_parts, map_at}
 use Rattle.rc_reading.specs.ReadExpressions.{range_of, Side, number_side, card_side, value_side, owner_side, side_of_sort, variable_side, side_word, equal_test, card_at, coll_at, coll_rule, colls_at, int_at, int_rule, side_at, side_by, value_parts, card_rule, test_at, tests_at}

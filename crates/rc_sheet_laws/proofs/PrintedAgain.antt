@@ -8,7 +8,7 @@ use Rattle.rc_form.specs.SameForm.{SameForm, SameForms, SpellsAgain, IsOfAtoms, 
 use Rattle.rc_form.proofs.SpellingLaws.{read-Spelled, Spelled-unique}
 use Rattle.rc_form.proofs.PrintedIsSpelled.{SpellsAgain-printed}
 use Rattle.rc_sheet_model.specs.Sheet.{Sheet}
-use Rattle.rc_sheet_model.specs.Limits.{most_open}
+use Rattle.rc_model.specs.Limits.{most_open}
 use Rattle.rc_sheet_model.specs.Stands.{Stands}
 use Rattle.rc_sheet_model.specs.Sight.{IsInSight}
 use Rattle.rc_sheet_model.specs.Printing.{sheet_form, printed_sheet}

@@ -9,7 +9,7 @@ use Rattle.rc_sheet_model.specs.Sheet.{Class, game_class, player_class, team_cla
 use Rattle.rc_sheet_model.specs.Rows.{◌▸◌, Row, Atom}
 use Rattle.rc_sheet_model.specs.Rows.{End as Last}
 use Rattle.rc_sheet_model.specs.Rows.{Some as Full}
-use Rattle.rc_sheet_model.specs.Limits.{most_repeats}
+use Rattle.rc_model.specs.Limits.{most_repeats}
 use Rattle.rc_sheet_model.specs.Naming.{bind, sort_of, class_of, Named, Binder, sheet_naming}
 use Rattle.rc_sheet_model.specs.Naming.{kind_word as kind_bytes}
 use Rattle.rc_sheet_model.specs.StandsExpressions.{StandsOwner, StandsLoc, StandsNum, StandsCard, StandsColl, StandsInt, StandsTest, StandsRange, StandsDomain}

@@ -9,7 +9,7 @@ use Rattle.std.proofs.lemmas.Slice.Eq.{bytes_eq-Decides}
 use Rattle.rc_model.specs.Literal.{integer}
 use Rattle.rc_model.specs.Tree.{Tree, word, list, Trees, nil, cons}
 use Rattle.rc_sheet_model.specs.Sheet.{Class, game_class, player_class, team_class, Sort, player_sort, card_sort, group_sort, Who, CollExpr, group_var, cards_in, filtered, union_of, Domain, each_player, each_card, each_group, Sheet}
-use Rattle.rc_sheet_model.specs.Limits.{most_variables}
+use Rattle.rc_model.specs.Limits.{most_variables}
 use Rattle.rc_sheet_model.specs.Rows.{Atom}
 use Rattle.rc_sheet_model.specs.Naming.{Naming, Scope, sort_of, class_of, Named, Binder, InScope, KindOf}
 use Rattle.rc_sheet_model.specs.StandsExpressions.{StandsOwner, StandsHolder, StandsColl, StandsRange, StandsDomain}

@@ -5,7 +5,7 @@ use Rattle.std.proofs.lemmas.List.Sums.{sum_by-cons}
 use Rattle.std.specs.List.{list_all, AllByRecursion, IsDistinct}
 use Rattle.rc_model.specs.Tree.{Tree, word, Trees, cons}
 use Rattle.rc_sheet_model.specs.Sheet.{Teams, Class, game_class, player_class, team_class, DeckLine, Sheet}
-use Rattle.rc_sheet_model.specs.Limits.{most_cards, most_attrs, most_values, most_maps}
+use Rattle.rc_model.specs.Limits.{most_cards, most_attrs, most_values, most_maps}
 use Rattle.rc_model.specs.Numbers.{below}
 use Rattle.rc_sheet_model.specs.Mentions.{stages_in, sites_in}
 use Rattle.rc_sheet_model.specs.Rows.{◌▸◌, End, AtLeast, Row, Atom}
@@ -20,7 +20,7 @@ use Rattle.rc_sheet_model.specs.WellFormed.{outside, is_among, owner_count, AreT
 use Rattle.rc_grammar.specs.Faults.{faults, first}
 use Rattle.rc_grammar.specs.declared.grammar.Place.TheVariants as place
 use Rattle.rc_grammar.specs.declared.grammar.Rule.TheVariants as rule
-use Rattle.rc_semantics.specs.Classes.{owner_count as owner_count_by}
+use Rattle.rc_sheet_model.specs.WellFormed.{owner_count_by}
 use Rattle.rc_semantics.specs.declared.role.Role.TheVariants.{No as no_role}
 use Rattle.rc_semantics.specs.SecondParts.{Part, parts_at, parts_of, standing_alone}
 use Rattle.rc_semantics.specs.SecondNames.{some_of, players_in, player_count, teams_in, team_count, members_in, cards_in, attributes_in, values_in, maps_in}

@@ -12,14 +12,15 @@ use Rattle.std.proofs.lemmas.Slice.Eq.{bytes_eq-Decides}
 use Rattle.rc_sheet_model.specs.Sheet.{Sheet}
 use Rattle.rc_sheet_model.specs.Naming.{loc_class, num_class, sheet_naming}
 use Rattle.rc_sheet_model.specs.Naming.{kind_word as kind_bytes}
-use Rattle.rc_sheet_model.specs.Limits.{most_cards, most_locations, most_numbers, most_attrs, most_values, most_maps, most_stages, most_sites}
+use Rattle.rc_model.specs.Limits.{most_cards, most_locations, most_numbers, most_attrs, most_values, most_maps, most_stages, most_sites}
 use Rattle.rc_sheet_model.specs.WellFormed.{is_among}
 use Rattle.rc_grammar.specs.declared.grammar.Place.{Place}
 use Rattle.rc_grammar.specs.declared.grammar.Place.TheVariants as place
 use Rattle.rc_grammar.specs.declared.grammar.Rule.TheVariants as rule
 use Rattle.rc_grammar.specs.declared.fault.SheetKind.{SheetKind}
 use Rattle.rc_grammar.specs.declared.fault.SheetKind.TheVariants.{Twice, Unknown, WrongKind, TooMany, NoCards}
-use Rattle.rc_semantics.specs.Classes.{same_class, owner_count}
+use Rattle.rc_sheet_model.specs.Sheet.{same_class}
+use Rattle.rc_sheet_model.specs.WellFormed.{owner_count_by}
 use Rattle.rc_semantics.specs.declared.role.Role.{Role}
 use Rattle.rc_semantics.specs.declared.role.Role.TheVariants.{GivenValue as given_value}
 use Rattle.rc_semantics.specs.SecondParts.{Standing, Part, atom, form, word_in}
@@ -180,8 +181,8 @@ fewer_owned : (players teams most : ℕ) (f : Part → List OwnedMention) (earli
 fewer_owned players teams most f earlier part later le =
     let same = ap (owned players teams) (given_of_both f earlier part later) in
     let more = first_ones [] (flat_map f (earlier ++ part ∷ [])) (flat_map f later) in
-    let split = ap (λ l. sum_by (λ mention. owner_count players teams mention.class) l) more.1 in
-    let both = sum_by-append (λ mention. owner_count players teams mention.class)
+    let split = ap (λ l. sum_by (λ mention. owner_count_by players teams mention.class) l) more.1 in
+    let both = sum_by-append (λ mention. owner_count_by players teams mention.class)
     (firsts_from [] (flat_map f (earlier ++ part ∷ []))) more.0 in
     omega (arith, le, same, split, both)
 

@@ -8,7 +8,6 @@ pub mod StandsEffects
 pub mod StandsItems
 pub mod Stands
 pub mod Printing
-pub mod Limits
 pub mod Mentions
 pub mod Numbering
 pub mod WellFormed

@@ -1,7 +1,22 @@
 -- A sheet as a tree: what a game's form says, without its spelling and without memory. Names, variables and offsets are
 -- numbers here.
-use Rattle.std.specs.Prelude.{ℕ, List, ℤ, Option}
+use Rattle.std.specs.Prelude.{ℕ, Bool, List, ℤ, Option}
 use Rattle.rc_model.specs.Deck.{Groups, Entry}
+pub use Rattle.rc_names.specs.declared.classes.Class.{Class}
+pub use Rattle.rc_names.specs.declared.classes.Class.TheVariants.{Game as game_class, Player as player_class, Team as team_class}
+pub use Rattle.rc_names.specs.declared.classes.Sort.{Sort}
+pub use Rattle.rc_names.specs.declared.classes.Sort.TheVariants.{Player as player_sort, Card as card_sort, Group as group_sort}
+pub use Rattle.rc_names.specs.declared.classes.LocKind.{LocKind}
+pub use Rattle.rc_names.specs.declared.classes.LocKind.TheVariants.{Vloc as vloc, Iloc as iloc, Hloc as hloc, Mem as mem}
+use Rattle.rc_names.specs.contracts.classes.ClassPartialEq.TheImpl.{eq-value as class_eq}
+use Rattle.rc_names.specs.contracts.classes.SortPartialEq.TheImpl.{eq-value as sort_eq}
+
+-- The tests by which the code compares classes and sorts.
+abbrev pub same_class : Class → Class → Bool
+same_class = class_eq.it
+
+abbrev pub same_sort : Sort → Sort → Bool
+same_sort = sort_eq.it
 
 -- The words of a sheet, each kind numbered by its place in its list: attributes, values, point maps, locations, numbers,
 -- and the variables that binders name.
@@ -21,25 +36,6 @@ Teams = List (List ℕ)
 pub data Best : Type 0 where
   highest : Best
   lowest : Best
-
--- who owns what a name stands for: the game, each player, or each team
-pub data Class : Type 0 where
-  game_class : Class
-  player_class : Class
-  team_class : Class
-
--- what a variable stands for
-pub data Sort : Type 0 where
-  player_sort : Sort
-  card_sort : Sort
-  group_sort : Sort
-
--- who sees a location's cards: everybody, its owner, nobody; or a location of references, which everybody sees
-pub data LocKind : Type 0 where
-  vloc : LocKind
-  iloc : LocKind
-  hloc : LocKind
-  mem : LocKind
 
 -- the locations of one name, and the numbers of one name
 pub record LocName : Type 0 where

@@ -10,7 +10,7 @@ use Rattle.rc_sheet_model.specs.Lists.{coll_list, test_list, effect_list, item_l
 use Rattle.rc_model.specs.Words.{is_variable}
 use Rattle.rc_sheet_model.specs.Naming.{Scope, bind, self_scope, sort_of, class_of, loc_class, num_class, sheet_naming}
 use Rattle.rc_model.specs.Clamp.{IsWithinClamp}
-use Rattle.rc_sheet_model.specs.Limits.{most_players, most_cards, most_locations, most_numbers, most_attrs, most_values, most_maps, most_stages, most_sites, most_variables, most_repeats, most_open}
+use Rattle.rc_model.specs.Limits.{most_players, most_cards, most_locations, most_numbers, most_attrs, most_values, most_maps, most_stages, most_sites, most_variables, most_repeats, most_open}
 use Rattle.rc_sheet_model.specs.Mentions.{attr_of, value_of, in_setup, stages_in, sites_in}
 use Rattle.rc_model.specs.Numbers.{below}
 use Rattle.rc_sheet_model.specs.Numbering.{IsNumbered}
@@ -283,15 +283,18 @@ abbrev pub AreTeams : ℕ → Option Teams → Type 0
 AreTeams players None = ⊤
 AreTeams players (Some teams) = ArePartition players teams
 
--- how many owners there are of a class
+-- how many owners there are of a class where there are so many players and teams
+abbrev pub owner_count_by : ℕ → ℕ → Class → ℕ
+owner_count_by players teams game_class = 1
+owner_count_by players teams player_class = players
+owner_count_by players teams team_class = teams
+
 abbrev pub team_count : Sheet → Option Teams → ℕ
 team_count sheet None = sheet.players
 team_count sheet (Some teams) = length teams
 
 abbrev pub owner_count : Sheet → Class → ℕ
-owner_count sheet game_class = 1
-owner_count sheet player_class = sheet.players
-owner_count sheet team_class = team_count sheet sheet.teams
+owner_count sheet = owner_count_by sheet.players (team_count sheet sheet.teams)
 
 -- 1 to 64 bytes that may stand in an atom
 abbrev pub is_atom : List ℕ → Bool

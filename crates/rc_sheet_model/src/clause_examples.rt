@@ -10,7 +10,7 @@ ghost use Rattle.rc_sheet_model.specs.StandsItems.{StandsAlt};
 ghost use Rattle.rc_sheet_model.specs.Stands.{Stands};
 ghost use Rattle.rc_sheet_model.specs.Numbering.{IsNumbered};
 ghost use Rattle.rc_sheet_model.specs.FormMentions.{AreNames};
-ghost use Rattle.rc_sheet_model.specs.Limits.{most_open};
+ghost use Rattle.rc_model.specs.Limits.{most_open};
 ghost use Rattle.rc_sheet_model.specs.WellFormed.{outside, scored, in_stage, is_plain_word, is_variable_word, IsOwner, IsBinder, IsColl, IsInt, IsTest, IsEffect, IsAlt, IsItem, IsEntry, IsWithinLimits};
 ghost use Rattle.rc_sheet_model.specs.Sight.{is_seen_by_mover};
 ghost use Rattle.rc_sheet_model.specs.Examples.{form_of};

@@ -2,7 +2,6 @@
 ghost use Rattle.std.specs.Prelude.{◌≡◌, ◌∷◌, ◌++◌, [], map, OnOk};
 ghost use Rattle.rc_model.specs.Tree.{printed, printed_behind};
 ghost use Rattle.rc_sheet_model.specs.Printing.{packed, alt_form, class_form, item_form, item_forms};
-ghost use Rattle.rc_ast.specs.Names.{class_seen};
 ghost use Rattle.rc_ast.specs.Items.{alt_seen, alts_seen, item_seen, items_seen};
 ghost use Rattle.rc_ast.specs.Printing.{naming_seen, bound_seen};
 
@@ -51,7 +50,7 @@ fn push_alts(out: &mut Printer, sheet: &Sheet, alts: &Vec<Alt>) -> Result<(), Al
 }
 
 fn push_class(out: &mut Printer, class: Class) -> Result<(), AllocError>
-    ensures { OnOk result (out.new.bytes.items ≡ out.old.bytes.items ++ 32 ∷ printed (class_form (class_seen class))) }
+    ensures { OnOk result (out.new.bytes.items ≡ out.old.bytes.items ++ 32 ∷ printed (class_form class)) }
 {
     match class {
         Class::Game => out.keyword(" game"),

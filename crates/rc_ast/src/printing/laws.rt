@@ -1,7 +1,7 @@
 //! What is printed stands for the sheet. The function does nothing: its contract is the law.
 ghost use Rattle.rc_model.specs.Tree.{Tree, IsOpenAtMost};
 ghost use Rattle.rc_sheet_model.specs.Sheet.{Sheet};
-ghost use Rattle.rc_sheet_model.specs.Limits.{most_open};
+ghost use Rattle.rc_model.specs.Limits.{most_open};
 ghost use Rattle.rc_sheet_model.specs.Stands.{Stands};
 ghost use Rattle.rc_sheet_model.specs.WellFormed.{IsWellFormed};
 ghost use Rattle.rc_sheet_model.specs.Printing.{sheet_form};

@@ -2,7 +2,7 @@
 ghost use Rattle.std.specs.Prelude.{◌≡◌, ◌≤◌, [], Some};
 ghost use Rattle.rc_model.specs.Tree.{Tree, IsOpenAtMost};
 ghost use Rattle.rc_sheet_model.specs.Sheet.{Sheet};
-ghost use Rattle.rc_sheet_model.specs.Limits.{most_open, most_stages, most_sites};
+ghost use Rattle.rc_model.specs.Limits.{most_open, most_stages, most_sites};
 ghost use Rattle.rc_sheet_model.specs.Naming.{Naming};
 ghost use Rattle.rc_sheet_model.specs.WellFormed.{team_count as team_count_of, HasWords, IsWithinLimits, IsShallow};
 ghost use Rattle.rc_grammar.specs.Faults.{faults};

@@ -3,7 +3,7 @@
 ghost use Rattle.std.specs.Prelude.{◌≡◌, ◌≤◌, [], length, Some};
 ghost use Rattle.rc_model.specs.Tree.{Tree};
 ghost use Rattle.rc_sheet_model.specs.FormMentions.{names_of};
-ghost use Rattle.rc_sheet_model.specs.Limits.{most_attrs, most_values, most_maps, most_locations, most_numbers};
+ghost use Rattle.rc_model.specs.Limits.{most_attrs, most_values, most_maps, most_locations, most_numbers};
 ghost use Rattle.rc_grammar.specs.Faults.{faults};
 ghost use Rattle.rc_grammar.specs.declared.grammar.Place.TheVariants as place;
 ghost use Rattle.rc_semantics.specs.SecondParts.{parts_of};

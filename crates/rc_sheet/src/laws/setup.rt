@@ -14,7 +14,7 @@ ghost use Rattle.rc_grammar.specs.declared.grammar.Rule.TheVariants as rule;
 ghost use Rattle.rc_naming.specs.Naming.{naming_of};
 ghost use Rattle.rc_reading.specs.ReadSetup.{Setup};
 ghost use Rattle.rc_reading.specs.ReadSheet.{setup_form_at, sheet_with, sheet_at};
-ghost use Rattle.rc_sheet_model.specs.Limits.{most_cards};
+ghost use Rattle.rc_model.specs.Limits.{most_cards};
 
 /// A form without a fault has a player and a team.
 pub fn someone_plays()

@@ -2,7 +2,7 @@ use Rattle.std.proofs.Common.{◌≡◌, ◌∙◌, sym, true, false, bytes_eq}
 use Rattle.std.specs.List.{list_any}
 use Rattle.std.proofs.lemmas.Bool.{cond-true, cond-false}
 use Rattle.indexmap.proofs.CallerLemmas.{insert_entry-new}
-use Rattle.rc_form.specs.contracts.word.WordPartialEq.TheImpl.{eq-value}
+use Rattle.rc_names.specs.contracts.word.WordPartialEq.TheImpl.{eq-value}
 use Rattle.rc_naming.proofs.Stored.{none_from, key_told}
 use Rattle.rc_naming.proofs.known.add_entry.Goals as goal
 

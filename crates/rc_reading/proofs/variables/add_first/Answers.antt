@@ -1,7 +1,7 @@
 use Rattle.std.proofs.Common.{sym, ap, ◌∙◌, bytes_eq}
 use Rattle.std.specs.Map.{lookup}
 use Rattle.indexmap.proofs.CallerLemmas.{insert_entry-new}
-use Rattle.rc_form.specs.contracts.word.WordPartialEq.TheImpl.{eq-value}
+use Rattle.rc_names.specs.contracts.word.WordPartialEq.TheImpl.{eq-value}
 use Rattle.rc_reading.proofs.Numbers.{none_from, one_more, one_again}
 use Rattle.rc_reading.proofs.variables.add_first.Goals as goal
 

@@ -4,7 +4,7 @@ use Rattle.rc_sheet_model.specs.Stands.{Stands}
 use Rattle.rc_sheet_model.specs.WellFormed.{HasWords, IsWithinLimits, IsDeck, IsEntry, AreItems, outside, IsInt, scored}
 use Rattle.rc_sheet_model.specs.Numbering.{IsNumbered}
 use Rattle.rc_model.specs.Tree.{IsOpenAtMost}
-use Rattle.rc_sheet_model.specs.Limits.{most_open}
+use Rattle.rc_model.specs.Limits.{most_open}
 use Rattle.rc_sheet_model.specs.Examples.{form_of, four_cards, four_cards_text}
 use Rattle.rc_sheet_model.proofs.examples.four_cards_well_formed.Goals as goal
 

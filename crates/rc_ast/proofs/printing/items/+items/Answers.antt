@@ -1,7 +1,6 @@
 use Rattle.std.proofs.Common.{List, []}
 use Rattle.rc_model.specs.Tree.{Tree}
 use Rattle.rc_sheet_model.specs.Printing.{one, test_form, class_form, item_forms}
-use Rattle.rc_ast.specs.Names.{class_seen}
 use Rattle.rc_ast.specs.Expressions.{test_seen}
 use Rattle.rc_ast.specs.Items.{items_seen}
 use Rattle.rc_ast.specs.Printing.{naming_seen}
@@ -12,7 +11,7 @@ use Rattle.rc_ast.proofs.printing.items.+items.Goals as goal
 pub push_item-returns-in_ok-push_items-in-Stage : goal.push_item-returns-in_ok-push_items-in-Stage
 push_item-returns-in_ok-push_items-in-Stage t c =
     let naming = naming_seen c.args.sheet.now in
-    let class : Tree = class_form (class_seen c.in-Stage.class) in
+    let class : Tree = class_form c.in-Stage.class in
     let test : Tree = test_form naming [] (test_seen c.in-Stage.end) in
     let items : List Tree = item_forms naming (items_seen c.in-Stage.body.items) in
     let end = with_part test (opened c.in_ok-open_part-in-Stage-2.ensures) c.in_ok-push_test-in-Stage.ensures in

@@ -1,4 +1,4 @@
-use Rattle.rc_sheet_model.specs.Limits.{most_open}
+use Rattle.rc_model.specs.Limits.{most_open}
 use Rattle.rc_ast.proofs.CopiedSheet.{sheet_copied}
 use Rattle.rc_ast.proofs.printing.laws.printed_form_stands.Goals as goal
 

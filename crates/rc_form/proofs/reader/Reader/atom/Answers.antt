@@ -10,8 +10,8 @@ use Rattle.rc_form.specs.Reader.{pending_of}
 use Rattle.rc_model.specs.Token.{atom_front}
 use Rattle.rc_form.proofs.reader.Reader.atom.Goals as goal
 
-pub new-word-requires-clause-parts : goal.new-word-requires-clause-parts
-new-word-requires-clause-parts c =
+pub of-word-requires-clause-parts : goal.of-word-requires-clause-parts
+of-word-requires-clause-parts c =
     let bytes = drop c.args.from c.args.text.now in
     rw (taken_front bytes c.args.from c.atom_end-to.result c.atom_end-to.ensures.reach) (parts-atom_front bytes)
 
@@ -25,7 +25,7 @@ returns-in-Ok-clause-took c =
     let behind = tokens_at c.args.text.now (c.args.from + length front) in
     let inside : 0 < length stack = simp (length-reverse, length-map) (search rules) in
     let short : length front ≤ 64 = omega arith in
-    let bytes : c.new-word.result ≡ front = c.new-word.ensures ∙ taken_front (drop c.args.from c.args.text.now) c.args.from c.atom_end-to.result reach in
+    let bytes : c.of-word.result ≡ front = c.of-word.ensures ∙ taken_front (drop c.args.from c.args.text.now) c.args.from c.atom_end-to.result reach in
     let tree : tree_of c.atom_form.result ≡ word front c.args.from (c.args.from + length front) =
     c.atom_form.ensures ∙ ap (λ w. word w c.args.from c.atom_end-to.result) bytes ∙ ap (word front c.args.from) reach in
     rw (tokens_at-atom c.args.text.now c.args.from c.requires.inside c.requires.part, reach)

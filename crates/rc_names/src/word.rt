@@ -1,14 +1,12 @@
 //! The bytes of an atom.
 
+use crate::limits::MOST_BYTES;
 use std::marker::Model;
 
-/// The most bytes that an atom may have.
-pub const MOST_BYTES: usize = 64;
-
 /// 1 to 64 bytes that may stand in an atom. Contracts see the list of them.
-#[derive(Clone, Copy, PartialEq, Eq, Debug)]
+#[derive(Clone, Copy, PartialEq, Eq, Hash, Debug)]
 pub struct Word {
-    bytes: [u8; 64],
+    bytes: [u8; MOST_BYTES],
     count: usize,
 }
 
@@ -17,7 +15,7 @@ impl Model for Word {
 
     ghost Value = { List ℕ };
 
-    ghost use Rattle.rc_ast.specs.Word.{IsWord, fields_of, fields_of-take};
+    ghost use Rattle.rc_names.specs.Word.{IsWord, fields_of, fields_of-take};
 
     ghost view = { λ w. take w.count w.bytes };
 
@@ -33,7 +31,7 @@ impl Word {
     ghost use Rattle.std.specs.List.{list_all};
     ghost use Rattle.rc_model.specs.Token.{is_part};
 
-    /// The word of these bytes.
+    /// The word of these bytes, which are 1 to 64 that may stand in an atom.
     pub fn of(bytes: &[u8]) -> Word
         requires some { 1 ≤ length bytes.now }
         requires short { length bytes.now ≤ 64 }

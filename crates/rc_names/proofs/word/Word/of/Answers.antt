@@ -3,8 +3,8 @@ use Rattle.std.specs.List.{list_all}
 use Rattle.std.proofs.Math.Seq.{take-append_seam, drop-append_seam}
 use Rattle.std.proofs.lemmas.List.{drop-replicate, length-replicate}
 use Rattle.rc_model.specs.Token.{is_part}
-use Rattle.rc_ast.specs.Word.{IsWord}
-use Rattle.rc_ast.proofs.word.Word.of.Goals as goal
+use Rattle.rc_names.specs.Word.{IsWord}
+use Rattle.rc_names.proofs.word.Word.of.Goals as goal
 
 -- bytes written over zeros are a word
 IsWord-written : (bytes written : List ℕ) → written ≡ bytes → 1 ≤ length bytes → length bytes ≤ 64 → IsTrue (list_all is_part bytes)

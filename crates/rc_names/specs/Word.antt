@@ -4,7 +4,7 @@ use Rattle.std.specs.List.{list_all}
 use Rattle.std.proofs.Common.{ap, ◌∙◌, arith}
 use Rattle.std.proofs.lemmas.List.{length-take-le, take-append-drop}
 use Rattle.rc_model.specs.Token.{is_part}
-use Rattle.rc_form.specs.declared.word.Word.TheInside.{Inside}
+use Rattle.rc_names.specs.declared.word.Word.TheInside.{Inside}
 
 -- 1 to 64 bytes that may stand in an atom, and zeros
 pub record IsWord (word : Inside) : Type 0 where
