@@ -1,14 +1,14 @@
 //! The calls that a program makes: they run a command from its words to its end.
-ghost use Rattle.std.specs.Prelude.{◌≡◌, ◌<◌, ◌≤◌, map, string_bytes, IfOk, IfErr};
+ghost use Rattle.std.specs.Prelude.{◌≡◌, ◌<◌, ◌≤◌, map, string_bytes, IfOk, IfErr, OnOk, OnErr};
 ghost use Rattle.rc_house.specs.Status.{line_of};
 ghost use Rattle.rc_house.specs.Port.{NoCountFell, Took, port, ports};
 ghost use Rattle.rc_house.specs.Outcome.{Outcome, Ends};
-ghost use Rattle.rc_house.specs.Running.{ReadsAnswer, ReadsNone, Delivers};
+ghost use Rattle.rc_house.specs.Running.{ReadsAnswer, ReadsNone, Delivered, IsUndelivered};
 
 use crate::answer::{Answer, answer_to};
 use crate::command::{Command, command_of};
 use crate::status::Status;
-use rc_outside::{Gate, ReadFail, Sink, Source, read_all, write_all};
+use rc_outside::{Gate, ReadFail, Sink, Source, WriteFault, read_all, write_all};
 use rc_steps::Steps;
 use std::alloc::Global;
 use std::marker::Brand;
@@ -16,7 +16,7 @@ use std::sync::Wait;
 use std::sync::ledger::{Blank, Ledger};
 use std::thread::Threads;
 
-/// How many bytes a source may have.
+/// The most bytes that a command takes from its source.
 const SOURCE_LIMIT: usize = 1_048_576;
 
 /// Notes a refusal, whether that succeeds or not.
@@ -29,37 +29,43 @@ pub fn refuse<N: Sink>(notes: &mut N, status: Status) -> Status
     status
 }
 
-/// A command's answer to its source, or the status where it has none.
-fn read_answer<S: Source>(alloc: Global, command: Command, source: &mut S) -> Result<Answer, Status>
+/// A command's answer to its source, or why there is none.
+fn read_answer<S: Source>(
+    alloc: Global,
+    command: Command,
+    source: &mut S,
+) -> Result<Answer, ReadFail>
     ensures answer { IfOk result (ReadsAnswer command (port (S.left source.old) (S.faults source.old)) (port (S.left source.new) (S.faults source.new))) }
     ensures none { IfErr result (ReadsNone (port (S.left source.old) (S.faults source.old)) (port (S.left source.new) (S.faults source.new))) }
     ensures counted { S.faults source.old ≤ S.faults source.new }
 {
     let bytes = match read_all(alloc, source, SOURCE_LIMIT) {
         Ok(bytes) => bytes,
-        Err(ReadFail::ReadFault) => return Err(Status::ReadFault),
-        Err(ReadFail::TooLong) => return Err(Status::TooLong),
-        Err(ReadFail::Memory) => return Err(Status::Memory),
+        Err(fail) => return Err(fail),
     };
     match answer_to(alloc, command, &bytes) {
         Ok(answer) => Ok(answer),
-        Err(_) => Err(Status::Memory),
+        Err(_) => Err(ReadFail::Memory),
     }
 }
 
 /// Writes a command's text, and then its note.
-fn deliver<O: Sink, N: Sink>(out: &mut O, notes: &mut N, text: &[u8], note: &[u8]) -> Status
-    ensures ends { Delivers text.now note.now (port (O.written out.old) (O.faults out.old)) (port (O.written out.new) (O.faults out.new)) (port (N.written notes.old) (N.faults notes.old)) (port (N.written notes.new) (N.faults notes.new)) result }
+fn deliver<O: Sink, N: Sink>(
+    out: &mut O,
+    notes: &mut N,
+    text: &[u8],
+    note: &[u8],
+) -> Result<(), WriteFault>
+    ensures done { OnOk result (Delivered text.now note.now (port (O.written out.old) (O.faults out.old)) (port (O.written out.new) (O.faults out.new)) (port (N.written notes.old) (N.faults notes.old)) (port (N.written notes.new) (N.faults notes.new))) }
+    ensures failed { OnErr result (IsUndelivered text.now note.now (port (O.written out.old) (O.faults out.old)) (port (O.written out.new) (O.faults out.new)) (port (N.written notes.old) (N.faults notes.old)) (port (N.written notes.new) (N.faults notes.new))) }
     ensures out_counted { O.faults out.old ≤ O.faults out.new }
     ensures notes_counted { N.faults notes.old ≤ N.faults notes.new }
 {
     if write_all(out, text).is_err() {
-        return refuse(notes, Status::WriteFault);
+        let _ = refuse(notes, Status::WriteFault);
+        return Err(WriteFault);
     }
-    match write_all(notes, note) {
-        Ok(()) => Status::Done,
-        Err(_) => Status::WriteFault,
-    }
+    write_all(notes, note)
 }
 
 /// Runs a command.
@@ -91,10 +97,12 @@ fn run_command<S: Source, O: Sink, N: Sink>(
         (port (N.written notes.new) (N.faults notes.new))) }
 {
     match read_answer(alloc, command, source) {
-        Ok(Answer::Text(text)) => deliver(out, notes, &text, command.note()),
-        Ok(Answer::Fault { kind, at }) => refuse(notes, Status::Sheet { kind, at }),
-        Ok(Answer::Unbuilt) => refuse(notes, Status::Unbuilt),
-        Err(status) => refuse(notes, status),
+        Ok(Answer::Text(text)) => match deliver(out, notes, &text, command.note()) {
+            Ok(()) => Status::Done,
+            Err(WriteFault) => Status::WriteFault,
+        },
+        Ok(Answer::Refused(refusal)) => refuse(notes, Status::from(refusal)),
+        Err(fail) => refuse(notes, Status::from(fail)),
     }
 }
 
