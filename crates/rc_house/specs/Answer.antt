@@ -39,7 +39,7 @@ HasRefusal command source (refusal.Sheet kind at) =
 HasRefusal command source refusal.Unbuilt =
     (read : Reading source (wanted command)) × IsAcceptedWith (λ sheet others. IsUnbuilt command source) read.lists
 
--- The command has this answer to its source. It has exactly one to each source within the limit.
+-- The command has this answer to its source. To each source it has exactly one.
 abbrev pub HasAnswer : Command → List ℕ → Answer → Type 0
 HasAnswer command source (text bytes) =
     (read : Reading source (wanted command)) × IsAcceptedWith (λ sheet others. HasText command source sheet bytes) read.lists

@@ -1,9 +1,8 @@
 //! Laws of what commands answer. No function here does anything: its contract is the law.
-ghost use Rattle.std.specs.Prelude.{◌≡◌, ◌≤◌, ℕ, List, length};
+ghost use Rattle.std.specs.Prelude.{◌≡◌, ℕ, List};
 ghost use Rattle.rc_house.specs.declared.command.Command.{Command};
 ghost use Rattle.rc_house.specs.declared.command.Command.TheVariants.{Sheet};
 ghost use Rattle.rc_house.specs.Answer.{Answer, text, HasAnswer};
-ghost use Rattle.rc_house.specs.Outcome.{source_limit};
 
 /// A command has at most one answer to a source.
 pub fn one_answer()
@@ -11,10 +10,9 @@ pub fn one_answer()
         → HasAnswer command source answer → HasAnswer command source other → other ≡ answer }
 {}
 
-/// Each command has an answer to each source that isn't too long.
+/// Each command has an answer to each source.
 pub fn some_answer()
-    ensures { (command : Command) (source : List ℕ) → length source ≤ source_limit
-        → (answer : Answer) × HasAnswer command source answer }
+    ensures { (command : Command) (source : List ℕ) → (answer : Answer) × HasAnswer command source answer }
 {}
 
 /// What `sheet` answers to a source, it answers to that text too: what it writes is in canonical form.

@@ -3,7 +3,7 @@ use Rattle.rc_model.specs.Transcript.{line}
 use Rattle.rc_form.specs.Form.{trees_of}
 use Rattle.rc_sheet_model.specs.Printing.{printed_sheet}
 use Rattle.rc_ast.specs.Sheet.{sheet_seen}
-use Rattle.rc_house.proofs.AnswerLaws.{printed_answer}
+use Rattle.rc_house.proofs.AnswerLaws.{text_answer, unbuilt_answer}
 use Rattle.rc_house.proofs.answer.accepted_answer.Goals as goal
 
 pub returns-in_ok-print_line-in-Sheet : goal.returns-in_ok-print_line-in-Sheet
@@ -13,5 +13,5 @@ returns-in_ok-print_line-in-Sheet c =
     let same = ap (λ sheet. line (printed_sheet (sheet_seen sheet))) c.sheet.ensures.same in
     let printed = c.in_ok-print_line-in-Sheet.ensures ∙ same in
     rw c.in-Sheet.is
-    (printed_answer c.args.source.now (trees_of forms.list.items) (sheet_seen c.args.checked.now) forms.rest _ read
+    (text_answer _ c.args.source.now (trees_of forms.list.items) forms.rest (sheet_seen c.args.checked.now) _ read
     c.requires.accepted printed)
