@@ -1,5 +1,5 @@
 -- What is accepted as a sheet has one sheet, what isn't has one first fault, and no form is both.
-use Rattle.std.proofs.Common.{None, ◌≡◌, ℕ, ◌≤◌, List, [], ◌∷◌, ◌⊎◌, inl, inr, map, refl, sym, ◌∙◌, ap, subst, arith}
+use Rattle.std.proofs.Common.{None, ◌≡◌, ℕ, ◌+◌, ◌<◌, ◌≤◌, List, [], ◌∷◌, ◌⊎◌, inl, inr, map, refl, sym, ◌∙◌, ap, subst, arith}
 use Rattle.std.specs.List.{All, Contains}
 use Rattle.std.proofs.lemmas.Bool.{cases_lt}
 use Rattle.std.proofs.lemmas.List.Elements.{All-nil, All-cons, All-contains, All-weaker}
@@ -106,10 +106,10 @@ one_sheet_fault [] rest kind other at offset has has' =
 one_sheet_fault (form ∷ others) rest kind other at offset has has' = one_first_fault form kind other at offset has has'
 
 -- lists of which the first is accepted have none
-pub accepted_no_fault : {P : Sheet → List Tree → Type 0} (lists : List Tree) (rest : ℕ) (kind : SourceKind) (at : ℕ)
+pub accepted_no_fault : (P : Sheet → List Tree → Type 0) (lists : List Tree) (rest : ℕ) (kind : SourceKind) (at : ℕ)
     → IsAcceptedWith P lists → HasSheetFault kind at lists rest → ⊥
-accepted_no_fault [] rest kind at is has = absurd is
-accepted_no_fault (form ∷ others) rest kind at is has = accepted_has_no_fault form is.0 kind at is.1 has
+accepted_no_fault P [] rest kind at is has = absurd is
+accepted_no_fault P (form ∷ others) rest kind at is has = accepted_has_no_fault form is.0 kind at is.1 has
 
 -- what holds of the accepted sheet, and what holds of it besides
 pub both_accepted : {P Q : Sheet → List Tree → Type 0} (lists : List Tree) → IsAcceptedWith P lists → IsAcceptedWith Q lists

@@ -119,7 +119,7 @@ no_tree [] is = refl
 no_tree (x ∷ forms) is = absurd cc
 
 -- the lists and the rest that are spelled, as they are read
-reading : (source : List ℕ) (want : ℕ) (lists : List Tree) (rest : ℕ) → Spelled source want lists rest → Reading source want
+abbrev reading : (source : List ℕ) (want : ℕ) (lists : List Tree) (rest : ℕ) → Spelled source want lists rest → Reading source want
 reading source want lists rest spelled = record { lists = lists; rest = rest; spelled = spelled }
 
 -- The first fault of the source's forms refuses it, where as many lists are wanted as the command wants.
@@ -130,7 +130,7 @@ fault_answered command want source kind at same is = inl (kind, subst (λ want. 
 -- A source without a sheet is refused where its rest begins.
 pub missing_answer : (command : Command) (source : List ℕ) (lists : List Tree) (rest : ℕ) → lists ≡ []
     → Spelled source (wanted command) lists rest → HasAnswer command source (refused (refusal.Sheet Shape rest))
-missing_answer command source [] rest none spelled = inr (reading source _ [] rest spelled, refl, refl)
+missing_answer command source [] rest none spelled = inr (reading source _ [] rest spelled, (refl, refl))
 missing_answer command source (form ∷ others) rest none spelled = absurd (omega (arith, ap length none))
 
 -- The first fault of the first list refuses the source.

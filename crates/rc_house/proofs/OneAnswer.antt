@@ -14,9 +14,9 @@ use Rattle.rc_house.proofs.OneReading.{one_reading, read_has_no_fault, one_form_
 use Rattle.rc_house.proofs.OneGame.{one_house}
 
 -- what is accepted of one reading is accepted of any
-accepted_of : {P : sheets.Sheet → List Tree → Type 0} (source : List ℕ) (want : ℕ) (read other : Reading source want)
+accepted_of : (P : sheets.Sheet → List Tree → Type 0) (source : List ℕ) (want : ℕ) (read other : Reading source want)
     → IsAcceptedWith P other.lists → IsAcceptedWith P read.lists
-accepted_of {P = P} source want read other is = subst (IsAcceptedWith P) (one_reading source want read other).0 is
+accepted_of P source want read other is = subst (IsAcceptedWith P) (one_reading source want read other).0 is
 
 -- what is faulty of one reading is so of any
 faulty_of : (source : List ℕ) (want : ℕ) (read other : Reading source want) (kind : _) (at : ℕ)
@@ -42,9 +42,9 @@ text_or_refusal : (command : Command) (source bytes : List ℕ) (why : Refusal) 
     → HasRefusal command source why → ⊥
 text_or_refusal command source bytes (refusal.Sheet kind at) has (inl fault) = read_has_no_fault source (wanted command) kind at has.0 fault
 text_or_refusal command source bytes (refusal.Sheet kind at) has (inr fault) =
-    accepted_no_fault has.0.lists has.0.rest kind at has.1 (faulty_of source (wanted command) has.0 fault.0 kind at fault.1)
+    accepted_no_fault _ has.0.lists has.0.rest kind at has.1 (faulty_of source (wanted command) has.0 fault.0 kind at fault.1)
 text_or_refusal command source bytes refusal.Unbuilt has unbuilt =
-    let both = both_accepted has.0.lists has.1 (accepted_of source (wanted command) has.0 unbuilt.0 unbuilt.1) in
+    let both = both_accepted has.0.lists has.1 (accepted_of _ source (wanted command) has.0 unbuilt.0 unbuilt.1) in
     built command source both.0 bytes both.2 both.3
 
 -- an accepted sheet has no fault
@@ -52,7 +52,7 @@ unbuilt_or_faulty : (command : Command) (source : List ℕ) (kind : _) (at : ℕ
     → HasRefusal command source (refusal.Sheet kind at) → ⊥
 unbuilt_or_faulty command source kind at unbuilt (inl fault) = read_has_no_fault source (wanted command) kind at unbuilt.0 fault
 unbuilt_or_faulty command source kind at unbuilt (inr fault) =
-    accepted_no_fault unbuilt.0.lists unbuilt.0.rest kind at unbuilt.1 (faulty_of source (wanted command) unbuilt.0 fault.0 kind at fault.1)
+    accepted_no_fault _ unbuilt.0.lists unbuilt.0.rest kind at unbuilt.1 (faulty_of source (wanted command) unbuilt.0 fault.0 kind at fault.1)
 
 -- a source is refused in one way
 one_refusal : (command : Command) (source : List ℕ) (why other : Refusal) → HasRefusal command source why → HasRefusal command source other
@@ -73,7 +73,7 @@ one_refusal command source refusal.Unbuilt refusal.Unbuilt has has' = refl
 pub only_answer : (command : Command) (source : List ℕ) (answer other : Answer) → HasAnswer command source answer
     → HasAnswer command source other → other ≡ answer
 only_answer command source (text bytes) (text other) has has' =
-    let both = both_accepted has.0.lists has.1 (accepted_of source (wanted command) has.0 has'.0 has'.1) in
+    let both = both_accepted has.0.lists has.1 (accepted_of _ source (wanted command) has.0 has'.0 has'.1) in
     ap text (one_text command source both.0 bytes other both.2 both.3)
 only_answer command source (text bytes) (refused why) has has' = absurd (text_or_refusal command source bytes why has has')
 only_answer command source (refused why) (text bytes) has has' = absurd (text_or_refusal command source bytes why has' has)

@@ -6,7 +6,7 @@ use Rattle.std.proofs.lemmas.Slice.Eq.{bytes_eq-Decides}
 use Rattle.rc_model.specs.Tree.{Tree, printed}
 use Rattle.rc_model.specs.Words.{different}
 use Rattle.rc_model.specs.Deck.{Groups, Entry, Face, AreFaces}
-use Rattle.rc_model.specs.DeckText.{DeckMention, names_of, attribute_name, value_name, DeckStands, EntriesStand, HaveWorths}
+use Rattle.rc_model.specs.DeckText.{in_deck, in_entries, DeckMention, names_of, attribute_name, value_name, DeckStands, EntriesStand, HaveWorths}
 use Rattle.rc_model.specs.SmallGame.{SmallGame, small_house}
 use Rattle.rc_model.specs.SmallText.{IsSmall, IsSmallSheet, IsSmallPlan, HasHouse}
 use Rattle.std.specs.Prelude.{flat_map}
@@ -33,13 +33,13 @@ names_differ mentions = (differ (flat_map attribute_name mentions), differ (flat
 pub one_deck : (deck entries : Tree) (groups other : Groups) → DeckStands (names_in deck entries) groups deck
     → DeckStands (names_in deck entries) other deck → other ≡ groups
 one_deck deck entries groups other stands stands' =
-    let named = names_differ _ in
+    let named = names_differ (in_deck deck ++ in_entries entries) in
     some_is (sym (deck_complete (names_in deck entries) named other deck stands') ∙ deck_complete (names_in deck entries) named groups deck stands)
 
 pub same_entries : (deck entries : Tree) (list other : List Entry) → EntriesStand (names_in deck entries) list entries
     → EntriesStand (names_in deck entries) other entries → other ≡ list
 same_entries deck entries list other stands stands' =
-    let named = names_differ _ in
+    let named = names_differ (in_deck deck ++ in_entries entries) in
     some_is (sym (entries_complete (names_in deck entries) named other entries stands') ∙ entries_complete (names_in deck entries) named list entries stands)
 
 -- the cards of a deck are worth one thing each

@@ -9,13 +9,13 @@ use Rattle.rc_house.specs.declared.command.Command.TheVariants as named
 use Rattle.rc_house.specs.declared.command.Command.TheVariants.{Play}
 use Rattle.rc_house.specs.declared.refusal.Refusal.{Refusal}
 use Rattle.rc_house.specs.declared.status.Status.{Status}
-use Rattle.rc_house.specs.declared.status.Status.TheVariants.{Done, Memory, WriteFault, TooLong}
+use Rattle.rc_house.specs.declared.status.Status.TheVariants.{Memory, TooLong}
 use Rattle.rc_house.specs.Command.{IsCommand, note_of}
 use Rattle.rc_house.specs.Answer.{Answer, text, refused, HasAnswer}
 use Rattle.rc_house.specs.Status.{line_of, refusal_status, read_status}
 use Rattle.rc_house.specs.Port.{Port, Ports, port, HasFailed, Took, NoCountFell}
 use Rattle.rc_house.specs.Outcome.{GaveFew, GaveTooMuch, Answers, Refuses, Outcome, written, refusing, no_memory, read_failed, too_long, text_failed, note_failed, NoPortFailed, Succeeds, Ends, status_of}
-use Rattle.rc_house.specs.Running.{ReadsNone, Delivered, IsUndelivered}
+use Rattle.rc_house.specs.Running.{ReadsNone, Delivers}
 use Rattle.rc_house.proofs.OneAnswer.{only_answer}
 
 -- what a source gave to its end is all that it told
@@ -45,23 +45,17 @@ answers_with before after command answer P answers here = by before.told answers
     by None answers = tt
     by (Some source) answers = (answers.0, answers.1, answers.2, answers.3, subst P (sym answers.4) here)
 
--- a text that was written, and its note
-pub done_so : (command : Command) (before after : Ports) (bytes : List ℕ)
+-- a text that was handed on
+pub delivered : (command : Command) (before after : Ports) (bytes : List ℕ) (status : Status)
     → Answers before.source after.source command (λ other. other ≡ text bytes)
-    → Delivered bytes (note_of command) before.out after.out before.notes after.notes
-    → Outcome command before after Done
-done_so command before after bytes answers delivered =
-    written refl (answers_with before.source after.source command (text bytes) _ answers (bytes, refl, delivered.0)) delivered.1
-
--- a text that wasn't written, or whose note wasn't
-pub undelivered_so : (command : Command) (before after : Ports) (bytes : List ℕ)
-    → Answers before.source after.source command (λ other. other ≡ text bytes)
-    → IsUndelivered bytes (note_of command) before.out after.out before.notes after.notes
-    → Outcome command before after WriteFault
-undelivered_so command before after bytes answers (inl failed) =
-    text_failed refl failed.0 (answers_with before.source after.source command (text bytes) _ answers (bytes, refl, failed.1)) failed.2
-undelivered_so command before after bytes answers (inr failed) =
-    note_failed refl failed.0 (answers_with before.source after.source command (text bytes) _ answers (bytes, refl, failed.1)) failed.2
+    → Delivers bytes (note_of command) before.out after.out before.notes after.notes status
+    → Outcome command before after status
+delivered command before after bytes status answers (inl done) =
+    written done.0 (answers_with before.source after.source command (text bytes) _ answers (bytes, refl, done.1)) done.2
+delivered command before after bytes status answers (inr (inl failed)) =
+    text_failed failed.0 failed.1 (answers_with before.source after.source command (text bytes) _ answers (bytes, refl, failed.2)) failed.3
+delivered command before after bytes status answers (inr (inr failed)) =
+    note_failed failed.0 failed.1 (answers_with before.source after.source command (text bytes) _ answers (bytes, refl, failed.2)) failed.3
 
 -- a refusal
 pub refused_so : (command : Command) (before after : Ports) (refusal : Refusal) (status : Status) → status ≡ refusal_status refusal

@@ -1,6 +1,7 @@
 -- A command has an answer to each source.
 use Rattle.std.proofs.Common.{◌≡◌, ℕ, List, [], ◌∷◌, Option, Some, None, ◌⊎◌, inl, inr, refl}
 use Rattle.rc_model.specs.Spelled.{Spelled}
+use Rattle.rc_model.specs.SmallText.{HasHouse}
 use Rattle.rc_model.specs.Tree.{Tree}
 use Rattle.rc_model.specs.Transcript.{line}
 use Rattle.rc_grammar.specs.declared.fault.SheetFault.{SheetFault}
@@ -39,7 +40,7 @@ accepted Sheet source form others rest sheet spelled is = (
 )
 accepted Play source form others rest sheet spelled is = by (house_or_not source (form ∷ others) rest spelled)
   where
-    by : ((bytes : List ℕ) × _) ⊎ _ → IsAnswered Play source
+    by : ((bytes : List ℕ) × HasHouse source bytes) ⊎ ((bytes : List ℕ) → HasHouse source bytes → ⊥) → IsAnswered Play source
     by (inl has) =
         (text has.0, text_answer Play source (form ∷ others) rest sheet has.0 spelled (first_accepted (form ∷ others) form others sheet refl is) has.1)
     by (inr none) =

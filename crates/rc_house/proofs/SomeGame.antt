@@ -1,10 +1,10 @@
 -- A source is one of a small game, or it isn't.
-use Rattle.std.proofs.Common.{◌≡◌, ℕ, ◌≤◌, List, [], ◌∷◌, length, map, Some, None, ℤ, ◌⊎◌, inl, inr, refl, sym, ◌∙◌, ap, subst, arith}
+use Rattle.std.proofs.Common.{◌≡◌, ℕ, ◌≤◌, List, [], ◌∷◌, ◌++◌, length, map, Some, None, ℤ, ◌⊎◌, inl, inr, refl, sym, ◌∙◌, ap, subst, arith}
 use Rattle.std.specs.List.{All}
 use Rattle.std.proofs.lemmas.Bool.{cases_eq}
 use Rattle.rc_model.specs.Tree.{Tree, printed}
 use Rattle.rc_model.specs.Deck.{Groups, Entry, Face, AreFaces, points_of}
-use Rattle.rc_model.specs.DeckText.{DeckStands, EntriesStand, HasEachOnce, HaveWorths}
+use Rattle.rc_model.specs.DeckText.{in_deck, in_entries, DeckStands, EntriesStand, HasEachOnce, HaveWorths}
 use Rattle.rc_model.specs.Spelled.{Spelled}
 use Rattle.rc_model.specs.SmallGame.{SmallGame, small_house}
 use Rattle.rc_model.specs.SmallText.{part_at, IsSmall, IsSmallSheet, IsSmallPlan, HasHouse}
@@ -73,9 +73,9 @@ worth_or_not deck entries = by (option_cases (read_deck (names_in deck entries) 
         → ((points : List Entry) × (read_entries (names_in deck entries) entries ≡ Some points)) ⊎ (read_entries (names_in deck entries) entries ≡ None)
         → WorthOrNot deck entries
     by (inr none) found = inr (λ worths have.
-        let read = deck_complete (names_in deck entries) (names_differ _) have.groups deck have.deck_stands in absurd cc)
+        let read = deck_complete (names_in deck entries) (names_differ (in_deck deck ++ in_entries entries)) have.groups deck have.deck_stands in absurd cc)
     by (inl groups) (inr none) = inr (λ worths have.
-        let read = entries_complete (names_in deck entries) (names_differ _) have.points entries have.entries_stand in absurd cc)
+        let read = entries_complete (names_in deck entries) (names_differ (in_deck deck ++ in_entries entries)) have.points entries have.entries_stand in absurd cc)
     by (inl groups) (inl points) =
         all_worth deck entries groups.0 points.0 (deck_sound (names_in deck entries) groups.0 deck groups.1)
         (entries_sound (names_in deck entries) points.0 entries points.1)
@@ -164,5 +164,5 @@ pub house_or_not : (source : List ℕ) (lists : List Tree) (rest : ℕ) → Spel
 house_or_not source lists rest spelled = by (small_or_not source lists rest spelled (cases_eq rest (length source)))
   where
     by : SmallOrNot source → ((bytes : List ℕ) × HasHouse source bytes) ⊎ ((bytes : List ℕ) → HasHouse source bytes → ⊥)
-    by (inl small) = inl (small_house small.0, small.0, small.1, refl)
+    by (inl small) = inl (small_house small.0, (small.0, small.1, refl))
     by (inr none) = inr (λ bytes has. none has.0 has.1)

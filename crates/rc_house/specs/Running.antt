@@ -4,7 +4,8 @@ use Rattle.rc_outside.specs.declared.errors.ReadFail.{ReadFail}
 use Rattle.rc_outside.specs.declared.errors.ReadFail.TheVariants.{ReadFault, TooLong, Memory}
 use Rattle.rc_house.specs.declared.command.Command.{Command}
 use Rattle.rc_house.specs.declared.answer.Answer.{Answer as Stored}
-use Rattle.rc_house.specs.declared.status.Status.TheVariants as ending
+use Rattle.rc_house.specs.declared.status.Status.{Status}
+use Rattle.rc_house.specs.declared.status.Status.TheVariants.{Done, WriteFault}
 use Rattle.rc_house.specs.Status.{line_of}
 use Rattle.rc_house.specs.Answer.{seen}
 use Rattle.rc_house.specs.Port.{Port, HasFailed, Received, ReceivedFront, Took, Noted, NotedFront}
@@ -20,12 +21,10 @@ ReadsNone before after ReadFault = HasFailed before after × GaveFew before afte
 ReadsNone before after TooLong = GaveTooMuch before after
 ReadsNone before after Memory = GaveFew before after
 
--- a text was written, and then its note
-abbrev pub Delivered : List ℕ → List ℕ → Port → Port → Port → Port → Type 0
-Delivered text note out out' notes notes' = Received out out' text × Noted notes notes' note
-
--- a write of the text failed, which was noted; or the text was written, and the write of its note failed
-abbrev pub IsUndelivered : List ℕ → List ℕ → Port → Port → Port → Port → Type 0
-IsUndelivered text note out out' notes notes' =
-    (HasFailed out out' × ReceivedFront out out' text × Took notes notes' (line_of ending.WriteFault))
-    ⊎ (HasFailed notes notes' × Received out out' text × NotedFront notes notes' note)
+-- How writing a text and its note ends: both were written; or a write of the text failed, which was noted; or the text was
+-- written, and a write of its note failed.
+abbrev pub Delivers : List ℕ → List ℕ → Port → Port → Port → Port → Status → Type 0
+Delivers text note out out' notes notes' status =
+    ((status ≡ Done) × Received out out' text × Noted notes notes' note)
+    ⊎ ((status ≡ WriteFault) × HasFailed out out' × ReceivedFront out out' text × Took notes notes' (line_of status))
+    ⊎ ((status ≡ WriteFault) × HasFailed notes notes' × Received out out' text × NotedFront notes notes' note)

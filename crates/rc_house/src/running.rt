@@ -1,14 +1,14 @@
 //! The calls that a program makes: they run a command from its words to its end.
-ghost use Rattle.std.specs.Prelude.{◌≡◌, ◌<◌, ◌≤◌, map, string_bytes, IfOk, IfErr, OnOk, OnErr};
+ghost use Rattle.std.specs.Prelude.{◌≡◌, ◌<◌, ◌≤◌, map, string_bytes, IfOk, IfErr};
 ghost use Rattle.rc_house.specs.Status.{line_of};
 ghost use Rattle.rc_house.specs.Port.{NoCountFell, Took, port, ports};
 ghost use Rattle.rc_house.specs.Outcome.{Outcome, Ends};
-ghost use Rattle.rc_house.specs.Running.{ReadsAnswer, ReadsNone, Delivered, IsUndelivered};
+ghost use Rattle.rc_house.specs.Running.{ReadsAnswer, ReadsNone, Delivers};
 
 use crate::answer::{Answer, answer_to};
 use crate::command::{Command, command_of};
 use crate::status::Status;
-use rc_outside::{Gate, ReadFail, Sink, Source, WriteFault, read_all, write_all};
+use rc_outside::{Gate, ReadFail, Sink, Source, read_all, write_all};
 use rc_steps::Steps;
 use std::alloc::Global;
 use std::marker::Brand;
@@ -50,22 +50,18 @@ fn read_answer<S: Source>(
 }
 
 /// Writes a command's text, and then its note.
-fn deliver<O: Sink, N: Sink>(
-    out: &mut O,
-    notes: &mut N,
-    text: &[u8],
-    note: &[u8],
-) -> Result<(), WriteFault>
-    ensures done { OnOk result (Delivered text.now note.now (port (O.written out.old) (O.faults out.old)) (port (O.written out.new) (O.faults out.new)) (port (N.written notes.old) (N.faults notes.old)) (port (N.written notes.new) (N.faults notes.new))) }
-    ensures failed { OnErr result (IsUndelivered text.now note.now (port (O.written out.old) (O.faults out.old)) (port (O.written out.new) (O.faults out.new)) (port (N.written notes.old) (N.faults notes.old)) (port (N.written notes.new) (N.faults notes.new))) }
+fn deliver<O: Sink, N: Sink>(out: &mut O, notes: &mut N, text: &[u8], note: &[u8]) -> Status
+    ensures ends { Delivers text.now note.now (port (O.written out.old) (O.faults out.old)) (port (O.written out.new) (O.faults out.new)) (port (N.written notes.old) (N.faults notes.old)) (port (N.written notes.new) (N.faults notes.new)) result }
     ensures out_counted { O.faults out.old ≤ O.faults out.new }
     ensures notes_counted { N.faults notes.old ≤ N.faults notes.new }
 {
     if write_all(out, text).is_err() {
-        let _ = refuse(notes, Status::WriteFault);
-        return Err(WriteFault);
+        return refuse(notes, Status::WriteFault);
     }
-    write_all(notes, note)
+    match write_all(notes, note) {
+        Ok(()) => Status::Done,
+        Err(_) => Status::WriteFault,
+    }
 }
 
 /// Runs a command.
@@ -97,10 +93,7 @@ fn run_command<S: Source, O: Sink, N: Sink>(
         (port (N.written notes.new) (N.faults notes.new))) }
 {
     match read_answer(alloc, command, source) {
-        Ok(Answer::Text(text)) => match deliver(out, notes, &text, command.note()) {
-            Ok(()) => Status::Done,
-            Err(WriteFault) => Status::WriteFault,
-        },
+        Ok(Answer::Text(text)) => deliver(out, notes, &text, command.note()),
         Ok(Answer::Refused(refusal)) => refuse(notes, Status::from(refusal)),
         Err(fail) => refuse(notes, Status::from(fail)),
     }

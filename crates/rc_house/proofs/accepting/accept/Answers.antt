@@ -1,5 +1,6 @@
 use Rattle.std.proofs.Common.{subst, sym}
 use Rattle.rc_form.specs.Form.{tree_of}
+use Rattle.rc_sheet_model.specs.Sight.{IsInSight}
 use Rattle.rc_ast.specs.Sheet.{sheet_seen}
 use Rattle.rc_house.specs.Accepted.{IsSheetOf}
 use Rattle.rc_house.proofs.Games.{fits}
@@ -15,5 +16,5 @@ returns-in-Ok-check_sight-clause-accepted c =
     record { faultless = made.fine; stands = made.stands; well = made.well } in
     record {
       of_form = subst (λ sheet. IsSheetOf (tree_of c.args.form.now) (sheet_seen sheet)) (sym c.in-Ok-check_sight.ensures.same) is;
-      sight = c.in-Ok-check_sight.ensures.sight;
+      sight = subst (λ sheet. IsInSight (sheet_seen sheet)) (sym c.in-Ok-check_sight.ensures.same) c.in-Ok-check_sight.ensures.sight;
     }
