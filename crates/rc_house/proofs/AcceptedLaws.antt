@@ -1,5 +1,5 @@
 -- What is accepted as a sheet has one sheet, what isn't has one first fault, and no form is both.
-use Rattle.std.proofs.Common.{None, ◌≡◌, ℕ, ◌+◌, ◌<◌, ◌≤◌, List, [], ◌∷◌, ◌⊎◌, inl, inr, map, refl, sym, ◌∙◌, ap, subst, arith}
+use Rattle.std.proofs.Common.{None, ◌≡◌, ℕ, suc, ◌<◌, ◌≤◌, List, [], ◌∷◌, ◌⊎◌, inl, inr, map, refl, sym, ◌∙◌, ap, subst, arith}
 use Rattle.std.specs.List.{All, Contains}
 use Rattle.std.proofs.lemmas.Bool.{cases_lt}
 use Rattle.std.proofs.lemmas.List.Elements.{All-nil, All-cons, All-contains, All-weaker}
@@ -47,7 +47,7 @@ least n (m ∷ ms) = by (least m ms) (cases_lt n (least m ms).0)
     )
     by rest (inr above) = (
       rest.0,
-      (rest.1.0 + 1, omega (arith, rest.1.1), rest.1.2),
+      (suc rest.1.0, omega (arith, rest.1.1), rest.1.2),
       All-cons (λ other. rest.0 ≤ other) n (m ∷ ms) above rest.2,
     )
 

@@ -1,5 +1,5 @@
 -- What holds or doesn't.
-use Rattle.std.proofs.Common.{◌≡◌, ◌≢◌, ℕ, ◌+◌, ◌<◌, ◌≤◌, List, [], ◌∷◌, length, map, Option, Some, None, ◌⊎◌, inl, inr, refl, sym, arith}
+use Rattle.std.proofs.Common.{◌≡◌, ◌≢◌, ℕ, suc, ◌<◌, ◌≤◌, List, [], ◌∷◌, length, map, Option, Some, None, ◌⊎◌, inl, inr, refl, sym, arith}
 use Rattle.std.specs.List.{All, AllPairs, Contains}
 use Rattle.std.proofs.lemmas.Bool.{cases_lt, cases_eq}
 use Rattle.std.proofs.lemmas.List.Elements.{All-nil, All-cons, All-head, All-tail}
@@ -36,7 +36,7 @@ among x (y ∷ ys) = by (cases_eq x y) (among x ys)
   where
     by : (x ≡ y) ⊎ (x ≢ y) → Contains ys x ⊎ All (λ y. x ≢ y) ys → Contains (y ∷ ys) x ⊎ All (λ y. x ≢ y) (y ∷ ys)
     by (inl same) rest = inl (0, omega arith, sym same)
-    by (inr apart) (inl has) = inl (has.0 + 1, omega (arith, has.1), has.2)
+    by (inr apart) (inl has) = inl (suc has.0, omega (arith, has.1), has.2)
     by (inr apart) (inr all) = inr (All-cons (λ y. x ≢ y) y ys apart all)
 
 pub decide_different : (xs : List ℕ) → Decided (AllPairs ◌≢◌ xs)
@@ -44,6 +44,6 @@ decide_different [] = inl (λ i j d below within. absurd (omega (arith, within))
 decide_different (x ∷ xs) = by (among x xs) (decide_different xs)
   where
     by : Contains xs x ⊎ All (λ y. x ≢ y) xs → Decided (AllPairs ◌≢◌ xs) → Decided (AllPairs ◌≢◌ (x ∷ xs))
-    by (inl has) rest = inr (λ all. all 0 (has.0 + 1) x (omega arith) (omega (arith, has.1)) (sym has.2))
-    by (inr apart) (inr none) = inr (λ all. none (λ i j d below within. all (i + 1) (j + 1) d (omega arith) (omega (arith, within))))
+    by (inl has) rest = inr (λ all. all 0 (suc has.0) x (omega arith) (omega (arith, has.1)) (sym has.2))
+    by (inr apart) (inr none) = inr (λ all. none (λ i j d below within. all (suc i) (suc j) d (omega arith) (omega (arith, within))))
     by (inr apart) (inl rest) = inl (AllPairs-cons ◌≢◌ x xs apart rest)

@@ -21,7 +21,7 @@ pub returns-in-Some : goal.returns-in-Some
 returns-in-Some c =
     let forms = c.args.forms.now in
     let read = rw c.in-Play.is at c.requires.read in
-    let has = rw c.in-Some.is at c.in_ok-house_text-in-Play.ensures.found in
+    let has = rw c.in-Some.is at c.in_ok-text-in-Play.ensures.found in
     rw c.in-Play.is
     (text_answer command.Play c.args.source.now (trees_of forms.list.items) forms.rest (sheet_seen c.args.checked.now)
     c.in-Some.text.items read c.requires.accepted has)
@@ -30,7 +30,7 @@ pub returns-in-None : goal.returns-in-None
 returns-in-None c =
     let forms = c.args.forms.now in
     let read = rw c.in-Play.is at c.requires.read in
-    let none = rw c.in-None.is at c.in_ok-house_text-in-Play.ensures.none in
+    let none = rw c.in-None.is at c.in_ok-text-in-Play.ensures.none in
     rw c.in-Play.is
     (unbuilt_answer command.Play c.args.source.now (trees_of forms.list.items) forms.rest (sheet_seen c.args.checked.now) read
     c.requires.accepted none)
