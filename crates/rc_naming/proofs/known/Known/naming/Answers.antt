@@ -7,12 +7,14 @@ use Rattle.rc_naming.proofs.known.Known.naming.Goals as goal
 pub returns : goal.returns
 returns c =
     same_naming _ _ _ _ _ _ _ _ _ _ _ _ _ _ _ _
-    (c.in_ok-words_of.ensures ∙ c.as_slice.ensures.keys)
-    (c.in_ok-words_of-2.ensures ∙ c.as_slice-2.ensures.keys)
-    (c.in_ok-words_of-3.ensures ∙ c.as_slice-3.ensures.keys)
-    (c.in_ok-keys_of.ensures ∙ sym (map-map loc_seen (λ mention. mention.name) c.self.inside.locs.entries))
-    (c.in_ok-keys_of-2.ensures ∙ sym (map-map num_seen (λ mention. mention.name) c.self.inside.nums.entries))
-    (c.in_ok-words_of-4.ensures ∙ c.as_slice-4.ensures.keys)
+    (c.in_ok-from_slice.ensures.items ∙ c.as_slice.ensures.keys)
+    (c.in_ok-from_slice-2.ensures.items ∙ c.as_slice-2.ensures.keys)
+    (c.in_ok-from_slice-3.ensures.items ∙ c.as_slice-3.ensures.keys)
+    (c.in_ok-from_slice-4.ensures.items ∙ c.as_slice-4.ensures ∙ c.keys.ensures.rest
+    ∙ sym (map-map loc_seen (λ mention. mention.name) c.self.inside.locs.entries))
+    (c.in_ok-from_slice-5.ensures.items ∙ c.as_slice-5.ensures ∙ c.keys-2.ensures.rest
+    ∙ sym (map-map num_seen (λ mention. mention.name) c.self.inside.nums.entries))
+    (c.in_ok-from_slice-6.ensures.items ∙ c.as_slice-6.ensures.keys)
     c.in_ok-loc_names.ensures
     c.in_ok-num_names.ensures
     ∙ ap naming_by c.self.view_is
