@@ -13,4 +13,4 @@ returns-in-Ok-check_sight-clause-sheet c =
     let made = c.in-Ok.ensures in
     let is : IsSheetOf (tree_of c.args.form.now) (sheet_seen c.in-Ok.sheet) =
     record { faultless = made.fine; stands = made.stands; well = made.well } in
-    subst (λ sheet. IsSheetOf (tree_of c.args.form.now) (sheet_seen sheet)) (sym c.in-Ok-check_sight.ensures.same) is
+    subst (IsSheetOf (tree_of c.args.form.now)) (sym c.in-Ok-check_sight.ensures.same) is

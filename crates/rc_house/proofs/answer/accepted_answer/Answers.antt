@@ -2,7 +2,6 @@ use Rattle.std.proofs.Common.{ap, ◌∙◌}
 use Rattle.rc_model.specs.Transcript.{line}
 use Rattle.rc_form.specs.Form.{trees_of}
 use Rattle.rc_sheet_model.specs.Printing.{printed_sheet}
-use Rattle.rc_ast.specs.Sheet.{sheet_seen}
 use Rattle.rc_house.proofs.AnswerLaws.{printed_answer}
 use Rattle.rc_house.proofs.answer.accepted_answer.Goals as goal
 
@@ -10,8 +9,8 @@ pub returns-in_ok-print_line-in-Sheet : goal.returns-in_ok-print_line-in-Sheet
 returns-in_ok-print_line-in-Sheet c =
     let forms = c.args.forms.now in
     let read = rw c.in-Sheet.is at c.requires.read in
-    let same = ap (λ sheet. line (printed_sheet (sheet_seen sheet))) c.sheet.ensures.same in
+    let same = ap (λ sheet. line (printed_sheet sheet)) c.sheet.ensures.same in
     let printed = c.in_ok-print_line-in-Sheet.ensures ∙ same in
     rw c.in-Sheet.is
-    (printed_answer c.args.source.now (trees_of forms.list.items) (sheet_seen c.args.checked.now) forms.rest _ read
+    (printed_answer c.args.source.now (trees_of forms.list.items) c.args.checked.now forms.rest _ read
     c.requires.accepted printed)

@@ -1,6 +1,5 @@
 use Rattle.std.proofs.Common.{None, Some, ◌≡◌, slice_get, rules}
 use Rattle.rc_form.specs.Form.{tree_of, trees_of}
-use Rattle.rc_ast.specs.Sheet.{sheet_seen}
 use Rattle.rc_house.proofs.AnswerLaws.{first_tree, no_tree, first_accepted, missing_answer, refused_answer, if_accepted_answered}
 use Rattle.rc_house.proofs.answer.answer_of_forms.Goals as goal
 
@@ -17,7 +16,7 @@ returns-in-Ok c =
     let forms = c.args.forms.now in
     let item : Some c.in-Some.form.now ≡ slice_get forms.list.items 0 = search rules in
     let listed = first_tree forms.list.items c.in-Some.form.now item in
-    let sheet = sheet_seen c.in-Ok.checked in
+    let sheet = c.in-Ok.checked in
     let trees = trees_of forms.list.items in
     let tree = tree_of c.in-Some.form.now in
     let first = first_accepted trees tree listed.0 sheet listed.1 c.in-Ok.ensures.sheet c.in-Ok.ensures.sight in
