@@ -1,6 +1,6 @@
 use Rattle.rc_sheet_laws.proofs.OneSheet.{one_well_formed}
 use Rattle.rc_sheet_laws.proofs.SoundSheet.{no_fault}
-use Rattle.rc_sheet_laws.proofs.one_sheet.a_form_has_one_sheet.Goals as goal
+use Rattle.rc_sheet_laws.proofs.laws.one_sheet.a_form_has_one_sheet.Goals as goal
 
 pub returns : goal.returns
 returns c =
