@@ -8,6 +8,7 @@ ghost use Rattle.rc_ast.specs.Sheet.{sheet_seen};
 ghost use Rattle.rc_sheet_model.specs.Stands.{Stands};
 ghost use Rattle.rc_sheet_model.specs.WellFormed.{IsWellFormed};
 ghost use Rattle.rc_semantics.specs.SecondFaults.{sheet_fault};
+ghost use Rattle.rc_semantics.specs.FirstFault.{IsFirstFault};
 ghost use Rattle.rc_semantics.specs.Checks.{IfSheetFault};
 
 use rc_ast::Sheet;
@@ -31,6 +32,7 @@ pub fn sheet_of(alloc: Global, form: &Form) -> Result<Sheet, SheetFail>
     ensures well { IfOk result (λ sheet. IsWellFormed (sheet_seen sheet)) }
     ensures fine { IfOk result (λ _. sheet_fault (tree_of form.now) ≡ None) }
     ensures found { IfErr result (λ fail. IfSheetFault fail (λ fault. sheet_fault (tree_of form.now) ≡ Some fault)) }
+    ensures least { IfErr result (λ fail. IfSheetFault fail (λ fault. IsFirstFault (tree_of form.now) fault)) }
 {
     if let Err(fault) = check_shape(form) {
         return Err(SheetFail::Fault(fault));
