@@ -1,21 +1,22 @@
 -- The faults of a form stand in the order of the text.
-use Rattle.std.proofs.Common.{ℕ, ◌+◌, ◌≤◌, Bool, true, false, cond, List, [], ◌∷◌, ◌++◌, Option, Some, None, sym, subst, arith}
+use Rattle.std.proofs.Common.{◌≡◌, ℕ, ◌+◌, ◌≤◌, ◌<◌, inl, inr, Bool, true, false, cond, List, [], ◌∷◌, ◌++◌, Option, Some, None, refl, sym, subst, arith}
 use Rattle.std.specs.List.{All}
 use Rattle.std.specs.Option.{option_map, option_to_list}
 use Rattle.std.proofs.lemmas.List.{append_assoc, append-nil}
-use Rattle.std.proofs.lemmas.List.Elements.{All-nil, All-cons}
+use Rattle.std.proofs.lemmas.List.Elements.{All-nil, All-cons, All-weaker}
 use Rattle.rc_model.specs.Tree.{Tree, word, list, Trees, nil, cons}
 use Rattle.rc_model.specs.Placed.{starts, all_starts, Rise, IsPlaced}
-use Rattle.rc_grammar.specs.Faults.{faults, faults_at, place_at, faults_in, told_faults, fault_place, first_start, start_of, atom_kind, some_form_fits, fits, lacks_players, count, rule_of, shape}
+use Rattle.rc_grammar.specs.FirstOf.{ComesBefore, IsFirstOf}
+use Rattle.rc_grammar.specs.Faults.{first, faults, faults_at, place_at, faults_in, told_faults, fault_place, first_start, start_of, atom_kind, some_form_fits, fits, lacks_players, count, rule_of, shape}
 use Rattle.rc_grammar.specs.declared.fault.SheetKind.{SheetKind}
 use Rattle.rc_grammar.specs.declared.fault.SheetFault.{SheetFault}
 use Rattle.rc_grammar.specs.declared.grammar.Place.{Place}
 use Rattle.rc_grammar.specs.declared.grammar.Rule.{Rule}
 
--- the offsets don't fall, and none is below this one
+-- the offsets rise, and none is below this one
 abbrev pub Ordered : ℕ → List SheetFault → Type 0
 Ordered low [] = Unit {0}
-Ordered low (fault ∷ faults) = (low ≤ fault.at) × Ordered fault.at faults
+Ordered low (fault ∷ faults) = (low ≤ fault.at) × Ordered (fault.at + 1) faults
 
 -- what isn't below an offset isn't below a lower one
 Ordered-lower : (low from : ℕ) (faults : List SheetFault) → low ≤ from → Ordered from faults → Ordered low faults
@@ -23,10 +24,34 @@ Ordered-lower low from [] below ordered = tt
 Ordered-lower low from (fault ∷ faults) below ordered = (let above = ordered.0 in omega arith, ordered.1)
 
 -- none of these faults is below the offset
-pub All-ordered : (low : ℕ) (faults : List SheetFault) → Ordered low faults → All (λ fault. low ≤ fault.at) faults
+All-ordered : (low : ℕ) (faults : List SheetFault) → Ordered low faults → All (λ fault. low ≤ fault.at) faults
 All-ordered low [] ordered = All-nil (λ fault. low ≤ fault.at)
 All-ordered low (fault ∷ faults) ordered =
-    All-cons (λ fault. low ≤ fault.at) fault faults ordered.0 (All-ordered low faults (Ordered-lower low fault.at faults ordered.0 ordered.1))
+    let above = ordered.0 in
+    All-cons (λ fault. low ≤ fault.at) fault faults above
+    (All-ordered low faults (Ordered-lower low (fault.at + 1) faults (omega arith) ordered.1))
+
+-- a fault doesn't come before itself, nor one behind it
+none_before : (fault other : SheetFault) → fault.at < other.at → ComesBefore other fault → ⊥
+none_before fault other behind (inl before) = omega arith
+none_before fault other behind (inr before) = let same = before.0 in omega arith
+
+not_itself : (fault : SheetFault) → ComesBefore fault fault → ⊥
+not_itself fault (inl before) = omega arith
+not_itself fault (inr before) = let less = before.1 in omega arith
+
+-- the first of faults in order is the first of them all
+pub Ordered-first : (low : ℕ) (faults : List SheetFault) (fault : SheetFault) → Ordered low faults → first faults ≡ Some fault
+    → IsFirstOf faults fault
+Ordered-first low [] fault ordered is = absurd cc
+Ordered-first low (here ∷ faults) fault ordered is =
+    let same : here ≡ fault = cc in
+    subst (IsFirstOf (here ∷ faults)) same (record {
+      found = (0, omega arith, refl);
+      least = All-cons (λ other. ComesBefore other here → ⊥) here faults (not_itself here)
+          (All-weaker (λ other. here.at + 1 ≤ other.at) (λ other. ComesBefore other here → ⊥)
+          (λ other behind. none_before here other (omega arith)) faults (All-ordered (here.at + 1) faults ordered.1));
+    })
 
 -- what rises from a number on rises from a lower one on
 Rise-lower : (low from high : ℕ) (numbers : List ℕ) → low ≤ from → Rise from high numbers → Rise low high numbers
@@ -47,7 +72,7 @@ Follows high more others = (next : ℕ) → Rise next high more → Ordered next
 one_fault : (fault : SheetFault) (low high : ℕ) (more : List ℕ) (others : List SheetFault) → low ≤ fault.at
     → Rise (fault.at + 1) high more → Follows high more others → Ordered low (fault ∷ others)
 one_fault fault low high more others above rise follows =
-    (above, Ordered-lower fault.at (fault.at + 1) others (omega arith) (follows (fault.at + 1) rise))
+    (above, follows (fault.at + 1) rise)
 
 -- at most one fault at a start, and then others
 atom_fault : (kind : Option SheetKind) (from low high : ℕ) (more : List ℕ) (others : List SheetFault) → low ≤ from
@@ -93,11 +118,10 @@ no_form place (cons head parts) from low high more others above rise follows =
 -- the faults of a list that is to be a form
 rule_choice : (has_count lacks : Bool) (inner others : List SheetFault) (from low : ℕ) → low ≤ from → Ordered (from + 1) (inner ++ others)
     → Ordered (from + 1) others → Ordered low ((cond has_count (cond lacks (shape from ∷ inner) inner) (shape from ∷ [])) ++ others)
-rule_choice true true inner others from low above within behind =
-    (above, Ordered-lower from (from + 1) (inner ++ others) (omega arith) within)
+rule_choice true true inner others from low above within behind = (above, within)
 rule_choice true false inner others from low above within behind =
     Ordered-lower low (from + 1) (inner ++ others) (omega arith) within
-rule_choice false lacks inner others from low above within behind = (above, Ordered-lower from (from + 1) others (omega arith) behind)
+rule_choice false lacks inner others from low above within behind = (above, behind)
 
 told_choice : (rule : Option Rule) (inner : Rule → List SheetFault) (place : Place) (parts : Trees) (from low high : ℕ) (more : List ℕ)
     (others : List SheetFault) → low ≤ from → Rise (from + 1) high (all_starts parts ++ more) → Follows high more others

@@ -1,3 +1,4 @@
 pub mod Keyword
 pub mod Grammar
 pub mod Faults
+pub mod FirstOf

@@ -1,9 +1,10 @@
 //! The first round of faults: parts that are no form of their place, and atoms that are no numbers of their place.
-ghost use Rattle.std.specs.Prelude.{◌≡◌, ℕ, [], All, Contains, ◌≤◌, OnOk, IfErr};
+ghost use Rattle.std.specs.Prelude.{◌≡◌, ℕ, [], OnOk, IfErr};
 ghost use Rattle.rc_model.specs.Placed.{IsPlaced};
 ghost use Rattle.rc_model.specs.Tree.{list};
 ghost use Rattle.rc_form.specs.Form.{tree_of, trees_of, packed};
 ghost use Rattle.rc_grammar.specs.Faults as spec;
+ghost use Rattle.rc_grammar.specs.FirstOf.{IsFirstOf};
 
 use crate::atoms::atom_kind;
 use crate::choice::{is_form_word, is_told, rule_of, some_form_fits};
@@ -22,8 +23,7 @@ pub fn check_shape(form: &Form) -> Result<(), SheetFault>
     ensures first { spec.fault_of result ≡ spec.first_fault (tree_of form.now) }
 
     ensures fine { OnOk result (spec.faults Place.Sheet (tree_of form.now) ≡ []) }
-    ensures found { IfErr result (λ fault. Contains (spec.faults Place.Sheet (tree_of form.now)) fault) }
-    ensures least { IfErr result (λ fault. All (λ other. fault.at ≤ other.at) (spec.faults Place.Sheet (tree_of form.now))) }
+    ensures least { IfErr result (λ fault. IsFirstOf (spec.faults Place.Sheet (tree_of form.now)) fault) }
 {
     check_form(Place::Sheet, form)
 }

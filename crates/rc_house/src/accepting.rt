@@ -3,7 +3,6 @@ ghost use Rattle.std.specs.Prelude.{◌≡◌, ℕ, IfOk, IfErr};
 ghost use Rattle.rc_model.specs.Placed.{IsPlaced};
 ghost use Rattle.rc_form.specs.Form.{tree_of, IsPrintable};
 ghost use Rattle.rc_form.specs.SameForm.{IsOfAtoms};
-ghost use Rattle.rc_ast.specs.Sheet.{sheet_seen};
 ghost use Rattle.rc_house.specs.Accepted.{IsAccepted, HasFirstFault, IfSourceFault};
 
 use crate::status::SourceKind;
@@ -26,7 +25,7 @@ pub fn accept(alloc: Global, form: &Form) -> Result<Checked, SourceFail>
     requires placed { (size : ℕ) × IsPlaced size (tree_of form.now) }
     requires printable { IsPrintable (tree_of form.now) }
     requires of_atoms { IsOfAtoms (tree_of form.now) }
-    ensures accepted { IfOk result (λ checked. IsAccepted (tree_of form.now) (sheet_seen checked)) }
+    ensures accepted { IfOk result (λ checked. IsAccepted (tree_of form.now) checked) }
     ensures refused { IfErr result (λ fail. IfSourceFault fail (λ kind at. HasFirstFault kind at (tree_of form.now))) }
 {
     let sheet = match sheet_of(alloc, form) {

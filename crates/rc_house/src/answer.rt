@@ -7,7 +7,6 @@ ghost use Rattle.rc_model.specs.SmallGame as model;
 ghost use Rattle.rc_model.specs.SmallText.{IsSmall, HasHouse};
 ghost use Rattle.rc_form.specs.Form.{tree_of, trees_of, IsPrintable};
 ghost use Rattle.rc_form.specs.SameForm.{IsOfAtoms};
-ghost use Rattle.rc_ast.specs.Sheet.{sheet_seen};
 ghost use Rattle.rc_house.specs.Game.{game_of};
 ghost use Rattle.rc_house.specs.declared.refusal.Refusal.TheVariants as refusal;
 ghost use Rattle.rc_house.specs.declared.status.SourceKind.TheVariants.{Shape};
@@ -106,7 +105,7 @@ fn accepted_answer(
     requires read { Spelled source.now (wanted command) (trees_of forms.now.list.items) forms.now.rest }
     requires printable { All (λ form. IsPrintable (tree_of form)) forms.now.list.items }
     requires placed { All (λ form. IsPlaced (length source.now) (tree_of form)) forms.now.list.items }
-    requires accepted { IsAcceptedWith (λ sheet _. sheet ≡ sheet_seen checked.now) (trees_of forms.now.list.items) }
+    requires accepted { IsAcceptedWith (λ sheet _. sheet ≡ checked.now) (trees_of forms.now.list.items) }
     ensures { IfOk result (λ answer. HasAnswer command source.now (seen answer)) }
 {
     match command {

@@ -1,10 +1,10 @@
 -- What the walk of a whole form answers.
-use Rattle.std.proofs.Common.{◌≡◌, ℕ, ◌≤◌, List, [], ◌∷◌, Some, None, Result, Ok, Err, IfOk, IfErr, refl, ap, ◌∙◌}
-use Rattle.std.specs.List.{All}
+use Rattle.std.proofs.Common.{◌≡◌, ℕ, List, [], ◌∷◌, Some, None, Result, Ok, Err, IfOk, IfErr, refl, ap, ◌∙◌}
 use Rattle.rc_model.specs.Tree.{Tree, nil}
 use Rattle.rc_model.specs.Placed.{IsPlaced}
 use Rattle.rc_sheet_model.specs.WellFormed.{Around, outside}
 use Rattle.rc_grammar.specs.Faults.{first, fault_of}
+use Rattle.rc_grammar.specs.FirstOf.{IsFirstOf}
 use Rattle.rc_grammar.specs.declared.fault.SheetFault.{SheetFault}
 use Rattle.rc_grammar.specs.declared.grammar.Place.TheVariants as place
 use Rattle.rc_semantics.specs.declared.fault.SheetFail.{SheetFail}
@@ -44,10 +44,10 @@ answered_found tree new (Ok u) checks = tt
 answered_found tree new (Err fails.Memory) checks = tt
 answered_found tree new (Err (fails.Fault fault)) checks = finds_first tree ∙ ap fault_of checks
 
--- which is the least, where the form is placed
+-- before which none comes, where the form is placed
 pub answered_least : (tree : Tree) (result : Result (Unit {0}) SheetFail)
     → IfErr result (λ fail. IfSheetFault fail (λ fault. first (second_faults tree) ≡ Some fault))
-    → IfErr result (λ fail. IfSheetFault fail (λ fault. (size : ℕ) → IsPlaced size tree → All (λ other. fault.at ≤ other.at) (second_faults tree)))
+    → IfErr result (λ fail. IfSheetFault fail (λ fault. (size : ℕ) → IsPlaced size tree → IsFirstOf (second_faults tree) fault))
 answered_least tree (Ok u) found = tt
 answered_least tree (Err fails.Memory) found = tt
 answered_least tree (Err (fails.Fault fault)) found = λ size placed. first_is_least size tree fault placed found

@@ -1,24 +1,25 @@
 -- The faults of the second round stand in the order of the text.
-use Rattle.std.proofs.Common.{◌≡◌, ℕ, ◌+◌, ◌≤◌, Bool, true, false, List, [], ◌∷◌, ◌++◌, Option, Some, None, refl, sym, subst, arith}
+use Rattle.std.proofs.Common.{◌≡◌, ℕ, ◌+◌, ◌*◌, ◌≤◌, ◌<◌, inl, inr, Bool, true, false, List, [], ◌∷◌, ◌++◌, Option, Some, None, refl, sym, subst, arith}
 use Rattle.std.specs.List.{All}
 use Rattle.std.proofs.lemmas.List.{append_assoc, append-nil}
-use Rattle.std.proofs.lemmas.List.Elements.{All-nil, All-cons}
+use Rattle.std.proofs.lemmas.List.Elements.{All-nil, All-cons, All-weaker}
 use Rattle.rc_model.specs.Tree.{Tree, word, list, Trees, nil, cons}
 use Rattle.rc_model.specs.Placed.{starts, all_starts, Rise, IsPlaced}
 use Rattle.rc_grammar.specs.Faults.{first, rule_of}
+use Rattle.rc_grammar.specs.FirstOf.{rank, ComesBefore, IsFirstOf}
 use Rattle.rc_semantics.specs.SecondParts.{Standing, Part, with_form, parts_at, parts_in, parts_of, standing_in, standing_alone, offset_of}
 use Rattle.rc_semantics.specs.SecondFaults.{is_twice, is_unknown, is_wrong_kind, is_too_many, lacks_cards, fault_where, faults_of, faults_behind, second_faults}
 use Rattle.rc_grammar.specs.declared.grammar.Rule.{Rule}
 use Rattle.rc_grammar.specs.declared.fault.SheetKind.{SheetKind}
-use Rattle.rc_grammar.specs.declared.fault.SheetKind.TheVariants.{Twice, Unknown, WrongKind, TooMany, NoCards}
+use Rattle.rc_grammar.specs.declared.fault.SheetKind.TheVariants.{Shape, Number, Twice, Unknown, WrongKind, TooMany, NoCards}
 use Rattle.rc_grammar.specs.declared.fault.SheetFault.{SheetFault}
 
 -- THE PARTS
 
--- the offsets of parts don't fall, and none is below this one
+-- the offsets of parts rise, and none is below this one
 abbrev Rises : ℕ → List Part → Type 0
 Rises low [] = Unit {0}
-Rises low (part ∷ parts) = (low ≤ offset_of part) × Rises (offset_of part) parts
+Rises low (part ∷ parts) = (low ≤ offset_of part) × Rises (offset_of part + 1) parts
 
 -- what isn't below an offset isn't below a lower one
 Rises-lower : (low from : ℕ) (parts : List Part) → low ≤ from → Rises from parts → Rises low parts
@@ -47,14 +48,14 @@ list_choice : (found : Option Rule) (inner : Rule → List Part) (at : Standing)
 list_choice None inner at parts from low high more others above rise follows within =
     follows low (Rise-lower low (from + 1) high more (omega arith) (Rise-behind (all_starts parts) more (from + 1) high rise))
 list_choice (Some rule) inner at parts from low high more others above rise follows within =
-    (above, Rises-lower from (from + 1) (inner rule ++ others) (omega arith) (within rule))
+    (above, within rule)
 
 mutual
   -- the parts of a tree, and then others
   Rises-tree : (at : Option Standing) (tree : Tree) (low high : ℕ) (more : List ℕ) (others : List Part)
       → Rise low high (starts tree ++ more) → Follows high more others → Rises low (parts_at at tree ++ others)
   Rises-tree (Some at) (word bytes from to) low high more others rise follows =
-      (rise.0, Rises-lower from (from + 1) others (omega arith) (follows (from + 1) rise.1))
+      (rise.0, follows (from + 1) rise.1)
   Rises-tree (Some at) (list parts from to) low high more others rise follows =
       list_choice (rule_of at.place parts) (λ rule. parts_in at rule parts 0 parts) at parts from low high more others
       rise.0 rise.1 follows
@@ -86,81 +87,92 @@ Rises-parts tree high placed =
 
 -- THEIR FAULTS
 
--- the offsets of faults don't fall, and none is below this one
+-- when a fault is told: by its offset, and at one offset by its kind
+abbrev turn : SheetFault → ℕ
+turn fault = 7 * fault.at + rank fault.kind
+
+-- the turns don't fall, and none is below this one
 abbrev Ordered : ℕ → List SheetFault → Type 0
 Ordered low [] = Unit {0}
-Ordered low (fault ∷ faults) = (low ≤ fault.at) × Ordered fault.at faults
+Ordered low (fault ∷ faults) = (low ≤ turn fault) × Ordered (turn fault) faults
 
--- what isn't below an offset isn't below a lower one
+-- what isn't below a turn isn't below a lower one
 Ordered-lower : (low from : ℕ) (faults : List SheetFault) → low ≤ from → Ordered from faults → Ordered low faults
 Ordered-lower low from [] below ordered = tt
 Ordered-lower low from (fault ∷ faults) below ordered = (let above = ordered.0 in omega arith, ordered.1)
 
--- none of these faults is below the offset
-All-ordered : (low : ℕ) (faults : List SheetFault) → Ordered low faults → All (λ fault. low ≤ fault.at) faults
-All-ordered low [] ordered = All-nil (λ fault. low ≤ fault.at)
+-- none of these faults is below the turn
+All-ordered : (low : ℕ) (faults : List SheetFault) → Ordered low faults → All (λ fault. low ≤ turn fault) faults
+All-ordered low [] ordered = All-nil (λ fault. low ≤ turn fault)
 All-ordered low (fault ∷ faults) ordered =
-    All-cons (λ fault. low ≤ fault.at) fault faults ordered.0
-    (All-ordered low faults (Ordered-lower low fault.at faults ordered.0 ordered.1))
+    All-cons (λ fault. low ≤ turn fault) fault faults ordered.0
+    (All-ordered low faults (Ordered-lower low (turn fault) faults ordered.0 ordered.1))
 
--- faults that are all here
-abbrev AllAt : ℕ → List SheetFault → Type 0
-AllAt here [] = Unit {0}
-AllAt here (fault ∷ faults) = (fault.at ≡ here) × AllAt here faults
+-- the fault by a test, and then others
+Ordered-where : (b : Bool) (kind : SheetKind) (part : Part) (low : ℕ) (others : List SheetFault)
+    → low ≤ 7 * offset_of part + rank kind → Ordered (7 * offset_of part + rank kind) others
+    → Ordered low (fault_where b kind part ++ others)
+Ordered-where true kind part low others above ordered = (above, ordered)
+Ordered-where false kind part low others above ordered =
+    Ordered-lower low (7 * offset_of part + rank kind) others above ordered
 
--- and others
-AllAt-append : (here : ℕ) (faults more : List SheetFault) → AllAt here faults → AllAt here more → AllAt here (faults ++ more)
-AllAt-append here [] more first second = second
-AllAt-append here (fault ∷ faults) more first second = (first.0, AllAt-append here faults more first.1 second)
-
--- the fault by a test
-AllAt-where : (b : Bool) (kind : SheetKind) (part : Part) → AllAt (offset_of part) (fault_where b kind part)
-AllAt-where true kind part = (refl, tt)
-AllAt-where false kind part = tt
-
--- the faults of a part
-AllAt-part : (all earlier : List Part) (part : Part) → AllAt (offset_of part) (faults_of all earlier part)
-AllAt-part all earlier part =
-    let here = offset_of part in
+-- the faults of a part, and then others
+Ordered-part : (all earlier : List Part) (part : Part) (low : ℕ) (others : List SheetFault) → low ≤ 7 * offset_of part
+    → Ordered (7 * (offset_of part + 1)) others → Ordered low (faults_of all earlier part ++ others)
+Ordered-part all earlier part low others above ordered =
+    let here = 7 * offset_of part in
     let twice = fault_where (is_twice earlier part) Twice part in
     let unknown = fault_where (is_unknown all earlier part) Unknown part in
     let wrong = fault_where (is_wrong_kind earlier part) WrongKind part in
     let many = fault_where (is_too_many all earlier part) TooMany part in
     let cards = fault_where (lacks_cards all part) NoCards part in
-    AllAt-append here (twice ++ unknown ++ wrong ++ many) cards
-    (AllAt-append here (twice ++ unknown ++ wrong) many
-    (AllAt-append here (twice ++ unknown) wrong
-    (AllAt-append here twice unknown (AllAt-where (is_twice earlier part) Twice part)
-    (AllAt-where (is_unknown all earlier part) Unknown part))
-    (AllAt-where (is_wrong_kind earlier part) WrongKind part))
-    (AllAt-where (is_too_many all earlier part) TooMany part))
-    (AllAt-where (lacks_cards all part) NoCards part)
-
--- faults that are all here, and then others
-Ordered-at : (low here : ℕ) (faults others : List SheetFault) → low ≤ here → AllAt here faults → Ordered here others
-    → Ordered low (faults ++ others)
-Ordered-at low here [] others below at ordered = Ordered-lower low here others below ordered
-Ordered-at low here (fault ∷ faults) others below at ordered =
-    let is = at.0 in (omega arith, Ordered-at fault.at here faults others (omega arith) at.1 ordered)
+    simp append_assoc
+    (Ordered-where (is_twice earlier part) Twice part low (unknown ++ (wrong ++ (many ++ (cards ++ others)))) (omega arith)
+    (Ordered-where (is_unknown all earlier part) Unknown part (here + 2) (wrong ++ (many ++ (cards ++ others))) (omega arith)
+    (Ordered-where (is_wrong_kind earlier part) WrongKind part (here + 3) (many ++ (cards ++ others)) (omega arith)
+    (Ordered-where (is_too_many all earlier part) TooMany part (here + 4) (cards ++ others) (omega arith)
+    (Ordered-where (lacks_cards all part) NoCards part (here + 5) others (omega arith)
+    (Ordered-lower (here + 6) (7 * (offset_of part + 1)) others (omega arith) ordered))))))
 
 -- the faults of parts that rise
-Ordered-behind : (all earlier parts : List Part) (low : ℕ) → Rises low parts → Ordered low (faults_behind all earlier parts)
+Ordered-behind : (all earlier parts : List Part) (low : ℕ) → Rises low parts → Ordered (7 * low) (faults_behind all earlier parts)
 Ordered-behind all earlier [] low rises = tt
 Ordered-behind all earlier (part ∷ parts) low rises =
-    Ordered-at low (offset_of part) (faults_of all earlier part) (faults_behind all (earlier ++ part ∷ []) parts) rises.0
-    (AllAt-part all earlier part) (Ordered-behind all (earlier ++ part ∷ []) parts (offset_of part) rises.1)
+    let above = rises.0 in
+    Ordered-part all earlier part (7 * low) (faults_behind all (earlier ++ part ∷ []) parts) (omega arith)
+    (Ordered-behind all (earlier ++ part ∷ []) parts (offset_of part + 1) rises.1)
 
--- the first of ordered faults is the least
-least_first : (low : ℕ) (faults : List SheetFault) (fault : SheetFault) → Ordered low faults → first faults ≡ Some fault
-    → All (λ other. fault.at ≤ other.at) faults
-least_first low [] fault ordered is = absurd cc
-least_first low (here ∷ faults) fault ordered is =
+-- a kind has one of seven ranks
+rank_below : (kind : SheetKind) → rank kind < 7
+rank_below Shape = omega arith
+rank_below Number = omega arith
+rank_below Twice = omega arith
+rank_below Unknown = omega arith
+rank_below WrongKind = omega arith
+rank_below TooMany = omega arith
+rank_below NoCards = omega arith
+
+-- a fault whose turn isn't below that of another doesn't come before it
+none_before : (fault other : SheetFault) → turn fault ≤ turn other → ComesBefore other fault → ⊥
+none_before fault other above (inl before) = let most = rank_below other.kind in omega arith
+none_before fault other above (inr before) =
+    let same = before.0 in let less = before.1 in omega arith
+
+-- the first of faults in order is the first of them all
+Ordered-first : (low : ℕ) (faults : List SheetFault) (fault : SheetFault) → Ordered low faults → first faults ≡ Some fault
+    → IsFirstOf faults fault
+Ordered-first low [] fault ordered is = absurd cc
+Ordered-first low (here ∷ faults) fault ordered is =
     let same : here ≡ fault = cc in
-    All-ordered fault.at (here ∷ faults) (subst (λ f. Ordered f.at (here ∷ faults)) same (omega arith, ordered.1))
+    subst (IsFirstOf (here ∷ faults)) same (record {
+      found = (0, omega arith, refl);
+      least = All-weaker (λ other. turn here ≤ turn other) (λ other. ComesBefore other here → ⊥) (none_before here)
+          (here ∷ faults) (All-ordered (turn here) (here ∷ faults) (omega arith, ordered.1));
+    })
 
--- the first fault of a form that is placed is at the least offset
+-- no fault comes before the first of a form that is placed
 pub first_is_least : (size : ℕ) (tree : Tree) (fault : SheetFault) → IsPlaced size tree → first (second_faults tree) ≡ Some fault
-    → All (λ other. fault.at ≤ other.at) (second_faults tree)
+    → IsFirstOf (second_faults tree) fault
 first_is_least size tree fault placed is =
-    least_first 0 (second_faults tree) fault
+    Ordered-first 0 (second_faults tree) fault
     (Ordered-behind (parts_of tree) [] (parts_of tree) 0 (Rises-parts tree size placed)) is

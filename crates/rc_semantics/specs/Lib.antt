@@ -2,6 +2,7 @@ pub mod Classes
 pub mod SecondParts
 pub mod SecondNames
 pub mod SecondFaults
+pub mod FirstFault
 pub mod Summary
 pub mod Groups
 pub mod SecondWalk

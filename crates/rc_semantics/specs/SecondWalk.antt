@@ -1,8 +1,9 @@
 -- The laws of the walk over the parts.
-use Rattle.std.specs.Prelude.{◌≡◌, ℕ, ◌≤◌, List, All, Some, Result, Ok, Err}
+use Rattle.std.specs.Prelude.{◌≡◌, ℕ, List, Some, Result, Ok, Err}
 use Rattle.rc_model.specs.Tree.{Tree}
 use Rattle.rc_model.specs.Placed.{IsPlaced}
 use Rattle.rc_grammar.specs.Faults.{first, fault_of}
+use Rattle.rc_grammar.specs.FirstOf.{IsFirstOf}
 use Rattle.rc_semantics.specs.SecondParts.{Part, parts_of}
 use Rattle.rc_semantics.specs.SecondFaults.{second_faults}
 use Rattle.rc_semantics.specs.Summary.{Whole, whole_of, Summary, nothing_seen, check_all}
@@ -21,8 +22,8 @@ check_form tree = check_all (whole_of (parts_of tree)) nothing_seen (parts_of tr
 abbrev pub FindsFirst : Tree → Type 0
 FindsFirst tree = first (second_faults tree) ≡ fault_of (check_form tree)
 
--- The first fault of a form that stands in a text is at the least offset.
+-- The first fault in the list is that before which no other comes, where the form stands in a text.
 abbrev pub IsLeastFirst : Tree → Type 0
 IsLeastFirst tree =
     (size : ℕ) (fault : SheetFault) → IsPlaced size tree → first (second_faults tree) ≡ Some fault
-    → All (λ other. fault.at ≤ other.at) (second_faults tree)
+    → IsFirstOf (second_faults tree) fault

@@ -1,8 +1,9 @@
 //! The first fault of the second round.
-ghost use Rattle.std.specs.Prelude.{◌≡◌, ◌≤◌, ℕ, [], Some, All, IfOk, IfErr};
+ghost use Rattle.std.specs.Prelude.{◌≡◌, ℕ, [], Some, IfOk, IfErr};
 ghost use Rattle.rc_model.specs.Placed.{IsPlaced};
 ghost use Rattle.rc_form.specs.Form.{tree_of};
 ghost use Rattle.rc_grammar.specs.Faults.{faults, first};
+ghost use Rattle.rc_grammar.specs.FirstOf.{IsFirstOf};
 ghost use Rattle.rc_semantics.specs.Checks.{IfSheetFault};
 ghost use Rattle.rc_semantics.specs.SecondFaults.{second_faults};
 ghost use Rattle.rc_semantics.specs.SecondParts as parts_spec;
@@ -28,9 +29,9 @@ pub fn check_semantics(alloc: Global, form: &Form) -> Result<(), SheetFail>
     requires shaped { faults Place.Sheet (tree_of form.now) ≡ [] }
     ensures fine { IfOk result (λ _. second_faults (tree_of form.now) ≡ []) }
     ensures found { IfErr result (λ fail. IfSheetFault fail (λ fault. first (second_faults (tree_of form.now)) ≡ Some fault)) }
-    // In a form that stands in a text, no other fault of the list has a smaller offset.
+    // In a form that stands in a text, no other fault of the list comes before it.
     ensures least { IfErr result (λ fail. IfSheetFault fail (λ fault. (size : ℕ) → IsPlaced size (tree_of form.now)
-        → All (λ other. fault.at ≤ other.at) (second_faults (tree_of form.now)))) }
+        → IsFirstOf (second_faults (tree_of form.now)) fault)) }
 {
     let whole = Whole::of(alloc, form)?;
     check_parts(alloc, &whole, form)

@@ -7,10 +7,9 @@ ghost use Rattle.rc_form.specs.SameForm.{IsOfAtoms};
 ghost use Rattle.rc_ast.specs.Sheet.{sheet_seen};
 ghost use Rattle.rc_sheet_model.specs.Stands.{Stands};
 ghost use Rattle.rc_sheet_model.specs.WellFormed.{IsWellFormed};
-ghost use Rattle.rc_naming.specs.Naming.{naming_of};
 ghost use Rattle.rc_semantics.specs.SecondFaults.{sheet_fault};
+ghost use Rattle.rc_semantics.specs.FirstFault.{IsFirstFault};
 ghost use Rattle.rc_semantics.specs.Checks.{IfSheetFault};
-ghost use Rattle.rc_reading.specs.ReadSheet.{sheet_at};
 
 use rc_ast::Sheet;
 use rc_form::Form;
@@ -29,11 +28,11 @@ pub fn sheet_of(alloc: Global, form: &Form) -> Result<Sheet, SheetFail>
     requires placed { (size : ℕ) × IsPlaced size (tree_of form.now) }
     requires shallow { IsOpenAtMost 64 (tree_of form.now) }
     requires of_atoms { IsOfAtoms (tree_of form.now) }
-    ensures read { IfOk result (λ sheet. sheet_at (naming_of (tree_of form.now)) (tree_of form.now) ≡ Some (sheet_seen sheet)) }
     ensures stands { IfOk result (λ sheet. Stands (sheet_seen sheet) (tree_of form.now)) }
     ensures well { IfOk result (λ sheet. IsWellFormed (sheet_seen sheet)) }
     ensures fine { IfOk result (λ _. sheet_fault (tree_of form.now) ≡ None) }
     ensures found { IfErr result (λ fail. IfSheetFault fail (λ fault. sheet_fault (tree_of form.now) ≡ Some fault)) }
+    ensures least { IfErr result (λ fail. IfSheetFault fail (λ fault. IsFirstFault (tree_of form.now) fault)) }
 {
     if let Err(fault) = check_shape(form) {
         return Err(SheetFail::Fault(fault));
@@ -49,7 +48,6 @@ fn sheet_of_faultless(alloc: Global, form: &Form) -> Result<Sheet, SheetFail>
     requires faultless { sheet_fault (tree_of form.now) ≡ None }
     requires shallow { IsOpenAtMost 64 (tree_of form.now) }
     requires of_atoms { IsOfAtoms (tree_of form.now) }
-    ensures read { IfOk result (λ sheet. sheet_at (naming_of (tree_of form.now)) (tree_of form.now) ≡ Some (sheet_seen sheet)) }
     ensures stands { IfOk result (λ sheet. Stands (sheet_seen sheet) (tree_of form.now)) }
     ensures well { IfOk result (λ sheet. IsWellFormed (sheet_seen sheet)) }
     ensures memory { IfErr result (λ fail. fail ≡ SheetFail.Memory) }

@@ -1,10 +1,12 @@
 //! Laws of sheets and their forms. No function here does anything.
 
+mod faultless;
 mod limits;
 mod names;
 mod reading;
 mod setup;
 
+pub use faultless::a_faultless_form_has_a_sheet;
 pub use limits::{
     players_and_teams_are_counted, sheet_has_words, sheet_is_shallow, sheet_is_within_limits,
     stages_and_choices_are_few,

@@ -9,10 +9,10 @@ mod laws;
 
 pub use accepting::sheet_of;
 pub use laws::{
-    body_stands, decks_are_decks, effects_stand, expressions_stand, maps_are_in_turn,
-    mentions_stand, names_are_few, names_stand, players_and_teams_are_counted, points_have_entries,
-    setup_is_given, setup_stands, sheet_has_words, sheet_is_shallow, sheet_is_within_limits,
-    sheet_stands, stages_and_choices_are_few, teams_are_a_partition, there_are_few_cards,
-    what_is_read_is_numbered,
+    a_faultless_form_has_a_sheet, body_stands, decks_are_decks, effects_stand, expressions_stand,
+    maps_are_in_turn, mentions_stand, names_are_few, names_stand, players_and_teams_are_counted,
+    points_have_entries, setup_is_given, setup_stands, sheet_has_words, sheet_is_shallow,
+    sheet_is_within_limits, sheet_stands, stages_and_choices_are_few, teams_are_a_partition,
+    there_are_few_cards, what_is_read_is_numbered,
 };
 pub use rc_semantics::{SheetFail, SheetFault, SheetKind};

@@ -1,5 +1,5 @@
 -- The text that is printed for a sheet is read back.
-use Rattle.std.proofs.Common.{◌≡◌, ℕ, List, [], ◌∷◌, ◌++◌, length, Option, Some, None, refl, sym, ap, ap₂, ◌∙◌, leb-true}
+use Rattle.std.proofs.Common.{◌≡◌, ℕ, List, [], ◌∷◌, ◌++◌, length, refl, sym, ap, ap₂, ◌∙◌, leb-true}
 use Rattle.std.proofs.lemmas.Bool.{and_parts}
 use Rattle.rc_model.specs.Tree.{Tree, word, list, Trees, nil, cons, IsOpenAtMost, printed, printed_parts, printed_behind}
 use Rattle.rc_model.specs.Spelled.{Spelled}
@@ -15,12 +15,8 @@ use Rattle.rc_sheet_model.specs.Printing.{sheet_form, printed_sheet}
 use Rattle.rc_sheet_model.specs.WellFormed.{IsWellFormed}
 use Rattle.rc_ast.specs.Unplaced.{unplaced, IsBare, AreBare}
 use Rattle.rc_ast.proofs.CopiedSheet.{sheet_copied}
-use Rattle.rc_semantics.specs.SecondFaults.{sheet_fault}
-use Rattle.rc_naming.specs.Naming.{naming_of}
-use Rattle.rc_reading.specs.ReadSheet.{sheet_at}
 use Rattle.rc_sheet_laws.specs.PrintedAgain.{IsReadBack}
-use Rattle.rc_sheet.proofs.Accepted.{is_read}
-use Rattle.rc_sheet_laws.proofs.OneSheet.{one_sheet, one_well_formed}
+use Rattle.rc_sheet_laws.proofs.OneSheet.{one_well_formed}
 use Rattle.rc_sheet_laws.proofs.SoundSheet.{no_fault}
 use Rattle.rc_sheet_laws.proofs.LineFeeds.{with_feed, without_feed}
 use Rattle.rc_sheet_laws.proofs.MovedSheet.{with_body, same_opened, sheet_moves}
@@ -63,15 +59,6 @@ mutual
   same_behind (cons tree trees) nil same = absurd same
   same_behind (cons tree trees) (cons other others) same =
       ap₂ (λ x y. 32 ∷ (x ++ y)) (same_printed tree other same.0) (same_behind trees others same.1)
-
--- a form without a fault is read as the one sheet that it stands for
-read_as : (form : Tree) (sheet : Sheet) → sheet_fault form ≡ None → Stands sheet form → IsWellFormed sheet
-    → sheet_at (naming_of form) form ≡ Some sheet
-read_as form sheet fine stands well = by (sheet_at (naming_of form) form) refl
-  where
-    by : (found : Option Sheet) → sheet_at (naming_of form) form ≡ found → found ≡ Some sheet
-    by None none = absurd (is_read form fine none)
-    by (Some read) is = ap Some (sym (one_sheet form read sheet is stands well))
 
 module _ (sheet : Sheet) (formed : IsWellFormed sheet) where
   -- what is printed
@@ -125,7 +112,6 @@ module _ (sheet : Sheet) (formed : IsWellFormed sheet) where
         text = same_printed (sheet_form sheet) here.again here.same;
         fine = fine;
         again = placed.again;
-        read = read_as here.again placed.again fine placed.stands placed.well;
         stands = placed.stands;
         well = placed.well;
         alone = λ other stands well. one_well_formed here.again placed.again other fine placed.stands placed.well stands well;

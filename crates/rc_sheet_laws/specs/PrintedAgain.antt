@@ -1,5 +1,5 @@
 -- What is read off the text that is printed for a sheet.
-use Rattle.std.specs.Prelude.{◌≡◌, List, [], ◌∷◌, Some, None}
+use Rattle.std.specs.Prelude.{◌≡◌, List, [], ◌∷◌, None}
 use Rattle.rc_model.specs.Tree.{Tree, printed}
 use Rattle.rc_form.specs.SameForm.{SameForm}
 use Rattle.rc_sheet_model.specs.Sheet.{Sheet}
@@ -9,12 +9,10 @@ use Rattle.rc_sheet_model.specs.Sight.{IsInSight}
 use Rattle.rc_sheet_model.specs.Printing.{sheet_form, printed_sheet}
 use Rattle.rc_ast.specs.Unplaced.{unplaced}
 use Rattle.rc_semantics.specs.SecondFaults.{sheet_fault}
-use Rattle.rc_naming.specs.Naming.{naming_of}
-use Rattle.rc_reading.specs.ReadSheet.{sheet_at}
 
 -- One form is read. Its words and lists are those of the form that is printed, it is printed as the same text, and it has no
--- fault. It is read as a well formed sheet, and stands for no other one. That sheet is the same but for offsets, is printed as
--- the same text, and keeps the rule of sight where the printed one does.
+-- fault. It stands for one well formed sheet. That sheet is the same but for offsets, is printed as the same text, and keeps the
+-- rule of sight where the printed one does.
 pub record IsReadBack (sheet : Sheet) (forms : List Tree) : Type 0 where
   pub form : Tree
   pub only : forms ≡ form ∷ []
@@ -22,7 +20,6 @@ pub record IsReadBack (sheet : Sheet) (forms : List Tree) : Type 0 where
   pub text : printed form ≡ printed_sheet sheet
   pub fine : sheet_fault form ≡ None
   pub again : Sheet
-  pub read : sheet_at (naming_of form) form ≡ Some again
   pub stands : Stands again form
   pub well : IsWellFormed again
   pub alone : (other : Sheet) → Stands other form → IsWellFormed other → other ≡ again

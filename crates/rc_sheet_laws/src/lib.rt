@@ -2,10 +2,9 @@
 //! is read back. No function here does anything.
 #![tactic(auto)]
 
-mod faults;
-mod one_sheet;
-mod printing;
+mod laws;
 
-pub use faults::{a_sheet_has_its_shape, a_sheet_has_no_fault, a_sheet_has_no_second_fault};
-pub use one_sheet::a_form_has_one_sheet;
-pub use printing::{printed_sheet_reads_back, written_sheet_reads_back};
+pub use laws::{
+    a_form_has_one_sheet, a_sheet_has_its_shape, a_sheet_has_no_fault, a_sheet_has_no_second_fault,
+    printed_sheet_reads_back, written_sheet_reads_back,
+};

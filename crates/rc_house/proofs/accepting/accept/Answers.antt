@@ -15,6 +15,6 @@ returns-in-Ok-check_sight-clause-accepted c =
     let is : IsSheetOf (tree_of c.args.form.now) (sheet_seen c.in-Ok.sheet) =
     record { faultless = made.fine; stands = made.stands; well = made.well } in
     record {
-      of_form = subst (λ sheet. IsSheetOf (tree_of c.args.form.now) (sheet_seen sheet)) (sym c.in-Ok-check_sight.ensures.same) is;
-      sight = subst (λ sheet. IsInSight (sheet_seen sheet)) (sym c.in-Ok-check_sight.ensures.same) c.in-Ok-check_sight.ensures.sight;
+      of_form = subst (IsSheetOf (tree_of c.args.form.now)) (sym c.in-Ok-check_sight.ensures.same) is;
+      sight = subst IsInSight (sym c.in-Ok-check_sight.ensures.same) c.in-Ok-check_sight.ensures.sight;
     }

@@ -1,6 +1,5 @@
 use Rattle.std.proofs.Common.{None, Some, ◌≡◌, slice_get, rules}
 use Rattle.rc_form.specs.Form.{tree_of, trees_of}
-use Rattle.rc_ast.specs.Sheet.{sheet_seen}
 use Rattle.rc_house.proofs.AnswerLaws.{first_tree, no_tree, first_accepted, missing_answer, refused_answer}
 use Rattle.rc_house.proofs.answer.answer_of_forms.Goals as goal
 
@@ -17,7 +16,7 @@ accepted_answer-requires-clause-accepted c =
     let forms = c.args.forms.now in
     let item : Some c.in-Some.form.now ≡ slice_get forms.list.items 0 = search rules in
     let listed = first_tree forms.list.items c.in-Some.form.now item in
-    first_accepted (trees_of forms.list.items) (tree_of c.in-Some.form.now) listed.0 (sheet_seen c.in-Ok.checked) listed.1 c.in-Ok.ensures.accepted
+    first_accepted (trees_of forms.list.items) (tree_of c.in-Some.form.now) listed.0 c.in-Ok.checked listed.1 c.in-Ok.ensures.accepted
 
 pub returns-in-Err-Fault : goal.returns-in-Err-Fault
 returns-in-Err-Fault c =

@@ -1,7 +1,6 @@
-use Rattle.std.proofs.Common.{◌∙◌, ap, ◌≤◌, length, sym, subst, arith}
+use Rattle.std.proofs.Common.{◌∙◌, ◌≤◌, length, sym, subst, arith}
 use Rattle.rc_form.specs.Form.{tree_of}
 use Rattle.rc_ast.specs.Sheet.{sheet_seen}
-use Rattle.rc_reading.specs.ReadSheet.{sheet_at}
 use Rattle.rc_sheet.proofs.Accepted.{printable, stands_read, well_read, none_read, few_attrs, few_values, few_maps, few_locs, few_nums, is_read}
 use Rattle.rc_sheet.proofs.accepting.sheet_of_faultless.Goals as goal
 
@@ -54,9 +53,3 @@ returns-in-Ok-sheet-clause-well c =
     (named ∙ c.in-Ok.ensures.names) c.requires.faultless
     (printable (tree_of c.args.form.now) c.requires.faultless c.requires.shallow)
     c.requires.of_atoms c.in-Ok-sheet.ensures
-
-pub returns-in-Ok-sheet-clause-read : goal.returns-in-Ok-sheet-clause-read
-returns-in-Ok-sheet-clause-read c =
-    let named = rw c.in-Ok-Some.field-0-is at c.in-Ok-Some.ensures.some in
-    ap (λ naming. sheet_at naming (tree_of c.args.form.now)) (sym (named ∙ c.in-Ok.ensures.names))
-    ∙ c.in-Ok-sheet.ensures

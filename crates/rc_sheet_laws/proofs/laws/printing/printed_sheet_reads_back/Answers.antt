@@ -1,5 +1,5 @@
 use Rattle.rc_sheet_laws.proofs.PrintedAgain.{spells_again, reads_back}
-use Rattle.rc_sheet_laws.proofs.printing.printed_sheet_reads_back.Goals as goal
+use Rattle.rc_sheet_laws.proofs.laws.printing.printed_sheet_reads_back.Goals as goal
 
 pub returns-clause-again : goal.returns-clause-again
 returns-clause-again c = spells_again

@@ -1,5 +1,5 @@
 use Rattle.rc_sheet_laws.proofs.SoundSheet.{no_second_fault}
-use Rattle.rc_sheet_laws.proofs.faults.a_sheet_has_no_second_fault.Goals as goal
+use Rattle.rc_sheet_laws.proofs.laws.faults.a_sheet_has_no_second_fault.Goals as goal
 
 pub returns : goal.returns
 returns c = λ tree sheet stands well shaped. no_second_fault sheet tree stands well shaped

@@ -1,5 +1,5 @@
 use Rattle.rc_sheet_laws.proofs.SoundSheet.{no_fault}
-use Rattle.rc_sheet_laws.proofs.faults.a_sheet_has_no_fault.Goals as goal
+use Rattle.rc_sheet_laws.proofs.laws.faults.a_sheet_has_no_fault.Goals as goal
 
 pub returns : goal.returns
 returns c = λ tree sheet stands well. no_fault sheet tree stands well

@@ -1,5 +1,5 @@
 use Rattle.rc_sheet_laws.proofs.PrintedAgain.{line_spelled, line_reads_back}
-use Rattle.rc_sheet_laws.proofs.printing.written_sheet_reads_back.Goals as goal
+use Rattle.rc_sheet_laws.proofs.laws.printing.written_sheet_reads_back.Goals as goal
 
 pub returns-clause-spelled : goal.returns-clause-spelled
 returns-clause-spelled c = line_spelled

@@ -7,7 +7,7 @@ pub fn one_walk_finds_the_first()
     ensures { (tree : Tree) → FindsFirst tree }
 {}
 
-/// The first fault of the second round is at the least offset, where the form stands in a text.
+/// No fault of the second round comes before the first in the list, where the form stands in a text.
 pub fn the_first_is_the_least()
     ensures { (tree : Tree) → IsLeastFirst tree }
 {}

@@ -1,5 +1,5 @@
 use Rattle.rc_semantics.proofs.SecondLaw.{finds_first}
-use Rattle.rc_semantics.proofs.second_laws.one_walk_finds_the_first.Goals as goal
+use Rattle.rc_semantics.proofs.laws.first.one_walk_finds_the_first.Goals as goal
 
 pub returns : goal.returns
 returns c = finds_first
