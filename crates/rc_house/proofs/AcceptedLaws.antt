@@ -8,7 +8,7 @@ use Rattle.rc_grammar.specs.declared.fault.SheetFault.{SheetFault}
 use Rattle.rc_semantics.specs.SecondFaults.{sheet_fault}
 use Rattle.rc_sheet_model.specs.Sheet.{Sheet, Loc}
 use Rattle.rc_sheet_model.specs.Sight.{unseen_locs, unseen_offsets, IsInSight, IsUnseen}
-use Rattle.rc_sheet_laws.proofs.OneSheet.{one_well_formed}
+use Rattle.rc_sheet_laws.proofs.One.Sheet.{one_well_formed}
 use Rattle.rc_house.specs.declared.refusal.Refusal.TheVariants as refusal
 use Rattle.rc_house.specs.declared.status.SourceKind.{SourceKind}
 use Rattle.rc_house.specs.Status.{sheet_kind}

@@ -16,15 +16,15 @@ use Rattle.rc_grammar.specs.declared.fault.SheetFault.{SheetFault}
 use Rattle.rc_semantics.specs.SecondFaults.{second_faults, or_fault, sheet_fault}
 use Rattle.rc_reading.specs.ReadSheet.{setup_form_at, sheet_at}
 use Rattle.rc_sheet.proofs.Means.{means_so}
-use Rattle.rc_sheet.proofs.Fine.{given_of}
+use Rattle.rc_sheet.proofs.Fine.Common.{given_of}
 use Rattle.rc_sheet.proofs.AllFine.{all_fine}
 use Rattle.rc_sheet.proofs.Finds.{Finds, found_as, implies, finds_meaning}
-use Rattle.rc_sheet.proofs.FineCounts.{few_stages, few_choices}
-use Rattle.rc_sheet.proofs.FineLines.{setup_in}
-use Rattle.rc_sheet.proofs.FineSheet.{IsSetUp, HasFineBody, SetupFinds, sheet_finds}
-use Rattle.rc_sheet.proofs.FoundSetup.{setup_found}
-use Rattle.rc_sheet.proofs.GivenSetup.{is_set_up}
-use Rattle.rc_sheet.proofs.ReadsSheet.{sheet_means}
+use Rattle.rc_sheet.proofs.Fine.Counts.{few_stages, few_choices}
+use Rattle.rc_sheet.proofs.Fine.Lines.{setup_in}
+use Rattle.rc_sheet.proofs.Fine.Sheet.{IsSetUp, HasFineBody, SetupFinds, sheet_finds}
+use Rattle.rc_sheet.proofs.Found.Setup.{setup_found}
+use Rattle.rc_sheet.proofs.Given.Setup.{is_set_up}
+use Rattle.rc_sheet.proofs.Reads.Sheet.{sheet_means}
 use Rattle.rc_sheet.proofs.WellFormed.{well_formed}
 use Rattle.rc_sheet.proofs.FewNames as few
 use Rattle.rc_sheet.proofs.SomePlayers.{some_players, some_teams}

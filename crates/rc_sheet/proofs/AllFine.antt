@@ -18,7 +18,7 @@ use Rattle.rc_semantics.specs.SecondParts.{Standing, Part, atom, form, parts_of,
 use Rattle.rc_semantics.specs.SecondNames.{is_named, attributes_in, value_by, values_in, maps_in, mention_of, locations_in, numbers_of, OwnedMention}
 use Rattle.rc_semantics.specs.SecondFaults.{is_bound, is_unbound, is_unnamed, is_no_player, is_in_stage, is_misused, is_other_side, is_other_mention, is_misplaced, is_wrong_form, is_twice, is_unknown, is_too_deep, second_faults}
 use Rattle.rc_naming.specs.Naming.{naming_of}
-use Rattle.rc_sheet.proofs.Fine.{Given, given_of, HasNumber, IsFineAtom, IsLocMention, IsNumMention, IsFineBinder, IsFineRule, IsFineForm, IsFine}
+use Rattle.rc_sheet.proofs.Fine.Common.{Given, given_of, HasNumber, IsFineAtom, IsLocMention, IsNumMention, IsFineBinder, IsFineRule, IsFineForm, IsFine}
 use Rattle.rc_sheet.proofs.Among.{Among, Within, flat_within, one_of_all, each_among}
 use Rattle.rc_sheet.proofs.Used.{is_attribute, is_value, is_map, used_in}
 use Rattle.rc_sheet.proofs.Whole.{GivesMentions, gives_mentions}
@@ -26,7 +26,7 @@ use Rattle.rc_sheet.proofs.Bound.{bound_by, form_binds}
 use Rattle.rc_sheet.proofs.Room.{HasRoom, Roomy, all_roomy}
 use Rattle.rc_sheet.proofs.Faultless.{IsFaultless, each_faultless}
 use Rattle.rc_sheet.proofs.Agreed.{Agree, Fits, all_agree}
-use Rattle.rc_sheet.proofs.FoundNames.{among_different, loc_mention_found, num_mention_found}
+use Rattle.rc_sheet.proofs.Found.Names.{among_different, loc_mention_found, num_mention_found}
 
 -- MENTIONS AGREE
 

@@ -6,8 +6,8 @@ use Rattle.rc_sheet_model.specs.Mentions.{stages_in, sites_in}
 use Rattle.rc_sheet_model.specs.Naming.{Naming}
 use Rattle.rc_reading.specs.ReadItems.{Begun, items_at}
 use Rattle.rc_sheet.proofs.Means.{Means, weaker}
-use Rattle.rc_sheet.proofs.MentionedStages.{IsRun}
-use Rattle.rc_sheet.proofs.MentionedStages.{items_count as items_run}
+use Rattle.rc_sheet.proofs.Mentioned.Stages.{IsRun}
+use Rattle.rc_sheet.proofs.Mentioned.Stages.{items_count as items_run}
 
 -- so many stages and choices have begun between
 pub record Counted (begun : Begun) (stages sites : List ℕ) (after : Begun) : Type 0 where

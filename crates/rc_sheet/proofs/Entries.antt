@@ -10,7 +10,7 @@ use Rattle.rc_semantics.specs.declared.role.Role.TheVariants.{No as no_role, Giv
 use Rattle.rc_semantics.specs.SecondParts.{Standing, Part, atom, form, parts_at, parts_in, with_form}
 use Rattle.rc_sheet.proofs.Shapes.{none_in_both, no_list_at}
 use Rattle.rc_sheet.proofs.Bodies.{standing_at}
-use Rattle.rc_sheet.proofs.GivenFaces.{sole}
+use Rattle.rc_sheet.proofs.Given.Faces.{sole}
 
 -- Entries by what an attribute gives and what a value gives, and what their trees say.
 module _

@@ -23,8 +23,8 @@ use Rattle.rc_sheet.proofs.Among.{Among, Within, among_either, among_named, name
 use Rattle.rc_sheet.proofs.Used.{is_attribute, is_value, is_map, used_in}
 use Rattle.rc_sheet.proofs.Whole.{gives_mentions}
 use Rattle.rc_sheet.proofs.Faultless.{IsFaultless, each_faultless}
-use Rattle.rc_sheet.proofs.FoundNames.{among_different, different_within}
-use Rattle.rc_sheet.proofs.FineCounts.{IsWatched, stays_within, watched_part}
+use Rattle.rc_sheet.proofs.Found.Names.{among_different, different_within}
+use Rattle.rc_sheet.proofs.Fine.Counts.{IsWatched, stays_within, watched_part}
 
 -- EQUAL WORDS
 

@@ -19,9 +19,9 @@ use Rattle.rc_semantics.specs.SecondFaults.{location_count, number_count, second
 use Rattle.rc_naming.specs.Mentions.{all_locations}
 use Rattle.rc_sheet.proofs.Among.{Among, Within, among_map, map_among}
 use Rattle.rc_sheet.proofs.Whole.{gives_mentions}
-use Rattle.rc_sheet.proofs.FoundNames.{name_of, names_different, loc_names_are, num_names_are}
+use Rattle.rc_sheet.proofs.Found.Names.{name_of, names_different, loc_names_are, num_names_are}
 use Rattle.rc_sheet.proofs.FewNames.{no_more_different}
-use Rattle.rc_sheet.proofs.FineCounts.{IsWatched, stays_within, watched_part}
+use Rattle.rc_sheet.proofs.Fine.Counts.{IsWatched, stays_within, watched_part}
 
 -- a part that mentions nothing adds nothing
 keeps_owned : (f : Part → List OwnedMention) (players teams most : ℕ) (earlier : List Part) (part : Part) → f part ≡ []

@@ -10,7 +10,7 @@ use Rattle.rc_grammar.specs.Faults.{rule_of, count, fits}
 use Rattle.rc_grammar.specs.declared.grammar.Place.{Place}
 use Rattle.rc_grammar.specs.declared.grammar.Rule.{Rule}
 use Rattle.rc_reading.specs.ReadNames.{◌>>=◌, rule_at}
-use Rattle.rc_sheet.proofs.Fine.{Given}
+use Rattle.rc_sheet.proofs.Fine.Common.{Given}
 use Rattle.rc_sheet.proofs.Finds.{Finds}
 use Rattle.rc_sheet.proofs.GoodParts.{Each, one_and_more, two_and_more, three_and_more, IsGood, GoodAt, AreGood, IsGoodForm, finds_by}
 use Rattle.rc_sheet.proofs.Shapes.{two_only, three_only, four_only}

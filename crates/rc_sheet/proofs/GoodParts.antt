@@ -10,7 +10,7 @@ use Rattle.rc_grammar.specs.Faults.{faults_at, faults_in, told_faults, lacks_pla
 use Rattle.rc_grammar.specs.declared.grammar.Place.{Place}
 use Rattle.rc_grammar.specs.declared.grammar.Rule.{Rule}
 use Rattle.rc_reading.specs.ReadNames.{◌>>=◌, sized, rule_at}
-use Rattle.rc_sheet.proofs.Fine.{Given, IsFine, IsFineForm}
+use Rattle.rc_sheet.proofs.Fine.Common.{Given, IsFine, IsFineForm}
 use Rattle.rc_sheet.proofs.Finds.{Finds}
 use Rattle.rc_sheet.proofs.Shapes.{none_in_both, inner_faults, rule_holds}
 

@@ -22,7 +22,7 @@ use Rattle.rc_sheet.proofs.Shapes.{none_in_both}
 use Rattle.rc_sheet.proofs.Faultless.{IsFaultless, faultless}
 use Rattle.rc_sheet.proofs.Lines.{in_lines}
 use Rattle.rc_sheet.proofs.Whole.{sheet_only, maps_give}
-use Rattle.rc_sheet.proofs.FineLines.{OfLines, is_no_line}
+use Rattle.rc_sheet.proofs.Fine.Lines.{OfLines, is_no_line}
 
 -- the map of a line of points has the number of the lines of points before it
 abbrev pub IsInTurn : List (List ℕ) → List Part → Part → Type 0

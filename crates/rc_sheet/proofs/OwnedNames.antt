@@ -23,9 +23,9 @@ use Rattle.rc_reading.specs.ReadSheet.{sheet_at}
 use Rattle.rc_sheet.proofs.Lines.{in_lines}
 use Rattle.rc_sheet.proofs.Whole.{sheet_only, locations_give, gives_mentions}
 use Rattle.rc_sheet.proofs.FewOwned.{locations_watched, numbers_watched}
-use Rattle.rc_sheet.proofs.FineCounts.{stays_within}
+use Rattle.rc_sheet.proofs.Fine.Counts.{stays_within}
 use Rattle.rc_sheet.proofs.Means.{means_so}
-use Rattle.rc_sheet.proofs.MentionedNumbers.{sheet_reads}
+use Rattle.rc_sheet.proofs.Mentioned.Numbers.{sheet_reads}
 use Rattle.rc_sheet.proofs.PlayersAndTeams.{HasCounts, counts_are, owners_same}
 
 -- lines that only decks say something in

@@ -26,7 +26,7 @@ use Rattle.rc_sheet.proofs.Among.{Among, among_left, among_right, among_either, 
 use Rattle.rc_sheet.proofs.Shapes.{none_in_both, shape_of, place_within, atom_only, taken}
 use Rattle.rc_sheet.proofs.Bodies.{is_body_rule, IsBody, body_rule, body_inner, standing_at}
 use Rattle.rc_sheet.proofs.Bound.{no_binder_head}
-use Rattle.rc_sheet.proofs.FoundNames.{name_of, different_within, loc_names_are, num_names_are}
+use Rattle.rc_sheet.proofs.Found.Names.{name_of, different_within, loc_names_are, num_names_are}
 use Rattle.rc_sheet.proofs.FewNames.{flat_among, attributes_given, values_given, maps_given}
 use Rattle.rc_sheet.proofs.Whole.{setup_of, parts_with, sheet_only, game_body, gives_mentions}
 use Rattle.rc_sheet.proofs.OwnedNames.{locations_are}

@@ -16,10 +16,10 @@ use Rattle.rc_semantics.specs.SecondNames.{attributes_in, value_by, values_in, m
 use Rattle.rc_naming.specs.Mentions.{loc_mention, deck_location}
 use Rattle.rc_sheet.proofs.Shapes.{none_in_both, fixed_only}
 use Rattle.rc_sheet.proofs.Bodies.{is_body, fits_role, standing_at}
-use Rattle.rc_sheet.proofs.GivenFaces.{sole, deck_behind, groups_give}
+use Rattle.rc_sheet.proofs.Given.Faces.{sole, deck_behind, groups_give}
 use Rattle.rc_sheet.proofs.Entries.{entries_give}
 use Rattle.rc_sheet.proofs.Gathered.{by_atom, tree_gives}
-use Rattle.rc_sheet.proofs.GivenNames.{locations_tell}
+use Rattle.rc_sheet.proofs.Given.Names.{locations_tell}
 use Rattle.rc_sheet.proofs.Lands.{no_location_in_faces, no_map_in_faces, no_attribute_in_team, no_value_in_team, no_map_in_team, no_location_in_team, no_attribute_behind, no_value_behind, no_map_behind}
 use Rattle.rc_sheet.proofs.Lines.{deck_line, points_line, in_lines, lines_give}
 

@@ -11,7 +11,7 @@ use Rattle.rc_reading.specs.ReadItems.{body_at}
 use Rattle.rc_reading.specs.ReadSetup.{Setup}
 use Rattle.rc_reading.specs.ReadSheet.{setup_form_at, game_parts, game_rule, sheet_at, sheet_with}
 use Rattle.rc_sheet.proofs.Means.{Means, nothing, something, means_if, means_so, behind, anything}
-use Rattle.rc_sheet.proofs.FineLines.{setup_in}
+use Rattle.rc_sheet.proofs.Fine.Lines.{setup_in}
 
 -- a sheet that the setup of the form makes, with some items and some score
 record HasSetup (naming : Naming) (tree : Tree) (sheet : Sheet) : Type 0 where

@@ -10,12 +10,12 @@ use Rattle.rc_grammar.specs.declared.grammar.Place.TheVariants as place
 use Rattle.rc_semantics.specs.SecondFaults.{second_faults}
 use Rattle.rc_naming.specs.Naming.{naming_of}
 use Rattle.rc_reading.specs.ReadSheet.{sheet_at}
-use Rattle.rc_sheet.proofs.FineSheet.{HasFineBody}
-use Rattle.rc_sheet.proofs.FineTeams.{teams_are_a_partition}
-use Rattle.rc_sheet.proofs.FineCards.{sheet_has_cards}
-use Rattle.rc_sheet.proofs.FineDecks.{decks_are_decks}
-use Rattle.rc_sheet.proofs.FinePoints.{points_have_entries, some_entry, are_entries}
-use Rattle.rc_sheet.proofs.MentionedNumbers.{read_with_names_of}
+use Rattle.rc_sheet.proofs.Fine.Sheet.{HasFineBody}
+use Rattle.rc_sheet.proofs.Fine.Teams.{teams_are_a_partition}
+use Rattle.rc_sheet.proofs.Fine.Cards.{sheet_has_cards}
+use Rattle.rc_sheet.proofs.Fine.Decks.{decks_are_decks}
+use Rattle.rc_sheet.proofs.Fine.Points.{points_have_entries, some_entry, are_entries}
+use Rattle.rc_sheet.proofs.Mentioned.Numbers.{read_with_names_of}
 use Rattle.rc_sheet.proofs.Shallow.{printable_shallow}
 use Rattle.rc_sheet.proofs.Within.{within_limits}
 use Rattle.rc_sheet.proofs.PlainWords.{has_words}

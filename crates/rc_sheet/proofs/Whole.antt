@@ -22,12 +22,12 @@ use Rattle.rc_sheet.proofs.Shapes.{none_in_both, fixed_only}
 use Rattle.rc_sheet.proofs.Bodies.{is_body, is_body_or_none, is_used, IsBody, no_role_fits, standing_at}
 use Rattle.rc_sheet.proofs.Gathered.{in_row, AllTell, quiet_row, row_gives}
 use Rattle.rc_sheet.proofs.Used.{is_attribute, is_value, is_map, used_in, quiet_atom, unused_attribute, unused_value, unused_map, attributes_tell, values_tell, maps_tell}
-use Rattle.rc_sheet.proofs.GivenNames.{silent_atoms, locations_tell, numbers_tell}
+use Rattle.rc_sheet.proofs.Given.Names.{silent_atoms, locations_tell, numbers_tell}
 use Rattle.rc_sheet.proofs.Silent.{row_none}
 use Rattle.rc_sheet.proofs.Lands.{is_given, unused_in_setup, no_number_in_setup, no_attribute_behind, no_value_behind, no_map_behind}
 use Rattle.rc_sheet.proofs.Lines.{in_lines, said, lines_within, within_lines}
 use Rattle.rc_sheet.proofs.Setups.{attr_lines, value_lines, map_lines, loc_lines}
-use Rattle.rc_sheet.proofs.GivenFaces.{sole}
+use Rattle.rc_sheet.proofs.Given.Faces.{sole}
 
 -- a form of these setup lines and what follows them, and its setup
 abbrev pub setup_of : ℕ → ℕ → ℕ → ℕ → Trees → Tree

@@ -11,10 +11,10 @@ use Rattle.rc_semantics.specs.SecondFaults.{second_faults}
 use Rattle.rc_naming.specs.Naming.{naming_of}
 use Rattle.rc_reading.specs.ReadSheet.{sheet_at}
 use Rattle.rc_sheet.proofs.Means.{means_so}
-use Rattle.rc_sheet.proofs.MentionedNumbers.{sheet_reads}
+use Rattle.rc_sheet.proofs.Mentioned.Numbers.{sheet_reads}
 use Rattle.rc_sheet.proofs.FewNames.{few_attributes, few_values, few_maps}
 use Rattle.rc_sheet.proofs.ReadLimits.{sheet_few}
-use Rattle.rc_sheet.proofs.FineCards.{sheet_has_cards}
+use Rattle.rc_sheet.proofs.Fine.Cards.{sheet_has_cards}
 use Rattle.rc_sheet.proofs.OwnedNames.{few_locations, few_numbers}
 
 -- it has the names of its form

@@ -1,43 +1,7 @@
-mod OneRows
-mod OneNames
-mod OneExpressions
-mod OneEffects
-mod OneItems
-mod OneSetup
-pub mod OneSheet
-mod UnplacedForms
-mod UnplacedMentions
-mod UnplacedParts
-mod UnplacedSight
-mod Moved
-mod MovedExpressions
-mod MovedItems
-mod MovedSetup
-mod MovedSheet
-mod MovedWell
+pub mod One
+pub mod Unplaced
+pub mod Moved
 mod LineFeeds
 pub mod PrintedAgain
-mod SoundParts
-mod SoundNames
-mod SoundRows
-mod SoundExpressions
-mod SoundEffects
-mod SoundItems
-mod SoundWhole
-mod SoundFaces
-mod SoundLines
-mod SoundGiven
-mod SoundCounts
-mod SoundSheet
-mod SoundStages
-mod SoundOwned
-mod SoundMaps
-mod SoundTeams
-mod SoundMembers
-mod Shaped
-mod ShapedExpressions
-mod ShapedEffects
-mod ShapedItems
-mod ShapedTeams
-mod ShapedSetup
-mod ShapedSheet
+pub mod Sound
+pub mod Shaped

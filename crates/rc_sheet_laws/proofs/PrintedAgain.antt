@@ -16,13 +16,13 @@ use Rattle.rc_sheet_model.specs.WellFormed.{IsWellFormed}
 use Rattle.rc_ast.specs.Unplaced.{unplaced, IsBare, AreBare}
 use Rattle.rc_ast.proofs.CopiedSheet.{sheet_copied}
 use Rattle.rc_sheet_laws.specs.PrintedAgain.{IsReadBack}
-use Rattle.rc_sheet_laws.proofs.OneSheet.{one_well_formed}
-use Rattle.rc_sheet_laws.proofs.SoundSheet.{no_fault}
+use Rattle.rc_sheet_laws.proofs.One.Sheet.{one_well_formed}
+use Rattle.rc_sheet_laws.proofs.Sound.Sheet.{no_fault}
 use Rattle.rc_sheet_laws.proofs.LineFeeds.{with_feed, without_feed}
-use Rattle.rc_sheet_laws.proofs.MovedSheet.{with_body, same_opened, sheet_moves}
-use Rattle.rc_sheet_laws.proofs.MovedWell.{still_well}
-use Rattle.rc_sheet_laws.proofs.UnplacedForms.{form_alike}
-use Rattle.rc_sheet_laws.proofs.UnplacedSight.{still_in_sight}
+use Rattle.rc_sheet_laws.proofs.Moved.Sheet.{with_body, same_opened, sheet_moves}
+use Rattle.rc_sheet_laws.proofs.Moved.Well.{still_well}
+use Rattle.rc_sheet_laws.proofs.Unplaced.Forms.{form_alike}
+use Rattle.rc_sheet_laws.proofs.Unplaced.Sight.{still_in_sight}
 
 -- bare forms are of atoms
 mutual

@@ -1,5 +1,5 @@
-use Rattle.rc_sheet.proofs.FineCounts.{few_stages, few_choices}
-use Rattle.rc_sheet.proofs.FineSheet.{sheet_finds}
+use Rattle.rc_sheet.proofs.Fine.Counts.{few_stages, few_choices}
+use Rattle.rc_sheet.proofs.Fine.Sheet.{sheet_finds}
 use Rattle.rc_sheet.proofs.laws.limits.stages_and_choices_are_few.Goals as goal
 
 pub returns-clause-stages : goal.returns-clause-stages

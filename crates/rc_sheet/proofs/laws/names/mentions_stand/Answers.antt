@@ -1,5 +1,5 @@
-use Rattle.rc_sheet.proofs.Mentioned.{attrs, values, maps, locs, nums, vars}
-use Rattle.rc_sheet.proofs.MentionedSheet.{sheet_said}
+use Rattle.rc_sheet.proofs.Mentioned.Common.{attrs, values, maps, locs, nums, vars}
+use Rattle.rc_sheet.proofs.Mentioned.Sheet.{sheet_said}
 use Rattle.rc_sheet.proofs.laws.names.mentions_stand.Goals as goal
 
 pub returns-clause-attrs : goal.returns-clause-attrs

@@ -1,4 +1,4 @@
-use Rattle.rc_sheet.proofs.FineDecks.{decks_are_decks}
+use Rattle.rc_sheet.proofs.Fine.Decks.{decks_are_decks}
 use Rattle.rc_sheet.proofs.laws.setup.decks_are_decks.Goals as goal
 
 pub returns : goal.returns

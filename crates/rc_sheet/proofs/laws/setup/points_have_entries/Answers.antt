@@ -1,4 +1,4 @@
-use Rattle.rc_sheet.proofs.FinePoints.{points_have_entries, some_entry, are_entries}
+use Rattle.rc_sheet.proofs.Fine.Points.{points_have_entries, some_entry, are_entries}
 use Rattle.rc_sheet.proofs.laws.setup.points_have_entries.Goals as goal
 
 pub returns-clause-some : goal.returns-clause-some

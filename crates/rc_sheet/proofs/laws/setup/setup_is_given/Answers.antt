@@ -8,10 +8,10 @@ use Rattle.rc_naming.specs.Naming.{naming_of}
 use Rattle.rc_reading.specs.ReadSetup.{Setup}
 use Rattle.rc_reading.specs.ReadSheet.{setup_form_at, sheet_with}
 use Rattle.rc_sheet.proofs.Means.{means_so}
-use Rattle.rc_sheet.proofs.Fine.{given_of}
-use Rattle.rc_sheet.proofs.FineNames.{Gives}
-use Rattle.rc_sheet.proofs.FineLines.{setup_in}
-use Rattle.rc_sheet.proofs.GivenSetup.{is_set_up}
+use Rattle.rc_sheet.proofs.Fine.Common.{given_of}
+use Rattle.rc_sheet.proofs.Fine.Names.{Gives}
+use Rattle.rc_sheet.proofs.Fine.Lines.{setup_in}
+use Rattle.rc_sheet.proofs.Given.Setup.{is_set_up}
 use Rattle.rc_sheet.proofs.laws.setup.setup_is_given.Goals as goal
 
 -- what a sheet with the setup of a form gives

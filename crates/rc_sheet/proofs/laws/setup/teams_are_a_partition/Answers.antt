@@ -1,4 +1,4 @@
-use Rattle.rc_sheet.proofs.FineTeams.{teams_are_a_partition}
+use Rattle.rc_sheet.proofs.Fine.Teams.{teams_are_a_partition}
 use Rattle.rc_sheet.proofs.laws.setup.teams_are_a_partition.Goals as goal
 
 pub returns : goal.returns

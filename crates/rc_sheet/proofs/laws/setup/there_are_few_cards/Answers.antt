@@ -1,4 +1,4 @@
-use Rattle.rc_sheet.proofs.FineCards.{sheet_has_cards}
+use Rattle.rc_sheet.proofs.Fine.Cards.{sheet_has_cards}
 use Rattle.rc_sheet.proofs.laws.setup.there_are_few_cards.Goals as goal
 
 pub returns-clause-some : goal.returns-clause-some

@@ -1,4 +1,4 @@
-use Rattle.rc_sheet_laws.proofs.SoundSheet.{no_fault}
+use Rattle.rc_sheet_laws.proofs.Sound.Sheet.{no_fault}
 use Rattle.rc_sheet_laws.proofs.laws.faults.a_sheet_has_no_fault.Goals as goal
 
 pub returns : goal.returns

@@ -1,4 +1,4 @@
-use Rattle.rc_sheet_laws.proofs.SoundSheet.{no_second_fault}
+use Rattle.rc_sheet_laws.proofs.Sound.Sheet.{no_second_fault}
 use Rattle.rc_sheet_laws.proofs.laws.faults.a_sheet_has_no_second_fault.Goals as goal
 
 pub returns : goal.returns

@@ -1,5 +1,5 @@
-use Rattle.rc_sheet_laws.proofs.OneSheet.{one_well_formed}
-use Rattle.rc_sheet_laws.proofs.SoundSheet.{no_fault}
+use Rattle.rc_sheet_laws.proofs.One.Sheet.{one_well_formed}
+use Rattle.rc_sheet_laws.proofs.Sound.Sheet.{no_fault}
 use Rattle.rc_sheet_laws.proofs.laws.one_sheet.a_form_has_one_sheet.Goals as goal
 
 pub returns : goal.returns
