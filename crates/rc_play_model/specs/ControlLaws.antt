@@ -1,11 +1,14 @@
--- Statements of laws of controls.
-use Rattle.std.specs.Prelude.{◌≡◌, ℕ, List, Some}
+-- Statements of laws of controls: that they fit their sites, and how many stages are open at most.
+use Rattle.std.specs.Prelude.{◌≡◌, ℕ, ◌+◌, ◌≤◌, List, length, Some}
+use Rattle.rc_sheet_model.specs.Sheet.{SheetItem, Sheet}
+use Rattle.rc_sheet_model.specs.Lists.{item_list}
 use Rattle.rc_sheet_model.specs.WellFormed.{IsWellFormed}
 use Rattle.rc_play_model.specs.Shape.{shape_of}
 use Rattle.rc_play_model.specs.About.{About}
 use Rattle.rc_play_model.specs.Effects.{Dealing}
 use Rattle.rc_play_model.specs.Step.{decide}
 use Rattle.rc_play_model.specs.Stop.{Stopped}
+use Rattle.rc_play_model.specs.Path.{Path, next_item, item_depth, items_depth}
 use Rattle.rc_play_model.specs.Play.{reached}
 use Rattle.rc_play_model.specs.Fits.{FitsSite}
 
@@ -16,3 +19,19 @@ ControlsFit =
     (about : About) (dealing : Dealing ℕ) → about.shape ≡ shape_of about.sheet → IsWellFormed about.sheet →
     (items : List ℕ) (k : ℕ) (at : Stopped ℕ) (seat site : ℕ) → reached about dealing items k ≡ Some at → at.stop ≡ decide seat site →
     FitsSite about site at.config.control
+
+-- In a well formed sheet at most 63 stages stand inside one another.
+abbrev pub StagesAreFew : Type 0
+StagesAreFew = (sheet : Sheet) → IsWellFormed sheet → items_depth sheet.items ≤ 63
+
+-- So many stages are open at a place of a sheet, and so many stand inside one another in the item there.
+abbrev pub PathsAreShallow : Type 0
+PathsAreShallow =
+    (sheet : Sheet) (path : Path) (i : SheetItem) → IsWellFormed sheet → next_item (item_list sheet.items) path ≡ Some i →
+    length path.outer + item_depth i ≤ 63
+
+-- and in a match no more are open wherever items lead
+abbrev pub FramesAreFew : Type 0
+FramesAreFew =
+    (about : About) (dealing : Dealing ℕ) → IsWellFormed about.sheet →
+    (items : List ℕ) (k : ℕ) (at : Stopped ℕ) → reached about dealing items k ≡ Some at → length at.config.control.frames ≤ 63

@@ -4,17 +4,20 @@ use Rattle.std.specs.Prelude.{◌≡◌, ℕ, List, Some, All}
 use Rattle.std.specs.List.Sorted.{IsPermutation}
 use Rattle.rc_model.specs.Numbers.{below}
 use Rattle.rc_sheet_model.specs.Sheet.{Effects, Sheet}
+use Rattle.rc_sheet_model.specs.Sight.{IsInSight}
 use Rattle.rc_sheet_model.specs.WellFormed.{Around, AreEffects, IsWellFormed}
 use Rattle.rc_play_model.specs.Shape.{Shape, shape_of}
 use Rattle.rc_play_model.specs.Table.{IsSound, opening}
 use Rattle.rc_play_model.specs.Scene.{Vars}
 use Rattle.rc_play_model.specs.Bound.{IsBindOf, HasHomes}
 use Rattle.rc_play_model.specs.View.{view_of}
-use Rattle.rc_play_model.specs.About.{About}
+use Rattle.rc_play_model.specs.About.{About, menu_at}
 use Rattle.rc_play_model.specs.Effects.{Dealing, Point, does}
+use Rattle.rc_play_model.specs.Step.{decide}
 use Rattle.rc_play_model.specs.Stop.{Stopped}
 use Rattle.rc_play_model.specs.Play.{reached}
 use Rattle.rc_play_model.specs.Keyed.{dealing_of}
+use Rattle.rc_play_model.specs.Redraw.{redraw}
 use Rattle.rc_play_model.specs.RedrawLaws.{IsViewOfSound}
 
 -- a dealer gives each list an order of its places
@@ -52,3 +55,14 @@ ReachedViewsAreOfSound =
 -- the shuffles of each match are orders
 abbrev pub MatchesDealOrders : Type 0
 MatchesDealOrders = (deal : ℕ) → DealsOrders (dealing_of deal)
+
+-- At each decision of a match of a checked sheet, what the mover sees can be redrawn by any key: the table is sound, looks the same
+-- to the mover, and has the same menu.
+abbrev pub DecisionsCanBeRedrawn : Type 0
+DecisionsCanBeRedrawn =
+    (about : About) (dealing : Dealing ℕ) → about.shape ≡ shape_of about.sheet → IsWellFormed about.sheet → IsInSight about.sheet → DealsOrders dealing →
+    (items key : List ℕ) (k seat site : ℕ) (at : Stopped ℕ) → reached about dealing items k ≡ Some at → at.stop ≡ decide seat site →
+    let view = view_of about.shape seat at.config.table at.config.control in
+    let table = redraw about.shape view key in
+    IsSound about.shape table × (view_of about.shape seat table at.config.control ≡ view)
+    × (menu_at about site table at.config.control ≡ menu_at about site at.config.table at.config.control)

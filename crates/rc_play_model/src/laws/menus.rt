@@ -1,5 +1,5 @@
 //! Laws of menus. No function here does anything: a crate above gets a law by calling its function.
-ghost use Rattle.rc_play_model.specs.ViewLaws.{MenuOfView, EqualViewsEqualMenus, AlikeEqualMenus, ListsOffers};
+ghost use Rattle.rc_play_model.specs.ViewLaws.{MenuOfView, EqualViewsEqualMenus, AlikeEqualMenus, ListsOffers, MenusAreShort};
 
 /// A menu is a function of what its mover sees, so equal views have equal menus.
 pub fn menus_are_functions_of_views()
@@ -12,7 +12,8 @@ pub fn alike_states_have_equal_menus()
     ensures { AlikeEqualMenus }
 {}
 
-/// A menu lists what the alternatives offer, all of it and nothing else, in order.
+/// A menu lists what the alternatives offer, all of it and nothing else, in order, up to 256 items.
 pub fn menus_list_what_is_offered()
-    ensures { ListsOffers }
+    ensures all { ListsOffers }
+    ensures few { MenusAreShort }
 {}

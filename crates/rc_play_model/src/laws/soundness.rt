@@ -1,5 +1,5 @@
 //! Laws of sound tables in matches. No function here does anything: a crate above gets a law by calling its function.
-ghost use Rattle.rc_play_model.specs.SoundLaws.{SheetsHaveHomes, OpeningIsSound, EffectsKeepSound, ReachedIsSound, ReachedViewsAreOfSound, MatchesDealOrders};
+ghost use Rattle.rc_play_model.specs.SoundLaws.{SheetsHaveHomes, OpeningIsSound, EffectsKeepSound, ReachedIsSound, ReachedViewsAreOfSound, MatchesDealOrders, DecisionsCanBeRedrawn};
 
 /// The cards of a well formed sheet begin in locations of cards, and so the opening table is sound.
 pub fn opening_tables_are_sound()
@@ -17,4 +17,9 @@ pub fn tables_of_matches_are_sound()
     ensures tables { ReachedIsSound }
     ensures views { ReachedViewsAreOfSound }
     ensures orders { MatchesDealOrders }
+{}
+
+/// At each decision what the mover sees can be redrawn: the table is sound, has that view, and has the same menu.
+pub fn decisions_can_be_redrawn()
+    ensures { DecisionsCanBeRedrawn }
 {}
