@@ -37,7 +37,7 @@ module _ {S : Type 0} (about : About) (dealing : Dealing S) (fits : about.shape 
   control_fits items k at seat site is stands =
       let range =
       reached_holds about dealing (IsInRange about fits formed) (λ k c h. first_range about fits formed dealing k c.left c.table c.control h.0 h.1 h.2)
-      (λ k x c h. choice_range about fits formed dealing k x c.left c.table c.control h.0 h.1 h.2) start_range items k at is in
+      (λ k x c below h. choice_range about fits formed dealing k x c.left c.table c.control h.0 h.1 h.2) start_range items k at is in
       let decision = decision_at_site about dealing formed.numbered.sites items k at seat site is stands in
       let left : at.config.left ≡ left_at about.sheet site =
       ap (λ (c : Config). c.left) decision.1 ∙ ap (λ o. left_at about.sheet (unwrap_or o 0)) decision.0.stands in

@@ -169,13 +169,13 @@ module _ {S : Type 0} (about : About) (dealing : Dealing S) (formed : IsWellForm
   few_left items k at is =
       few_around at.config.left
       (reached_holds about dealing (λ c. AreShallow c.left) (λ k c are. first_few k c.left c.table c.control are)
-      (λ k x c are. choice_few k x c.left c.table c.control are) start_few items k at is)
+      (λ k x c below are. choice_few k x c.left c.table c.control are) start_few items k at is)
 
   pub few_frames : (items : List ℕ) (k : S) (at : Stopped S) → reached about dealing items k ≡ Some at → length at.config.control.frames ≤ 63
   few_frames items k at is =
       let has =
       reached_holds about dealing HasFrames (λ k c has. frames_first about dealing k c.left c.table c.control has)
-      (λ k x c has. choice_first about dealing k x c.left c.table c.control has) (start_frames about) items k at is in
+      (λ k x c below has. choice_first about dealing k x c.left c.table c.control has) (start_frames about) items k at is in
       let few = few_left items k at is in
       let a = length-map at.config.control.frames (λ (f : Frame). f.stage) in
       let b = length-map (around at.config.left) (λ (s : Stage). s.number) in

@@ -118,4 +118,4 @@ module _ {S : Type 0} (about : About) (dealing : Dealing S) (fits : about.shape 
   pub reached_sound : (items : List ℕ) (k : S) (at : Stopped S) → reached about dealing items k ≡ Some at → IsSound about.shape at.config.table
   reached_sound items k at is =
       (reached_holds about dealing Holds (λ k c holds. first_holds k c.left c.table c.control holds.0 holds.1)
-      (λ k x c holds. choice_first k x c.left c.table c.control holds.0 holds.1) start_holds items k at is).1
+      (λ k x c below holds. choice_first k x c.left c.table c.control holds.0 holds.1) start_holds items k at is).1

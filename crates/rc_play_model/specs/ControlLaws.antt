@@ -1,4 +1,4 @@
--- Statements of laws of controls: that they fit their sites, and how many stages are open at most.
+-- Statements of laws of controls: that they fit their sites, how many stages are open at most, and what the turn count is at most.
 use Rattle.std.specs.Prelude.{◌≡◌, ℕ, ◌+◌, ◌≤◌, List, length, Some}
 use Rattle.rc_sheet_model.specs.Sheet.{SheetItem, Sheet}
 use Rattle.rc_sheet_model.specs.Lists.{item_list}
@@ -35,3 +35,9 @@ abbrev pub FramesAreFew : Type 0
 FramesAreFew =
     (about : About) (dealing : Dealing ℕ) → IsWellFormed about.sheet →
     (items : List ℕ) (k : ℕ) (at : Stopped ℕ) → reached about dealing items k ≡ Some at → length at.config.control.frames ≤ 63
+
+-- Wherever items lead, the turn count is at most the turn limit.
+abbrev pub TurnsAreWithin : Type 0
+TurnsAreWithin =
+    (about : About) (dealing : Dealing ℕ) (items : List ℕ) (k : ℕ) (at : Stopped ℕ) → reached about dealing items k ≡ Some at →
+    at.config.control.turn ≤ about.turns

@@ -1,5 +1,5 @@
 //! Laws of controls. No function here does anything: a crate above gets a law by calling its function.
-ghost use Rattle.rc_play_model.specs.ControlLaws.{ControlsFit, StagesAreFew, PathsAreShallow, FramesAreFew};
+ghost use Rattle.rc_play_model.specs.ControlLaws.{ControlsFit, StagesAreFew, PathsAreShallow, FramesAreFew, TurnsAreWithin};
 
 /// At each decision of a match of a well formed sheet the control fits its site.
 pub fn controls_fit_their_sites()
@@ -11,4 +11,9 @@ pub fn few_stages_are_open()
     ensures stages { StagesAreFew }
     ensures paths { PathsAreShallow }
     ensures frames { FramesAreFew }
+{}
+
+/// The turn count is never more than the turn limit.
+pub fn turns_stay_within_the_limit()
+    ensures { TurnsAreWithin }
 {}
