@@ -1,0 +1,11 @@
+//! Plans: which forms stand for which plans, their limits, and their faults; and laws about these.
+#![tactic(auto)]
+
+mod examples;
+mod fault;
+
+pub use examples::{
+    faults_of_matches, faults_of_numbers, faults_of_strategies, first_of_several, forms_of_plans,
+    sizes, whole_forms,
+};
+pub use fault::{PlanFault, PlanKind};
