@@ -1,13 +1,6 @@
-// A library with one function.
+//! The rules of play: plans, with the strategies that play them.
 #![tactic(auto)]
 
-ghost use Rattle.std.specs.Prelude.{◌≡◌};
-ghost use Rattle.rc_rules.specs.Echo.{echo_of};
+mod plan;
 
-// The `ensures` clause is the contract: what `echo` returns is `echo_of` of its argument, a definition
-// in `specs/Echo.antt`, which a caller's clause can cite too.
-pub fn echo(x: usize) -> usize
-    ensures { result ≡ echo_of x }
-{
-    x
-}
+pub use plan::{Deal, Plan, Strategy};
