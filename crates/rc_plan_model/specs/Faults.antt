@@ -1,7 +1,6 @@
 -- The faults of a form that is to be a plan. The first round looks at shapes and numbers over the whole form, the second at what
 -- the parts say together. A place is told by the faults of a form that stands there; a part whose shape is at fault isn't looked
 -- into.
-use Prim.Native.String.{String}
 use Rattle.std.specs.Prelude.{ℕ, ◌+◌, ◌*◌, ◌-◌, Bool, true, false, ◌&&◌, ◌==◌, nat_le, if◌then◌else◌, List, [], ◌∷◌, ◌++◌, length, codes, bytes_eq, Option, Some, None}
 use Rattle.rc_model.specs.Tree.{Tree, word, list, Trees, nil, cons, count, start_of}
 use Rattle.rc_model.specs.Literal.{natural}
@@ -28,8 +27,8 @@ abbrev pub Place : Type 0
 Place = Tree → List PlanFault
 
 -- the tree is this word
-abbrev pub is_word : String → Tree → Bool
-is_word text (word bytes from to) = bytes_eq bytes (codes text)
+abbrev pub is_word : List ℕ → Tree → Bool
+is_word text (word bytes from to) = bytes_eq bytes text
 is_word text (list parts from to) = false
 
 -- the word spells one of these numbers
@@ -72,7 +71,7 @@ some place from nil = fault Shape from
 some place from (cons part parts) = each place (cons part parts)
 
 -- a list that begins with this word and then has such parts
-abbrev pub headed : String → (ℕ → Trees → List PlanFault) → Place
+abbrev pub headed : List ℕ → (ℕ → Trees → List PlanFault) → Place
 headed text behind (word bytes from to) = fault Shape from
 headed text behind (list nil from to) = fault Shape from
 headed text behind (list (cons head parts) from to) = if is_word text head then behind from parts else fault Shape from
@@ -82,9 +81,9 @@ abbrev pub strategy : Place
 strategy (word bytes from to) = fault Shape from
 strategy (list nil from to) = fault Shape from
 strategy (list (cons head parts) from to) =
-    if is_word "script" head then each script_number parts
-    else if is_word "random" head then row (any_number ∷ []) from parts
-    else if is_word "rollout" head then row (rounds ∷ any_number ∷ []) from parts
+    if is_word (codes "script") head then each script_number parts
+    else if is_word (codes "random") head then row (any_number ∷ []) from parts
+    else if is_word (codes "rollout") head then row (rounds ∷ any_number ∷ []) from parts
     else fault Shape from
 
 -- `(deal seat)`, or where no other list stands beside it `(from deal seat count)`
@@ -92,7 +91,7 @@ abbrev pub match : Bool → Place
 match alone (word bytes from to) = fault Shape from
 match alone (list nil from to) = fault Shape from
 match alone (list (cons head parts) from to) =
-    if is_word "from" head
+    if is_word (codes "from") head
     then (if alone then row (any_number ∷ any_number ∷ any_number ∷ []) from parts else fault Shape from)
     else row (any_number ∷ any_number ∷ []) from (cons head parts)
 
@@ -107,17 +106,17 @@ abbrev pub match_list : ℕ → Trees → List PlanFault
 match_list from parts = some (match (nat_le (lists_among parts) 1)) from parts
 
 abbrev pub seats : Place
-seats = headed "seats" (some strategy)
+seats = headed (codes "seats") (some strategy)
 
 abbrev pub matches : Place
-matches = headed "matches" match_list
+matches = headed (codes "matches") match_list
 
 abbrev pub turns : Place
-turns = headed "turns" (row (any_number ∷ []))
+turns = headed (codes "turns") (row (any_number ∷ []))
 
 -- all faults of the first round, in the order of the text
 abbrev pub first_round : Place
-first_round = headed "plan" (row (seats ∷ matches ∷ turns ∷ []))
+first_round = headed (codes "plan") (row (seats ∷ matches ∷ turns ∷ []))
 
 -- THE SECOND ROUND, where the first finds nothing
 

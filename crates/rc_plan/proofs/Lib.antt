@@ -1,0 +1,6 @@
+pub mod Both
+pub mod FormTree
+pub mod Headed
+pub mod Lengths
+pub mod Told
+pub mod Turns
