@@ -43,6 +43,19 @@ IsAnyNumber = IsNumberBetween 0 largest_number
 abbrev pub IsStrategy : Strategy → Tree → Type 0
 IsStrategy strategy form = StandsStrategy strategy form × IsStrategyWithin strategy
 
+-- the two numbers of a match, and those behind `from`
+abbrev pub IsPair : Deal → Trees → Type 0
+IsPair deal = IsAnyNumber deal.deal ▸ IsAnyNumber deal.seats ▸ End
+
+abbrev pub IsCount : Deal → ℕ → Trees → Type 0
+IsCount first count = IsAnyNumber first.deal ▸ IsAnyNumber first.seats ▸ IsAnyNumber count ▸ End
+
+abbrev pub IsDeal : Deal → Tree → Type 0
+IsDeal deal = Row (IsPair deal)
+
+abbrev pub IsFrom : Deal → ℕ → Tree → Type 0
+IsFrom first count = Row (Atom "from" ▸ IsCount first count)
+
 abbrev pub AreSeats : List Strategy → Tree → Type 0
 AreSeats strategies = Row (Atom "seats" ▸ AtLeastOne (InTurn IsStrategy strategies))
 

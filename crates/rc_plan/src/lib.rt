@@ -2,8 +2,10 @@
 #![tactic(auto)]
 
 
+mod draft;
 mod fail;
 mod forms;
+mod matches;
 
 
 mod strategies;
