@@ -1,5 +1,5 @@
 -- Lists with another number of parts than places.
-use Rattle.std.proofs.Common.{◌≡◌, ℕ, suc, ◌≢◌, Bool, true, false, cond, List, [], ◌∷◌, length, eqb, refl, ap, ◌∙◌, sym, arith}
+use Rattle.std.proofs.Common.{◌≡◌, ℕ, suc, ◌≢◌, Bool, true, false, cond, List, [], ◌∷◌, length, get_or, eqb, refl, ap, ◌∙◌, sym, arith}
 use Rattle.std.proofs.lemmas.Bool.{eqb-true}
 use Rattle.std.specs.Prelude.{nat_le}
 use Rattle.rc_model.specs.Tree.{Trees, count}
@@ -34,3 +34,13 @@ some_counted (form ∷ forms) many = grind arith
 pub no_parts : (place : Place) (from : ℕ) (forms : List Form) → length forms ≡ 0 → some place from (packed (trees_of forms)) ≡ fault Shape from
 no_parts place from [] none = refl
 no_parts place from (form ∷ forms) none = absurd cc
+
+-- three parts
+pub three : {X : Type 0} (xs : List X) (a b c : X) → length xs ≡ 3 → a ≡ get_or xs 0 a → b ≡ get_or xs 1 b → c ≡ get_or xs 2 c
+    → xs ≡ a ∷ b ∷ c ∷ []
+three [] a b c long is-a is-b is-c = absurd (omega arith)
+three (x ∷ []) a b c long is-a is-b is-c = absurd (omega arith)
+three (x ∷ y ∷ []) a b c long is-a is-b is-c = absurd (omega arith)
+three (x ∷ y ∷ z ∷ []) a b c long is-a is-b is-c =
+    ap (λ w. w ∷ y ∷ z ∷ []) (sym is-a) ∙ ap (λ w. a ∷ w ∷ z ∷ []) (sym is-b) ∙ ap (λ w. a ∷ b ∷ w ∷ []) (sym is-c)
+three (x ∷ y ∷ z ∷ w ∷ ws) a b c long is-a is-b is-c = absurd (omega arith)

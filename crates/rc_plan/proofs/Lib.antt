@@ -1,4 +1,6 @@
 pub mod Both
+pub mod CountLemmas
+pub mod DraftLemmas
 pub mod FormTree
 pub mod Headed
 pub mod Lengths

@@ -1,5 +1,5 @@
 -- What is read, said of another form and its faults.
-use Rattle.std.proofs.Common.{◌≡◌, ℕ, List, [], Result, Ok, Err, Some, refl, sym, ap, subst, ◌∙◌}
+use Rattle.std.proofs.Common.{◌≡◌, ℕ, List, [], ◌∷◌, ◌++◌, Result, Ok, Err, Some, refl, sym, ap, subst, ◌∙◌}
 use Rattle.rc_plan_model.specs.Faults.{fault}
 use Rattle.rc_plan_model.specs.PlanFault.{first}
 use Rattle.rc_plan_model.specs.declared.fault.PlanKind.TheVariants.{Shape}
@@ -23,3 +23,15 @@ pub reads_as : {A : Type 0} (r : Result A PlanFail) (Holds Other : A → Type 0)
     → ((a : A) → Holds a → Other a) → others ≡ faults → Reads r Holds faults → Reads r Other others
 reads_as (Ok a) Holds Other faults others then same reads = (then a reads.0, same ∙ reads.1)
 reads_as (Err fail) Holds Other faults others then same reads = fail_as fail faults others same reads
+
+-- the first fault of the first of two lists is that of both, and behind no fault the first of the second is
+first_before : (fail : PlanFail) (xs ys : List PlanFault) → IfPlanFault fail (λ fault. first xs ≡ Some fault)
+    → IfPlanFault fail (λ fault. first (xs ++ ys) ≡ Some fault)
+first_before Memory xs ys told = tt
+first_before (Fault fault) [] ys told = absurd cc
+first_before (Fault fault) (x ∷ xs) ys told = told
+
+pub second_part : (fail : PlanFail) (xs ys zs : List PlanFault) → xs ≡ [] → IfPlanFault fail (λ fault. first ys ≡ Some fault)
+    → IfPlanFault fail (λ fault. first (xs ++ (ys ++ zs)) ≡ Some fault)
+second_part fail xs ys zs none told =
+    fail_as fail (ys ++ zs) _ (ap (λ xs. xs ++ (ys ++ zs)) none) (first_before fail ys zs told)

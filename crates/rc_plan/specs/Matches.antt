@@ -1,7 +1,7 @@
 -- What is read of the matches.
 use Rattle.std.specs.Prelude.{◌≡◌, ℕ, Bool, true, map}
 use Rattle.rc_model.specs.Tree.{Tree, Trees, start_of}
-use Rattle.rc_sheet_model.specs.Rows.{◌▸◌, End, Row, Atom}
+use Rattle.rc_sheet_model.specs.Rows.{◌▸◌, End, Some, Row, Atom}
 use Rattle.rc_plan_model.specs.PlanStands.{InTurn}
 use Rattle.rc_rules.specs.Plan.{deal_seen}
 use Rattle.rc_plan.specs.Reads.{IsDeal, IsFrom}
@@ -21,4 +21,4 @@ AreMatchParts (Listed deals) parts = InTurn IsDeal (map deal_seen deals.items) p
 AreMatchParts (CountedFrom first count at) parts = ((λ form. IsFrom (deal_seen first) count form × (start_of form ≡ at)) ▸ End) parts
 
 abbrev pub AreMatches : Matches → Tree → Type 0
-AreMatches matches = Row (Atom "matches" ▸ AreMatchParts matches)
+AreMatches matches = Row (Atom "matches" ▸ Some (AreMatchParts matches))

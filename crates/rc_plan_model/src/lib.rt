@@ -3,9 +3,11 @@
 
 mod examples;
 mod fault;
+mod laws;
 
 pub use examples::{
     faults_of_matches, faults_of_numbers, faults_of_strategies, first_of_several, forms_of_plans,
     sizes, whole_forms,
 };
 pub use fault::{PlanFault, PlanKind};
+pub use laws::{a_form_has_one_plan, faults_are_in_order};

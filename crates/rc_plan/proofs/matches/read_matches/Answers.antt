@@ -2,10 +2,12 @@ use Rattle.std.proofs.Common.{sym, ap, ◌∙◌, arith}
 use Rattle.std.specs.Prelude.{codes}
 use Rattle.rc_model.specs.Tree.{start_of}
 use Rattle.rc_form.specs.Form.{tree_of, trees_of, packed}
+use Rattle.rc_sheet_model.specs.Rows.{Some}
 use Rattle.rc_plan_model.specs.Faults.{fault, match_list}
 use Rattle.rc_plan_model.specs.declared.fault.PlanKind.TheVariants.{Shape}
 use Rattle.rc_plan.specs.Matches.{AreMatchParts}
 use Rattle.rc_plan.proofs.Headed.{headed_is, row_is, unheaded}
+use Rattle.rc_plan.proofs.Lengths.{some_counted}
 use Rattle.rc_plan.proofs.MatchLemmas.{listed_anywhere}
 use Rattle.rc_plan.proofs.Told.{shape_told, reads_as}
 use Rattle.rc_plan.proofs.matches.read_matches.Goals as goal
@@ -22,6 +24,6 @@ returns-in_default-parts c =
     let parts = packed (trees_of forms) in
     let at = c.in-Some.ensures.found in
     reads_as c.read_several.result (λ matches. AreMatchParts matches parts) _ _ _
-    (λ matches stand. row_is "matches" parts form (AreMatchParts matches) at stand)
+    (λ matches stand. row_is "matches" parts form (Some (AreMatchParts matches)) at (some_counted forms (λ none. grind arith), stand))
     (headed_is (codes "matches") parts form match_list at ∙ listed_anywhere (start_of form) 0 forms (λ none. grind arith))
     c.read_several.ensures
