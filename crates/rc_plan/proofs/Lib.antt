@@ -1,6 +1,7 @@
 pub mod Both
 pub mod CountLemmas
 pub mod DraftLemmas
+pub mod FirstFault
 pub mod FormTree
 pub mod Headed
 pub mod Lengths
