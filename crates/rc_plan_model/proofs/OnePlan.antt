@@ -89,7 +89,7 @@ one_deal a b (list parts from to) first second =
     ap (λ n. record { deal = n; seats = a.seats }) same.0 ∙ ap (λ n. record { deal = b.deal; seats = n }) same.1
 
 -- `from` is no number, so its list is no match
-no_number : (n : ℕ) (head : Tree) → Word (λ bytes. bytes ≡ codes "from") head → Number n head → ⊥
+pub no_number : (n : ℕ) (head : Tree) → Word (λ bytes. bytes ≡ codes "from") head → Number n head → ⊥
 no_number n (word bytes from to) is number =
     let none : natural bytes ≡ None = ap natural is in
     let same : Present n ≡ None = sym number ∙ none in absurd cc

@@ -10,4 +10,6 @@ pub use examples::{
     sizes, whole_forms,
 };
 pub use fault::{PlanFault, PlanKind};
-pub use laws::{a_form_has_one_plan, faults_are_in_order};
+pub use laws::{
+    a_form_has_one_fault, a_form_has_one_plan, faults_are_in_order, plans_have_no_faults,
+};
