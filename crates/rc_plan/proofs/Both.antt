@@ -1,5 +1,5 @@
 -- Parts that stand in turn for values of which something holds.
-use Rattle.std.proofs.Common.{◌≡◌, ℕ, List, [], ◌∷◌, All}
+use Rattle.std.proofs.Common.{List, [], ◌∷◌, All}
 use Rattle.std.proofs.lemmas.List.Elements.{All-nil, All-cons}
 use Rattle.rc_model.specs.Tree.{Tree, Trees, nil, cons}
 use Rattle.rc_plan_model.specs.PlanStands.{InTurn}

@@ -1,24 +1,21 @@
 -- What a draft says of the form from which it is read.
-use Prim.Native.String.{String}
-use Rattle.std.proofs.Common.{◌≡◌, ℕ, suc, ◌+◌, ◌-◌, ◌*◌, ◌≤◌, ◌<◌, Bool, true, false, ◌&&◌, ◌==◌, cond, List, [], ◌∷◌, ◌++◌, length, map, All, refl, sym, ap, subst, ◌∙◌, inl, inr, add-zero, arith}
-use Rattle.std.specs.Prelude.{codes, nat_le, Some as Present}
-use Rattle.std.specs.List.{range_with_len}
+use Rattle.std.proofs.Common.{◌≡◌, ℕ, suc, ◌+◌, ◌-◌, ◌*◌, ◌≤◌, ◌<◌, Bool, true, false, ◌&&◌, ◌==◌, List, [], ◌∷◌, ◌++◌, length, map, All, refl, sym, ap, subst, ◌∙◌, inl, inr, add-zero, arith}
+use Rattle.std.specs.Prelude.{nat_le}
 use Rattle.std.proofs.lemmas.Bool.{and_parts, eqb-true, leb-true}
 use Rattle.std.proofs.lemmas.List.{length-map, append-nil}
 use Rattle.std.proofs.lemmas.List.FromFn.{length-map-range_with_len, get_or-map-range_with_len}
-use Rattle.rc_model.specs.Literal.{natural}
 use Rattle.rc_model.specs.Tree.{Tree, word, list, Trees, nil, cons, count, start_of}
-use Rattle.rc_sheet_model.specs.Rows.{◌▸◌, End, Some, Row, Atom}
+use Rattle.rc_sheet_model.specs.Rows.{◌▸◌, End, Row, Atom}
 use Rattle.rc_play_model.specs.Plan.{Strategy, Deal}
 use Rattle.rc_plan_model.specs.Limits.{largest_number, most_matches, most_turns, most_turns_in_all, IsBetween, IsWithinLimits, IsStrategyWithin, IsDealWithin}
-use Rattle.rc_plan_model.specs.PlanStands.{Number, InTurn, StandsStrategy, StandsDeal, later, counted_from, StandMatches, StandsSeats, StandsMatches, StandsTurns, PlanStands}
-use Rattle.rc_plan_model.specs.Faults.{fault, fault_unless, is_between, spelled, number_in, seat_faults, can_count, is_countable, from_faults, each, match_faults, turn_faults, matches_said, all_matches_said, match_parts, turn_limit, is_small, second_round}
+use Rattle.rc_plan_model.specs.PlanStands.{Number, InTurn, StandsStrategy, StandsDeal, later, counted_from, StandsSeats, StandsMatches, StandsTurns, PlanStands}
+use Rattle.rc_plan_model.specs.Faults.{fault_unless, is_between, spelled, number_in, seat_faults, is_countable, from_faults, each, match_faults, turn_faults, matches_said, all_matches_said, match_parts, turn_limit, is_small, second_round}
 use Rattle.rc_plan_model.specs.declared.fault.PlanKind.{PlanKind}
 use Rattle.rc_plan_model.specs.declared.fault.PlanKind.TheVariants.{Seats, Matches, Turns, TooLarge}
 use Rattle.rc_plan_model.specs.declared.fault.PlanFault.{PlanFault}
 use Rattle.rc_rules.specs.Plan.{strategy_seen, deal_seen}
-use Rattle.rc_plan.specs.Reads.{IsAnyNumber, IsStrategy, AreSeats, IsDeal, IsFrom}
-use Rattle.rc_plan.specs.Matches.{AreMatchParts, AreMatches}
+use Rattle.rc_plan.specs.Reads.{IsStrategy, AreSeats, IsDeal, IsFrom}
+use Rattle.rc_plan.specs.Matches.{AreMatches}
 use Rattle.rc_plan.specs.Draft.{IsLimit, IsDraft, deals_said, count_faults, are_few, draft_faults, plan_drafted}
 use Rattle.rc_plan.specs.declared.draft.Draft.{Draft}
 use Rattle.rc_plan.specs.declared.matches.Matches.{Matches as Said}
@@ -53,9 +50,11 @@ seats_as : (strategies : List Strategy) (form : Tree) → AreSeats strategies fo
 seats_as strategies (word bytes from to) are = absurd are
 seats_as strategies (list nil from to) are = absurd are
 seats_as strategies (list (cons head parts) from to) are =
-    let both = both_in_turn IsStrategy StandsStrategy IsStrategyWithin (λ strategy tree stands. stands) strategies parts are.1.1 in
-    ((are.0, (are.1.0, both.0)), both.1,
-     λ players. ap (λ n. fault_unless (n == players) Seats from) (count_in_turn IsStrategy strategies parts are.1.1))
+    let both = both_in_turn IsStrategy StandsStrategy IsStrategyWithin (λ strategy tree stands. stands) strategies parts are.1.1 in (
+      (are.0, (are.1.0, both.0)),
+      both.1,
+      λ players. ap (λ n. fault_unless (n == players) Seats from) (count_in_turn IsStrategy strategies parts are.1.1),
+    )
 
 -- MATCHES
 
@@ -95,12 +94,13 @@ from_as first count (list (cons a (cons b (cons c nil))) from to) is = absurd is
 from_as first count (list (cons a (cons b (cons c (cons d nil)))) from to) is =
     let deal = number_is first.deal b is.1.0.0 in
     let seats = number_is first.seats c is.1.1.0.0 in
-    let counted = number_is count d is.1.1.1.0.0 in
-    ((is.0, (is.1.0.0, (is.1.1.0.0, (is.1.1.1.0.0, tt)))),
-     ap (λ n. fault_unless (is_countable n (number_in c) (number_in d)) Matches from) deal
-     ∙ ap (λ n. fault_unless (is_countable first.deal n (number_in d)) Matches from) seats
-     ∙ ap (λ n. fault_unless (is_countable first.deal first.seats n) Matches from) counted,
-     counted)
+    let counted = number_is count d is.1.1.1.0.0 in (
+      (is.0, (is.1.0.0, (is.1.1.0.0, (is.1.1.1.0.0, tt)))),
+      ap (λ n. fault_unless (is_countable n (number_in c) (number_in d)) Matches from) deal
+          ∙ ap (λ n. fault_unless (is_countable first.deal n (number_in d)) Matches from) seats
+          ∙ ap (λ n. fault_unless (is_countable first.deal first.seats n) Matches from) counted,
+      counted,
+    )
 from_as first count (list (cons a (cons b (cons c (cons d (cons e parts))))) from to) is = absurd is.1.1.1.1
 
 matches_as : (said : Said) (form : Tree) → AreMatches said form
@@ -111,16 +111,19 @@ matches_as said (list nil from to) are = absurd are
 matches_as (Listed deals) (list (cons head parts) from to) are =
     let both = both_in_turn IsDeal StandsDeal IsDealWithin deal_as (map deal_seen deals.items) parts are.1.1 in
     let many = many_matches (map deal_seen deals.items) parts are.1.1 in
-    let long = length-map deals.items deal_seen in
-    ((are.0, (are.1.0, inl both.0)), many.0,
-     λ turns. ap (λ n. nat_le n most_matches && nat_le (all_matches_said parts * turns) most_turns_in_all) (count_in_turn IsDeal (map deal_seen deals.items) parts are.1.1 ∙ long)
-     ∙ ap (λ n. nat_le (length deals.items) most_matches && nat_le (n * turns) most_turns_in_all) (many.1 ∙ long))
+    let long = length-map deals.items deal_seen in (
+      (are.0, (are.1.0, inl both.0)),
+      many.0,
+      λ turns. ap (λ n. nat_le n most_matches && nat_le (all_matches_said parts * turns) most_turns_in_all) (count_in_turn IsDeal (map deal_seen deals.items) parts are.1.1 ∙ long)
+          ∙ ap (λ n. nat_le (length deals.items) most_matches && nat_le (n * turns) most_turns_in_all) (many.1 ∙ long),
+    )
 matches_as (From first count at) (list (cons head nil) from to) are = absurd are.1.1
 matches_as (From first count at) (list (cons head (cons form nil)) from to) are =
-    let here = from_as (deal_seen first) count form are.1.1.0.0 in
-    ((are.0, (are.1.0, inr ((deal_seen first, count, here.0, refl), tt))),
-     append-nil (from_faults form) ∙ here.1 ∙ ap (λ at. fault_unless (is_countable first.deal first.seats count) Matches at) are.1.1.0.1,
-     λ turns. ap (λ n. nat_le (n * turns) most_turns_in_all) (add-zero (matches_said form) ∙ here.2))
+    let here = from_as (deal_seen first) count form are.1.1.0.0 in (
+      (are.0, (are.1.0, inr ((deal_seen first, count, here.0, refl), tt))),
+      append-nil (from_faults form) ∙ here.1 ∙ ap (λ at. fault_unless (is_countable first.deal first.seats count) Matches at) are.1.1.0.1,
+      λ turns. ap (λ n. nat_le (n * turns) most_turns_in_all) (add-zero (matches_said form) ∙ here.2),
+    )
 matches_as (From first count at) (list (cons head (cons form (cons other parts))) from to) are = absurd are.1.1.1
 
 -- the matches that are said are within the limits
@@ -177,10 +180,11 @@ limit_as turns at (word bytes from to) is = absurd is
 limit_as turns at (list nil from to) is = absurd is
 limit_as turns at (list (cons head nil) from to) is = absurd is.1
 limit_as turns at (list (cons head (cons limit nil)) from to) is =
-    let number = number_is turns limit is.1.0.0.0 in
-    ((is.0, (is.1.0.0.0, tt)),
-     ap (λ n. fault_unless (is_between 1 most_turns n) Turns (start_of limit)) number ∙ ap (λ at. fault_unless (is_between 1 most_turns turns) Turns at) is.1.0.1,
-     number)
+    let number = number_is turns limit is.1.0.0.0 in (
+      (is.0, (is.1.0.0.0, tt)),
+      ap (λ n. fault_unless (is_between 1 most_turns n) Turns (start_of limit)) number ∙ ap (λ at. fault_unless (is_between 1 most_turns turns) Turns at) is.1.0.1,
+      number,
+    )
 limit_as turns at (list (cons head (cons limit (cons other parts))) from to) is = absurd is.1.1
 
 -- THE WHOLE
@@ -208,11 +212,11 @@ draft_of draft (list (cons head (cons a (cons b (cons c nil)))) from to) is =
       strategies = seats.1;
       faults = λ players.
           let first : seat_faults players a ≡ fault_unless (length draft.strategies.items == players) Seats draft.seats_at =
-              seats.2 players
-              ∙ ap (λ n. fault_unless (n == players) Seats (start_of a)) (length-map draft.strategies.items strategy_seen)
-              ∙ ap (λ at. fault_unless (length draft.strategies.items == players) Seats at) is.0.1.0.1 in
+          seats.2 players
+          ∙ ap (λ n. fault_unless (n == players) Seats (start_of a)) (length-map draft.strategies.items strategy_seen)
+          ∙ ap (λ at. fault_unless (length draft.strategies.items == players) Seats at) is.0.1.0.1 in
           let few : is_small (match_parts b) (turn_limit c) ≡ are_few draft.matches draft.turns =
-              ap (λ turns. is_small (match_parts b) turns) limit.2 ∙ matches.2 draft.turns in
+          ap (λ turns. is_small (match_parts b) turns) limit.2 ∙ matches.2 draft.turns in
           ap (λ faults. faults ++ match_faults b ++ turn_faults c ++ fault_unless (is_small (match_parts b) (turn_limit c)) TooLarge from) first
           ∙ ap (λ faults. fault_unless (length draft.strategies.items == players) Seats draft.seats_at ++ faults ++ turn_faults c ++ fault_unless (is_small (match_parts b) (turn_limit c)) TooLarge from) matches.1
           ∙ ap (λ faults. fault_unless (length draft.strategies.items == players) Seats draft.seats_at ++ count_faults draft.matches ++ faults ++ fault_unless (is_small (match_parts b) (turn_limit c)) TooLarge from) limit.1

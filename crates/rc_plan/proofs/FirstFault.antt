@@ -1,5 +1,5 @@
 -- The first fault of a form: of the first round, or else of what its parts say together.
-use Rattle.std.proofs.Common.{◌≡◌, ℕ, ◌≤◌, List, [], ◌∷◌, ◌++◌, Option, Some, None, refl, sym, ap, ◌∙◌}
+use Rattle.std.proofs.Common.{◌≡◌, ℕ, List, [], ◌∷◌, ◌++◌, Option, Some, None, refl, sym, ap, ◌∙◌}
 use Rattle.rc_model.specs.Placed.{IsPlaced}
 use Rattle.rc_model.specs.Tree.{Tree}
 use Rattle.rc_plan_model.specs.Faults.{first_round, second_round, plan_faults}

@@ -2,7 +2,6 @@
 use Prim.Native.String.{String}
 use Rattle.std.proofs.Common.{◌≡◌, ℕ, Bool, true, false, cond, List, [], ◌∷◌, refl, sym, ap, subst, ◌∙◌}
 use Rattle.std.specs.Prelude.{codes}
-use Rattle.std.specs.Str.{bytes_eq}
 use Rattle.std.proofs.lemmas.Slice.Eq.{bytes_eq-Decides}
 use Rattle.rc_model.specs.Tree.{Tree, word, list, Trees, nil, cons, start_of}
 use Rattle.rc_sheet_model.specs.Rows.{◌▸◌, Row, Atom}
@@ -81,10 +80,10 @@ no_strategy (word bytes from to) script random rollout = refl
 no_strategy (list nil from to) script random rollout = refl
 no_strategy (list (cons head parts) from to) script random rollout =
     by_tests (is_word (codes "script") head) (is_word (codes "random") head) (is_word (codes "rollout") head) refl refl refl where
-  by_tests : (a b c : Bool) → is_word (codes "script") head ≡ a → is_word (codes "random") head ≡ b → is_word (codes "rollout") head ≡ c
-      → cond a (each script_number parts) (cond b (row (any_number ∷ []) from parts) (cond c (row (rounds ∷ any_number ∷ []) from parts) (fault Shape from)))
-      ≡ fault Shape from
-  by_tests true b c is-a is-b is-c = absurd (script parts (is_behind _ head parts (list (cons head parts) from to) from to refl is-a))
-  by_tests false true c is-a is-b is-c = absurd (random parts (is_behind _ head parts (list (cons head parts) from to) from to refl is-b))
-  by_tests false false true is-a is-b is-c = absurd (rollout parts (is_behind _ head parts (list (cons head parts) from to) from to refl is-c))
-  by_tests false false false is-a is-b is-c = refl
+      by_tests : (a b c : Bool) → is_word (codes "script") head ≡ a → is_word (codes "random") head ≡ b → is_word (codes "rollout") head ≡ c
+          → cond a (each script_number parts) (cond b (row (any_number ∷ []) from parts) (cond c (row (rounds ∷ any_number ∷ []) from parts) (fault Shape from)))
+          ≡ fault Shape from
+      by_tests true b c is-a is-b is-c = absurd (script parts (is_behind _ head parts (list (cons head parts) from to) from to refl is-a))
+      by_tests false true c is-a is-b is-c = absurd (random parts (is_behind _ head parts (list (cons head parts) from to) from to refl is-b))
+      by_tests false false true is-a is-b is-c = absurd (rollout parts (is_behind _ head parts (list (cons head parts) from to) from to refl is-c))
+      by_tests false false false is-a is-b is-c = refl

@@ -2,7 +2,7 @@
 use Rattle.std.proofs.Common.{◌≡◌, ℕ, suc, ◌≢◌, Bool, true, false, cond, List, [], ◌∷◌, length, get_or, eqb, refl, ap, ◌∙◌, sym, arith}
 use Rattle.std.proofs.lemmas.Bool.{eqb-true}
 use Rattle.std.specs.Prelude.{nat_le}
-use Rattle.rc_model.specs.Tree.{Trees, count}
+use Rattle.rc_model.specs.Tree.{count}
 use Rattle.rc_form.specs.Form.{trees_of, packed}
 use Rattle.rc_form.specs.declared.form.Form.{Form}
 use Rattle.rc_plan_model.specs.Faults.{Place, row, in_turn, each, some, fault}

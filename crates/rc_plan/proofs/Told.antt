@@ -1,5 +1,5 @@
 -- What is read, said of another form and its faults.
-use Rattle.std.proofs.Common.{◌≡◌, ℕ, List, [], ◌∷◌, ◌++◌, Result, Ok, Err, Some, refl, sym, ap, subst, ◌∙◌}
+use Rattle.std.proofs.Common.{◌≡◌, ℕ, List, [], ◌∷◌, ◌++◌, Result, Ok, Err, Some, sym, ap, subst, ◌∙◌}
 use Rattle.rc_plan_model.specs.Faults.{fault}
 use Rattle.rc_plan_model.specs.PlanFault.{first}
 use Rattle.rc_plan_model.specs.declared.fault.PlanKind.TheVariants.{Shape}

@@ -1,7 +1,7 @@
 -- Loops that read part by part.
 use Rattle.std.proofs.Common.{◌≡◌, ℕ, ◌+◌, ◌<◌, ◌≤◌, List, [], ◌∷◌, ◌++◌, length, drop, get_or, Some, refl, sym, ap, subst, ◌∙◌}
 use Rattle.std.proofs.lemmas.List.{append_assoc, append-nil, at_drop_more, at_drop_all}
-use Rattle.rc_model.specs.Tree.{Tree, Trees, nil, cons}
+use Rattle.rc_model.specs.Tree.{Tree, Trees, cons}
 use Rattle.rc_form.specs.Form.{tree_of, trees_of, packed}
 use Rattle.rc_form.specs.declared.form.Form.{Form}
 use Rattle.rc_plan_model.specs.Faults.{Place, each}
@@ -47,9 +47,9 @@ module _ {A : Type 0} (Stands : A → Tree → Type 0) (place : Place) where
   read_fault done forms i form fault lt is so_far found =
       let left = packed (trees_of (drop (i + 1) forms)) in
       ap first (sym so_far.faults) ∙ ap (λ trees. first (each place trees)) (left_at forms i form lt is) ∙ first_before (place (tree_of form)) (each place left) fault found where
-    first_before : (xs ys : List PlanFault) (fault : PlanFault) → first xs ≡ Some fault → first (xs ++ ys) ≡ Some fault
-    first_before [] ys fault is = absurd cc
-    first_before (x ∷ xs) ys fault is = is
+        first_before : (xs ys : List PlanFault) (fault : PlanFault) → first xs ≡ Some fault → first (xs ++ ys) ≡ Some fault
+        first_before [] ys fault is = absurd cc
+        first_before (x ∷ xs) ys fault is = is
 
   -- all parts are read
   pub read_all : (done : List A) (forms : List Form) (i : ℕ) → length forms ≤ i

@@ -1,5 +1,5 @@
 -- What the parts of a plan say, before they are looked at together.
-use Rattle.std.specs.Prelude.{◌≡◌, ℕ, ◌*◌, ◌≤◌, ◌&&◌, ◌==◌, Bool, nat_le, List, [], ◌++◌, length, map}
+use Rattle.std.specs.Prelude.{◌≡◌, ℕ, ◌*◌, ◌&&◌, ◌==◌, Bool, nat_le, List, [], ◌++◌, length, map}
 use Rattle.rc_model.specs.Tree.{Tree, start_of}
 use Rattle.rc_sheet_model.specs.Rows.{◌▸◌, End, Row, Atom}
 use Rattle.rc_play_model.specs.Plan.{Deal, Plan}

@@ -1,5 +1,5 @@
 -- What is read of the matches.
-use Rattle.std.specs.Prelude.{◌≡◌, ℕ, Bool, true, map}
+use Rattle.std.specs.Prelude.{◌≡◌, Bool, true, map}
 use Rattle.rc_model.specs.Tree.{Tree, Trees, start_of}
 use Rattle.rc_sheet_model.specs.Rows.{◌▸◌, End, Some, Row, Atom}
 use Rattle.rc_plan_model.specs.PlanStands.{InTurn}

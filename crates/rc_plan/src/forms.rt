@@ -40,7 +40,11 @@ pub fn parts_behind<'a>(form: &'a Form, text: &[u8]) -> Option<&'a [Form]>
         return None;
     };
     let (head, parts) = items.split_first()?;
-    if is_word(head, text) { Some(parts) } else { None }
+    if is_word(head, text) {
+        Some(parts)
+    } else {
+        None
+    }
 }
 
 /// The number at a place for the numbers between these.

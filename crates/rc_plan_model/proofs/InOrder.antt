@@ -1,7 +1,7 @@
 -- The faults of a form that is placed stand in the order in which they are told.
-use Rattle.std.proofs.Common.{◌≡◌, ℕ, suc, ◌+◌, ◌<◌, ◌≤◌, Bool, true, false, cond, ◌||◌, ◌&&◌, ◌==◌, List, [], ◌∷◌, ◌++◌, ◌⊎◌, inl, inr, Some, refl, sym, ap, subst, ◌∙◌, arith}
-use Rattle.std.specs.Prelude.{codes, IsTrue, nat_le, nat_lt, Option}
-use Rattle.std.specs.List.{All, Contains}
+use Rattle.std.proofs.Common.{◌≡◌, ℕ, ◌+◌, ◌<◌, ◌≤◌, Bool, true, false, cond, ◌||◌, ◌&&◌, ◌==◌, List, [], ◌∷◌, ◌++◌, ◌⊎◌, inl, inr, Some, refl, sym, ap, subst, ◌∙◌, arith}
+use Rattle.std.specs.Prelude.{codes, IsTrue, nat_le, nat_lt}
+use Rattle.std.specs.List.{All}
 use Rattle.std.proofs.lemmas.Bool.{eq-eqb, le-leb}
 use Rattle.std.proofs.lemmas.List.{append_assoc}
 use Rattle.std.proofs.lemmas.List.Elements.{All-nil, All-cons}
@@ -104,10 +104,11 @@ stand_above turn [] starts low high stand rise = tt
 stand_above turn (fault ∷ faults) [] low high stand rise = absurd stand
 stand_above turn (fault ∷ faults) (start ∷ starts) low high (inl here) rise =
     let at = here.0 in
-    let above = rise.0 in
-    ((omega (arith, at, above), here.1),
-     each_then (λ fault. (start + 1 ≤ fault.at) × (turn_of fault.kind ≡ turn)) (λ fault. (low ≤ fault.at) × (turn_of fault.kind ≡ turn)) faults
-     (λ other is. let later = is.0 in (omega (arith, above, later), is.1)) (stand_above turn faults starts (start + 1) high here.2 rise.1))
+    let above = rise.0 in (
+      (omega (arith, at, above), here.1),
+      each_then (λ fault. (start + 1 ≤ fault.at) × (turn_of fault.kind ≡ turn)) (λ fault. (low ≤ fault.at) × (turn_of fault.kind ≡ turn)) faults
+          (λ other is. let later = is.0 in (omega (arith, above, later), is.1)) (stand_above turn faults starts (start + 1) high here.2 rise.1),
+    )
 stand_above turn (fault ∷ faults) (start ∷ starts) low high (inr later) rise =
     let above = rise.0 in
     each_then (λ fault. (start + 1 ≤ fault.at) × (turn_of fault.kind ≡ turn)) (λ fault. (low ≤ fault.at) × (turn_of fault.kind ≡ turn)) (fault ∷ faults)
@@ -116,11 +117,12 @@ stand_above turn (fault ∷ faults) (start ∷ starts) low high (inr later) rise
 stand_leads : (turn : ℕ) (faults : List PlanFault) (starts : List ℕ) (low high : ℕ) → Stand turn faults starts → Rise low high starts → Leads faults
 stand_leads turn [] starts low high stand rise = tt
 stand_leads turn (fault ∷ faults) [] low high stand rise = absurd stand
-stand_leads turn (fault ∷ faults) (start ∷ starts) low high (inl here) rise =
-    (itself fault,
-     each_then (λ other. (start + 1 ≤ other.at) × (turn_of other.kind ≡ turn)) (λ other. is_told_first fault other ≡ true) faults
-     (λ other is. let at = here.0 in let later = is.0 in by_offset fault other (here.1 ∙ sym is.1) (omega (arith, at, later)))
-     (stand_above turn faults starts (start + 1) high here.2 rise.1))
+stand_leads turn (fault ∷ faults) (start ∷ starts) low high (inl here) rise = (
+  itself fault,
+  each_then (λ other. (start + 1 ≤ other.at) × (turn_of other.kind ≡ turn)) (λ other. is_told_first fault other ≡ true) faults
+      (λ other is. let at = here.0 in let later = is.0 in by_offset fault other (here.1 ∙ sym is.1) (omega (arith, at, later)))
+      (stand_above turn faults starts (start + 1) high here.2 rise.1),
+)
 stand_leads turn (fault ∷ faults) (start ∷ starts) low high (inr later) rise = stand_leads turn (fault ∷ faults) starts (start + 1) high later rise.1
 
 stand_turn : (turn : ℕ) (faults : List PlanFault) (starts : List ℕ) → Stand turn faults starts → OfTurn turn faults
@@ -227,10 +229,13 @@ match_list_in_order from parts = some_in_order (match (nat_le (lists_among parts
 first_in_order : InOrder first_round
 first_in_order =
     headed_in_order (codes "plan") (row (seats ∷ matches ∷ turns ∷ []))
-    (row_in_order (seats ∷ matches ∷ turns ∷ [])
-    (headed_in_order (codes "seats") (some strategy) (some_in_order strategy strategy_in_order),
-     (headed_in_order (codes "matches") match_list match_list_in_order,
-      (headed_in_order (codes "turns") (row (any_number ∷ [])) (row_in_order (any_number ∷ []) (any_in_order, tt)), tt))))
+    (row_in_order (seats ∷ matches ∷ turns ∷ []) (
+      headed_in_order (codes "seats") (some strategy) (some_in_order strategy strategy_in_order),
+      (
+        headed_in_order (codes "matches") match_list match_list_in_order,
+        (headed_in_order (codes "turns") (row (any_number ∷ [])) (row_in_order (any_number ∷ []) (any_in_order, tt)), tt),
+      ),
+    ))
 
 -- THE SECOND ROUND
 
@@ -315,11 +320,11 @@ second_in_order players (list (cons head (cons a (cons b (cons c nil)))) from to
     let from_large = turn_from 5 5 L (omega arith) large.0 in
     let from_turns = each_of_both (λ fault. 4 ≤ turn_of fault.kind) T L (turn_from 4 4 T (omega arith) turn.0) (turn_from 5 4 L (omega arith) large.0) in
     let three_up = each_of_both (λ fault. 3 ≤ turn_of fault.kind) M (T ++ L) (turn_from 3 3 M (omega arith) of)
-        (each_then (λ fault. 4 ≤ turn_of fault.kind) (λ fault. 3 ≤ turn_of fault.kind) (T ++ L) (λ fault is. omega (arith, is)) from_turns) in
+    (each_then (λ fault. 4 ≤ turn_of fault.kind) (λ fault. 3 ≤ turn_of fault.kind) (T ++ L) (λ fault is. omega (arith, is)) from_turns) in
     let two_up = each_of_both (λ fault. 2 ≤ turn_of fault.kind) S (M ++ (T ++ L)) (turn_from 2 2 S (omega arith) seat.0)
-        (each_then (λ fault. 3 ≤ turn_of fault.kind) (λ fault. 2 ≤ turn_of fault.kind) (M ++ (T ++ L)) (λ fault is. omega (arith, is)) three_up) in
+    (each_then (λ fault. 3 ≤ turn_of fault.kind) (λ fault. 2 ≤ turn_of fault.kind) (M ++ (T ++ L)) (λ fault is. omega (arith, is)) three_up) in
     let all = leads_both 2 S (M ++ (T ++ L)) seat.0 three_up seat.1
-        (leads_both 3 M (T ++ L) of from_turns leads (leads_both 4 T L turn.0 from_large turn.1 large.1)) in
+    (leads_both 3 M (T ++ L) of from_turns leads (leads_both 4 T L turn.0 from_large turn.1 large.1)) in
     (subst (FromTurn 2) (sym assoc) two_up, subst Leads (sym assoc) all)
 second_in_order players (list (cons a (cons b (cons c (cons d (cons e parts))))) from to) low high rise = (tt, tt)
 

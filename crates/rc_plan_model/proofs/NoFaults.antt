@@ -1,20 +1,19 @@
 -- A form with a plan that is within the limits has no fault but for another number of players.
-use Rattle.std.proofs.Common.{◌≡◌, ◌≢◌, ℕ, suc, ◌+◌, ◌-◌, ◌*◌, ◌<◌, ◌≤◌, Bool, true, false, cond, ◌&&◌, ◌==◌, List, [], ◌∷◌, ◌++◌, length, map, inl, inr, refl, sym, ap, subst, ◌∙◌, add-zero, arith}
-use Rattle.std.specs.Prelude.{codes, nat_le, Option, Some as Present}
+use Rattle.std.proofs.Common.{◌≡◌, ℕ, suc, ◌+◌, ◌-◌, ◌*◌, ◌<◌, ◌≤◌, Bool, true, false, cond, ◌&&◌, ◌==◌, List, [], ◌∷◌, ◌++◌, length, inl, inr, refl, sym, ap, subst, ◌∙◌, add-zero, arith}
+use Rattle.std.specs.Prelude.{codes, nat_le}
 use Rattle.std.specs.Str.{bytes_eq}
-use Rattle.std.specs.List.{All, range_with_len}
+use Rattle.std.specs.List.{All}
 use Rattle.std.proofs.lemmas.Bool.{le-leb, eq-eqb}
 use Rattle.std.proofs.lemmas.List.{append-nil}
 use Rattle.std.proofs.lemmas.List.Elements.{All-nil, All-cons}
 use Rattle.std.proofs.lemmas.List.FromFn.{length-map-range_with_len, get_or-map-range_with_len}
 use Rattle.std.proofs.lemmas.Slice.Eq.{bytes_eq-Decides}
-use Rattle.rc_model.specs.Literal.{natural}
 use Rattle.rc_model.specs.Tree.{Tree, word, list, Trees, nil, cons, count, start_of}
-use Rattle.rc_sheet_model.specs.Rows.{◌▸◌, End, Some, Row, Word, Atom}
+use Rattle.rc_sheet_model.specs.Rows.{Word}
 use Rattle.rc_play_model.specs.Plan.{Strategy, scripted, random, rollout, Deal, Plan}
 use Rattle.rc_plan_model.specs.Limits.{largest_number, most_matches, most_turns, most_turns_in_all, IsBetween, IsStrategyWithin, IsDealWithin, IsWithinLimits}
 use Rattle.rc_plan_model.specs.PlanStands.{Number, InTurn, StandsStrategy, StandsDeal, later, counted_from, StandsFrom, StandMatches, StandsSeats, StandsMatches, StandsTurns, PlanStands}
-use Rattle.rc_plan_model.specs.Faults.{Place, fault, fault_unless, is_between, is_word, is_number_between, number_between, any_number, script_number, rounds, in_turn, row, each, some, headed, strategy, match, match_list, lists_among, seats, matches, turns, first_round, spelled, number_in, seat_faults, can_count, is_countable, from_faults, match_faults, turn_faults, matches_said, all_matches_said, match_parts, turn_limit, is_small, second_round, plan_faults}
+use Rattle.rc_plan_model.specs.Faults.{Place, fault, fault_unless, is_between, is_word, is_number_between, number_between, any_number, script_number, rounds, row, each, some, headed, strategy, match, match_list, lists_among, seats, matches, turns, first_round, spelled, number_in, seat_faults, is_countable, from_faults, match_faults, turn_faults, matches_said, all_matches_said, match_parts, turn_limit, is_small, plan_faults}
 use Rattle.rc_plan_model.specs.declared.fault.PlanKind.{PlanKind}
 use Rattle.rc_plan_model.specs.declared.fault.PlanKind.TheVariants.{Shape, Number as NumberKind, Seats, Matches, Turns, TooLarge}
 use Rattle.rc_plan_model.specs.declared.fault.PlanFault.{PlanFault}
@@ -185,18 +184,19 @@ from_fine deals (list (cons head (cons a (cons b (cons c nil)))) from to) stands
     let spells-seats = number_is first.seats b stands.2.1.1.0 in
     let spells-count = number_is n c stands.2.1.1.1.0 in
     let can : is_countable first.deal first.seats n ≡ true =
-        two_holds _ _ (two_holds _ _ (between_holds 1 most_matches n (one, most)) (le-leb _ _ deal)) (le-leb _ _ seats) in
-    (ap (λ h. match true (list (cons h (cons a (cons b (cons c nil)))) from to)) at.2
-     ∙ three_fine any_number any_number any_number from a b c
-       (any_fine first.deal a stands.2.1.0 (omega (arith, one, deal)))
-       (any_fine first.seats b stands.2.1.1.0 (omega (arith, one, seats)))
-       (any_fine n c stands.2.1.1.1.0 (omega (arith, most))),
-     refl,
-     no_fault (is_countable (number_in a) (number_in b) (number_in c)) Matches from
-       (ap (λ x. is_countable x (number_in b) (number_in c)) spells-deal
-       ∙ ap (λ x. is_countable first.deal x (number_in c)) spells-seats
-       ∙ ap (λ x. is_countable first.deal first.seats x) spells-count ∙ can),
-     spells-count ∙ sym (ap length stands.3 ∙ length-map-range_with_len (later first) 0 n))
+    two_holds _ _ (two_holds _ _ (between_holds 1 most_matches n (one, most)) (le-leb _ _ deal)) (le-leb _ _ seats) in (
+      ap (λ h. match true (list (cons h (cons a (cons b (cons c nil)))) from to)) at.2
+          ∙ three_fine any_number any_number any_number from a b c
+          (any_fine first.deal a stands.2.1.0 (omega (arith, one, deal)))
+          (any_fine first.seats b stands.2.1.1.0 (omega (arith, one, seats)))
+          (any_fine n c stands.2.1.1.1.0 (omega (arith, most))),
+      refl,
+      no_fault (is_countable (number_in a) (number_in b) (number_in c)) Matches from
+          (ap (λ x. is_countable x (number_in b) (number_in c)) spells-deal
+          ∙ ap (λ x. is_countable first.deal x (number_in c)) spells-seats
+          ∙ ap (λ x. is_countable first.deal first.seats x) spells-count ∙ can),
+      spells-count ∙ sym (ap length stands.3 ∙ length-map-range_with_len (later first) 0 n),
+    )
 from_fine deals (list (cons head (cons a (cons b (cons c (cons d parts))))) from to) stands between all = absurd stands.2.1.1.1.1
 
 -- THE THREE PARTS
@@ -212,9 +212,10 @@ seats_fine : (said : List Strategy) (form : Tree) → StandsSeats said form → 
 seats_fine said (word bytes from to) stands all = absurd stands
 seats_fine said (list nil from to) stands all = absurd stands
 seats_fine said (list (cons head parts) from to) stands all =
-    let at = head_is (codes "seats") head stands.0 in
-    (ap (λ h. seats (list (cons h parts) from to)) at.2 ∙ some_each strategy from parts stands.1.0 ∙ strategies_fine said parts stands.1.1 all,
-     λ players. ap (λ n. fault_unless (n == players) Seats from) (count_in_turn StandsStrategy said parts stands.1.1))
+    let at = head_is (codes "seats") head stands.0 in (
+      ap (λ h. seats (list (cons h parts) from to)) at.2 ∙ some_each strategy from parts stands.1.0 ∙ strategies_fine said parts stands.1.1 all,
+      λ players. ap (λ n. fault_unless (n == players) Seats from) (count_in_turn StandsStrategy said parts stands.1.1),
+    )
 
 deal_counts_once : (deal : Deal) (form : Tree) → StandsDeal deal form → (from_faults form ≡ []) × (matches_said form ≡ 1)
 deal_counts_once deal (word bytes from to) stands = absurd stands
@@ -249,27 +250,27 @@ matches_fine deals (list (cons head parts) from to) stands between all =
     let at = head_is (codes "matches") head stands.0 in
     let headed : matches (list (cons head parts) from to) ≡ match_list from parts = ap (λ h. matches (list (cons h parts) from to)) at.2 in
     by_kind parts stands.1.0 stands.1.1 headed where
-  by_kind : (parts : Trees) → nat_le 1 (count parts) ≡ true → StandMatches deals parts → matches (list (cons head parts) from to) ≡ match_list from parts
-      → AreFine deals (list (cons head parts) from to)
-  by_kind parts many (inl listed) headed =
-      let once = deals_count_once deals parts listed in
-      let parts_are = count_in_turn StandsDeal deals parts listed in
-      let most = between.1 in
-      record {
-        first = headed ∙ some_each (match (nat_le (lists_among parts) 1)) from parts many ∙ listed_fine (nat_le (lists_among parts) 1) deals parts listed all;
-        counts = once.0;
-        small = λ turns fits. two_holds _ _ (le-leb _ _ (omega (arith, parts_are, most)))
-            (ap (λ n. nat_le (n * turns) most_turns_in_all) once.1 ∙ le-leb _ _ fits);
-      }
-  by_kind nil many (inr counted) headed = absurd counted
-  by_kind (cons form nil) many (inr counted) headed =
-      let fine = from_fine deals form counted.0 between all in
-      record {
-        first = headed ∙ ap (λ n. some (match (nat_le n 1)) from (cons form nil)) fine.1 ∙ append-nil (match true form) ∙ fine.0;
-        counts = append-nil (from_faults form) ∙ fine.2;
-        small = λ turns fits. ap (λ n. nat_le (n * turns) most_turns_in_all) (add-zero (matches_said form) ∙ fine.3) ∙ le-leb _ _ fits;
-      }
-  by_kind (cons form (cons other parts)) many (inr counted) headed = absurd counted.1
+      by_kind : (parts : Trees) → nat_le 1 (count parts) ≡ true → StandMatches deals parts → matches (list (cons head parts) from to) ≡ match_list from parts
+          → AreFine deals (list (cons head parts) from to)
+      by_kind parts many (inl listed) headed =
+          let once = deals_count_once deals parts listed in
+          let parts_are = count_in_turn StandsDeal deals parts listed in
+          let most = between.1 in
+          record {
+            first = headed ∙ some_each (match (nat_le (lists_among parts) 1)) from parts many ∙ listed_fine (nat_le (lists_among parts) 1) deals parts listed all;
+            counts = once.0;
+            small = λ turns fits. two_holds _ _ (le-leb _ _ (omega (arith, parts_are, most)))
+                (ap (λ n. nat_le (n * turns) most_turns_in_all) once.1 ∙ le-leb _ _ fits);
+          }
+      by_kind nil many (inr counted) headed = absurd counted
+      by_kind (cons form nil) many (inr counted) headed =
+          let fine = from_fine deals form counted.0 between all in
+          record {
+            first = headed ∙ ap (λ n. some (match (nat_le n 1)) from (cons form nil)) fine.1 ∙ append-nil (match true form) ∙ fine.0;
+            counts = append-nil (from_faults form) ∙ fine.2;
+            small = λ turns fits. ap (λ n. nat_le (n * turns) most_turns_in_all) (add-zero (matches_said form) ∙ fine.3) ∙ le-leb _ _ fits;
+          }
+      by_kind (cons form (cons other parts)) many (inr counted) headed = absurd counted.1
 
 turns_fine : (limit : ℕ) (form : Tree) → StandsTurns limit form → IsBetween 1 most_turns limit
     → (turns form ≡ []) × (turn_faults form ≡ []) × (turn_limit form ≡ limit)
@@ -279,10 +280,11 @@ turns_fine limit (list (cons head nil) from to) stands between = absurd stands.1
 turns_fine limit (list (cons head (cons a nil)) from to) stands between =
     let at = head_is (codes "turns") head stands.0 in
     let is = number_is limit a stands.1.0 in
-    let most = between.1 in
-    (ap (λ h. turns (list (cons h (cons a nil)) from to)) at.2 ∙ one_fine any_number from a (any_fine limit a stands.1.0 (omega (arith, most))),
-     no_fault (is_between 1 most_turns (number_in a)) Turns (start_of a) (ap (λ n. is_between 1 most_turns n) is ∙ between_holds 1 most_turns limit between),
-     is)
+    let most = between.1 in (
+      ap (λ h. turns (list (cons h (cons a nil)) from to)) at.2 ∙ one_fine any_number from a (any_fine limit a stands.1.0 (omega (arith, most))),
+      no_fault (is_between 1 most_turns (number_in a)) Turns (start_of a) (ap (λ n. is_between 1 most_turns n) is ∙ between_holds 1 most_turns limit between),
+      is,
+    )
 turns_fine limit (list (cons head (cons a (cons b parts))) from to) stands between = absurd stands.1.1
 
 -- THE WHOLE
@@ -300,18 +302,19 @@ only_seats plan (list (cons head (cons a (cons b (cons c nil)))) from to) player
     let listed = matches_fine plan.matches b stands.1.1.0 within.count within.deals in
     let limit = turns_fine plan.turns c stands.1.1.1.0 within.turn_limit in
     let first : first_round (list (cons head (cons a (cons b (cons c nil)))) from to) ≡ [] =
-        ap (λ h. first_round (list (cons h (cons a (cons b (cons c nil)))) from to)) at.2
-        ∙ three_fine seats matches turns from a b c seat.0 listed.first limit.0 in
+    ap (λ h. first_round (list (cons h (cons a (cons b (cons c nil)))) from to)) at.2
+    ∙ three_fine seats matches turns from a b c seat.0 listed.first limit.0 in
     let small : is_small (match_parts b) (turn_limit c) ≡ true = ap (λ n. is_small (match_parts b) n) limit.2 ∙ listed.small plan.turns within.size in
     let S = seat_faults players a in
-    let L = fault_unless (is_small (match_parts b) (turn_limit c)) TooLarge from in
-    (start_of a,
-     ap (λ faults. faults ++ (S ++ match_faults b ++ turn_faults c ++ L)) first
-     ∙ ap (λ faults. S ++ faults ++ turn_faults c ++ L) listed.counts
-     ∙ ap (λ faults. S ++ [] ++ faults ++ L) limit.1
-     ∙ ap (λ faults. S ++ [] ++ [] ++ faults) (no_fault (is_small (match_parts b) (turn_limit c)) TooLarge from small)
-     ∙ append-nil (S ++ [] ++ []) ∙ append-nil (S ++ []) ∙ append-nil S
-     ∙ seat.1 players)
+    let L = fault_unless (is_small (match_parts b) (turn_limit c)) TooLarge from in (
+      start_of a,
+      ap (λ faults. faults ++ (S ++ match_faults b ++ turn_faults c ++ L)) first
+          ∙ ap (λ faults. S ++ faults ++ turn_faults c ++ L) listed.counts
+          ∙ ap (λ faults. S ++ [] ++ faults ++ L) limit.1
+          ∙ ap (λ faults. S ++ [] ++ [] ++ faults) (no_fault (is_small (match_parts b) (turn_limit c)) TooLarge from small)
+          ∙ append-nil (S ++ [] ++ []) ∙ append-nil (S ++ []) ∙ append-nil S
+          ∙ seat.1 players,
+    )
 only_seats plan (list (cons head (cons a (cons b (cons c (cons d parts))))) from to) players stands within = absurd stands.1.1.1.1
 
 pub none_at_all : (plan : Plan) (form : Tree) → PlanStands plan form → IsWithinLimits plan → plan_faults (length plan.strategies) form ≡ []
@@ -324,6 +327,6 @@ pub none_but_seats : (plan : Plan) (form : Tree) (players : ℕ) → PlanStands 
 none_but_seats plan form players stands within =
     let all = only_seats plan form players stands within in
     subst (All (λ fault. fault.kind ≡ Seats)) (sym all.1) (by_test (length plan.strategies == players) all.0) where
-  by_test : (b : Bool) (at : ℕ) → All (λ fault. fault.kind ≡ Seats) (fault_unless b Seats at)
-  by_test true at = All-nil (λ fault. fault.kind ≡ Seats)
-  by_test false at = All-cons (λ fault. fault.kind ≡ Seats) (record { kind = Seats; at = at }) [] refl (All-nil (λ fault. fault.kind ≡ Seats))
+      by_test : (b : Bool) (at : ℕ) → All (λ fault. fault.kind ≡ Seats) (fault_unless b Seats at)
+      by_test true at = All-nil (λ fault. fault.kind ≡ Seats)
+      by_test false at = All-cons (λ fault. fault.kind ≡ Seats) (record { kind = Seats; at = at }) [] refl (All-nil (λ fault. fault.kind ≡ Seats))

@@ -1,13 +1,13 @@
 -- A form is that of one plan at most.
-use Rattle.std.proofs.Common.{◌≡◌, ℕ, false, ◌⊎◌, inl, inr, List, [], ◌∷◌, Option, refl, sym, ap, ◌∙◌}
+use Rattle.std.proofs.Common.{◌≡◌, ℕ, false, inl, inr, List, [], ◌∷◌, refl, sym, ap, ◌∙◌}
 use Rattle.std.specs.Prelude.{codes, Some as Present, None}
 use Rattle.std.specs.Str.{bytes_eq}
 use Rattle.std.proofs.lemmas.Bool.{false≢true}
 use Rattle.std.proofs.lemmas.Slice.Eq.{bytes_eq-Decides}
 use Rattle.rc_model.specs.Literal.{natural}
 use Rattle.rc_model.specs.Tree.{Tree, word, list, Trees, nil, cons}
-use Rattle.rc_sheet_model.specs.Rows.{◌▸◌, End, Some, Row, Word, Atom}
-use Rattle.rc_play_model.specs.Plan.{Strategy, scripted, random, rollout, Deal, Plan}
+use Rattle.rc_sheet_model.specs.Rows.{◌▸◌, End, Word}
+use Rattle.rc_play_model.specs.Plan.{scripted, random, rollout, Deal, Plan}
 use Rattle.rc_plan_model.specs.PlanStands.{Number, InTurn, StandsStrategy, StandsDeal, counted_from, StandsFrom, StandMatches, StandsSeats, StandsMatches, StandsTurns, PlanStands}
 
 -- of each form one stands at most

@@ -1,7 +1,7 @@
 -- The faults of a form that is to be a plan. The first round looks at shapes and numbers over the whole form, the second at what
 -- the parts say together. A place is told by the faults of a form that stands there; a part whose shape is at fault isn't looked
 -- into.
-use Rattle.std.specs.Prelude.{ℕ, ◌+◌, ◌*◌, ◌-◌, Bool, true, false, ◌&&◌, ◌==◌, nat_le, if◌then◌else◌, List, [], ◌∷◌, ◌++◌, length, codes, bytes_eq, Option, Some, None}
+use Rattle.std.specs.Prelude.{ℕ, ◌+◌, ◌*◌, ◌-◌, Bool, false, ◌&&◌, ◌==◌, nat_le, if◌then◌else◌, List, [], ◌∷◌, ◌++◌, length, codes, bytes_eq, Option, Some, None}
 use Rattle.rc_model.specs.Tree.{Tree, word, list, Trees, nil, cons, count, start_of}
 use Rattle.rc_model.specs.Literal.{natural}
 use Rattle.rc_plan_model.specs.Limits.{largest_number, largest_script_number, most_rounds, most_matches, most_turns, most_turns_in_all}

@@ -28,7 +28,7 @@ abbrev pub is_told_first : PlanFault → PlanFault → Bool
 is_told_first fault other =
     nat_lt (turn_of fault.kind) (turn_of other.kind)
     || (turn_of fault.kind == turn_of other.kind
-        && (nat_lt fault.at other.at || (fault.at == other.at && nat_le (rank_of fault.kind) (rank_of other.kind))))
+    && (nat_lt fault.at other.at || (fault.at == other.at && nat_le (rank_of fault.kind) (rank_of other.kind))))
 
 -- the first of these faults, where they stand in the order in which they are told
 abbrev pub first : List PlanFault → Option PlanFault

@@ -1,5 +1,5 @@
 -- Plans as pure trees, in which no clause meets a vector.
-use Rattle.std.specs.Prelude.{List, map}
+use Rattle.std.specs.Prelude.{map}
 use Rattle.rc_play_model.specs.Plan.{scripted, random, rollout, Strategy as PureStrategy, Deal as PureDeal, Plan as PurePlan}
 use Rattle.rc_rules.specs.declared.plan.Strategy.{Strategy}
 use Rattle.rc_rules.specs.declared.plan.Strategy.TheVariants.{Script, Random, Rollout}

@@ -30,8 +30,8 @@ returns-in-Err-read_matches c =
     let forms = c.in-Some.parts.now in
     let places = seats ∷ matches ∷ turns ∷ [] in
     let parts = three forms c.seats-item.result c.matches-item.result c.turns-item.result (omega (arith, c.in-len3.len_at_least, c.in-len3.len_below))
-        c.seats-item.is c.matches-item.is c.turns-item.is in
+    c.seats-item.is c.matches-item.is c.turns-item.is in
     let same = headed_is (codes "plan") (packed (trees_of forms)) form (row places) c.in-Some.ensures.found
-        ∙ ap (λ forms. row places (start_of form) (packed (trees_of forms))) parts in
+    ∙ ap (λ forms. row places (start_of form) (packed (trees_of forms))) parts in
     fail_as c.in-Err-read_matches.fail _ _ same
     (second_part c.in-Err-read_matches.fail _ _ _ c.in-Ok.ensures.1 c.in-Err-read_matches.ensures)

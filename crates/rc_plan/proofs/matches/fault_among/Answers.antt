@@ -1,4 +1,4 @@
-use Rattle.std.proofs.Common.{◌≡◌, ◌∙◌, sym, ap, true, arith}
+use Rattle.std.proofs.Common.{◌∙◌, sym, true, arith}
 use Rattle.std.proofs.lemmas.List.{at_drop_all}
 use Rattle.rc_form.specs.Form.{trees_of, packed}
 use Rattle.rc_plan_model.specs.Faults.{each, match}
@@ -10,7 +10,7 @@ pub unreachable-requires : goal.unreachable-requires
 unreachable-requires c =
     let forms = c.args.parts.now in
     let none = sym c.loop-part.invariant
-        ∙ at_drop_all (λ left. each (match true) (packed (trees_of left))) forms c.loop-part.part-index c.loop-part-test.false in
+    ∙ at_drop_all (λ left. each (match true) (packed (trees_of left))) forms c.loop-part.part-index c.loop-part-test.false in
     let lists = all_lists true (packed (trees_of forms)) none in
     let parts = count_packed forms in
     let several = c.requires.several in

@@ -1,6 +1,6 @@
 use Rattle.std.proofs.Common.{ap, subst, sym, ◌∙◌, ◌∷◌, []}
 use Rattle.std.specs.Prelude.{codes}
-use Rattle.rc_form.specs.Form.{tree_of, trees_of, packed}
+use Rattle.rc_form.specs.Form.{trees_of, packed}
 use Rattle.rc_plan_model.specs.Faults.{match, row, any_number}
 use Rattle.rc_plan.specs.Reads.{IsNotHeaded}
 use Rattle.rc_plan.proofs.FormTree.{tree_of_list}

@@ -1,4 +1,4 @@
-use Rattle.std.proofs.Common.{◌≤◌, subst, sym, arith}
+use Rattle.std.proofs.Common.{arith}
 use Rattle.rc_plan.proofs.MatchLemmas.{listed_alone, listed_apart}
 use Rattle.rc_plan.proofs.Told.{fail_as}
 use Rattle.rc_plan.proofs.matches.read_several.Goals as goal

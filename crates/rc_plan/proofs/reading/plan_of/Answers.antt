@@ -1,4 +1,4 @@
-use Rattle.std.proofs.Common.{◌≡◌, length, subst, sym, ap, ◌∙◌}
+use Rattle.std.proofs.Common.{length, subst, sym, ap, ◌∙◌}
 use Rattle.std.proofs.lemmas.List.{length-map}
 use Rattle.rc_form.specs.Form.{tree_of}
 use Rattle.rc_plan_model.specs.Limits.{IsWithinLimits}
