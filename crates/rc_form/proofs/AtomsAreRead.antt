@@ -90,3 +90,9 @@ All-of_atoms (form ∷ forms) are_top runs =
 pub All-of_atoms-spelled : (text : List ℕ) (want : ℕ) (forms : List Form) (rest : ℕ) → Spelled text want (trees_of forms) rest → All (λ form. IsOfAtoms (tree_of form)) forms
 All-of_atoms-spelled text want forms rest spelled =
     All-of_atoms forms spelled.sound (AtomsAreRuns-parts (flat_map spelling (trees_of forms)) spelled.later (subst AtomsAreRuns spelled.spells (AtomsAreRuns-tokens_from between 0 text))).0
+
+-- each word of the first tree that a text spells is an atom
+pub of_atoms-first : (text : List ℕ) (want : ℕ) (tree : Tree) (trees : List Tree) (rest : ℕ) → Spelled text want (tree ∷ trees) rest → IsOfAtoms tree
+of_atoms-first text want tree trees rest spelled =
+    let runs = (AtomsAreRuns-parts (flat_map spelling (tree ∷ trees)) spelled.later (subst AtomsAreRuns spelled.spells (AtomsAreRuns-tokens_from between 0 text))).0 in
+    IsOfAtoms-top tree spelled.sound.0 (AtomsAreRuns-parts (spelling tree) (flat_map spelling trees) runs).0

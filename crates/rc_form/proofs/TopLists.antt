@@ -3,7 +3,7 @@ use Rattle.std.proofs.Common.{ℕ, ◌-◌, List, [], ◌∷◌}
 use Rattle.std.specs.List.{All}
 use Rattle.std.proofs.lemmas.List.Elements.{All-nil, All-cons, All-weaker}
 use Rattle.rc_model.specs.Tree.{Tree, word, list, Trees, nil, cons, IsSound, AreSound, IsOpenAtMost, AreOpenAtMost}
-use Rattle.rc_model.specs.Spelled.{IsTopList, AreTopLists}
+use Rattle.rc_model.specs.Spelled.{Spelled, IsTopList, AreTopLists}
 use Rattle.rc_form.specs.Form.{tree_of, trees_of, IsPrintable}
 use Rattle.rc_form.specs.declared.form.Form.{Form}
 
@@ -32,3 +32,11 @@ All-top (form ∷ forms) are_top = All-cons (λ form. IsTopList (tree_of form)) 
 pub All-printable : (forms : List Form) → AreTopLists (trees_of forms) → All (λ form. IsPrintable (tree_of form)) forms
 All-printable forms are_top =
     All-weaker (λ form. IsTopList (tree_of form)) (λ form. IsPrintable (tree_of form)) (λ form is_top. IsPrintable-top (tree_of form) is_top) forms (All-top forms are_top)
+
+-- at most 64 lists are open in the first tree that a text spells
+fits-top : (tree : Tree) → IsTopList tree → IsOpenAtMost 64 tree
+fits-top (word bytes from to) is_top = absurd is_top
+fits-top (list parts from to) is_top = IsOpenAtMost-sound 64 (list parts from to) is_top
+
+pub fits-first : (text : List ℕ) (want : ℕ) (tree : Tree) (trees : List Tree) (rest : ℕ) → Spelled text want (tree ∷ trees) rest → IsOpenAtMost 64 tree
+fits-first text want tree trees rest spelled = fits-top tree spelled.sound.0

@@ -17,7 +17,7 @@ list_printable : (tree : Tree) (parts : Trees) → IsOpenAtMost 64 tree → IsLi
 list_printable tree parts fits listed = subst IsPrintable (sym listed.2) (subst (IsOpenAtMost 64) listed.2 fits)
 
 -- what is printable fits
-fits : (tree : Tree) → IsPrintable tree → IsOpenAtMost 64 tree
+pub fits : (tree : Tree) → IsPrintable tree → IsOpenAtMost 64 tree
 fits (word bytes from to) printable = absurd printable
 fits (list parts from to) printable = printable
 

@@ -1,5 +1,5 @@
 -- Which forms are accepted as sheets, and the first fault of one that isn't.
-use Rattle.std.specs.Prelude.{Some, None, ◌≡◌, ℕ, ◌⊎◌, List, [], ◌∷◌}
+use Rattle.std.specs.Prelude.{Some, None, ◌≡◌, ℕ, ◌⊎◌}
 use Rattle.rc_model.specs.Tree.{Tree}
 use Rattle.rc_grammar.specs.declared.fault.SheetFault.{SheetFault}
 use Rattle.rc_semantics.specs.SecondFaults.{sheet_fault}
@@ -20,13 +20,11 @@ pub record IsSheetOf (form : Tree) (sheet : Sheet) : Type 0 where
   pub stands : Stands sheet form
   pub well : IsWellFormed sheet
 
--- this holds of the form's sheet
-abbrev pub HasSheetWith : (Sheet → Type 0) → Tree → Type 0
-HasSheetWith P form = (sheet : Sheet) × IsSheetOf form sheet × P sheet
-
--- no guard and no domain of a choice reads what its mover doesn't see, and no part has a fault
-abbrev pub IsAccepted : Tree → Type 0
-IsAccepted = HasSheetWith IsInSight
+-- The form is accepted as this sheet: no part has a fault, and no guard and no domain of a choice reads what its mover doesn't
+-- see.
+pub record IsAccepted (form : Tree) (sheet : Sheet) : Type 0 where
+  pub of_form : IsSheetOf form sheet
+  pub sight : IsInSight sheet
 
 -- the first fault of the parts of a form that is to be a sheet
 abbrev pub HasPartFault : SourceKind → ℕ → Tree → Type 0
@@ -35,16 +33,11 @@ HasPartFault kind at form =
 
 -- the first location that stands in a guard or a domain and is out of sight there
 abbrev pub HasSightFault : SourceKind → ℕ → Tree → Type 0
-HasSightFault kind at form = (kind ≡ Unseen) × HasSheetWith (λ sheet. IsUnseen sheet at) form
+HasSightFault kind at form = (kind ≡ Unseen) × (sheet : Sheet) × IsSheetOf form sheet × IsUnseen sheet at
 
 -- the first fault of a form that is to be a sheet: of its parts, or else of sight
 abbrev pub HasFirstFault : SourceKind → ℕ → Tree → Type 0
 HasFirstFault kind at form = HasPartFault kind at form ⊎ HasSightFault kind at form
-
--- the first of these forms is accepted, and this is its sheet
-abbrev pub IsFirstSheet : List Tree → Sheet → Type 0
-IsFirstSheet [] sheet = ⊥
-IsFirstSheet (form ∷ others) sheet = IsSheetOf form sheet × IsInSight sheet
 
 -- what holds of a fault; nothing is said where memory ran out
 abbrev pub IfSourceFault : SourceFail → (SourceKind → ℕ → Type 0) → Type 0

@@ -1,9 +1,51 @@
--- The answer that a value of the program stands for.
+-- What a command answers to its source.
+use Rattle.std.specs.Prelude.{◌≡◌, ℕ, ◌⊎◌, List}
+use Rattle.rc_model.specs.Transcript.{line}
+use Rattle.rc_model.specs.Tree.{Tree}
+use Rattle.rc_model.specs.SmallText.{HasHouse}
+use Rattle.rc_sheet_model.specs.Sheet as sheet
+use Rattle.rc_sheet_model.specs.Printing.{printed_sheet}
+use Rattle.rc_house.specs.declared.command.Command.{Command}
+use Rattle.rc_house.specs.declared.command.Command.TheVariants.{Play, Sheet}
+use Rattle.rc_house.specs.declared.refusal.Refusal.{Refusal}
+use Rattle.rc_house.specs.declared.refusal.Refusal.TheVariants as refusal
 use Rattle.rc_house.specs.declared.answer.Answer.{Answer as Stored}
 use Rattle.rc_house.specs.declared.answer.Answer.TheVariants as stored
-use Rattle.rc_house.specs.Command.{Answer, text, fault, unbuilt}
+use Rattle.rc_house.specs.Command.{wanted}
+use Rattle.rc_house.specs.Reading.{Reading, HasFormFault, HasSheetFault, IsAcceptedWith}
 
+-- a text, or a refusal
+pub data Answer : Type 0 where
+  text : (bytes : List ℕ) → Answer
+  refused : (refusal : Refusal) → Answer
+
+-- the text that a command writes where the sheet is accepted
+abbrev pub HasText : Command → List ℕ → sheet.Sheet → List ℕ → Type 0
+HasText Play source sheet bytes = HasHouse source bytes
+HasText Sheet source sheet bytes = bytes ≡ line (printed_sheet sheet)
+
+-- what the command is to do with the source isn't built: the source is none of a small game
+abbrev pub IsUnbuilt : Command → List ℕ → Type 0
+IsUnbuilt Play source = (bytes : List ℕ) → HasHouse source bytes → ⊥
+IsUnbuilt Sheet source = ⊥
+
+-- Why a command refuses its source.
+abbrev pub HasRefusal : Command → List ℕ → Refusal → Type 0
+-- the first fault of the source's forms, or else of its sheet
+HasRefusal command source (refusal.Sheet kind at) =
+    HasFormFault source (wanted command) kind at
+    ⊎ ((read : Reading source (wanted command)) × HasSheetFault kind at read.lists read.rest)
+-- the sheet is accepted, and the command isn't built for the source
+HasRefusal command source refusal.Unbuilt =
+    (read : Reading source (wanted command)) × IsAcceptedWith (λ sheet others. IsUnbuilt command source) read.lists
+
+-- The command has this answer to its source. To each source it has exactly one.
+abbrev pub HasAnswer : Command → List ℕ → Answer → Type 0
+HasAnswer command source (text bytes) =
+    (read : Reading source (wanted command)) × IsAcceptedWith (λ sheet others. HasText command source sheet bytes) read.lists
+HasAnswer command source (refused refusal) = HasRefusal command source refusal
+
+-- the answer that a value of the program stands for
 abbrev pub seen : Stored → Answer
 seen (stored.Text bytes) = text bytes.items
-seen (stored.Fault kind at) = fault kind at
-seen stored.Unbuilt = unbuilt
+seen (stored.Refused refusal) = refused refusal

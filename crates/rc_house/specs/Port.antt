@@ -1,6 +1,7 @@
 -- What a call did to a source or to a sink, as far as these tell it.
 use Rattle.std.specs.Prelude.{◌≡◌, ℕ, ◌≤◌, ◌⊎◌, List, [], Option}
 use Rattle.rc_outside.specs.Faults.{Rose}
+use Rattle.rc_outside.specs.Source.{Gave}
 use Rattle.rc_outside.specs.Sink.{Got, GotFront}
 
 -- A source or a sink at a moment: the bytes that are left or that were written, where it tells them, and its count of faults.
@@ -14,6 +15,10 @@ port told faults = record { told = told; faults = faults }
 -- a read or a write failed
 abbrev pub HasFailed : Port → Port → Type 0
 HasFailed before after = Rose before.faults after.faults
+
+-- the source gave these bytes, from the front of what it had
+abbrev pub Supplied : Port → Port → List ℕ → Type 0
+Supplied before after bytes = Gave before.told after.told bytes
 
 -- the sink received exactly this text
 abbrev pub Received : Port → Port → List ℕ → Type 0

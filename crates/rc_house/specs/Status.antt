@@ -5,6 +5,10 @@ use Rattle.rc_form.specs.declared.fault.FormKind.{FormKind}
 use Rattle.rc_form.specs.declared.fault.FormKind.TheVariants as form
 use Rattle.rc_grammar.specs.declared.fault.SheetKind.{SheetKind}
 use Rattle.rc_grammar.specs.declared.fault.SheetKind.TheVariants as part
+use Rattle.rc_outside.specs.declared.errors.ReadFail.{ReadFail}
+use Rattle.rc_outside.specs.declared.errors.ReadFail.TheVariants as read
+use Rattle.rc_house.specs.declared.refusal.Refusal.{Refusal}
+use Rattle.rc_house.specs.declared.refusal.Refusal.TheVariants as refusal
 use Rattle.rc_house.specs.declared.status.SourceKind.{SourceKind}
 use Rattle.rc_house.specs.declared.status.SourceKind.TheVariants.{BadByte, Stray, TooDeep, AtomLong, Unclosed, Shape, Number, Twice, Unknown, WrongKind, TooMany, NoCards, Unseen}
 use Rattle.rc_house.specs.declared.status.Status.{Status}
@@ -43,6 +47,17 @@ sheet_kind part.Unknown = Unknown
 sheet_kind part.WrongKind = WrongKind
 sheet_kind part.TooMany = TooMany
 sheet_kind part.NoCards = NoCards
+
+-- the status of a refusal
+abbrev pub refusal_status : Refusal → Status
+refusal_status (refusal.Sheet kind at) = Sheet kind at
+refusal_status refusal.Unbuilt = Unbuilt
+
+-- the status of a source that wasn't read to its end
+abbrev pub read_status : ReadFail → Status
+read_status read.ReadFault = ReadFault
+read_status read.TooLong = TooLong
+read_status read.Memory = Memory
 
 -- the program's exit code
 abbrev pub code_of : Status → ℕ

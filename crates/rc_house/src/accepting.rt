@@ -3,9 +3,8 @@ ghost use Rattle.std.specs.Prelude.{◌≡◌, ℕ, IfOk, IfErr};
 ghost use Rattle.rc_model.specs.Placed.{IsPlaced};
 ghost use Rattle.rc_form.specs.Form.{tree_of, IsPrintable};
 ghost use Rattle.rc_form.specs.SameForm.{IsOfAtoms};
-ghost use Rattle.rc_sheet_model.specs.Sight.{IsInSight};
 ghost use Rattle.rc_ast.specs.Sheet.{sheet_seen};
-ghost use Rattle.rc_house.specs.Accepted.{IsSheetOf, HasFirstFault, IfSourceFault};
+ghost use Rattle.rc_house.specs.Accepted.{IsAccepted, HasFirstFault, IfSourceFault};
 
 use crate::status::SourceKind;
 use rc_flow::{Checked, Unseen, check_sight};
@@ -27,8 +26,7 @@ pub fn accept(alloc: Global, form: &Form) -> Result<Checked, SourceFail>
     requires placed { (size : ℕ) × IsPlaced size (tree_of form.now) }
     requires printable { IsPrintable (tree_of form.now) }
     requires of_atoms { IsOfAtoms (tree_of form.now) }
-    ensures sheet { IfOk result (λ checked. IsSheetOf (tree_of form.now) (sheet_seen checked)) }
-    ensures sight { IfOk result (λ checked. IsInSight (sheet_seen checked)) }
+    ensures accepted { IfOk result (λ checked. IsAccepted (tree_of form.now) (sheet_seen checked)) }
     ensures refused { IfErr result (λ fail. IfSourceFault fail (λ kind at. HasFirstFault kind at (tree_of form.now))) }
 {
     let sheet = match sheet_of(alloc, form) {

@@ -1,26 +1,27 @@
 //! What a command answers to the bytes of its source.
-ghost use Rattle.std.specs.Prelude.{◌≡◌, ◌≤◌, ◌<◌, [], ◌∷◌, ℕ, length, IfOk, IfSome, IfNone, All};
+ghost use Rattle.std.specs.Prelude.{◌≡◌, ◌≤◌, ◌<◌, [], ◌∷◌, ℕ, List, length, IfOk, IfSome, IfNone, All};
 ghost use Rattle.rc_model.specs.Placed.{IsPlaced};
 ghost use Rattle.rc_model.specs.Tree.{Tree};
 ghost use Rattle.rc_model.specs.Spelled.{Spelled};
 ghost use Rattle.rc_model.specs.SmallGame as model;
-ghost use Rattle.rc_model.specs.SmallText.{IsSmall};
+ghost use Rattle.rc_model.specs.SmallText.{IsSmall, HasHouse};
 ghost use Rattle.rc_form.specs.Form.{tree_of, trees_of, IsPrintable};
 ghost use Rattle.rc_form.specs.SameForm.{IsOfAtoms};
 ghost use Rattle.rc_ast.specs.Sheet.{sheet_seen};
 ghost use Rattle.rc_house.specs.Game.{game_of};
-ghost use Rattle.rc_house.specs.Command.{wanted, fault, IsAnswer, IsAcceptedAnswer};
+ghost use Rattle.rc_house.specs.declared.refusal.Refusal.TheVariants as refusal;
 ghost use Rattle.rc_house.specs.declared.status.SourceKind.TheVariants.{Shape};
 ghost use Rattle.rc_house.specs.Status.{source_kind};
-ghost use Rattle.rc_house.specs.Accepted.{IsFirstSheet};
-ghost use Rattle.rc_house.specs.Answer.{seen};
-ghost use Rattle.rc_house.specs.Reading.{IsRead};
+ghost use Rattle.rc_house.specs.Command.{wanted};
+ghost use Rattle.rc_house.specs.Reading.{IsAcceptedWith};
+ghost use Rattle.rc_house.specs.Answer.{refused, seen, HasAnswer};
 
 use crate::accepting::{SourceFail, accept};
 use crate::command::Command;
 use crate::game::SmallGame;
 use crate::play::house;
 use crate::printing::{print, print_line};
+use crate::refusal::Refusal;
 use crate::small_text::read_game;
 use crate::status::SourceKind;
 use rc_flow::Checked;
@@ -32,16 +33,14 @@ use std::alloc::{AllocError, Global};
 pub enum Answer {
     /// The text that it writes.
     Text(Vec<u8>),
-    /// The first fault of its sheet, with the offset where it stands.
-    Fault { kind: SourceKind, at: u32 },
-    /// What the source asks for isn't built yet.
-    Unbuilt,
+    /// Why it writes none.
+    Refused(Refusal),
 }
 
 /// The answer of a command to its source. `Err` is want of memory alone.
 pub fn answer_to(alloc: Global, command: Command, source: &[u8]) -> Result<Answer, AllocError>
     requires { length source.now ≤ 1048576 }
-    ensures { IfOk result (λ answer. IsAnswer command source.now (seen answer)) }
+    ensures { IfOk result (λ answer. HasAnswer command source.now (seen answer)) }
 {
     match read_forms(alloc, source, command.wanted()) {
         Ok(forms) => answer_of_forms(alloc, command, source, &forms),
@@ -52,12 +51,12 @@ pub fn answer_to(alloc: Global, command: Command, source: &[u8]) -> Result<Answe
 
 /// The answer to a source whose forms have this fault.
 fn fault_of(form_fault: FormFault) -> Answer
-    ensures { seen result ≡ fault (source_kind form_fault.kind) form_fault.at }
+    ensures { seen result ≡ refused (refusal.Sheet (source_kind form_fault.kind) form_fault.at) }
 {
-    Answer::Fault {
+    Answer::Refused(Refusal::Sheet {
         kind: SourceKind::from(form_fault.kind),
         at: form_fault.at,
-    }
+    })
 }
 
 /// The answer of a command to a source with these forms.
@@ -68,18 +67,18 @@ fn answer_of_forms(
     forms: &Forms,
 ) -> Result<Answer, AllocError>
     requires small { length source.now ≤ 1048576 }
-    requires read { IsRead source.now (wanted command) (trees_of forms.now.list.items) forms.now.rest }
+    requires read { Spelled source.now (wanted command) (trees_of forms.now.list.items) forms.now.rest }
     requires printable { All (λ form. IsPrintable (tree_of form)) forms.now.list.items }
     requires of_atoms { All (λ form. IsOfAtoms (tree_of form)) forms.now.list.items }
     requires placed { All (λ form. IsPlaced (length source.now) (tree_of form)) forms.now.list.items }
-    ensures { IfOk result (λ answer. IsAnswer command source.now (seen answer)) }
+    ensures { IfOk result (λ answer. HasAnswer command source.now (seen answer)) }
 {
     let Some(form) = forms.list.first() else {
         return Ok(missing(forms));
     };
     match accept(alloc, form) {
         Ok(checked) => accepted_answer(alloc, command, source, forms, &checked),
-        Err(SourceFail::Fault { kind, at }) => Ok(Answer::Fault { kind, at }),
+        Err(SourceFail::Fault { kind, at }) => Ok(Answer::Refused(Refusal::Sheet { kind, at })),
         Err(SourceFail::Memory) => Err(AllocError),
     }
 }
@@ -87,12 +86,12 @@ fn answer_of_forms(
 /// The answer where the sheet is missing.
 fn missing(forms: &Forms) -> Answer
     requires { forms.now.rest ≤ 1048576 }
-    ensures { seen result ≡ fault Shape forms.now.rest }
+    ensures { seen result ≡ refused (refusal.Sheet Shape forms.now.rest) }
 {
-    Answer::Fault {
+    Answer::Refused(Refusal::Sheet {
         kind: SourceKind::Shape,
         at: forms.rest as u32,
-    }
+    })
 }
 
 /// The answer of a command to a source with these forms, of which the first is accepted as this sheet.
@@ -104,35 +103,39 @@ fn accepted_answer(
     checked: &Checked,
 ) -> Result<Answer, AllocError>
     requires small { length source.now ≤ 1048576 }
-    requires read { IsRead source.now (wanted command) (trees_of forms.now.list.items) forms.now.rest }
+    requires read { Spelled source.now (wanted command) (trees_of forms.now.list.items) forms.now.rest }
     requires printable { All (λ form. IsPrintable (tree_of form)) forms.now.list.items }
     requires placed { All (λ form. IsPlaced (length source.now) (tree_of form)) forms.now.list.items }
-    requires accepted { IsFirstSheet (trees_of forms.now.list.items) (sheet_seen checked.now) }
-    ensures { IfOk result (λ answer. IsAcceptedAnswer command source.now (seen answer)) }
+    requires accepted { IsAcceptedWith (λ sheet _. sheet ≡ sheet_seen checked.now) (trees_of forms.now.list.items) }
+    ensures { IfOk result (λ answer. HasAnswer command source.now (seen answer)) }
 {
     match command {
-        Command::Play => play_answer(alloc, source, forms),
+        Command::Play => match house_text(alloc, source, forms)? {
+            Some(text) => Ok(Answer::Text(text)),
+            None => Ok(Answer::Refused(Refusal::Unbuilt)),
+        },
         Command::Sheet => Ok(Answer::Text(print_line(alloc, checked.sheet())?)),
     }
 }
 
-/// The answer of `play` to a source with these forms, of which the first is accepted.
-fn play_answer(alloc: Global, source: &[u8], forms: &Forms) -> Result<Answer, AllocError>
+/// The house text of a source with these forms, if it is one of a small game.
+fn house_text(alloc: Global, source: &[u8], forms: &Forms) -> Result<Option<Vec<u8>>, AllocError>
     requires small { length source.now ≤ 1048576 }
-    requires read { IsRead source.now 2 (trees_of forms.now.list.items) forms.now.rest }
+    requires read { Spelled source.now 2 (trees_of forms.now.list.items) forms.now.rest }
     requires printable { All (λ form. IsPrintable (tree_of form)) forms.now.list.items }
     requires placed { All (λ form. IsPlaced (length source.now) (tree_of form)) forms.now.list.items }
-    ensures { IfOk result (λ answer. IsAcceptedAnswer Command.Play source.now (seen answer)) }
+    ensures found { IfOk result (λ answer. IfSome answer (λ text. HasHouse source.now text.items)) }
+    ensures none { IfOk result (λ answer. IfNone answer ((bytes : List ℕ) → HasHouse source.now bytes → ⊥)) }
 {
     match game_of_forms(alloc, source, forms)? {
-        Some(game) => Ok(Answer::Text(house(alloc, &game)?.into_bytes())),
-        None => Ok(Answer::Unbuilt),
+        Some(game) => Ok(Some(house(alloc, &game)?.into_bytes())),
+        None => Ok(None),
     }
 }
 
 /// The sheet and the plan of a source with these forms, if it is two forms and nothing else.
 fn two_forms<'a>(source: &[u8], forms: &'a Forms) -> Option<(&'a Form, &'a Form)>
-    requires { IsRead source.now 2 (trees_of forms.now.list.items) forms.now.rest }
+    requires { Spelled source.now 2 (trees_of forms.now.list.items) forms.now.rest }
     ensures found { IfSome result (λ two. Spelled source.now 2 (tree_of two.0.now ∷ tree_of two.1.now ∷ []) (length source.now)) }
     ensures only { IfSome result (λ two. (sheet plan : Tree) → Spelled source.now 2 (sheet ∷ plan ∷ []) (length source.now)
         → (sheet ≡ tree_of two.0.now) × (plan ≡ tree_of two.1.now)) }
@@ -155,11 +158,10 @@ fn game_of_forms(
     forms: &Forms,
 ) -> Result<Option<SmallGame>, AllocError>
     requires small { length source.now ≤ 1048576 }
-    requires read { IsRead source.now 2 (trees_of forms.now.list.items) forms.now.rest }
+    requires read { Spelled source.now 2 (trees_of forms.now.list.items) forms.now.rest }
     requires printable { All (λ form. IsPrintable (tree_of form)) forms.now.list.items }
     requires placed { All (λ form. IsPlaced (length source.now) (tree_of form)) forms.now.list.items }
     ensures found { IfOk result (λ answer. IfSome answer (λ game. IsSmall source.now (game_of game))) }
-    ensures only { IfOk result (λ answer. IfSome answer (λ game. (other : model.SmallGame) → IsSmall source.now other → other ≡ game_of game)) }
     ensures none { IfOk result (λ answer. IfNone answer ((game : model.SmallGame) → IsSmall source.now game → ⊥)) }
 {
     let Some((sheet, plan)) = two_forms(source, forms) else {

@@ -8,6 +8,7 @@ mod game;
 mod laws;
 mod play;
 mod printing;
+mod refusal;
 mod running;
 mod small_text;
 mod status;
@@ -15,7 +16,8 @@ mod table_examples;
 mod transcript;
 mod write;
 
-pub use laws::a_printed_sheet_is_printed_again;
+pub use laws::{a_printed_sheet_is_printed_again, one_answer, some_answer};
+pub use refusal::Refusal;
 pub use running::{refuse, run, run_alone};
 pub use status::{SourceKind, Status};
 pub use table_examples::{codes_of_statuses, lines_of_statuses, words_of_commands};

@@ -16,7 +16,7 @@ use std::sync::Wait;
 use std::sync::ledger::{Blank, Ledger};
 use std::thread::Threads;
 
-/// How many bytes a source may have.
+/// The most bytes that a command takes from its source.
 const SOURCE_LIMIT: usize = 1_048_576;
 
 /// Notes a refusal, whether that succeeds or not.
@@ -29,21 +29,23 @@ pub fn refuse<N: Sink>(notes: &mut N, status: Status) -> Status
     status
 }
 
-/// A command's answer to its source, or the status where it has none.
-fn read_answer<S: Source>(alloc: Global, command: Command, source: &mut S) -> Result<Answer, Status>
+/// A command's answer to its source, or why there is none.
+fn read_answer<S: Source>(
+    alloc: Global,
+    command: Command,
+    source: &mut S,
+) -> Result<Answer, ReadFail>
     ensures answer { IfOk result (ReadsAnswer command (port (S.left source.old) (S.faults source.old)) (port (S.left source.new) (S.faults source.new))) }
     ensures none { IfErr result (ReadsNone (port (S.left source.old) (S.faults source.old)) (port (S.left source.new) (S.faults source.new))) }
     ensures counted { S.faults source.old ≤ S.faults source.new }
 {
     let bytes = match read_all(alloc, source, SOURCE_LIMIT) {
         Ok(bytes) => bytes,
-        Err(ReadFail::ReadFault) => return Err(Status::ReadFault),
-        Err(ReadFail::TooLong) => return Err(Status::TooLong),
-        Err(ReadFail::Memory) => return Err(Status::Memory),
+        Err(fail) => return Err(fail),
     };
     match answer_to(alloc, command, &bytes) {
         Ok(answer) => Ok(answer),
-        Err(_) => Err(Status::Memory),
+        Err(_) => Err(ReadFail::Memory),
     }
 }
 
@@ -92,9 +94,8 @@ fn run_command<S: Source, O: Sink, N: Sink>(
 {
     match read_answer(alloc, command, source) {
         Ok(Answer::Text(text)) => deliver(out, notes, &text, command.note()),
-        Ok(Answer::Fault { kind, at }) => refuse(notes, Status::Sheet { kind, at }),
-        Ok(Answer::Unbuilt) => refuse(notes, Status::Unbuilt),
-        Err(status) => refuse(notes, status),
+        Ok(Answer::Refused(refusal)) => refuse(notes, Status::from(refusal)),
+        Err(fail) => refuse(notes, Status::from(fail)),
     }
 }
 

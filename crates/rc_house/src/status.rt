@@ -5,6 +5,7 @@ ghost use Rattle.rc_house.specs.Status.{code_of, line_of, kind_name, source_kind
 use arrayvec::ArrayString;
 use rc_form::FormKind;
 use rc_grammar::SheetKind;
+use rc_outside::ReadFail;
 
 /// The most bytes of a status's line.
 const LINE: usize = 64;
@@ -113,7 +114,7 @@ pub enum Status {
     ReadFault,
     /// Writing the text or the notes failed.
     WriteFault,
-    /// The source has more bytes than the command may read.
+    /// The source gave more bytes than the command may read.
     TooLong,
     /// The words or the source ask for what isn't built yet.
     Unbuilt,
@@ -147,6 +148,21 @@ impl Status {
             Status::WriteFault => fixed_line("write fault\n"),
             Status::TooLong => fixed_line("too long\n"),
             Status::Unbuilt => fixed_line("unbuilt\n"),
+        }
+    }
+}
+
+impl From<ReadFail> for Status {
+    ghost use Rattle.std.specs.Prelude.{◌≡◌};
+    ghost use Rattle.rc_house.specs.Status.{read_status};
+
+    ghost from_gives = { λ fail status. status ≡ read_status fail };
+
+    fn from(fail: ReadFail) -> Status {
+        match fail {
+            ReadFail::ReadFault => Status::ReadFault,
+            ReadFail::TooLong => Status::TooLong,
+            ReadFail::Memory => Status::Memory,
         }
     }
 }

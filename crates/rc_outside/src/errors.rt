@@ -24,7 +24,7 @@ impl Error for Failed {}
 pub enum ReadFail {
     /// A read of the source failed.
     ReadFault,
-    /// The source held more bytes than the limit.
+    /// The source gave more bytes than the limit.
     TooLong,
     /// There was no memory for the bytes.
     Memory,

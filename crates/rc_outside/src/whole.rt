@@ -1,5 +1,5 @@
 //! Reading to the end, and writing a whole piece.
-ghost use Rattle.std.specs.Prelude.{◌≡◌, ℕ, ◌<◌, ◌≤◌, List, [], length, vec_len, IfSome, IfOk, IsOk, OnOk, OnErr};
+ghost use Rattle.std.specs.Prelude.{◌≡◌, ℕ, ◌<◌, ◌≤◌, ◌↔◌, List, [], length, vec_len, IfOk, IfErr, IsOk, OnOk, OnErr};
 ghost use Rattle.rc_outside.specs.Faults.{Rose};
 ghost use Rattle.rc_outside.specs.Source.{Gave, IsAtEnd};
 ghost use Rattle.rc_outside.specs.Sink.{Got, GotFront};
@@ -10,25 +10,21 @@ use std::alloc::Global;
 /// How many bytes a read asks for.
 const PIECE: usize = 4096;
 
-/// Reads a source to its end, if it holds at most `limit` bytes. After an error the bytes that were
-/// read are lost.
+/// Reads a source to its end, unless it gives more than `limit` bytes. After an error the bytes that
+/// were taken are lost.
 pub fn read_all<S: Source>(alloc: Global, source: &mut S, limit: usize) -> Result<Vec<u8>, ReadFail>
     ensures within { IfOk result (λ all. vec_len all ≤ limit) }
     ensures whole { IfOk result (λ all. Gave (S.left source.old) (S.left source.new) all.items) }
     ensures end { OnOk result (IsAtEnd (S.left source.new)) }
 
-    // `TooLong` comes exactly where the source held more than the limit, but for the other errors.
-    ensures fits { OnOk result (IfSome (S.left source.old) (λ whole. length whole ≤ limit)) }
-    ensures too_long { result ≡ Err ReadFail.TooLong
-        → IfSome (S.left source.old) (λ whole. limit < length whole) }
-
     ensures cause { result ≡ Err ReadFail.ReadFault
         → Rose (S.faults source.old) (S.faults source.new) }
 
-    // After an error the source lacks the bytes that were read, which are the front of what it had
-    // left.
-    ensures lost { OnErr result
-        ((taken : List ℕ) × Gave (S.left source.old) (S.left source.new) taken) }
+    // After an error the source lacks the bytes that were taken, which are the front of what it had,
+    // and `TooLong` comes exactly where these are more than the limit.
+    ensures lost { IfErr result (λ fail. (taken : List ℕ)
+        × Gave (S.left source.old) (S.left source.new) taken
+        × ((fail ≡ ReadFail.TooLong) ↔ (limit < length taken))) }
 
     ensures counted { S.faults source.old ≤ S.faults source.new }
 {

@@ -97,6 +97,16 @@ well_read naming tree sheet same none printable atoms is =
     well_formed tree sheet no.0 no.1 printable atoms
     (found_so (sheet_at (naming_of tree) tree) sheet (read_fine tree none) read) read
 
+-- so it has a sheet
+pub has_sheet : (tree : Tree) → sheet_fault tree ≡ None → IsOpenAtMost 64 tree → IsOfAtoms tree
+    → (sheet : Sheet) × Stands sheet tree × IsWellFormed sheet
+has_sheet tree none shallow atoms =
+    let read = found_as (sheet_at (naming_of tree) tree) (read_fine tree none) in (
+      read.0,
+      stands_read (naming_of tree) tree read.0 read.1,
+      well_read (naming_of tree) tree read.0 refl none (printable tree none shallow) atoms read.1,
+    )
+
 -- there are few names of each kind
 pub few_attrs : (tree : Tree) → sheet_fault tree ≡ None → length (names_of tree).attrs ≤ most_attrs
 few_attrs tree none = let no = faultless tree none in few_attributes tree no.0 no.1

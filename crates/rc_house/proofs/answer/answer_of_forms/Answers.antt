@@ -1,7 +1,7 @@
 use Rattle.std.proofs.Common.{None, Some, ◌≡◌, slice_get, rules}
 use Rattle.rc_form.specs.Form.{tree_of, trees_of}
 use Rattle.rc_ast.specs.Sheet.{sheet_seen}
-use Rattle.rc_house.proofs.AnswerLaws.{first_tree, no_tree, first_accepted, missing_answer, refused_answer, if_accepted_answered}
+use Rattle.rc_house.proofs.AnswerLaws.{first_tree, no_tree, first_accepted, missing_answer, refused_answer}
 use Rattle.rc_house.proofs.answer.answer_of_forms.Goals as goal
 
 pub returns-in_default : goal.returns-in_default
@@ -12,17 +12,12 @@ returns-in_default c =
     (missing_answer c.args.command c.args.source.now (trees_of forms.list.items) forms.rest (no_tree forms.list.items none)
     c.requires.read)
 
-pub returns-in-Ok : goal.returns-in-Ok
-returns-in-Ok c =
+pub accepted_answer-requires-clause-accepted : goal.accepted_answer-requires-clause-accepted
+accepted_answer-requires-clause-accepted c =
     let forms = c.args.forms.now in
     let item : Some c.in-Some.form.now ≡ slice_get forms.list.items 0 = search rules in
     let listed = first_tree forms.list.items c.in-Some.form.now item in
-    let sheet = sheet_seen c.in-Ok.checked in
-    let trees = trees_of forms.list.items in
-    let tree = tree_of c.in-Some.form.now in
-    let first = first_accepted trees tree listed.0 sheet listed.1 c.in-Ok.ensures.sheet c.in-Ok.ensures.sight in
-    if_accepted_answered c.args.command c.args.source.now trees sheet forms.rest c.accepted_answer.result c.requires.read first
-    c.accepted_answer.ensures
+    first_accepted (trees_of forms.list.items) (tree_of c.in-Some.form.now) listed.0 (sheet_seen c.in-Ok.checked) listed.1 c.in-Ok.ensures.accepted
 
 pub returns-in-Err-Fault : goal.returns-in-Err-Fault
 returns-in-Err-Fault c =

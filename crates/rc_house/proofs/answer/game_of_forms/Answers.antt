@@ -19,10 +19,3 @@ returns-in_default-2-clause-none c =
     let none = rw c.in_default-2.is at c.in_ok-game.ensures.none in
     λ game small. let parts = small_parts c.args.source.now c.deref.result.now _ _ game (c.deref.ensures.value ∙ c.in_ok-plan.ensures) only small in
     none game parts.0 parts.1
-
-pub returns-clause-only : goal.returns-clause-only
-returns-clause-only c =
-    let only = rw c.in-Some.is at c.two_forms.ensures.only in
-    let only_game = rw c.in-Some-2.is at c.in_ok-game.ensures.only in
-    λ game small. let parts = small_parts c.args.source.now c.deref.result.now _ _ game (c.deref.ensures.value ∙ c.in_ok-plan.ensures) only small in
-    only_game game parts.0 parts.1

@@ -1,0 +1,82 @@
+-- A command has an answer to each source.
+use Rattle.std.proofs.Common.{◌≡◌, ℕ, List, [], ◌∷◌, Option, Some, None, ◌⊎◌, inl, inr, refl}
+use Rattle.rc_model.specs.Spelled.{Spelled}
+use Rattle.rc_model.specs.SmallText.{HasHouse}
+use Rattle.rc_model.specs.Tree.{Tree}
+use Rattle.rc_model.specs.Transcript.{line}
+use Rattle.rc_grammar.specs.declared.fault.SheetFault.{SheetFault}
+use Rattle.rc_semantics.specs.SecondFaults.{sheet_fault}
+use Rattle.rc_sheet_model.specs.Sheet as sheets
+use Rattle.rc_sheet_model.specs.Printing.{printed_sheet}
+use Rattle.rc_sheet_model.specs.Sight.{IsInSight, IsUnseen}
+use Rattle.rc_form.specs.FormFault.{IsSpelledOrFaulty}
+use Rattle.rc_form.proofs.ReadIsFault.{spelled_or_faulty}
+use Rattle.rc_form.proofs.AtomsAreRead.{of_atoms-first}
+use Rattle.rc_form.proofs.TopLists.{fits-first}
+use Rattle.rc_sheet.proofs.Accepted.{has_sheet}
+use Rattle.rc_house.specs.declared.command.Command.{Command}
+use Rattle.rc_house.specs.declared.command.Command.TheVariants.{Play, Sheet}
+use Rattle.rc_house.specs.declared.refusal.Refusal.TheVariants as refusal
+use Rattle.rc_house.specs.declared.status.SourceKind.TheVariants.{Shape, Unseen}
+use Rattle.rc_house.specs.Status.{source_kind, sheet_kind}
+use Rattle.rc_house.specs.Accepted.{IsSheetOf, IsAccepted}
+use Rattle.rc_house.specs.Command.{wanted}
+use Rattle.rc_house.specs.Answer.{Answer, text, refused, HasAnswer}
+use Rattle.rc_house.proofs.AcceptedLaws.{in_sight_or_not}
+use Rattle.rc_house.proofs.AnswerLaws.{missing_answer, refused_answer, first_accepted, text_answer, unbuilt_answer}
+use Rattle.rc_house.proofs.SomeGame.{house_or_not}
+
+-- the command has an answer to this source
+abbrev IsAnswered : Command → List ℕ → Type 0
+IsAnswered command source = (answer : Answer) × HasAnswer command source answer
+
+-- a source that is read, with a sheet that is accepted
+accepted : (command : Command) (source : List ℕ) (form : Tree) (others : List Tree) (rest : ℕ) (sheet : sheets.Sheet)
+    → Spelled source (wanted command) (form ∷ others) rest → IsAccepted form sheet → IsAnswered command source
+accepted Sheet source form others rest sheet spelled is = (
+  text (line (printed_sheet sheet)),
+  text_answer Sheet source (form ∷ others) rest sheet (line (printed_sheet sheet)) spelled
+      (first_accepted (form ∷ others) form others sheet refl is) refl,
+)
+accepted Play source form others rest sheet spelled is = by (house_or_not source (form ∷ others) rest spelled)
+  where
+    by : ((bytes : List ℕ) × HasHouse source bytes) ⊎ ((bytes : List ℕ) → HasHouse source bytes → ⊥) → IsAnswered Play source
+    by (inl has) =
+        (text has.0, text_answer Play source (form ∷ others) rest sheet has.0 spelled (first_accepted (form ∷ others) form others sheet refl is) has.1)
+    by (inr none) =
+        (refused refusal.Unbuilt, unbuilt_answer Play source (form ∷ others) rest sheet spelled (first_accepted (form ∷ others) form others sheet refl is) none)
+
+-- one whose first list has no fault of its parts
+faultless : (command : Command) (source : List ℕ) (form : Tree) (others : List Tree) (rest : ℕ) (sheet : sheets.Sheet)
+    → Spelled source (wanted command) (form ∷ others) rest → IsSheetOf form sheet → IsInSight sheet ⊎ ((at : ℕ) × IsUnseen sheet at)
+    → IsAnswered command source
+faultless command source form others rest sheet spelled is (inl sight) =
+    accepted command source form others rest sheet spelled (record { of_form = is; sight = sight })
+faultless command source form others rest sheet spelled is (inr unseen) = (
+  refused (refusal.Sheet Unseen unseen.0),
+  refused_answer command source (form ∷ others) form others rest Unseen unseen.0 refl spelled (inr (refl, sheet, is, unseen.1)),
+)
+
+-- one that is read
+read : (command : Command) (source : List ℕ) (lists : List Tree) (rest : ℕ) → Spelled source (wanted command) lists rest
+    → IsAnswered command source
+read command source [] rest spelled = (refused (refusal.Sheet Shape rest), missing_answer command source [] rest refl spelled)
+read command source (form ∷ others) rest spelled = by (sheet_fault form) refl
+  where
+    by : (found : Option SheetFault) → sheet_fault form ≡ found → IsAnswered command source
+    by (Some found) is = (
+      refused (refusal.Sheet (sheet_kind found.kind) found.at),
+      refused_answer command source (form ∷ others) form others rest (sheet_kind found.kind) found.at refl spelled
+          (inl (found, is, refl, refl)),
+    )
+    by None none =
+        let made = has_sheet form none (fits-first source (wanted command) form others rest spelled) (of_atoms-first source (wanted command) form others rest spelled) in
+        let is : IsSheetOf form made.0 = record { faultless = none; stands = made.1; well = made.2 } in
+        faultless command source form others rest made.0 spelled is (in_sight_or_not made.0)
+
+pub answered : (command : Command) (source : List ℕ) → IsAnswered command source
+answered command source = by (spelled_or_faulty source (wanted command))
+  where
+    by : IsSpelledOrFaulty source (wanted command) → IsAnswered command source
+    by (inl spelled) = read command source spelled.0 spelled.1 spelled.2
+    by (inr fault) = (refused (refusal.Sheet (source_kind fault.0) fault.1), inl (fault.0, fault.2, refl))

@@ -1,0 +1,25 @@
+//! Why a command refuses its source.
+use crate::status::{SourceKind, Status};
+
+/// Why a command writes no text for its source.
+#[derive(Clone, Copy, Debug, PartialEq, Eq, Hash)]
+pub enum Refusal {
+    /// The sheet's first fault, with the offset where it stands.
+    Sheet { kind: SourceKind, at: u32 },
+    /// What the source asks for isn't built yet.
+    Unbuilt,
+}
+
+impl From<Refusal> for Status {
+    ghost use Rattle.std.specs.Prelude.{◌≡◌};
+    ghost use Rattle.rc_house.specs.Status.{refusal_status};
+
+    ghost from_gives = { λ refusal status. status ≡ refusal_status refusal };
+
+    fn from(refusal: Refusal) -> Status {
+        match refusal {
+            Refusal::Sheet { kind, at } => Status::Sheet { kind, at },
+            Refusal::Unbuilt => Status::Unbuilt,
+        }
+    }
+}
