@@ -24,16 +24,22 @@ both : (a b : Bool) → a ≡ true → b ≡ true → (a && b) ≡ true
 both true b first second = second
 both false b first second = absurd cc
 
-by_turn : (fault other : PlanFault) → turn_of fault.kind < turn_of other.kind → is_told_first fault other ≡ true
+pub by_turn : (fault other : PlanFault) → turn_of fault.kind < turn_of other.kind → is_told_first fault other ≡ true
 by_turn fault other before = ap (λ b. b || (turn_of fault.kind == turn_of other.kind
     && (nat_lt fault.at other.at || (fault.at == other.at && nat_le (rank_of fault.kind) (rank_of other.kind))))) (le-leb _ _ before)
 
-by_offset : (fault other : PlanFault) → turn_of fault.kind ≡ turn_of other.kind → fault.at < other.at → is_told_first fault other ≡ true
+pub by_offset : (fault other : PlanFault) → turn_of fault.kind ≡ turn_of other.kind → fault.at < other.at → is_told_first fault other ≡ true
 by_offset fault other same before =
     either (nat_lt (turn_of fault.kind) (turn_of other.kind)) _ (both _ _ (eq-eqb (turn_of fault.kind) (turn_of other.kind) same)
     (ap (λ b. b || (fault.at == other.at && nat_le (rank_of fault.kind) (rank_of other.kind))) (le-leb _ _ before)))
 
-itself : (fault : PlanFault) → is_told_first fault fault ≡ true
+pub by_rank : (fault other : PlanFault) → turn_of fault.kind ≡ turn_of other.kind → fault.at ≡ other.at
+    → rank_of fault.kind ≤ rank_of other.kind → is_told_first fault other ≡ true
+by_rank fault other same here rank =
+    either (nat_lt (turn_of fault.kind) (turn_of other.kind)) _ (both _ _ (eq-eqb (turn_of fault.kind) (turn_of other.kind) same)
+    (either (nat_lt fault.at other.at) _ (both _ _ (eq-eqb fault.at other.at here) (le-leb _ _ rank))))
+
+pub itself : (fault : PlanFault) → is_told_first fault fault ≡ true
 itself fault =
     let same : rank_of fault.kind ≤ rank_of fault.kind = omega arith in
     either (nat_lt (turn_of fault.kind) (turn_of fault.kind)) _

@@ -32,8 +32,10 @@ pub fn plans_have_no_faults()
         → All (λ fault. fault.kind ≡ kinds.Seats) (plan_faults players form) }
 {}
 
-/// A form has one first fault at most.
+/// A form that has faults has exactly one first fault.
 pub fn a_form_has_one_fault()
-    ensures { (form : Tree) (players at other_at : ℕ) (kind other : PlanKind)
+    ensures some { (form : Tree) (players : ℕ) → (plan_faults players form ≡ [] → ⊥)
+        → (fault : PlanFault) × IsPlanFault form players fault.kind fault.at }
+    ensures one { (form : Tree) (players at other_at : ℕ) (kind other : PlanKind)
         → IsPlanFault form players kind at → IsPlanFault form players other other_at → (kind ≡ other) × (at ≡ other_at) }
 {}
