@@ -18,6 +18,7 @@ use Rattle.rc_form.specs.declared.form.Form.{Form}
 use Rattle.rc_form.specs.Form.{tree_of}
 use Rattle.rc_form.specs.FormFault.{IsFormFault}
 use Rattle.rc_sheet_model.specs.Sheet.{Sheet}
+use Rattle.rc_plan_model.specs.declared.fault.PlanKind.{PlanKind}
 use Rattle.rc_house.specs.declared.command.Command.{Command}
 use Rattle.rc_house.specs.declared.refusal.Refusal.TheVariants as refusal
 use Rattle.rc_house.specs.declared.status.SourceKind.{SourceKind}
@@ -27,7 +28,7 @@ use Rattle.rc_house.specs.Play.{IsPlayable}
 use Rattle.rc_house.specs.Accepted.{IsAccepted, HasFirstFault}
 use Rattle.rc_house.specs.Command.{wanted}
 use Rattle.rc_house.specs.Reading.{Reading, IsAcceptedWith}
-use Rattle.rc_house.specs.Answer.{text, refused, HasText, IsUnbuilt, HasAnswer}
+use Rattle.rc_house.specs.Answer.{text, refused, HasText, HasPlanRefusal, IsUnbuilt, HasAnswer}
 use Rattle.rc_house.proofs.AcceptedLaws.{accepted_so}
 use Rattle.rc_house.proofs.Options.{some_is}
 
@@ -146,18 +147,32 @@ pub first_accepted : (lists : List Tree) (form : Tree) (others : List Tree) (she
 first_accepted lists form others sheet same is =
     subst (IsAcceptedWith (λ other _. other ≡ sheet)) (sym same) (sheet, is, refl)
 
+-- what follows for the accepted sheet and the lists behind it
+accepted_then : (Q : Sheet → List Tree → Type 0) (lists : List Tree) (sheet : Sheet) → IsAcceptedWith (λ other _. other ≡ sheet) lists
+    → ((form : Tree) (others : List Tree) → lists ≡ form ∷ others → Q sheet others) → IsAcceptedWith Q lists
+accepted_then Q [] sheet is follows = absurd is
+accepted_then Q (form ∷ others) sheet is follows = (is.0, is.1, subst (λ sheet. Q sheet others) (sym is.2) (follows form others refl))
+
 -- The text for the accepted sheet is the answer.
 pub text_answer : (command : Command) (source : List ℕ) (lists : List Tree) (rest : ℕ) (sheet : Sheet) (bytes : List ℕ)
-    → Spelled source (wanted command) lists rest → IsAcceptedWith (λ other _. other ≡ sheet) lists → HasText command source sheet bytes
+    → Spelled source (wanted command) lists rest → IsAcceptedWith (λ other _. other ≡ sheet) lists
+    → ((form : Tree) (others : List Tree) → lists ≡ form ∷ others → HasText command source sheet others rest bytes)
     → HasAnswer command source (text bytes)
-text_answer command source lists rest sheet bytes spelled is has = (
-  reading source _ lists rest spelled,
-  accepted_so lists (λ other others same. subst (λ sheet. HasText command source sheet bytes) (sym same) has) is,
-)
+text_answer command source lists rest sheet bytes spelled is has =
+    (reading source _ lists rest spelled, accepted_then (λ sheet others. HasText command source sheet others rest bytes) lists sheet is has)
 
--- An accepted sheet with which the command isn't built.
+-- The first fault of the plan behind the accepted sheet refuses the source.
+pub plan_answer : (command : Command) (source : List ℕ) (lists : List Tree) (rest : ℕ) (sheet : Sheet) (kind : PlanKind) (at : ℕ)
+    → Spelled source (wanted command) lists rest → IsAcceptedWith (λ other _. other ≡ sheet) lists
+    → ((form : Tree) (others : List Tree) → lists ≡ form ∷ others → HasPlanRefusal command source sheet others rest kind at)
+    → HasAnswer command source (refused (refusal.Plan kind at))
+plan_answer command source lists rest sheet kind at spelled is has =
+    (reading source _ lists rest spelled, accepted_then (λ sheet others. HasPlanRefusal command source sheet others rest kind at) lists sheet is has)
+
+-- An accepted sheet and plan with which the command isn't built.
 pub unbuilt_answer : (command : Command) (source : List ℕ) (lists : List Tree) (rest : ℕ) (sheet : Sheet)
-    → Spelled source (wanted command) lists rest → IsAcceptedWith (λ other _. other ≡ sheet) lists → IsUnbuilt command source
+    → Spelled source (wanted command) lists rest → IsAcceptedWith (λ other _. other ≡ sheet) lists
+    → ((form : Tree) (others : List Tree) → lists ≡ form ∷ others → IsUnbuilt command source sheet others rest)
     → HasAnswer command source (refused refusal.Unbuilt)
 unbuilt_answer command source lists rest sheet spelled is none =
-    (reading source _ lists rest spelled, accepted_so lists (λ other others same. none) is)
+    (reading source _ lists rest spelled, accepted_then (λ sheet others. IsUnbuilt command source sheet others rest) lists sheet is none)

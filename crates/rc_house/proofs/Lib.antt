@@ -12,6 +12,7 @@ pub mod Options
 pub mod OutcomeLemmas
 pub mod Paths
 pub mod Plan
+pub mod PlanLaws
 pub mod PlayLaws
 pub mod PrintedTwice
 pub mod RoundLaws

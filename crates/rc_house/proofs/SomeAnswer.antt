@@ -1,5 +1,5 @@
 -- A command has an answer to each source.
-use Rattle.std.proofs.Common.{◌≡◌, ℕ, List, [], ◌∷◌, Option, Some, None, ◌⊎◌, inl, inr, refl}
+use Rattle.std.proofs.Common.{◌≡◌, ℕ, List, [], ◌∷◌, length, Option, Some, None, ◌⊎◌, inl, inr, refl, subst}
 use Rattle.rc_model.specs.Spelled.{Spelled}
 use Rattle.rc_model.specs.SmallText.{HasHouse}
 use Rattle.rc_model.specs.Tree.{Tree}
@@ -20,10 +20,13 @@ use Rattle.rc_house.specs.declared.refusal.Refusal.TheVariants as refusal
 use Rattle.rc_house.specs.declared.status.SourceKind.TheVariants.{Shape, Unseen}
 use Rattle.rc_house.specs.Status.{source_kind, sheet_kind}
 use Rattle.rc_house.specs.Accepted.{IsSheetOf, IsAccepted}
+use Rattle.rc_house.specs.AcceptedPlan.{HasPlanFault, IsPlanAccepted}
 use Rattle.rc_house.specs.Command.{wanted}
+use Rattle.rc_house.specs.Reading.{IsAcceptedWith}
 use Rattle.rc_house.specs.Answer.{Answer, text, refused, HasAnswer}
 use Rattle.rc_house.proofs.AcceptedLaws.{in_sight_or_not}
-use Rattle.rc_house.proofs.AnswerLaws.{missing_answer, refused_answer, first_accepted, text_answer, unbuilt_answer}
+use Rattle.rc_house.proofs.AnswerLaws.{missing_answer, refused_answer, first_accepted, text_answer, plan_answer, unbuilt_answer}
+use Rattle.rc_house.proofs.PlanLaws.{IsPlanOrFault, plan_or_fault}
 use Rattle.rc_house.proofs.SomeGame.{house_or_not}
 
 -- the command has an answer to this source
@@ -36,15 +39,37 @@ accepted : (command : Command) (source : List ℕ) (form : Tree) (others : List 
 accepted Sheet source form others rest sheet spelled is = (
   text (line (printed_sheet sheet)),
   text_answer Sheet source (form ∷ others) rest sheet (line (printed_sheet sheet)) spelled
-      (first_accepted (form ∷ others) form others sheet refl is) refl,
+      (first_accepted (form ∷ others) form others sheet refl is) (λ form others same. refl),
 )
-accepted Play source form others rest sheet spelled is = by (house_or_not source (form ∷ others) rest spelled)
+accepted Play source form others rest sheet spelled is =
+    by_plan (plan_or_fault source sheet.players others rest)
   where
-    by : ((bytes : List ℕ) × HasHouse source bytes) ⊎ ((bytes : List ℕ) → HasHouse source bytes → ⊥) → IsAnswered Play source
-    by (inl has) =
-        (text has.0, text_answer Play source (form ∷ others) rest sheet has.0 spelled (first_accepted (form ∷ others) form others sheet refl is) has.1)
-    by (inr none) =
-        (refused refusal.Unbuilt, unbuilt_answer Play source (form ∷ others) rest sheet spelled (first_accepted (form ∷ others) form others sheet refl is) none)
+    behind : (first : Tree) (more : List Tree) → form ∷ others ≡ first ∷ more → others ≡ more
+    behind first more same = cc
+
+    sheet_is : IsAcceptedWith (λ other _. other ≡ sheet) (form ∷ others)
+    sheet_is = first_accepted (form ∷ others) form others sheet refl is
+
+    by_house : IsPlanAccepted source sheet.players others rest
+        → ((bytes : List ℕ) × HasHouse source bytes) ⊎ ((bytes : List ℕ) → HasHouse source bytes → ⊥) → IsAnswered Play source
+    by_house plan (inl has) = (
+      text has.0,
+      text_answer Play source (form ∷ others) rest sheet has.0 spelled sheet_is
+          (λ first more same. (subst (λ others. IsPlanAccepted source sheet.players others rest) (behind first more same) plan, has.1)),
+    )
+    by_house plan (inr none) = (
+      refused refusal.Unbuilt,
+      unbuilt_answer Play source (form ∷ others) rest sheet spelled sheet_is
+          (λ first more same. (subst (λ others. IsPlanAccepted source sheet.players others rest) (behind first more same) plan, none)),
+    )
+
+    by_plan : IsPlanOrFault source sheet.players others rest → IsAnswered Play source
+    by_plan (inl plan) = by_house plan (house_or_not source (form ∷ others) rest spelled)
+    by_plan (inr fault) = (
+      refused (refusal.Plan fault.0 fault.1),
+      plan_answer Play source (form ∷ others) rest sheet fault.0 fault.1 spelled sheet_is
+          (λ first more same. subst (λ others. HasPlanFault source sheet.players fault.0 fault.1 others rest) (behind first more same) fault.2),
+    )
 
 -- one whose first list has no fault of its parts
 faultless : (command : Command) (source : List ℕ) (form : Tree) (others : List Tree) (rest : ℕ) (sheet : sheets.Sheet)

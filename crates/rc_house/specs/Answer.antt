@@ -4,6 +4,7 @@ use Rattle.rc_model.specs.Transcript.{line}
 use Rattle.rc_model.specs.SmallText.{HasHouse}
 use Rattle.rc_sheet_model.specs.Sheet as sheet
 use Rattle.rc_sheet_model.specs.Printing.{printed_sheet}
+use Rattle.rc_plan_model.specs.declared.fault.PlanKind.{PlanKind}
 use Rattle.rc_house.specs.declared.command.Command.{Command}
 use Rattle.rc_house.specs.declared.command.Command.TheVariants.{Play, Sheet}
 use Rattle.rc_house.specs.declared.refusal.Refusal.{Refusal}
@@ -11,6 +12,7 @@ use Rattle.rc_house.specs.declared.refusal.Refusal.TheVariants as refusal
 use Rattle.rc_house.specs.declared.answer.Answer.{Answer as Stored}
 use Rattle.rc_house.specs.declared.answer.Answer.TheVariants as stored
 use Rattle.rc_house.specs.Command.{wanted}
+use Rattle.rc_house.specs.AcceptedPlan.{HasPlanFault, IsPlanAccepted}
 use Rattle.rc_house.specs.Reading.{Reading, HasFormFault, HasSheetFault, IsAcceptedWith}
 
 -- a text, or a refusal
@@ -18,15 +20,21 @@ pub data Answer : Type 0 where
   text : (bytes : List ℕ) → Answer
   refused : (refusal : Refusal) → Answer
 
--- the text that a command writes where the sheet is accepted
-abbrev pub HasText : Command → List ℕ → sheet.Sheet → List ℕ → Type 0
-HasText Play source sheet bytes = HasHouse source bytes
-HasText Sheet source sheet bytes = bytes ≡ line (printed_sheet sheet)
+-- The text that a command writes where the sheet is accepted, with these lists behind it and the rest that begins here.
+abbrev pub HasText : Command → List ℕ → sheet.Sheet → List Tree → ℕ → List ℕ → Type 0
+HasText Play source sheet others rest bytes = IsPlanAccepted source sheet.players others rest × HasHouse source bytes
+HasText Sheet source sheet others rest bytes = bytes ≡ line (printed_sheet sheet)
 
--- what the command is to do with the source isn't built: the source is none of a small game
-abbrev pub IsUnbuilt : Command → List ℕ → Type 0
-IsUnbuilt Play source = (bytes : List ℕ) → HasHouse source bytes → ⊥
-IsUnbuilt Sheet source = ⊥
+-- The plan's first fault, where the command reads a plan.
+abbrev pub HasPlanRefusal : Command → List ℕ → sheet.Sheet → List Tree → ℕ → PlanKind → ℕ → Type 0
+HasPlanRefusal Play source sheet others rest kind at = HasPlanFault source sheet.players kind at others rest
+HasPlanRefusal Sheet source sheet others rest kind at = ⊥
+
+-- What the command is to do with the source isn't built: the plan is accepted too, and the source is none of a small game.
+abbrev pub IsUnbuilt : Command → List ℕ → sheet.Sheet → List Tree → ℕ → Type 0
+IsUnbuilt Play source sheet others rest =
+    IsPlanAccepted source sheet.players others rest × ((bytes : List ℕ) → HasHouse source bytes → ⊥)
+IsUnbuilt Sheet source sheet others rest = ⊥
 
 -- Why a command refuses its source.
 abbrev pub HasRefusal : Command → List ℕ → Refusal → Type 0
@@ -34,14 +42,20 @@ abbrev pub HasRefusal : Command → List ℕ → Refusal → Type 0
 HasRefusal command source (refusal.Sheet kind at) =
     HasFormFault source (wanted command) kind at
     ⊎ ((read : Reading source (wanted command)) × HasSheetFault kind at read.lists read.rest)
--- the sheet is accepted, and the command isn't built for the source
+-- the sheet is accepted, and this is the plan's first fault
+HasRefusal command source (refusal.Plan kind at) =
+    (read : Reading source (wanted command))
+    × IsAcceptedWith (λ sheet others. HasPlanRefusal command source sheet others read.rest kind at) read.lists
+-- sheet and plan are accepted, and the command isn't built for the source
 HasRefusal command source refusal.Unbuilt =
-    (read : Reading source (wanted command)) × IsAcceptedWith (λ sheet others. IsUnbuilt command source) read.lists
+    (read : Reading source (wanted command))
+    × IsAcceptedWith (λ sheet others. IsUnbuilt command source sheet others read.rest) read.lists
 
 -- The command has this answer to its source. To each source it has exactly one.
 abbrev pub HasAnswer : Command → List ℕ → Answer → Type 0
 HasAnswer command source (text bytes) =
-    (read : Reading source (wanted command)) × IsAcceptedWith (λ sheet others. HasText command source sheet bytes) read.lists
+    (read : Reading source (wanted command))
+    × IsAcceptedWith (λ sheet others. HasText command source sheet others read.rest bytes) read.lists
 HasAnswer command source (refused refusal) = HasRefusal command source refusal
 
 -- the answer that a value of the program stands for

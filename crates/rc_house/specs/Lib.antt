@@ -1,4 +1,5 @@
 pub mod Accepted
+pub mod AcceptedPlan
 pub mod Answer
 pub mod Command
 pub mod Game

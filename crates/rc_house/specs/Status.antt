@@ -7,12 +7,14 @@ use Rattle.rc_grammar.specs.declared.fault.SheetKind.{SheetKind}
 use Rattle.rc_grammar.specs.declared.fault.SheetKind.TheVariants as part
 use Rattle.rc_outside.specs.declared.errors.ReadFail.{ReadFail}
 use Rattle.rc_outside.specs.declared.errors.ReadFail.TheVariants as read
+use Rattle.rc_plan_model.specs.declared.fault.PlanKind.{PlanKind}
+use Rattle.rc_plan_model.specs.declared.fault.PlanKind.TheVariants as plan
 use Rattle.rc_house.specs.declared.refusal.Refusal.{Refusal}
 use Rattle.rc_house.specs.declared.refusal.Refusal.TheVariants as refusal
 use Rattle.rc_house.specs.declared.status.SourceKind.{SourceKind}
 use Rattle.rc_house.specs.declared.status.SourceKind.TheVariants.{BadByte, Stray, TooDeep, AtomLong, Unclosed, Shape, Number, Twice, Unknown, WrongKind, TooMany, NoCards, Unseen}
 use Rattle.rc_house.specs.declared.status.Status.{Status}
-use Rattle.rc_house.specs.declared.status.Status.TheVariants.{Done, Sheet, Memory, ReadFault, WriteFault, TooLong, Unbuilt}
+use Rattle.rc_house.specs.declared.status.Status.TheVariants.{Done, Sheet, Plan, Memory, ReadFault, WriteFault, TooLong, Unbuilt}
 
 -- the name of a kind
 abbrev pub kind_name : SourceKind → List ℕ
@@ -29,6 +31,16 @@ kind_name WrongKind = codes "WrongKind"
 kind_name TooMany = codes "TooMany"
 kind_name NoCards = codes "NoCards"
 kind_name Unseen = codes "Unseen"
+
+-- the name of a kind of the plan's faults
+abbrev pub plan_kind_name : PlanKind → List ℕ
+plan_kind_name plan.Shape = codes "Shape"
+plan_kind_name plan.Number = codes "Number"
+plan_kind_name plan.Seats = codes "Seats"
+plan_kind_name plan.Matches = codes "Matches"
+plan_kind_name plan.Turns = codes "Turns"
+plan_kind_name plan.TooLarge = codes "TooLarge"
+plan_kind_name plan.Rest = codes "Rest"
 
 -- the kind that a fault of forms is in a source
 abbrev pub source_kind : FormKind → SourceKind
@@ -51,6 +63,7 @@ sheet_kind part.NoCards = NoCards
 -- the status of a refusal
 abbrev pub refusal_status : Refusal → Status
 refusal_status (refusal.Sheet kind at) = Sheet kind at
+refusal_status (refusal.Plan kind at) = Plan kind at
 refusal_status refusal.Unbuilt = Unbuilt
 
 -- the status of a source that wasn't read to its end
@@ -63,6 +76,7 @@ read_status read.Memory = Memory
 abbrev pub code_of : Status → ℕ
 code_of Done = 0
 code_of (Sheet kind at) = 1
+code_of (Plan kind at) = 3
 code_of Memory = 5
 code_of ReadFault = 6
 code_of WriteFault = 7
@@ -73,6 +87,7 @@ code_of Unbuilt = 9
 abbrev pub line_of : Status → List ℕ
 line_of Done = []
 line_of (Sheet kind at) = line (codes "sheet " ++ kind_name kind ++ codes " " ++ decimal at)
+line_of (Plan kind at) = line (codes "plan " ++ plan_kind_name kind ++ codes " " ++ decimal at)
 line_of Memory = line (codes "no memory")
 line_of ReadFault = line (codes "read fault")
 line_of WriteFault = line (codes "write fault")

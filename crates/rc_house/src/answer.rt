@@ -1,5 +1,5 @@
 //! What a command answers to the bytes of its source.
-ghost use Rattle.std.specs.Prelude.{◌≡◌, ◌≤◌, ◌<◌, [], ◌∷◌, ℕ, List, length, IfOk, IfSome, IfNone, All};
+ghost use Rattle.std.specs.Prelude.{◌≡◌, ◌≢◌, ◌≤◌, ◌<◌, [], ◌∷◌, ℕ, List, length, IfOk, IfSome, IfNone, All};
 ghost use Rattle.rc_model.specs.Placed.{IsPlaced};
 ghost use Rattle.rc_model.specs.Tree.{Tree};
 ghost use Rattle.rc_model.specs.Spelled.{Spelled};
@@ -11,6 +11,11 @@ ghost use Rattle.rc_house.specs.Game.{game_of};
 ghost use Rattle.rc_house.specs.declared.refusal.Refusal.TheVariants as refusal;
 ghost use Rattle.rc_house.specs.declared.status.SourceKind.TheVariants.{Shape};
 ghost use Rattle.rc_house.specs.Status.{source_kind};
+ghost use Rattle.rc_plan_model.specs.Faults.{plan_faults};
+ghost use Rattle.rc_plan_model.specs.PlanFault.{IsPlanFault};
+ghost use Rattle.rc_plan_model.specs.declared.fault.PlanKind.TheVariants as plan_kind;
+ghost use Rattle.rc_house.specs.declared.command.Command.TheVariants as command;
+ghost use Rattle.rc_house.specs.AcceptedPlan.{HasPlanFault, IsPlanAccepted};
 ghost use Rattle.rc_house.specs.Command.{wanted};
 ghost use Rattle.rc_house.specs.Reading.{IsAcceptedWith};
 ghost use Rattle.rc_house.specs.Answer.{refused, seen, HasAnswer};
@@ -25,6 +30,7 @@ use crate::small_text::read_game;
 use crate::status::SourceKind;
 use rc_flow::Checked;
 use rc_form::{Form, FormFail, FormFault, Forms, read_forms};
+use rc_plan::{PlanFail, PlanFault, PlanKind, plan_of};
 use std::alloc::{AllocError, Global};
 
 /// What a command answers to its source.
@@ -66,6 +72,7 @@ fn answer_of_forms(
     forms: &Forms,
 ) -> Result<Answer, AllocError>
     requires small { length source.now ≤ 1048576 }
+    requires within { forms.now.rest ≤ length source.now }
     requires read { Spelled source.now (wanted command) (trees_of forms.now.list.items) forms.now.rest }
     requires printable { All (λ form. IsPrintable (tree_of form)) forms.now.list.items }
     requires of_atoms { All (λ form. IsOfAtoms (tree_of form)) forms.now.list.items }
@@ -102,6 +109,7 @@ fn accepted_answer(
     checked: &Checked,
 ) -> Result<Answer, AllocError>
     requires small { length source.now ≤ 1048576 }
+    requires within { forms.now.rest ≤ length source.now }
     requires read { Spelled source.now (wanted command) (trees_of forms.now.list.items) forms.now.rest }
     requires printable { All (λ form. IsPrintable (tree_of form)) forms.now.list.items }
     requires placed { All (λ form. IsPlaced (length source.now) (tree_of form)) forms.now.list.items }
@@ -109,11 +117,111 @@ fn accepted_answer(
     ensures { IfOk result (λ answer. HasAnswer command source.now (seen answer)) }
 {
     match command {
-        Command::Play => match house_text(alloc, source, forms)? {
-            Some(text) => Ok(Answer::Text(text)),
-            None => Ok(Answer::Refused(Refusal::Unbuilt)),
-        },
+        Command::Play => play_answer(alloc, source, forms, checked),
         Command::Sheet => Ok(Answer::Text(print_line(alloc, checked.sheet())?)),
+    }
+}
+
+/// The answer of `play` to a source with these forms, of which the first is accepted as this sheet.
+fn play_answer(
+    alloc: Global,
+    source: &[u8],
+    forms: &Forms,
+    checked: &Checked,
+) -> Result<Answer, AllocError>
+    requires small { length source.now ≤ 1048576 }
+    requires within { forms.now.rest ≤ length source.now }
+    requires read { Spelled source.now 2 (trees_of forms.now.list.items) forms.now.rest }
+    requires printable { All (λ form. IsPrintable (tree_of form)) forms.now.list.items }
+    requires placed { All (λ form. IsPlaced (length source.now) (tree_of form)) forms.now.list.items }
+    requires accepted { IsAcceptedWith (λ sheet _. sheet ≡ checked.now) (trees_of forms.now.list.items) }
+    ensures { IfOk result (λ answer. HasAnswer command.Play source.now (seen answer)) }
+{
+    if let Some(fault) = plan_fault(alloc, source, forms, checked.sheet().players)? {
+        return Ok(plan_refused(fault));
+    }
+    match house_text(alloc, source, forms)? {
+        Some(text) => Ok(Answer::Text(text)),
+        None => Ok(Answer::Refused(Refusal::Unbuilt)),
+    }
+}
+
+/// The answer where the plan has this fault.
+fn plan_refused(fault: PlanFault) -> Answer
+    ensures { seen result ≡ refused (refusal.Plan fault.kind fault.at) }
+{
+    Answer::Refused(Refusal::Plan {
+        kind: fault.kind,
+        at: fault.at,
+    })
+}
+
+/// The first fault of the plan behind the sheet, for so many players.
+fn plan_fault(
+    alloc: Global,
+    source: &[u8],
+    forms: &Forms,
+    players: u8,
+) -> Result<Option<PlanFault>, AllocError>
+    requires small { length source.now ≤ 1048576 }
+    requires within { forms.now.rest ≤ length source.now }
+    requires read { Spelled source.now 2 (trees_of forms.now.list.items) forms.now.rest }
+    requires placed { All (λ form. IsPlaced (length source.now) (tree_of form)) forms.now.list.items }
+    requires some { 1 ≤ players }
+    requires few { players ≤ 8 }
+    ensures found { IfOk result (λ found. IfSome found (λ fault. (form : Tree) (others : List Tree)
+        → trees_of forms.now.list.items ≡ form ∷ others
+        → HasPlanFault source.now players fault.kind fault.at others forms.now.rest)) }
+    ensures none { IfOk result (λ found. IfNone found ((form : Tree) (others : List Tree)
+        → trees_of forms.now.list.items ≡ form ∷ others
+        → IsPlanAccepted source.now players others forms.now.rest)) }
+{
+    let Some(plan) = forms.list.get(1) else {
+        return Ok(Some(PlanFault {
+            kind: PlanKind::Shape,
+            at: forms.rest as u32,
+        }));
+    };
+    match fault_of_plan(alloc, plan, players)? {
+        Some(fault) => Ok(Some(fault)),
+        None => Ok(rest_fault(source, forms.rest)),
+    }
+}
+
+/// The first fault of a form that is to be the plan.
+fn fault_of_plan(
+    alloc: Global,
+    plan: &Form,
+    players: u8,
+) -> Result<Option<PlanFault>, AllocError>
+    requires placed { (size : ℕ) × IsPlaced size (tree_of plan.now) }
+    requires some { 1 ≤ players }
+    requires few { players ≤ 8 }
+    ensures found { IfOk result (λ found. IfSome found (λ fault. IsPlanFault (tree_of plan.now) players fault.kind fault.at)) }
+    ensures none { IfOk result (λ found. IfNone found (plan_faults players (tree_of plan.now) ≡ [])) }
+{
+    let Err(fail) = plan_of(alloc, plan, players) else {
+        return Ok(None);
+    };
+    match fail {
+        PlanFail::Fault(fault) => Ok(Some(fault)),
+        PlanFail::Memory => Err(AllocError),
+    }
+}
+
+/// The fault of a source where something follows what was read of it.
+fn rest_fault(source: &[u8], rest: usize) -> Option<PlanFault>
+    requires { rest ≤ 1048576 }
+    ensures found { IfSome result (λ fault. (rest ≢ length source.now) × (fault.kind ≡ plan_kind.Rest) × (fault.at ≡ rest)) }
+    ensures none { IfNone result (rest ≡ length source.now) }
+{
+    if rest == source.len() {
+        None
+    } else {
+        Some(PlanFault {
+            kind: PlanKind::Rest,
+            at: rest as u32,
+        })
     }
 }
 

@@ -17,6 +17,7 @@ mod transcript;
 mod write;
 
 pub use laws::{a_printed_sheet_is_printed_again, one_answer, some_answer};
+pub use rc_plan::{PlanFail, PlanFault, PlanKind, plan_of};
 pub use refusal::Refusal;
 pub use running::{refuse, run, run_alone};
 pub use status::{SourceKind, Status};

@@ -1,11 +1,14 @@
 //! Why a command refuses its source.
 use crate::status::{SourceKind, Status};
+use rc_plan::PlanKind;
 
 /// Why a command writes no text for its source.
 #[derive(Clone, Copy, Debug, PartialEq, Eq, Hash)]
 pub enum Refusal {
     /// The sheet's first fault, with the offset where it stands.
     Sheet { kind: SourceKind, at: u32 },
+    /// The plan's first fault, with the offset where it stands.
+    Plan { kind: PlanKind, at: u32 },
     /// What the source asks for isn't built yet.
     Unbuilt,
 }
@@ -19,6 +22,7 @@ impl From<Refusal> for Status {
     fn from(refusal: Refusal) -> Status {
         match refusal {
             Refusal::Sheet { kind, at } => Status::Sheet { kind, at },
+            Refusal::Plan { kind, at } => Status::Plan { kind, at },
             Refusal::Unbuilt => Status::Unbuilt,
         }
     }

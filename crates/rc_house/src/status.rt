@@ -1,11 +1,12 @@
 //! How a command ends.
 ghost use Rattle.std.specs.Prelude.{◌≡◌, ◌++◌, ◌≤◌, length, codes, decimal};
-ghost use Rattle.rc_house.specs.Status.{code_of, line_of, kind_name, source_kind};
+ghost use Rattle.rc_house.specs.Status.{code_of, line_of, kind_name, plan_kind_name, source_kind};
 
 use arrayvec::ArrayString;
 use rc_form::FormKind;
 use rc_grammar::SheetKind;
 use rc_outside::ReadFail;
+use rc_plan::PlanKind;
 
 /// The most bytes of a status's line.
 const LINE: usize = 64;
@@ -65,6 +66,22 @@ impl SourceKind {
     }
 }
 
+/// The name of a kind of the plan's faults.
+fn plan_kind_name(kind: PlanKind) -> &'static str
+    ensures name { result.now ≡ plan_kind_name kind }
+    ensures short { length result.now ≤ 9 }
+{
+    match kind {
+        PlanKind::Shape => "Shape",
+        PlanKind::Number => "Number",
+        PlanKind::Seats => "Seats",
+        PlanKind::Matches => "Matches",
+        PlanKind::Turns => "Turns",
+        PlanKind::TooLarge => "TooLarge",
+        PlanKind::Rest => "Rest",
+    }
+}
+
 impl From<FormKind> for SourceKind {
     ghost use Rattle.std.specs.Prelude.{◌≡◌};
     ghost use Rattle.rc_house.specs.Status.{source_kind};
@@ -108,6 +125,8 @@ pub enum Status {
     Done,
     /// The sheet's first fault, with the offset where it stands.
     Sheet { kind: SourceKind, at: u32 },
+    /// The plan's first fault, with the offset where it stands.
+    Plan { kind: PlanKind, at: u32 },
     /// There was not enough memory.
     Memory,
     /// Reading the source failed.
@@ -128,6 +147,7 @@ impl Status {
         match self {
             Status::Done => 0,
             Status::Sheet { .. } => 1,
+            Status::Plan { .. } => 3,
             Status::Memory => 5,
             Status::ReadFault => 6,
             Status::WriteFault => 7,
@@ -143,6 +163,7 @@ impl Status {
         match self {
             Status::Done => ArrayString::new(),
             Status::Sheet { kind, at } => fault_line("sheet ", kind.name(), *at),
+            Status::Plan { kind, at } => fault_line("plan ", plan_kind_name(*kind), *at),
             Status::Memory => fixed_line("no memory\n"),
             Status::ReadFault => fixed_line("read fault\n"),
             Status::WriteFault => fixed_line("write fault\n"),

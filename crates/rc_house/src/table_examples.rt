@@ -3,6 +3,7 @@
 ghost use Rattle.std.specs.Prelude.{◌≡◌, ◌∷◌, [], codes};
 ghost use Rattle.rc_house.specs.declared.command.Command.TheVariants as command;
 ghost use Rattle.rc_house.specs.declared.status.SourceKind.TheVariants.{Unseen, NoCards};
+ghost use Rattle.rc_plan_model.specs.declared.fault.PlanKind.TheVariants.{TooLarge};
 ghost use Rattle.rc_house.specs.declared.status.Status.TheVariants as ending;
 ghost use Rattle.rc_house.specs.Command.{IsCommand, note_of, wanted};
 ghost use Rattle.rc_house.specs.Status.{code_of, line_of};
@@ -11,6 +12,7 @@ ghost use Rattle.rc_house.specs.Status.{code_of, line_of};
 pub fn codes_of_statuses()
     ensures done { code_of ending.Done ≡ 0 }
     ensures sheet { code_of (ending.Sheet NoCards 6) ≡ 1 }
+    ensures plan { code_of (ending.Plan TooLarge 463) ≡ 3 }
     ensures memory { code_of ending.Memory ≡ 5 }
     ensures read_fault { code_of ending.ReadFault ≡ 6 }
     ensures write_fault { code_of ending.WriteFault ≡ 7 }
@@ -23,6 +25,7 @@ pub fn lines_of_statuses()
     ensures done { line_of ending.Done ≡ [] }
     ensures sheet { line_of (ending.Sheet Unseen 338) ≡ codes "sheet Unseen 338\n" }
     ensures no_cards { line_of (ending.Sheet NoCards 0) ≡ codes "sheet NoCards 0\n" }
+    ensures plan { line_of (ending.Plan TooLarge 463) ≡ codes "plan TooLarge 463\n" }
     ensures memory { line_of ending.Memory ≡ codes "no memory\n" }
     ensures read_fault { line_of ending.ReadFault ≡ codes "read fault\n" }
     ensures write_fault { line_of ending.WriteFault ≡ codes "write fault\n" }

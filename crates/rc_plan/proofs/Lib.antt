@@ -1,0 +1,10 @@
+pub mod Both
+pub mod CountLemmas
+pub mod DraftLemmas
+pub mod FirstFault
+pub mod FormTree
+pub mod Headed
+pub mod Lengths
+pub mod MatchLemmas
+pub mod Told
+pub mod Turns

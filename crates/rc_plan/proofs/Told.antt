@@ -1,0 +1,37 @@
+-- What is read, said of another form and its faults.
+use Rattle.std.proofs.Common.{◌≡◌, ℕ, List, [], ◌∷◌, ◌++◌, Result, Ok, Err, Some, sym, ap, subst, ◌∙◌}
+use Rattle.rc_plan_model.specs.Faults.{fault}
+use Rattle.rc_plan_model.specs.PlanFault.{first}
+use Rattle.rc_plan_model.specs.declared.fault.PlanKind.TheVariants.{Shape}
+use Rattle.rc_plan_model.specs.declared.fault.PlanFault.{PlanFault}
+use Rattle.rc_plan.specs.declared.fail.PlanFail.{PlanFail}
+use Rattle.rc_plan.specs.declared.fail.PlanFail.TheVariants.{Fault, Memory}
+use Rattle.rc_plan.specs.Reads.{Reads, IfPlanFault}
+
+-- a fault of shape that is told
+pub shape_told : (fail : PlanFail) (faults : List PlanFault) (at : ℕ) → fail ≡ Fault (record { kind = Shape; at = at })
+    → faults ≡ fault Shape at → IfPlanFault fail (λ fault. first faults ≡ Some fault)
+shape_told fail faults at is only =
+    subst (λ fail. IfPlanFault fail (λ fault. first faults ≡ Some fault)) (sym is) (ap first only)
+
+-- the same faults, of a fail
+pub fail_as : (fail : PlanFail) (faults others : List PlanFault) → others ≡ faults → IfPlanFault fail (λ fault. first faults ≡ Some fault)
+    → IfPlanFault fail (λ fault. first others ≡ Some fault)
+fail_as fail faults others same told = subst (λ faults. IfPlanFault fail (λ fault. first faults ≡ Some fault)) (sym same) told
+
+pub reads_as : {A : Type 0} (r : Result A PlanFail) (Holds Other : A → Type 0) (faults others : List PlanFault)
+    → ((a : A) → Holds a → Other a) → others ≡ faults → Reads r Holds faults → Reads r Other others
+reads_as (Ok a) Holds Other faults others then same reads = (then a reads.0, same ∙ reads.1)
+reads_as (Err fail) Holds Other faults others then same reads = fail_as fail faults others same reads
+
+-- the first fault of the first of two lists is that of both, and behind no fault the first of the second is
+first_before : (fail : PlanFail) (xs ys : List PlanFault) → IfPlanFault fail (λ fault. first xs ≡ Some fault)
+    → IfPlanFault fail (λ fault. first (xs ++ ys) ≡ Some fault)
+first_before Memory xs ys told = tt
+first_before (Fault fault) [] ys told = absurd cc
+first_before (Fault fault) (x ∷ xs) ys told = told
+
+pub second_part : (fail : PlanFail) (xs ys zs : List PlanFault) → xs ≡ [] → IfPlanFault fail (λ fault. first ys ≡ Some fault)
+    → IfPlanFault fail (λ fault. first (xs ++ (ys ++ zs)) ≡ Some fault)
+second_part fail xs ys zs none told =
+    fail_as fail (ys ++ zs) _ (ap (λ xs. xs ++ (ys ++ zs)) none) (first_before fail ys zs told)

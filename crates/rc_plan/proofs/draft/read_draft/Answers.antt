@@ -1,0 +1,37 @@
+use Rattle.std.proofs.Common.{◌∷◌, [], sym, ap, ◌∙◌, arith}
+use Rattle.std.specs.Prelude.{codes}
+use Rattle.rc_model.specs.Tree.{start_of}
+use Rattle.rc_form.specs.Form.{tree_of, trees_of, packed}
+use Rattle.rc_plan_model.specs.Faults.{fault, row, seats, matches, turns}
+use Rattle.rc_plan_model.specs.declared.fault.PlanKind.TheVariants.{Shape}
+use Rattle.rc_plan.proofs.Headed.{headed_is, unheaded}
+use Rattle.rc_plan.proofs.Lengths.{other_length, three}
+use Rattle.rc_plan.proofs.Told.{shape_told, fail_as, second_part}
+use Rattle.rc_plan.proofs.draft.read_draft.Goals as goal
+
+pub returns-in_default : goal.returns-in_default
+returns-in_default c =
+    shape_told _ _ _ c.shape.ensures
+    (unheaded (codes "plan") (tree_of c.args.form.now) (row (seats ∷ matches ∷ turns ∷ [])) c.in_default.ensures.none ∙ ap (fault Shape) (sym c.start_of.ensures))
+
+pub returns-in_default-parts : goal.returns-in_default-parts
+returns-in_default-parts c =
+    let form = tree_of c.args.form.now in
+    let forms = c.in-Some.parts.now in
+    let places = seats ∷ matches ∷ turns ∷ [] in
+    shape_told _ _ _ c.shape-in_default-parts.ensures
+    (headed_is (codes "plan") (packed (trees_of forms)) form (row places) c.in-Some.ensures.found
+    ∙ other_length places (start_of form) forms (λ long. grind arith)
+    ∙ ap (fault Shape) (sym c.start_of-in_default-parts.ensures))
+
+pub returns-in-Err-read_matches : goal.returns-in-Err-read_matches
+returns-in-Err-read_matches c =
+    let form = tree_of c.args.form.now in
+    let forms = c.in-Some.parts.now in
+    let places = seats ∷ matches ∷ turns ∷ [] in
+    let parts = three forms c.seats-item.result c.matches-item.result c.turns-item.result (omega (arith, c.in-len3.len_at_least, c.in-len3.len_below))
+    c.seats-item.is c.matches-item.is c.turns-item.is in
+    let same = headed_is (codes "plan") (packed (trees_of forms)) form (row places) c.in-Some.ensures.found
+    ∙ ap (λ forms. row places (start_of form) (packed (trees_of forms))) parts in
+    fail_as c.in-Err-read_matches.fail _ _ same
+    (second_part c.in-Err-read_matches.fail _ _ _ c.in-Ok.ensures.1 c.in-Err-read_matches.ensures)

@@ -1,0 +1,9 @@
+use Rattle.std.proofs.Common.{◌∷◌, [], arith}
+use Rattle.rc_plan_model.specs.Faults.{rounds, any_number}
+use Rattle.rc_plan.proofs.Lengths.{other_length}
+use Rattle.rc_plan.proofs.Told.{shape_told}
+use Rattle.rc_plan.proofs.strategies.read_rollout.Goals as goal
+
+pub returns-in_default : goal.returns-in_default
+returns-in_default c =
+    shape_told _ _ c.args.from c.shape.ensures (other_length (rounds ∷ any_number ∷ []) c.args.from c.args.parts.now (λ long. grind arith))

@@ -1,0 +1,115 @@
+//! The strategies of the seats.
+ghost use Rattle.std.specs.Prelude.{◌≡◌, ◌∷◌, [], map};
+ghost use Rattle.rc_form.specs.Form.{tree_of, trees_of, packed};
+ghost use Rattle.rc_plan_model.specs.Faults as place;
+ghost use Rattle.rc_plan_model.specs.PlanStands.{InTurn};
+ghost use Rattle.rc_rules.specs.Plan.{strategy_seen};
+ghost use Rattle.rc_plan.specs.Reads.{Reads, IsNumberBetween, IsStrategy, AreSeats, IsKey, IsRollout};
+
+use crate::fail::PlanFail;
+use crate::forms::{is_word, parts_behind, read_any, read_number, start_of};
+use rc_form::Form;
+use rc_rules::Strategy;
+use std::alloc::Global;
+
+/// The strategies of `(seats STRATEGY ..)`.
+pub fn read_seats(alloc: Global, form: &Form) -> Result<Vec<Strategy>, PlanFail>
+    ensures { Reads result (λ strategies. AreSeats (map strategy_seen strategies.items) (tree_of form.now)) (place.seats (tree_of form.now)) }
+{
+    let Some(parts) = parts_behind(form, b"seats") else {
+        return Err(PlanFail::shape(start_of(form)));
+    };
+    if parts.is_empty() {
+        return Err(PlanFail::shape(start_of(form)));
+    }
+    read_strategies(alloc, parts)
+}
+
+fn read_strategies(alloc: Global, parts: &[Form]) -> Result<Vec<Strategy>, PlanFail>
+    ensures { Reads result (λ strategies. InTurn IsStrategy (map strategy_seen strategies.items) (packed (trees_of parts.now)))
+        (place.each place.strategy (packed (trees_of parts.now))) }
+{
+    let mut strategies = Vec::new(alloc);
+    for part in parts {
+        match read_strategy(alloc, part) {
+            Ok(strategy) => {
+                if strategies.push(strategy).is_err() {
+                    return Err(PlanFail::Memory);
+                }
+            }
+            Err(fail) => return Err(fail),
+        }
+    }
+    Ok(strategies)
+}
+
+/// `(script n ..)`, `(random k)` or `(rollout R k)`.
+fn read_strategy(alloc: Global, form: &Form) -> Result<Strategy, PlanFail>
+    ensures { Reads result (λ strategy. IsStrategy (strategy_seen strategy) (tree_of form.now)) (place.strategy (tree_of form.now)) }
+{
+    if let Some(parts) = parts_behind(form, b"script") {
+        return match read_script(alloc, parts) {
+            Ok(numbers) => Ok(Strategy::Script(numbers)),
+            Err(fail) => Err(fail),
+        };
+    }
+    if let Some(parts) = parts_behind(form, b"random") {
+        return match read_key(parts, start_of(form)) {
+            Ok(key) => Ok(Strategy::Random { key }),
+            Err(fail) => Err(fail),
+        };
+    }
+    if let Some(parts) = parts_behind(form, b"rollout") {
+        return match read_rollout(parts, start_of(form)) {
+            Ok((rounds, key)) => Ok(Strategy::Rollout { rounds, key }),
+            Err(fail) => Err(fail),
+        };
+    }
+    Err(PlanFail::shape(start_of(form)))
+}
+
+/// The numbers of a script.
+fn read_script(alloc: Global, parts: &[Form]) -> Result<Vec<u16>, PlanFail>
+    ensures { Reads result (λ numbers. InTurn (IsNumberBetween 0 65535) numbers.items (packed (trees_of parts.now)))
+        (place.each place.script_number (packed (trees_of parts.now))) }
+{
+    let mut numbers = Vec::new(alloc);
+    for part in parts {
+        match read_number(part, 0, u64::from(u16::MAX)) {
+            Ok(number) => {
+                if numbers.push(number as u16).is_err() {
+                    return Err(PlanFail::Memory);
+                }
+            }
+            Err(fail) => return Err(fail),
+        }
+    }
+    Ok(numbers)
+}
+
+/// The one part of a list that begins here, as a number.
+pub fn read_key(parts: &[Form], from: u32) -> Result<u64, PlanFail>
+    ensures { Reads result (λ key. IsKey key (packed (trees_of parts.now))) (place.row (place.any_number ∷ []) from (packed (trees_of parts.now))) }
+{
+    let [key] = parts else {
+        return Err(PlanFail::shape(from));
+    };
+    read_any(key)
+}
+
+/// The number of rounds and the key of a rollout.
+fn read_rollout(parts: &[Form], from: u32) -> Result<(u16, u64), PlanFail>
+    ensures { Reads result (λ said. IsRollout said.0 said.1 (packed (trees_of parts.now)))
+        (place.row (place.rounds ∷ place.any_number ∷ []) from (packed (trees_of parts.now))) }
+{
+    let [rounds, key] = parts else {
+        return Err(PlanFail::shape(from));
+    };
+    match read_number(rounds, 1, 1000) {
+        Ok(rounds) => match read_any(key) {
+            Ok(key) => Ok((rounds as u16, key)),
+            Err(fail) => Err(fail),
+        },
+        Err(fail) => Err(fail),
+    }
+}

@@ -1,0 +1,4 @@
+pub mod InOrder
+pub mod OnePlan
+pub mod NoFaults
+pub mod OneFault

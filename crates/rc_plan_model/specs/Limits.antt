@@ -1,0 +1,49 @@
+-- The limits of plans.
+use Rattle.std.specs.Prelude.{ℕ, ◌*◌, ◌≤◌, length, All}
+use Rattle.rc_play_model.specs.Plan.{Strategy, scripted, random, rollout, Deal, Plan}
+
+-- the largest deal, seat and key: eighteen digits
+abbrev pub largest_number : ℕ
+largest_number = 999999999999999999
+
+-- the largest number of a script
+abbrev pub largest_script_number : ℕ
+largest_script_number = 65535
+
+-- the most playouts of an item
+abbrev pub most_rounds : ℕ
+most_rounds = 1000
+
+abbrev pub most_strategies : ℕ
+most_strategies = 8
+
+abbrev pub most_matches : ℕ
+most_matches = 4096
+
+abbrev pub most_turns : ℕ
+most_turns = 100000
+
+-- the most turns of all matches together
+abbrev pub most_turns_in_all : ℕ
+most_turns_in_all = 262144
+
+-- the number is one of these
+abbrev pub IsBetween : ℕ → ℕ → ℕ → Type 0
+IsBetween least most n = (least ≤ n) × (n ≤ most)
+
+abbrev pub IsStrategyWithin : Strategy → Type 0
+IsStrategyWithin (scripted numbers) = All (λ n. n ≤ largest_script_number) numbers
+IsStrategyWithin (random key) = key ≤ largest_number
+IsStrategyWithin (rollout rounds key) = IsBetween 1 most_rounds rounds × (key ≤ largest_number)
+
+abbrev pub IsDealWithin : Deal → Type 0
+IsDealWithin deal = (deal.deal ≤ largest_number) × (deal.seats ≤ largest_number)
+
+-- the plan is within the limits
+pub record IsWithinLimits (plan : Plan) : Type 0 where
+  pub seats : IsBetween 1 most_strategies (length plan.strategies)
+  pub strategies : All IsStrategyWithin plan.strategies
+  pub count : IsBetween 1 most_matches (length plan.matches)
+  pub deals : All IsDealWithin plan.matches
+  pub turn_limit : IsBetween 1 most_turns plan.turns
+  pub size : length plan.matches * plan.turns ≤ most_turns_in_all
