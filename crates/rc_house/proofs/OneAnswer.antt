@@ -76,11 +76,11 @@ text_or_refusal : (command : Command) (source bytes : List ℕ) (why : Refusal) 
 text_or_refusal command source bytes (refusal.Sheet kind at) has fault = accepted_or_faulty _ command source kind at has.0 has.1 fault
 text_or_refusal command source bytes (refusal.Plan kind at) has fault =
     let both = both_accepted has.0.lists has.1
-        (accepted_of (λ sheet others rest. HasPlanRefusal command source sheet others rest kind at) source (wanted command) has.0 fault.0 fault.1) in
+    (accepted_of (λ sheet others rest. HasPlanRefusal command source sheet others rest kind at) source (wanted command) has.0 fault.0 fault.1) in
     text_no_plan_fault command source both.0 both.1 has.0.rest bytes kind at both.2 both.3
 text_or_refusal command source bytes refusal.Unbuilt has unbuilt =
     let both = both_accepted has.0.lists has.1
-        (accepted_of (λ sheet others rest. IsUnbuilt command source sheet others rest) source (wanted command) has.0 unbuilt.0 unbuilt.1) in
+    (accepted_of (λ sheet others rest. IsUnbuilt command source sheet others rest) source (wanted command) has.0 unbuilt.0 unbuilt.1) in
     built command source both.0 both.1 has.0.rest bytes both.2 both.3
 
 -- an accepted plan has no fault
@@ -88,7 +88,7 @@ unbuilt_or_plan : (command : Command) (source : List ℕ) (kind : _) (at : ℕ) 
     → HasRefusal command source (refusal.Plan kind at) → ⊥
 unbuilt_or_plan command source kind at unbuilt fault =
     let both = both_accepted unbuilt.0.lists unbuilt.1
-        (accepted_of (λ sheet others rest. HasPlanRefusal command source sheet others rest kind at) source (wanted command) unbuilt.0 fault.0 fault.1) in
+    (accepted_of (λ sheet others rest. HasPlanRefusal command source sheet others rest kind at) source (wanted command) unbuilt.0 fault.0 fault.1) in
     unbuilt_no_plan_fault command source both.0 both.1 unbuilt.0.rest kind at both.2 both.3
 
 -- a source is refused in one way
@@ -110,7 +110,7 @@ one_refusal command source (refusal.Plan kind at) (refusal.Sheet other offset) h
     absurd (accepted_or_faulty _ command source other offset has.0 has.1 has')
 one_refusal command source (refusal.Plan kind at) (refusal.Plan other offset) has has' =
     let both = both_accepted has.0.lists has.1
-        (accepted_of (λ sheet others rest. HasPlanRefusal command source sheet others rest other offset) source (wanted command) has.0 has'.0 has'.1) in
+    (accepted_of (λ sheet others rest. HasPlanRefusal command source sheet others rest other offset) source (wanted command) has.0 has'.0 has'.1) in
     one_plan_refusal command source both.0 both.1 has.0.rest kind other at offset both.2 both.3
 one_refusal command source (refusal.Plan kind at) refusal.Unbuilt has has' = absurd (unbuilt_or_plan command source kind at has' has)
 one_refusal command source refusal.Unbuilt (refusal.Sheet kind at) has has' = absurd (accepted_or_faulty _ command source kind at has.0 has.1 has')
@@ -121,7 +121,7 @@ pub only_answer : (command : Command) (source : List ℕ) (answer other : Answer
     → HasAnswer command source other → other ≡ answer
 only_answer command source (text bytes) (text other) has has' =
     let both = both_accepted has.0.lists has.1
-        (accepted_of (λ sheet others rest. HasText command source sheet others rest other) source (wanted command) has.0 has'.0 has'.1) in
+    (accepted_of (λ sheet others rest. HasText command source sheet others rest other) source (wanted command) has.0 has'.0 has'.1) in
     ap text (one_text command source both.0 both.1 has.0.rest bytes other both.2 both.3)
 only_answer command source (text bytes) (refused why) has has' = absurd (text_or_refusal command source bytes why has has')
 only_answer command source (refused why) (text bytes) has has' = absurd (text_or_refusal command source bytes why has' has)

@@ -189,11 +189,7 @@ fn plan_fault(
 }
 
 /// The first fault of a form that is to be the plan.
-fn fault_of_plan(
-    alloc: Global,
-    plan: &Form,
-    players: u8,
-) -> Result<Option<PlanFault>, AllocError>
+fn fault_of_plan(alloc: Global, plan: &Form, players: u8) -> Result<Option<PlanFault>, AllocError>
     requires placed { (size : ℕ) × IsPlaced size (tree_of plan.now) }
     requires some { 1 ≤ players }
     requires few { players ≤ 8 }

@@ -18,9 +18,9 @@ returns-in-None-clause-found c =
     let none = rw c.in-None.is at c.in_ok-fault.ensures.none in
     some_then c.rest_fault.result _ _
     (λ fault has form others same.
-        let behind = others_are c.deref.result.now forms.list.items c.in-Some.plan.now form others c.deref.ensures.value item.3.0 item.1 same in
-        subst (λ others. HasPlanFault c.args.source.now c.args.players fault.kind fault.at others forms.rest) (sym behind.1)
-        (inr (none, has.0, has.1, has.2)))
+    let behind = others_are c.deref.result.now forms.list.items c.in-Some.plan.now form others c.deref.ensures.value item.3.0 item.1 same in
+    subst (λ others. HasPlanFault c.args.source.now c.args.players fault.kind fault.at others forms.rest) (sym behind.1)
+    (inr (none, has.0, has.1, has.2)))
     c.rest_fault.ensures.found
 
 pub returns-in-None-clause-none : goal.returns-in-None-clause-none
@@ -30,6 +30,6 @@ returns-in-None-clause-none c =
     let none = rw c.in-None.is at c.in_ok-fault.ensures.none in
     none_then c.rest_fault.result _ _
     (λ ends form others same.
-        let behind = others_are c.deref.result.now forms.list.items c.in-Some.plan.now form others c.deref.ensures.value item.3.0 item.1 same in
-        subst (λ others. IsPlanAccepted c.args.source.now c.args.players others forms.rest) (sym behind.1) (none, ends))
+    let behind = others_are c.deref.result.now forms.list.items c.in-Some.plan.now form others c.deref.ensures.value item.3.0 item.1 same in
+    subst (λ others. IsPlanAccepted c.args.source.now c.args.players others forms.rest) (sym behind.1) (none, ends))
     c.rest_fault.ensures.none

@@ -14,7 +14,7 @@ returns-in-Some c =
     (plan_answer command.Play source (trees_of forms.list.items) forms.rest c.args.checked.now c.in-Some.fault.kind c.in-Some.fault.at
     c.requires.read c.requires.accepted
     (λ form others same.
-        subst (λ sheet. HasPlanFault source sheet.players c.in-Some.fault.kind c.in-Some.fault.at others forms.rest) c.sheet.ensures.same (has form others same)))
+    subst (λ sheet. HasPlanFault source sheet.players c.in-Some.fault.kind c.in-Some.fault.at others forms.rest) c.sheet.ensures.same (has form others same)))
 
 pub returns-in-Some-2 : goal.returns-in-Some-2
 returns-in-Some-2 c =

@@ -9,3 +9,7 @@ returns-clause-sheet c = refl
 pub returns-clause-no_cards : goal.returns-clause-no_cards
 unfolding digits
 returns-clause-no_cards c = refl
+
+pub returns-clause-plan : goal.returns-clause-plan
+unfolding digits
+returns-clause-plan c = refl
