@@ -121,23 +121,32 @@ told x y (inr (turn, inl less)) = by_offset x y turn less
 told x y (inr (turn, inr (at, rank))) = by_rank x y turn at rank
 
 pub some_first : (fault : PlanFault) (faults : List PlanFault) → (first : PlanFault) × IsFirstOf (fault ∷ faults) first
-some_first fault [] = (fault, record {
-  stands = (0, omega arith, refl);
-  least = All-cons (λ other. IsTrue (is_told_first fault other)) fault [] (itself fault) (All-nil (λ other. IsTrue (is_told_first fault other)));
-})
+some_first fault [] = (
+  fault,
+  record {
+    stands = (0, omega arith, refl);
+    least = All-cons (λ other. IsTrue (is_told_first fault other)) fault [] (itself fault) (All-nil (λ other. IsTrue (is_told_first fault other)));
+  },
+)
 some_first fault (second ∷ faults) = by (some_first second faults)
   where
     by_order : (first : PlanFault) → IsFirstOf (second ∷ faults) first → IsBefore fault first ⊎ IsBefore first fault
         → (first : PlanFault) × IsFirstOf (fault ∷ second ∷ faults) first
-    by_order first is (inl here) = (fault, record {
-      stands = (0, omega arith, refl);
-      least = All-cons (λ other. IsTrue (is_told_first fault other)) fault (second ∷ faults) (itself fault)
-          (λ k d lt. told fault (get_or (second ∷ faults) k d) (before_both fault first _ here (before first _ (is.least k d lt))));
-    })
-    by_order first is (inr there) = (first, record {
-      stands = (suc is.stands.0, (let within = is.stands.1 in omega (arith, within)), is.stands.2);
-      least = All-cons (λ other. IsTrue (is_told_first first other)) fault (second ∷ faults) (told first fault there) is.least;
-    })
+    by_order first is (inl here) = (
+      fault,
+      record {
+        stands = (0, omega arith, refl);
+        least = All-cons (λ other. IsTrue (is_told_first fault other)) fault (second ∷ faults) (itself fault)
+            (λ k d lt. told fault (get_or (second ∷ faults) k d) (before_both fault first _ here (before first _ (is.least k d lt))));
+      },
+    )
+    by_order first is (inr there) = (
+      first,
+      record {
+        stands = (suc is.stands.0, (let within = is.stands.1 in omega (arith, within)), is.stands.2);
+        least = All-cons (λ other. IsTrue (is_told_first first other)) fault (second ∷ faults) (told first fault there) is.least;
+      },
+    )
 
     by : (first : PlanFault) × IsFirstOf (second ∷ faults) first → (first : PlanFault) × IsFirstOf (fault ∷ second ∷ faults) first
     by found = by_order found.0 found.1 (one_before fault found.0)
