@@ -1,11 +1,10 @@
 -- A source is one of at most one small game.
-use Rattle.std.proofs.Common.{◌≡◌, ℕ, List, [], ◌∷◌, ◌++◌, length, Some, ℤ, refl, sym, ◌∙◌, ap, subst}
-use Rattle.std.specs.Str.{bytes_eq}
+use Rattle.std.proofs.Common.{◌≡◌, ℕ, List, [], ◌∷◌, ◌++◌, length, ℤ, refl, sym, ◌∙◌, ap, subst}
 use Rattle.std.proofs.lemmas.Map.Made.{AllPairs-from_IsDistinct}
 use Rattle.std.proofs.lemmas.Slice.Eq.{bytes_eq-Decides}
 use Rattle.rc_model.specs.Tree.{Tree, printed}
 use Rattle.rc_model.specs.Words.{different}
-use Rattle.rc_model.specs.Deck.{Groups, Entry, Face, AreFaces}
+use Rattle.rc_model.specs.Deck.{Groups, Entry}
 use Rattle.rc_model.specs.DeckText.{in_deck, in_entries, DeckMention, names_of, attribute_name, value_name, DeckStands, EntriesStand, HaveWorths}
 use Rattle.rc_model.specs.SmallGame.{SmallGame, small_house}
 use Rattle.rc_model.specs.SmallText.{IsSmall, IsSmallSheet, IsSmallPlan, HasHouse}

@@ -1,5 +1,5 @@
 -- A source is read in one way, or its forms have one first fault.
-use Rattle.std.proofs.Common.{◌≡◌, ℕ, List, sym, ◌∙◌, ap, subst}
+use Rattle.std.proofs.Common.{◌≡◌, ℕ, List, sym, ◌∙◌, ap}
 use Rattle.rc_model.specs.Token.{tokens}
 use Rattle.rc_model.specs.Tree.{Tree}
 use Rattle.rc_model.specs.Spelled.{Spelled}

@@ -1,5 +1,5 @@
 -- How the outcome of a command follows from what its parts did.
-use Rattle.std.proofs.Common.{◌≡◌, ◌<◌, ◌≤◌, ◌+◌, ◌⊎◌, ℕ, List, [], ◌++◌, length, length-append, Option, Some, None, inl, inr, refl, sym, ◌∙◌, ap, subst, arith}
+use Rattle.std.proofs.Common.{◌≡◌, ◌<◌, ◌≤◌, ◌⊎◌, ℕ, List, [], ◌++◌, length, length-append, Option, Some, None, inl, inr, refl, sym, ◌∙◌, ap, subst, arith}
 use Rattle.std.proofs.lemmas.List.{append-nil}
 use Rattle.rc_outside.specs.Source.{Gave, IsAtEnd}
 use Rattle.rc_outside.specs.declared.errors.ReadFail.{ReadFail}
@@ -14,7 +14,7 @@ use Rattle.rc_house.specs.Command.{IsCommand, note_of}
 use Rattle.rc_house.specs.Answer.{Answer, text, refused, HasAnswer}
 use Rattle.rc_house.specs.Status.{line_of, refusal_status, read_status}
 use Rattle.rc_house.specs.Port.{Port, Ports, port, HasFailed, Took, NoCountFell}
-use Rattle.rc_house.specs.Outcome.{GaveFew, GaveTooMuch, Answers, Refuses, Outcome, written, refusing, no_memory, read_failed, too_long, text_failed, note_failed, NoPortFailed, Succeeds, Ends, status_of}
+use Rattle.rc_house.specs.Outcome.{GaveTooMuch, Answers, Outcome, written, refusing, no_memory, read_failed, too_long, text_failed, note_failed, NoPortFailed, Succeeds, Ends, status_of}
 use Rattle.rc_house.specs.Running.{ReadsNone, Delivers}
 use Rattle.rc_house.proofs.OneAnswer.{only_answer}
 

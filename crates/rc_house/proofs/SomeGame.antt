@@ -1,9 +1,9 @@
 -- A source is one of a small game, or it isn't.
-use Rattle.std.proofs.Common.{◌≡◌, ℕ, ◌≤◌, List, [], ◌∷◌, ◌++◌, length, map, Some, None, ℤ, ◌⊎◌, inl, inr, refl, sym, ◌∙◌, ap, subst, arith}
+use Rattle.std.proofs.Common.{◌≡◌, ℕ, ◌≤◌, List, [], ◌∷◌, ◌++◌, length, map, Some, None, ℤ, ◌⊎◌, inl, inr, refl, sym, ap, subst, arith}
 use Rattle.std.specs.List.{All}
 use Rattle.std.proofs.lemmas.Bool.{cases_eq}
 use Rattle.rc_model.specs.Tree.{Tree, printed}
-use Rattle.rc_model.specs.Deck.{Groups, Entry, Face, AreFaces, points_of}
+use Rattle.rc_model.specs.Deck.{Groups, Entry, AreFaces, points_of}
 use Rattle.rc_model.specs.DeckText.{in_deck, in_entries, DeckStands, EntriesStand, HasEachOnce, HaveWorths}
 use Rattle.rc_model.specs.Spelled.{Spelled}
 use Rattle.rc_model.specs.SmallGame.{SmallGame, small_house}

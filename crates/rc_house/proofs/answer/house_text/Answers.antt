@@ -1,4 +1,3 @@
-use Rattle.std.proofs.Common.{rules}
 use Rattle.rc_house.specs.Game.{game_of}
 use Rattle.rc_house.proofs.AnswerLaws.{playable}
 use Rattle.rc_house.proofs.answer.house_text.Goals as goal

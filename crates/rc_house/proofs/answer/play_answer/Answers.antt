@@ -1,4 +1,4 @@
-use Rattle.std.proofs.Common.{subst, ap}
+use Rattle.std.proofs.Common.{subst}
 use Rattle.rc_form.specs.Form.{trees_of}
 use Rattle.rc_ast.specs.Sheet.{sheet_seen}
 use Rattle.rc_house.specs.AcceptedPlan.{HasPlanFault, IsPlanAccepted}
