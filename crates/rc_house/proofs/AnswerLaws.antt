@@ -29,7 +29,6 @@ use Rattle.rc_house.specs.Accepted.{IsAccepted, HasFirstFault}
 use Rattle.rc_house.specs.Command.{wanted}
 use Rattle.rc_house.specs.Reading.{Reading, IsAcceptedWith}
 use Rattle.rc_house.specs.Answer.{text, refused, HasText, HasPlanRefusal, IsUnbuilt, HasAnswer}
-use Rattle.rc_house.proofs.AcceptedLaws.{accepted_so}
 use Rattle.rc_house.proofs.Options.{some_is}
 
 -- two trees that are those of two forms

@@ -1,5 +1,5 @@
 -- A command has an answer to each source.
-use Rattle.std.proofs.Common.{◌≡◌, ℕ, List, [], ◌∷◌, length, Option, Some, None, ◌⊎◌, inl, inr, refl, subst}
+use Rattle.std.proofs.Common.{◌≡◌, ℕ, List, [], ◌∷◌, Option, Some, None, ◌⊎◌, inl, inr, refl, subst}
 use Rattle.rc_model.specs.Spelled.{Spelled}
 use Rattle.rc_model.specs.SmallText.{HasHouse}
 use Rattle.rc_model.specs.Tree.{Tree}

@@ -1,4 +1,4 @@
-use Rattle.std.proofs.Common.{subst, ap}
+use Rattle.std.proofs.Common.{subst}
 use Rattle.rc_form.specs.Form.{trees_of}
 use Rattle.rc_house.specs.AcceptedPlan.{HasPlanFault, IsPlanAccepted}
 use Rattle.rc_house.specs.declared.command.Command.TheVariants as command
