@@ -28,7 +28,3 @@ three_strategies = scripted (1 ∷ 20 ∷ []) ∷ random 7 ∷ rollout 4 2 ∷ [
 
 abbrev pub two_matches : Plan
 two_matches = record { strategies = three_strategies; matches = deal_of 3 4 ∷ deal_of 5 6 ∷ []; turns = 100 }
-
--- the same with matches that are counted
-abbrev pub counted_matches : Plan
-counted_matches = record { strategies = three_strategies; matches = deal_of 9 1 ∷ deal_of 10 2 ∷ deal_of 11 3 ∷ []; turns = 100 }

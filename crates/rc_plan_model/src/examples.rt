@@ -2,7 +2,7 @@
 //! that the check proves by computing both sides.
 ghost use Rattle.std.specs.Prelude.{◌≡◌, None};
 ghost use Rattle.rc_plan_model.specs.PlanStands.{PlanStands};
-ghost use Rattle.rc_plan_model.specs.Examples.{plan_form, told, one, two_matches, counted_matches};
+ghost use Rattle.rc_plan_model.specs.Examples.{plan_form, told, one, two_matches};
 ghost use Rattle.rc_plan_model.specs.declared.fault.PlanKind.TheVariants as kind;
 
 /// A text of each form of matches, and the plan for which it stands.
