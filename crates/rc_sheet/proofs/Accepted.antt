@@ -24,7 +24,7 @@ use Rattle.rc_sheet.proofs.Fine.Lines.{setup_in}
 use Rattle.rc_sheet.proofs.Fine.Sheet.{IsSetUp, HasFineBody, SetupFinds, sheet_finds}
 use Rattle.rc_sheet.proofs.Found.Setup.{setup_found}
 use Rattle.rc_sheet.proofs.Given.Setup.{is_set_up}
-use Rattle.rc_sheet.proofs.Reads.Sheet.{sheet_means}
+use Rattle.rc_sheet.proofs.ReadOff.Sheet.{sheet_means}
 use Rattle.rc_sheet.proofs.WellFormed.{well_formed}
 use Rattle.rc_sheet.proofs.FewNames as few
 use Rattle.rc_sheet.proofs.SomePlayers.{some_players, some_teams}

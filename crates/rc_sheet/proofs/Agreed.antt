@@ -11,7 +11,7 @@ use Rattle.rc_semantics.specs.SecondFaults.{differs_from, is_other_mention, faul
 use Rattle.rc_sheet.proofs.Among.{Among, among_either}
 use Rattle.rc_sheet.proofs.Shapes.{none_in_both}
 use Rattle.rc_sheet.proofs.Faultless.{IsFaultless, faultless}
-use Rattle.rc_sheet.proofs.Reads.Names.{class_same, classes_same}
+use Rattle.rc_sheet.proofs.ReadOff.Names.{class_same, classes_same}
 
 -- each mention says what the first of its name does
 abbrev pub Agree : List OwnedMention → Type 0

@@ -28,7 +28,7 @@ mod CountedItems
 mod SheetSetup
 pub mod TeamNumbers
 pub mod MapsInTurn
-pub mod Reads
+pub mod ReadOff
 pub mod Mentioned
 mod Shallow
 mod SetupCounts

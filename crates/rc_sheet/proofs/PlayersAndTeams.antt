@@ -19,7 +19,7 @@ use Rattle.rc_reading.specs.ReadNames.{ensure}
 use Rattle.rc_reading.specs.ReadSetup.{Lines, within, count_at, team_at, teams_at, deck_at, points_at, players_line, teams_line, deck_line, points_line, line_rule}
 use Rattle.rc_reading.specs.ReadSheet.{sheet_at}
 use Rattle.rc_sheet.proofs.Means.{Means, nothing, something, means_if, means_so, behind, either, ensured, paired, anything}
-use Rattle.rc_sheet.proofs.Reads.Setup.{listed, none_listed}
+use Rattle.rc_sheet.proofs.ReadOff.Setup.{listed, none_listed}
 use Rattle.rc_sheet.proofs.SetupCounts.{is_below, is_line_rule, sheet_adds}
 
 -- a number in a range

@@ -8,7 +8,7 @@ use Rattle.rc_sheet_model.specs.Naming.{Naming}
 use Rattle.rc_sheet_model.specs.WellFormed.{IsShallow}
 use Rattle.rc_reading.specs.ReadSheet.{sheet_at}
 use Rattle.rc_sheet.proofs.Means.{means_so}
-use Rattle.rc_sheet.proofs.Reads.Sheet.{sheet_means}
+use Rattle.rc_sheet.proofs.ReadOff.Sheet.{sheet_means}
 
 -- its form stands for it
 pub sheet_shallow : (naming : Naming) (tree : Tree) (sheet : Sheet) → sheet_at naming tree ≡ Some sheet

@@ -36,7 +36,7 @@ use Rattle.rc_reading.specs.ReadNames.{loc_at}
 use Rattle.rc_reading.specs.ReadSetup.{Setup, face_words, home_of, deck_at}
 use Rattle.rc_reading.specs.ReadSheet.{setup_form_at, sheet_at, sheet_with}
 use Rattle.rc_sheet.proofs.Means.{Means, nothing, something, means_if, means_so, weaker, mapped, behind, either, place_passes, anything}
-use Rattle.rc_sheet.proofs.Reads.Names.{loc_means}
+use Rattle.rc_sheet.proofs.ReadOff.Names.{loc_means}
 use Rattle.rc_sheet.proofs.Bodies.{standing_at}
 use Rattle.rc_sheet.proofs.Given.Faces.{branch_behind, deck_behind}
 use Rattle.rc_sheet.proofs.Fine.Common.{Given, given_of}

@@ -31,7 +31,7 @@ use Rattle.rc_sheet.proofs.Finds.{Finds, finds, finds_if, implies, makes, follow
 use Rattle.rc_sheet.proofs.GoodParts.{◌▹◌, Each, by_parts, good_form}
 use Rattle.rc_sheet.proofs.GoodForms.{from_one, plain_part, Says, with_two, with_three, with_four, behind_one, behind_two, list_says_by, list_says, rest_good}
 use Rattle.rc_sheet.proofs.Fine.Names.{passes_test, no_keyword, Gives, Good, GoodForm, IsBound, bound_variable, has_its_sort, variable_finds, word_is_variable, IsOwnerOf, current_player_finds, current_team_finds, team_of_finds, attr_finds, value_finds, map_finds, binder_finds, behind_binder, loc_parts_finds, num_parts_finds}
-use Rattle.rc_sheet.proofs.Reads.Names.{class_same}
+use Rattle.rc_sheet.proofs.ReadOff.Names.{class_same}
 
 -- a number that is written, within its range
 pub integer_finds : (bytes : List ℕ) → is_number bytes ≡ true → Finds (integer bytes) IsWithinClamp

@@ -34,7 +34,7 @@ use Rattle.rc_grammar.specs.declared.fault.SheetFault.{SheetFault}
 use Rattle.rc_reading.specs.ReadNames.{◌>>=◌, ensure, rule_at, name_at, binder_at, has_sort, place_in, sorted, variable_in, player_of_rule, player_at, team_of, team_parts, owner_rule, owner_at, holder_at, is_loc_name, is_num_name, loc_parts, loc_rule, loc_at, num_parts, num_rule, num_at, map_at, kind_keyword}
 use Rattle.rc_sheet.proofs.Fine.Common.{Given, IsNamed, HasNumber, IsFineAtom, IsFineBinder}
 use Rattle.rc_sheet.proofs.Means.{means_so, found_passes}
-use Rattle.rc_sheet.proofs.Reads.Names.{same_bytes, sorts_same, kind_is, class_same}
+use Rattle.rc_sheet.proofs.ReadOff.Names.{same_bytes, sorts_same, kind_is, class_same}
 use Rattle.rc_sheet.proofs.Finds.{Finds, finds, finds_if, implies, makes, follows, follows_this, where_true, where_false, whether, ensures_so}
 use Rattle.rc_sheet.proofs.GoodParts.{◌▹◌, IsGood, IsGoodForm, finds_by, list_finds, no_list}
 use Rattle.rc_sheet.proofs.Shapes.{three_only}

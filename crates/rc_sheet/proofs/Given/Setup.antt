@@ -29,7 +29,7 @@ use Rattle.rc_sheet.proofs.Fine.Sheet.{IsSetUp}
 use Rattle.rc_sheet.proofs.Lines.{lines_within}
 use Rattle.rc_sheet.proofs.Mentioned.Common.{attrs, values}
 use Rattle.rc_sheet.proofs.Mentioned.Setup.{deck_words, points_words, points_only, setup_named}
-use Rattle.rc_sheet.proofs.Reads.Sheet.{setup_form_means}
+use Rattle.rc_sheet.proofs.ReadOff.Sheet.{setup_form_means}
 use Rattle.rc_sheet.proofs.Whole.{setup_of as setup_tree, parts_with, IsSheetForm, sheet_only, attributes_give, values_give, maps_give}
 use Rattle.rc_sheet.proofs.Fine.Lines.{setup_in, whole_form}
 use Rattle.rc_sheet.proofs.MapsInTurn.{points_alone}

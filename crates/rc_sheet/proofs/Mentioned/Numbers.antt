@@ -13,7 +13,7 @@ use Rattle.rc_reading.specs.ReadNames.{rule_at}
 use Rattle.rc_reading.specs.ReadItems.{body_at}
 use Rattle.rc_reading.specs.ReadSheet.{setup_form_at, game_parts, game_rule, sheet_at, sheet_with}
 use Rattle.rc_sheet.proofs.Means.{Means, nothing, something, means_so, behind, anything}
-use Rattle.rc_sheet.proofs.Reads.Sheet.{sheet_means}
+use Rattle.rc_sheet.proofs.ReadOff.Sheet.{sheet_means}
 use Rattle.rc_sheet.proofs.Mentioned.Common.{attrs, values, maps, locs, nums, vars}
 use Rattle.rc_sheet.proofs.Mentioned.Sheet.{names_numbered}
 use Rattle.rc_sheet.proofs.Mentioned.Stages.{AreInOrder, body_in_order}

@@ -19,7 +19,7 @@ use Rattle.rc_reading.specs.ReadNames.{◌>>=◌, both, rule_at, name_at, binder
 use Rattle.rc_reading.specs.ReadExpressions.{range_of, Side, number_side, card_side, value_side, owner_side, side_of_sort, variable_side, side_word, equal_test, card_at, coll_at, coll_rule, colls_at, int_at, int_rule, side_at, side_by, value_parts, card_rule, test_at, tests_at}
 use Rattle.rc_sheet.proofs.Means.{Means, something, either}
 use Rattle.rc_sheet.proofs.Means.{behind as read_behind}
-use Rattle.rc_sheet.proofs.Reads.Names.{place_means, class_same}
+use Rattle.rc_sheet.proofs.ReadOff.Names.{place_means, class_same}
 use Rattle.rc_sheet_laws.proofs.One.Rows.{behind_word, row_one, row_two, row_three, three_parts}
 use Rattle.rc_sheet_laws.proofs.One.Names.{Differ, Apart, more_apart, variable_word, one_variable, one_player_var, owner_forms, loc_rule_in_cards, num_rule_in_numbers, num_rule_in_sides, along, Only, only_quiet, only_map, only_both, only_pair, only_then, only_made, only_sized, only_said, by_rule, one_attr, one_value, one_binder, one_map, one_loc_parts, one_num_parts}
 use Rattle.rc_grammar.specs.declared.keyword.Keyword.TheVariants as keyword

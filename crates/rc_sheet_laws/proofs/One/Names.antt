@@ -20,7 +20,7 @@ use Rattle.rc_naming.specs.Naming.{kind_by}
 use Rattle.rc_reading.specs.ReadNames.{◌>>=◌, ensure, both, sized, rule_at, name_at, binder_at, variable_in, player_at, team_of, owner_at, holder_at, is_loc_name, is_num_name, loc_parts, loc_at, num_parts, num_at, map_at}
 use Rattle.rc_sheet.proofs.Means.{Means, nothing, something, weaker, mapped, behind, both_mean}
 use Rattle.rc_sheet_laws.proofs.One.Rows.{row_word, row_word_part, three_parts}
-use Rattle.rc_sheet.proofs.Reads.Names.{name_means, binder_means, variable_means, loc_name_means, num_name_means}
+use Rattle.rc_sheet.proofs.ReadOff.Names.{name_means, binder_means, variable_means, loc_name_means, num_name_means}
 use Rattle.rc_grammar.specs.declared.keyword.Keyword.TheVariants as keyword
 use Rattle.rc_grammar.specs.declared.grammar.Place.{Place}
 use Rattle.rc_grammar.specs.declared.grammar.Place.TheVariants as place

@@ -13,7 +13,7 @@ use Rattle.rc_sheet_model.specs.StandsSetup.{StandsPlayers, StandsTeam, StandTea
 use Rattle.rc_reading.specs.ReadSetup.{setup_in}
 use Rattle.rc_reading.specs.ReadSheet.{setup_form_at, sheet_with}
 use Rattle.rc_sheet.proofs.Means.{weaker}
-use Rattle.rc_sheet.proofs.Reads.Sheet.{setup_form_means}
+use Rattle.rc_sheet.proofs.ReadOff.Sheet.{setup_form_means}
 use Rattle.rc_sheet_laws.proofs.One.Rows.{three_parts}
 use Rattle.rc_sheet_laws.proofs.One.Names.{Differ, named_once, kinds_agree, along, Agrees, Agree, agree_append, Only}
 

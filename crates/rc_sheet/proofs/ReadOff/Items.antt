@@ -16,9 +16,9 @@ use Rattle.rc_reading.specs.ReadExpressions.{test_at}
 use Rattle.rc_reading.specs.ReadEffects.{effects_at}
 use Rattle.rc_reading.specs.ReadItems.{Begun, none_begun, with_stage, with_site, stage_of, choice_of, end_rule, end_at, item_at, item_rule, items_at, best_at, score_rule, score_at, but_last, last_of, body_at}
 use Rattle.rc_sheet.proofs.Means.{Means, nothing, something, means_if, weaker, mapped, behind, both_mean, either, ensured}
-use Rattle.rc_sheet.proofs.Reads.Names.{word_form, Told, told_at, least_left}
-use Rattle.rc_sheet.proofs.Reads.Expressions.{int_means, test_means}
-use Rattle.rc_sheet.proofs.Reads.Effects.{effects_mean, alts_mean}
+use Rattle.rc_sheet.proofs.ReadOff.Names.{word_form, Told, told_at, least_left}
+use Rattle.rc_sheet.proofs.ReadOff.Expressions.{int_means, test_means}
+use Rattle.rc_sheet.proofs.ReadOff.Effects.{effects_mean, alts_mean}
 use Rattle.rc_grammar.specs.declared.keyword.Keyword.TheVariants as keyword
 use Rattle.rc_grammar.specs.declared.grammar.Place.TheVariants as place
 use Rattle.rc_grammar.specs.declared.grammar.Rule.{Rule}

@@ -12,9 +12,9 @@ use Rattle.rc_reading.specs.ReadSetup.{setup_at, setup_in}
 use Rattle.rc_reading.specs.ReadItems.{body_at}
 use Rattle.rc_reading.specs.ReadSheet.{setup_rule, setup_form_at, game_parts, game_rule, sheet_at, sheet_with}
 use Rattle.rc_sheet.proofs.Means.{Means, nothing, something, weaker, behind}
-use Rattle.rc_sheet.proofs.Reads.Names.{Told, told_at}
-use Rattle.rc_sheet.proofs.Reads.Items.{body_means}
-use Rattle.rc_sheet.proofs.Reads.Setup.{setup_means}
+use Rattle.rc_sheet.proofs.ReadOff.Names.{Told, told_at}
+use Rattle.rc_sheet.proofs.ReadOff.Items.{body_means}
+use Rattle.rc_sheet.proofs.ReadOff.Setup.{setup_means}
 use Rattle.rc_grammar.specs.declared.grammar.Place.TheVariants as place
 use Rattle.rc_grammar.specs.declared.grammar.Rule.{Rule}
 use Rattle.rc_grammar.specs.declared.grammar.Rule.TheVariants as rule

@@ -19,8 +19,8 @@ use Rattle.rc_setup.specs.Reading.{read_deck, read_entries}
 use Rattle.rc_reading.specs.ReadNames.{ensure, rule_at, name_at, loc_at}
 use Rattle.rc_reading.specs.ReadSetup.{Setup, Lines, no_line, within, count_at, members_at, team_rule, team_at, teams_at, face_words, home_of, deck_at, points_at, players_line, teams_line, deck_line, points_line, line_rule, line_at, lines_at, setup_of, setup_at, setup_in}
 use Rattle.rc_sheet.proofs.Means.{Means, nothing, something, means_if, weaker, behind, either, ensured, paired}
-use Rattle.rc_sheet.proofs.Reads.Names.{Told, told_at, name_means, loc_means}
-use Rattle.rc_sheet.proofs.Reads.Faces.{some_part, deck_tree_means, entries_mean}
+use Rattle.rc_sheet.proofs.ReadOff.Names.{Told, told_at, name_means, loc_means}
+use Rattle.rc_sheet.proofs.ReadOff.Faces.{some_part, deck_tree_means, entries_mean}
 use Rattle.rc_grammar.specs.declared.keyword.Keyword.{Keyword}
 use Rattle.rc_grammar.specs.declared.keyword.Keyword.TheVariants as keyword
 use Rattle.rc_grammar.specs.declared.grammar.Place.TheVariants as place

@@ -15,7 +15,7 @@ use Rattle.rc_setup.specs.Reading.{both, unless_nil, plain, read_groups, read_gr
 use Rattle.rc_reading.specs.ReadSetup.{face_words}
 use Rattle.rc_reading.proofs.Faces.{number_of_name}
 use Rattle.rc_sheet.proofs.Means.{Means, nothing, something, weaker, mapped, either}
-use Rattle.rc_sheet.proofs.Reads.Names.{name_means}
+use Rattle.rc_sheet.proofs.ReadOff.Names.{name_means}
 
 -- what two parts make
 made : {A B C : Type 0} {P : A → Type 0} {Q : B → Type 0} {R : C → Type 0} (make : A → B → C) (first : Option A)

@@ -10,8 +10,8 @@ use Rattle.rc_reading.specs.ReadNames.{rule_at, binder_at, owner_at, loc_at}
 use Rattle.rc_reading.specs.ReadExpressions.{card_at, coll_rule, range_at}
 use Rattle.rc_reading.specs.ReadEffects.{spot_rule, spot_at, number_rule, plain_rule, effect_at, effect_rule, effects_at, domain_rule, domain_at, alt_at, alt_rule, alts_at}
 use Rattle.rc_sheet.proofs.Means.{Means, nothing, something, weaker, mapped, behind, paired, both_mean}
-use Rattle.rc_sheet.proofs.Reads.Names.{Told, told_at, least_left, two_words, name_means, binder_means, owner_means, loc_means, num_means}
-use Rattle.rc_sheet.proofs.Reads.Expressions.{card_means, coll_means, coll_rule_means, int_means, test_means, range_means}
+use Rattle.rc_sheet.proofs.ReadOff.Names.{Told, told_at, least_left, two_words, name_means, binder_means, owner_means, loc_means, num_means}
+use Rattle.rc_sheet.proofs.ReadOff.Expressions.{card_means, coll_means, coll_rule_means, int_means, test_means, range_means}
 use Rattle.rc_grammar.specs.declared.keyword.Keyword.TheVariants as keyword
 use Rattle.rc_grammar.specs.declared.grammar.Place.TheVariants as place
 use Rattle.rc_grammar.specs.declared.grammar.Rule.{Rule}

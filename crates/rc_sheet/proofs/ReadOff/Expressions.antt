@@ -12,7 +12,7 @@ use Rattle.rc_grammar.specs.Faults.{is_form_word}
 use Rattle.rc_reading.specs.ReadNames.{◌>>=◌, rule_at, name_at, binder_at, place_in, variable_in, loc_parts, num_parts}
 use Rattle.rc_reading.specs.ReadExpressions.{range_of, Side, number_side, card_side, value_side, owner_side, side_of_sort, variable_side, side_word, equal_test, side_by, card_at, card_rule, coll_at, coll_rule, colls_at, int_at, int_rule, side_at, value_parts, test_at, test_rule, tests_at, range_at}
 use Rattle.rc_sheet.proofs.Means.{Means, nothing, something, means_if, weaker, mapped, behind, paired, both_mean, either}
-use Rattle.rc_sheet.proofs.Reads.Names.{word_form, Told, told_at, least_left, name_means, binder_means, classes_same, place_means, variable_is, variable_means, owner_rule_means, loc_parts_mean, num_parts_mean, map_means}
+use Rattle.rc_sheet.proofs.ReadOff.Names.{word_form, Told, told_at, least_left, name_means, binder_means, classes_same, place_means, variable_is, variable_means, owner_rule_means, loc_parts_mean, num_parts_mean, map_means}
 use Rattle.rc_grammar.specs.declared.keyword.Keyword.TheVariants as keyword
 use Rattle.rc_grammar.specs.declared.grammar.Place.TheVariants as place
 use Rattle.rc_grammar.specs.declared.grammar.Rule.{Rule}
