@@ -39,7 +39,7 @@ All-head P x xs all = all 0 x (omega arith)
 All-tail : {A : Type 0} (P : A → Type 0) (x : A) (xs : List A) → All P (x ∷ xs) → All P xs
 All-tail P x xs all k d lt = all (suc k) d (omega (arith, lt))
 
-number_is : (n : ℕ) (form : Tree) → Number n form → number_in form ≡ n
+pub number_is : (n : ℕ) (form : Tree) → Number n form → number_in form ≡ n
 number_is n (word bytes from to) spells = ap spelled spells
 number_is n (list parts from to) spells = absurd spells
 
@@ -201,7 +201,7 @@ from_fine deals (list (cons head (cons a (cons b (cons c (cons d parts))))) from
 
 -- THE THREE PARTS
 
-count_in_turn : {A : Type 0} (Stands : A → Tree → Type 0) (list : List A) (parts : Trees) → InTurn Stands list parts → count parts ≡ length list
+pub count_in_turn : {A : Type 0} (Stands : A → Tree → Type 0) (list : List A) (parts : Trees) → InTurn Stands list parts → count parts ≡ length list
 count_in_turn Stands [] nil stand = refl
 count_in_turn Stands [] (cons tree parts) stand = absurd stand
 count_in_turn Stands (first ∷ others) nil stand = absurd stand
@@ -224,7 +224,7 @@ deal_counts_once deal (list (cons a nil) from to) stands = absurd stands.1
 deal_counts_once deal (list (cons a (cons b nil)) from to) stands = (refl, refl)
 deal_counts_once deal (list (cons a (cons b (cons c parts))) from to) stands = absurd stands.1.1
 
-deals_count_once : (deals : List Deal) (parts : Trees) → InTurn StandsDeal deals parts
+pub deals_count_once : (deals : List Deal) (parts : Trees) → InTurn StandsDeal deals parts
     → (each from_faults parts ≡ []) × (all_matches_said parts ≡ length deals)
 deals_count_once [] nil stand = (refl, refl)
 deals_count_once [] (cons tree parts) stand = absurd stand

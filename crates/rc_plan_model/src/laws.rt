@@ -1,5 +1,5 @@
 //! Laws of plans and their faults. No function here does anything: its contract is the law.
-ghost use Rattle.std.specs.Prelude.{◌≡◌, ℕ, [], length, All, Some};
+ghost use Rattle.std.specs.Prelude.{◌≡◌, ◌≤◌, ℕ, [], length, All, Some};
 ghost use Rattle.rc_model.specs.Placed.{IsPlaced};
 ghost use Rattle.rc_model.specs.Tree.{Tree};
 ghost use Rattle.rc_play_model.specs.Plan.{Plan};
@@ -30,6 +30,12 @@ pub fn plans_have_no_faults()
         → plan_faults (length plan.strategies) form ≡ [] }
     ensures seats { (plan : Plan) (form : Tree) (players : ℕ) → PlanStands plan form → IsWithinLimits plan
         → All (λ fault. fault.kind ≡ kinds.Seats) (plan_faults players form) }
+{}
+
+/// A form without a fault for 1 to 8 players stands for a plan within the limits, which has a strategy for each of them.
+pub fn a_faultless_form_has_a_plan()
+    ensures { (form : Tree) (players : ℕ) → 1 ≤ players → players ≤ 8 → plan_faults players form ≡ []
+        → (plan : Plan) × PlanStands plan form × IsWithinLimits plan × (length plan.strategies ≡ players) }
 {}
 
 /// A form that has faults has exactly one first fault.
