@@ -1,0 +1,61 @@
+//! Draws: keys made of four numbers, and the picks and the shuffles that a key decides.
+//!
+//! A key has a sequence of words of 32 bits, those of the generator ChaCha8. What is drawn by a key depends on the key alone.
+#![tactic(auto)]
+
+ghost use Rattle.std.specs.Prelude.{◌≡◌, ◌<◌, ◌≤◌, length};
+ghost use Rattle.std.specs.List.Sorted.{IsPermutation};
+ghost use Rattle.rc_play_model.specs.Draws as draws;
+
+use rand_chacha::ChaCha8Rng;
+use rand_core::SeedableRng;
+use rand_core::utils::NextWord;
+use rc_play_model::keys_pick_and_permute;
+
+/// The key of four numbers, one behind the other with their lowest bytes first.
+pub fn key32(a: u64, b: u64, c: u64, d: u64) -> [u8; 32]
+    ensures { result ≡ draws.key32 a b c d }
+{
+    let mut key = [0u8; 32];
+    key[0..8].copy_from_slice(&a.to_le_bytes());
+    key[8..16].copy_from_slice(&b.to_le_bytes());
+    key[16..24].copy_from_slice(&c.to_le_bytes());
+    key[24..32].copy_from_slice(&d.to_le_bytes());
+    key
+}
+
+/// A word as a number below n: n times the part of all words that lies below it, rounded down.
+fn scaled(word: u32, n: u32) -> u32
+    requires { 0 < n }
+    ensures value { result ≡ draws.scaled word n }
+    ensures bound { result < n }
+{
+    (word as u64 * n as u64 / 4294967296) as u32
+}
+
+/// The pick of a key below n, by its first word.
+pub fn pick_by(key: &[u8; 32], n: u32) -> u32
+    requires { 0 < n }
+    ensures value { result ≡ draws.pick_of key.now n }
+    ensures bound { result < n }
+{
+    let mut rng = ChaCha8Rng::from_seed(*key);
+    scaled(rng.next_word(), n)
+}
+
+/// Puts a list of at most 512 items into the order of a key. From the last place down to the second, each takes what stands at
+/// a place up to it by the key's next word, and gives what it had. A list of fewer than two items stays.
+pub fn shuffle_by(key: &[u8; 32], list: &mut [u16])
+    requires { length list.old ≤ 512 }
+    ensures order { list.new ≡ draws.permuted key.now list.old }
+    ensures permuted { IsPermutation list.old list.new }
+{
+    keys_pick_and_permute();
+    let mut rng = ChaCha8Rng::from_seed(*key);
+    let mut z = list.len();
+    while z > 1 {
+        let at = scaled(rng.next_word(), z as u32) as usize;
+        list.swap(at, z - 1);
+        z -= 1;
+    }
+}
