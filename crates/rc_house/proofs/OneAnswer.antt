@@ -33,26 +33,26 @@ faulty_of source want read other kind at has =
 -- a command writes one text
 one_text : (command : Command) (source : List ℕ) (sheet : sheets.Sheet) (others : List Tree) (rest : ℕ) (bytes other : List ℕ)
     → HasText command source sheet others rest bytes → HasText command source sheet others rest other → other ≡ bytes
-one_text Play source sheet others rest bytes other has has' = one_house source bytes other has.1 has'.1
+one_text Play source sheet others rest bytes other has has' = one_house source bytes other has.2 has'.2
 one_text Sheet source sheet others rest bytes other has has' = has' ∙ sym has
 
 -- a command that writes a text is built
 built : (command : Command) (source : List ℕ) (sheet : sheets.Sheet) (others : List Tree) (rest : ℕ) (bytes : List ℕ)
     → HasText command source sheet others rest bytes → IsUnbuilt command source sheet others rest → ⊥
-built Play source sheet others rest bytes has none = none.1 bytes has.1
+built Play source sheet others rest bytes has none = none.2 bytes has.2
 built Sheet source sheet others rest bytes has none = none
 
 -- where a text is written, or a command isn't built, the plan has no fault
 text_no_plan_fault : (command : Command) (source : List ℕ) (sheet : sheets.Sheet) (others : List Tree) (rest : ℕ) (bytes : List ℕ) (kind : _) (at : ℕ)
     → HasText command source sheet others rest bytes → HasPlanRefusal command source sheet others rest kind at → ⊥
 text_no_plan_fault Play source sheet others rest bytes kind at has fault =
-    accepted_no_plan_fault source sheet.players others rest kind at has.0 fault
+    accepted_no_plan_fault source sheet.players others rest has.0 kind at has.1 fault
 text_no_plan_fault Sheet source sheet others rest bytes kind at has fault = fault
 
 unbuilt_no_plan_fault : (command : Command) (source : List ℕ) (sheet : sheets.Sheet) (others : List Tree) (rest : ℕ) (kind : _) (at : ℕ)
     → IsUnbuilt command source sheet others rest → HasPlanRefusal command source sheet others rest kind at → ⊥
 unbuilt_no_plan_fault Play source sheet others rest kind at has fault =
-    accepted_no_plan_fault source sheet.players others rest kind at has.0 fault
+    accepted_no_plan_fault source sheet.players others rest has.0 kind at has.1 fault
 unbuilt_no_plan_fault Sheet source sheet others rest kind at has fault = fault
 
 -- a plan has one first fault

@@ -1,5 +1,5 @@
 -- The lists behind a sheet are accepted as its plan, or they have one first fault.
-use Rattle.std.proofs.Common.{◌≡◌, ◌≢◌, ℕ, ◌⊎◌, List, [], ◌∷◌, Option, Some, None, IfSome, IfNone, ◌<◌, get_or, length, inl, inr, refl, sym, ◌∙◌, ap, subst, arith}
+use Rattle.std.proofs.Common.{◌≡◌, ◌≢◌, ℕ, ◌⊎◌, List, [], ◌∷◌, Option, Some, None, IfSome, IfNone, ◌<◌, ◌≤◌, get_or, length, inl, inr, refl, sym, ◌∙◌, ap, subst, arith}
 use Rattle.std.specs.List.{Contains}
 use Rattle.std.proofs.lemmas.Bool.{cases_eq}
 use Rattle.rc_model.specs.Tree.{Tree}
@@ -12,7 +12,9 @@ use Rattle.rc_plan_model.proofs.OneFault.{one_first, some_first}
 use Rattle.rc_house.specs.declared.refusal.Refusal.TheVariants as refusal
 use Rattle.rc_form.specs.Form.{tree_of, trees_of}
 use Rattle.rc_form.specs.declared.form.Form.{Form}
-use Rattle.rc_house.specs.AcceptedPlan.{HasPlanFault, IsPlanAccepted}
+use Rattle.rc_play_model.specs.Plan.{Plan}
+use Rattle.rc_plan_model.proofs.SomePlan.{some_plan}
+use Rattle.rc_house.specs.AcceptedPlan.{HasPlanFault, IsPlanAccepted, HasPlan}
 
 -- no fault is one of none
 none_first : (form : Tree) (players : ℕ) (kind : PlanKind) (at : ℕ) → plan_faults players form ≡ [] → IsPlanFault form players kind at → ⊥
@@ -20,11 +22,11 @@ none_first form players kind at none is =
     let stands = subst (λ faults. Contains faults (record { kind = kind; at = at })) none is.stands in omega (arith, stands.1)
 
 -- an accepted plan has no fault
-pub accepted_no_plan_fault : (source : List ℕ) (players : ℕ) (others : List Tree) (rest : ℕ) (kind : PlanKind) (at : ℕ)
-    → IsPlanAccepted source players others rest → HasPlanFault source players kind at others rest → ⊥
-accepted_no_plan_fault source players [] rest kind at is has = is
-accepted_no_plan_fault source players (form ∷ others) rest kind at is (inl has) = none_first form players kind at is.0 has
-accepted_no_plan_fault source players (form ∷ others) rest kind at is (inr has) = has.1 is.1
+pub accepted_no_plan_fault : (source : List ℕ) (players : ℕ) (others : List Tree) (rest : ℕ) (plan : Plan) (kind : PlanKind) (at : ℕ)
+    → IsPlanAccepted source players others rest plan → HasPlanFault source players kind at others rest → ⊥
+accepted_no_plan_fault source players [] rest plan kind at is has = is
+accepted_no_plan_fault source players (form ∷ others) rest plan kind at is (inl has) = none_first form players kind at is.0.faultless has
+accepted_no_plan_fault source players (form ∷ others) rest plan kind at is (inr has) = has.1 is.1
 
 same_fault : (kind other : PlanKind) (at offset : ℕ) → other ≡ kind → offset ≡ at → refusal.Plan other offset ≡ refusal.Plan kind at
 same_fault kind other at offset is same = cc
@@ -46,14 +48,16 @@ one_plan_fault source players (form ∷ others) rest kind other at offset (inr h
 -- the lists are accepted, or they have a fault
 abbrev pub IsPlanOrFault : List ℕ → ℕ → List Tree → ℕ → Type 0
 IsPlanOrFault source players others rest =
-    IsPlanAccepted source players others rest ⊎ ((kind : PlanKind) × (at : ℕ) × HasPlanFault source players kind at others rest)
+    HasPlan source players others rest ⊎ ((kind : PlanKind) × (at : ℕ) × HasPlanFault source players kind at others rest)
 
-pub plan_or_fault : (source : List ℕ) (players : ℕ) (others : List Tree) (rest : ℕ) → IsPlanOrFault source players others rest
-plan_or_fault source players [] rest = inr (Shape, rest, (refl, refl))
-plan_or_fault source players (form ∷ others) rest = by (plan_faults players form) refl
+pub plan_or_fault : (source : List ℕ) (players : ℕ) (others : List Tree) (rest : ℕ) → 1 ≤ players → players ≤ 8 → IsPlanOrFault source players others rest
+plan_or_fault source players [] rest some few = inr (Shape, rest, (refl, refl))
+plan_or_fault source players (form ∷ others) rest some few = by (plan_faults players form) refl
   where
     at_end : plan_faults players form ≡ [] → (rest ≡ length source) ⊎ (rest ≢ length source) → IsPlanOrFault source players (form ∷ others) rest
-    at_end none (inl ends) = inl (none, ends)
+    at_end none (inl ends) =
+        let made = some_plan form players some few none in
+        inl (made.0, (record { faultless = none; stands = made.1; within = made.2; seats = made.3 }, ends))
     at_end none (inr more) = inr (Rest, rest, inr (none, more, refl, refl))
 
     by : (faults : List PlanFault) → plan_faults players form ≡ faults → IsPlanOrFault source players (form ∷ others) rest

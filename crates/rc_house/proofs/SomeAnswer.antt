@@ -20,7 +20,7 @@ use Rattle.rc_house.specs.declared.refusal.Refusal.TheVariants as refusal
 use Rattle.rc_house.specs.declared.status.SourceKind.TheVariants.{Shape, Unseen}
 use Rattle.rc_house.specs.Status.{source_kind, sheet_kind}
 use Rattle.rc_house.specs.Accepted.{IsSheetOf, IsAccepted}
-use Rattle.rc_house.specs.AcceptedPlan.{HasPlanFault, IsPlanAccepted}
+use Rattle.rc_house.specs.AcceptedPlan.{HasPlanFault, IsPlanAccepted, HasPlan}
 use Rattle.rc_house.specs.Command.{wanted}
 use Rattle.rc_house.specs.Reading.{IsAcceptedWith}
 use Rattle.rc_house.specs.Answer.{Answer, text, refused, HasAnswer}
@@ -42,7 +42,7 @@ accepted Sheet source form others rest sheet spelled is = (
       (first_accepted (form ∷ others) form others sheet refl is) (λ form others same. refl),
 )
 accepted Play source form others rest sheet spelled is =
-    by_plan (plan_or_fault source sheet.players others rest)
+    by_plan (plan_or_fault source sheet.players others rest is.of_form.well.limits.some_players is.of_form.well.limits.players)
   where
     behind : (first : Tree) (more : List Tree) → form ∷ others ≡ first ∷ more → others ≡ more
     behind first more same = cc
@@ -50,17 +50,17 @@ accepted Play source form others rest sheet spelled is =
     sheet_is : IsAcceptedWith (λ other _. other ≡ sheet) (form ∷ others)
     sheet_is = first_accepted (form ∷ others) form others sheet refl is
 
-    by_house : IsPlanAccepted source sheet.players others rest
+    by_house : HasPlan source sheet.players others rest
         → ((bytes : List ℕ) × HasHouse source bytes) ⊎ ((bytes : List ℕ) → HasHouse source bytes → ⊥) → IsAnswered Play source
     by_house plan (inl has) = (
       text has.0,
       text_answer Play source (form ∷ others) rest sheet has.0 spelled sheet_is
-          (λ first more same. (subst (λ others. IsPlanAccepted source sheet.players others rest) (behind first more same) plan, has.1)),
+          (λ first more same. (plan.0, subst (λ others. IsPlanAccepted source sheet.players others rest plan.0) (behind first more same) plan.1, has.1)),
     )
     by_house plan (inr none) = (
       refused refusal.Unbuilt,
       unbuilt_answer Play source (form ∷ others) rest sheet spelled sheet_is
-          (λ first more same. (subst (λ others. IsPlanAccepted source sheet.players others rest) (behind first more same) plan, none)),
+          (λ first more same. (plan.0, subst (λ others. IsPlanAccepted source sheet.players others rest plan.0) (behind first more same) plan.1, none)),
     )
 
     by_plan : IsPlanOrFault source sheet.players others rest → IsAnswered Play source

@@ -1,16 +1,30 @@
 -- Which lists behind a sheet are accepted as its plan, and the first fault of those that aren't.
 use Rattle.std.specs.Prelude.{◌≡◌, ◌≢◌, ℕ, ◌⊎◌, List, [], ◌∷◌, length}
 use Rattle.rc_model.specs.Tree.{Tree}
+use Rattle.rc_play_model.specs.Plan.{Plan}
 use Rattle.rc_plan_model.specs.Faults.{plan_faults}
+use Rattle.rc_plan_model.specs.Limits.{IsWithinLimits}
+use Rattle.rc_plan_model.specs.PlanStands.{PlanStands}
 use Rattle.rc_plan_model.specs.PlanFault.{IsPlanFault}
 use Rattle.rc_plan_model.specs.declared.fault.PlanKind.{PlanKind}
 use Rattle.rc_plan_model.specs.declared.fault.PlanKind.TheVariants.{Shape, Rest}
 
--- The first of these lists has no fault as a plan for so many players, and nothing follows it in the source. A form without a
--- fault is that of one plan.
-abbrev pub IsPlanAccepted : List ℕ → ℕ → List Tree → ℕ → Type 0
-IsPlanAccepted source players [] rest = ⊥
-IsPlanAccepted source players (form ∷ others) rest = (plan_faults players form ≡ []) × (rest ≡ length source)
+-- The plan of a form that has no fault as one for so many players: the plan within the limits that the form stands for, with a
+-- strategy for each player. Of each form there is one at most.
+pub record IsPlanOf (players : ℕ) (form : Tree) (plan : Plan) : Type 0 where
+  pub faultless : plan_faults players form ≡ []
+  pub stands : PlanStands plan form
+  pub within : IsWithinLimits plan
+  pub seats : length plan.strategies ≡ players
+
+-- The first of these lists is accepted as this plan for so many players, and nothing follows it in the source.
+abbrev pub IsPlanAccepted : List ℕ → ℕ → List Tree → ℕ → Plan → Type 0
+IsPlanAccepted source players [] rest plan = ⊥
+IsPlanAccepted source players (form ∷ others) rest plan = IsPlanOf players form plan × (rest ≡ length source)
+
+-- there is such a plan
+abbrev pub HasPlan : List ℕ → ℕ → List Tree → ℕ → Type 0
+HasPlan source players others rest = (plan : Plan) × IsPlanAccepted source players others rest plan
 
 -- The first fault of the plan: it is missing, where these are the lists and the rest that were read behind the sheet; or else it
 -- is the first fault of the first of them; or else something follows it.

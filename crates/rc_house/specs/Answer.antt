@@ -3,6 +3,7 @@ use Rattle.std.specs.Prelude.{◌≡◌, ℕ, ◌⊎◌, List}
 use Rattle.rc_model.specs.Transcript.{line}
 use Rattle.rc_model.specs.Tree.{Tree}
 use Rattle.rc_model.specs.SmallText.{HasHouse}
+use Rattle.rc_play_model.specs.Plan.{Plan}
 use Rattle.rc_sheet_model.specs.Sheet as sheet
 use Rattle.rc_sheet_model.specs.Printing.{printed_sheet}
 use Rattle.rc_plan_model.specs.declared.fault.PlanKind.{PlanKind}
@@ -23,7 +24,8 @@ pub data Answer : Type 0 where
 
 -- The text that a command writes where the sheet is accepted, with these lists behind it and the rest that begins here.
 abbrev pub HasText : Command → List ℕ → sheet.Sheet → List Tree → ℕ → List ℕ → Type 0
-HasText Play source sheet others rest bytes = IsPlanAccepted source sheet.players others rest × HasHouse source bytes
+HasText Play source sheet others rest bytes =
+    (plan : Plan) × IsPlanAccepted source sheet.players others rest plan × HasHouse source bytes
 HasText Sheet source sheet others rest bytes = bytes ≡ line (printed_sheet sheet)
 
 -- The plan's first fault, where the command reads a plan.
@@ -34,7 +36,7 @@ HasPlanRefusal Sheet source sheet others rest kind at = ⊥
 -- What the command is to do with the source isn't built: the plan is accepted too, and the source is none of a small game.
 abbrev pub IsUnbuilt : Command → List ℕ → sheet.Sheet → List Tree → ℕ → Type 0
 IsUnbuilt Play source sheet others rest =
-    IsPlanAccepted source sheet.players others rest × ((bytes : List ℕ) → HasHouse source bytes → ⊥)
+    (plan : Plan) × IsPlanAccepted source sheet.players others rest plan × ((bytes : List ℕ) → HasHouse source bytes → ⊥)
 IsUnbuilt Sheet source sheet others rest = ⊥
 
 -- Why a command refuses its source.

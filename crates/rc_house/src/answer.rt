@@ -11,11 +11,11 @@ ghost use Rattle.rc_house.specs.Game.{game_of};
 ghost use Rattle.rc_house.specs.declared.refusal.Refusal.TheVariants as refusal;
 ghost use Rattle.rc_house.specs.declared.status.SourceKind.TheVariants.{Shape};
 ghost use Rattle.rc_house.specs.Status.{source_kind};
-ghost use Rattle.rc_plan_model.specs.Faults.{plan_faults};
+ghost use Rattle.rc_play_model.specs.Plan.{Plan};
 ghost use Rattle.rc_plan_model.specs.PlanFault.{IsPlanFault};
 ghost use Rattle.rc_plan_model.specs.declared.fault.PlanKind.TheVariants as plan_kind;
 ghost use Rattle.rc_house.specs.declared.command.Command.TheVariants as command;
-ghost use Rattle.rc_house.specs.AcceptedPlan.{HasPlanFault, IsPlanAccepted};
+ghost use Rattle.rc_house.specs.AcceptedPlan.{HasPlanFault, IsPlanOf, HasPlan};
 ghost use Rattle.rc_house.specs.Command.{wanted};
 ghost use Rattle.rc_house.specs.Reading.{IsAcceptedWith};
 ghost use Rattle.rc_house.specs.Answer.{refused, seen, HasAnswer};
@@ -174,7 +174,7 @@ fn plan_fault(
         → HasPlanFault source.now players fault.kind fault.at others forms.now.rest)) }
     ensures none { IfOk result (λ found. IfNone found ((form : Tree) (others : List Tree)
         → trees_of forms.now.list.items ≡ form ∷ others
-        → IsPlanAccepted source.now players others forms.now.rest)) }
+        → HasPlan source.now players others forms.now.rest)) }
 {
     let Some(plan) = forms.list.get(1) else {
         return Ok(Some(PlanFault {
@@ -194,7 +194,7 @@ fn fault_of_plan(alloc: Global, plan: &Form, players: u8) -> Result<Option<PlanF
     requires some { 1 ≤ players }
     requires few { players ≤ 8 }
     ensures found { IfOk result (λ found. IfSome found (λ fault. IsPlanFault (tree_of plan.now) players fault.kind fault.at)) }
-    ensures none { IfOk result (λ found. IfNone found (plan_faults players (tree_of plan.now) ≡ [])) }
+    ensures none { IfOk result (λ found. IfNone found ((made : Plan) × IsPlanOf players (tree_of plan.now) made)) }
 {
     let Err(fail) = plan_of(alloc, plan, players) else {
         return Ok(None);

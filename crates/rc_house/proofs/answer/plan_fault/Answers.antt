@@ -1,5 +1,5 @@
 use Rattle.std.proofs.Common.{inl, inr, sym, subst}
-use Rattle.rc_house.specs.AcceptedPlan.{HasPlanFault, IsPlanAccepted}
+use Rattle.rc_house.specs.AcceptedPlan.{HasPlanFault, HasPlan}
 use Rattle.rc_house.proofs.PlanLaws.{others_are, some_then, none_then}
 use Rattle.rc_house.proofs.answer.plan_fault.Goals as goal
 
@@ -20,7 +20,7 @@ returns-in-None-clause-found c =
     (λ fault has form others same.
     let behind = others_are c.deref.result.now forms.list.items c.in-Some.plan.now form others c.deref.ensures.value item.3.0 item.1 same in
     subst (λ others. HasPlanFault c.args.source.now c.args.players fault.kind fault.at others forms.rest) (sym behind.1)
-    (inr (none, has.0, has.1, has.2)))
+    (inr (none.1.faultless, has.0, has.1, has.2)))
     c.rest_fault.ensures.found
 
 pub returns-in-None-clause-none : goal.returns-in-None-clause-none
@@ -31,5 +31,5 @@ returns-in-None-clause-none c =
     none_then c.rest_fault.result _ _
     (λ ends form others same.
     let behind = others_are c.deref.result.now forms.list.items c.in-Some.plan.now form others c.deref.ensures.value item.3.0 item.1 same in
-    subst (λ others. IsPlanAccepted c.args.source.now c.args.players others forms.rest) (sym behind.1) (none, ends))
+    subst (λ others. HasPlan c.args.source.now c.args.players others forms.rest) (sym behind.1) (none.0, (none.1, ends)))
     c.rest_fault.ensures.none
