@@ -1,5 +1,5 @@
 //! What faces are worth.
-ghost use Rattle.std.specs.Prelude.{◌≡◌, ◌≤◌, ◌^◌, ◌==◌, ◌&&◌, All, vec_len, pos, neg_ℤ, ◌≤ℤ◌};
+ghost use Rattle.std.specs.Prelude.{◌≡◌, ◌==◌, ◌&&◌, All, pos, neg_ℤ, ◌≤ℤ◌};
 ghost use Rattle.rc_model.specs.Deck.{points_of, fits_entry};
 ghost use Rattle.rc_model.specs.Clamp.{IsWithinClamp};
 ghost use Rattle.rc_deck.specs.Points.{entries_of, entry_of, points_added};
@@ -24,17 +24,17 @@ pub struct PointEntry {
 /// What a face is worth: the sum of the points of all entries that it fits, then clamped to -1,000,000,000 ..
 /// 1,000,000,000.
 ///
-/// The map has at most 2^23 entries, and the points of each are in that range.
+/// The points of each entry are in that range.
 pub fn points(map: &PointMap, face: &Face) -> i64
-    requires few { vec_len map.now.entries ≤ 2 ^ 23 }
     requires clamped { All (λ entry. IsWithinClamp entry.points) (entries_of map.now) }
     ensures { result ≡ points_of (entries_of map.now) face.now }
 {
-    let mut sum = 0i64;
+    let _count = map.entries.len();
+    let mut sum = 0i128;
     for entry in &map.entries {
-        sum += added(entry, face);
+        sum += i128::from(added(entry, face));
     }
-    sum.clamp(-LARGEST_NUMBER, LARGEST_NUMBER)
+    sum.clamp(-i128::from(LARGEST_NUMBER), i128::from(LARGEST_NUMBER)) as i64
 }
 
 // What an entry adds to the sum.
