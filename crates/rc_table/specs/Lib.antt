@@ -1,0 +1,4 @@
+pub mod Places
+pub mod Shape
+pub mod Codes
+pub mod Laid

@@ -1,0 +1,20 @@
+//! The locations of a game: what each holds, who sees it, and the numbers that the game keeps.
+//!
+//! A [`Shape`] says which locations and numbers there are and which face each card has. A [`Table`] is where the cards are at
+//! a moment of a match. Every edit keeps a table sound: each card stands once in the locations that hold cards, each `mem`
+//! has at most 512 references and all of them 1,024, and numbers are within -1,000,000,000 .. 1,000,000,000. None of them
+//! takes memory.
+#![tactic(auto)]
+
+mod arena;
+mod edits;
+mod place;
+mod shape;
+mod sight;
+mod table;
+
+pub use place::{Owner, Place};
+pub use rc_names::LocKind as Kind;
+pub use shape::Shape;
+pub use sight::{face_number, sees};
+pub use table::Table;

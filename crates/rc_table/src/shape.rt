@@ -1,0 +1,127 @@
+//! The shape of a sheet.
+ghost use Rattle.std.specs.Prelude.{◌≡◌, length, slice_get, option_map};
+ghost use Rattle.rc_play_model.specs.Shape.{team_at, face_at, holds_references};
+ghost use Rattle.rc_table.specs.Places.{place_seen};
+ghost use Rattle.rc_table.specs.Shape.{IsShape, shape_of_parts, face_or_none};
+
+use crate::place::Place;
+use rc_deck::Face;
+use std::marker::Model;
+
+/// How many players there are, each player's team, the locations in their order, how many numbers there are, and each card's
+/// face and first location.
+///
+/// It keeps the limits: 1 to 8 players, at most 512 cards, 256 locations and 256 numbers. Owners are players and teams that
+/// are there, and each card begins in a location that is no `mem`.
+#[derive(Debug, Drop)]
+pub struct Shape {
+    players: u8,
+    team_of: Vec<u8>,
+    places: Vec<Place>,
+    numbers: u16,
+    faces: Vec<Face>,
+    home: Vec<u16>,
+}
+
+impl Model for Shape {
+    ghost use Rattle.std.specs.Coded.{codes};
+    ghost use Rattle.rc_play_model.specs.Shape.{Shape as PureShape};
+    ghost use Rattle.rc_table.specs.Codes.{shape_codes};
+
+    ghost Value = { PureShape };
+
+    ghost coded = { Prim.hlevel (shape_codes, codes) };
+
+    ghost use Rattle.rc_table.specs.Shape.{IsShape, shape_of_parts};
+
+    ghost view = { λ s. shape_of_parts s.players s.team_of.items s.places.items s.numbers s.faces.items s.home.items };
+
+    ghost invariant = { λ s. IsShape (shape_of_parts s.players s.team_of.items s.places.items s.numbers s.faces.items s.home.items) };
+}
+
+impl Shape {
+    /// A shape of these parts.
+    pub fn new(
+        players: u8,
+        team_of: Vec<u8>,
+        places: Vec<Place>,
+        numbers: u16,
+        faces: Vec<Face>,
+        home: Vec<u16>,
+    ) -> Shape
+        requires { IsShape (shape_of_parts players team_of.items places.items numbers faces.items home.items) }
+        ensures { result ≡ shape_of_parts players team_of.items places.items numbers faces.items home.items }
+    {
+        Shape { players, team_of, places, numbers, faces, home }
+    }
+
+    /// How many players there are.
+    pub fn players(&self) -> u8
+        ensures is { result ≡ self.now.players }
+        ensures limits { IsShape self.now }
+    {
+        self.players
+    }
+
+    /// A player's team, or 0 where there is no such player.
+    pub fn team_of(&self, player: u8) -> u8
+        ensures { result ≡ team_at self.now player }
+    {
+        match self.team_of.get(player as usize) {
+            Some(team) => *team,
+            None => 0,
+        }
+    }
+
+    /// How many locations there are.
+    pub fn locations(&self) -> u16
+        ensures { result ≡ length self.now.places }
+    {
+        self.places.len() as u16
+    }
+
+    /// The location with this number, if there is one.
+    pub fn place(&self, loc: u16) -> Option<Place>
+        ensures { option_map place_seen result ≡ slice_get self.now.places loc }
+    {
+        self.places.get(loc as usize).copied()
+    }
+
+    /// Whether the location with this number holds references, and not cards.
+    pub fn holds_references(&self, loc: u16) -> bool
+        ensures { result ≡ holds_references (slice_get self.now.places loc) }
+    {
+        matches!(self.place(loc), Some(Place { kind: LocKind::Mem, .. }))
+    }
+
+    /// How many numbers there are.
+    pub fn numbers(&self) -> u16
+        ensures { result ≡ self.now.numbers }
+    {
+        self.numbers
+    }
+
+    /// How many cards there are.
+    pub fn cards(&self) -> u16
+        ensures { result ≡ length self.now.faces }
+    {
+        self.faces.len() as u16
+    }
+
+    /// The face of a card, if there is such a card.
+    pub fn face(&self, id: u16) -> Option<&Face>
+        ensures { face_at self.now id ≡ face_or_none (option_map (λ face. face.now) result) }
+    {
+        self.faces.get(id as usize)
+    }
+
+    /// The location that a card begins in, or 0 where there is no such card.
+    pub fn home(&self, id: u16) -> u16
+        ensures { result ≡ slice_index_or self.now.home id 0 }
+    {
+        match self.home.get(id as usize) {
+            Some(loc) => *loc,
+            None => 0,
+        }
+    }
+}
