@@ -7,11 +7,11 @@ use Rattle.std.proofs.lemmas.List.{length-map}
 use Rattle.std.proofs.lemmas.Int.{ints, clamps}
 use Rattle.rc_model.specs.Clamp.{clamped, IsWithinClamp}
 use Rattle.rc_model.specs.Deck.{Entry, Face, fits_entry, points_of}
-use Rattle.rc_model.specs.DeckText.{HaveWorths}
+use Rattle.rc_small.specs.DeckText.{HaveWorths}
 use Rattle.rc_model.specs.Placed.{starts, Rise, IsPlaced}
 use Rattle.rc_model.specs.Spelled.{Spelled}
-use Rattle.rc_model.specs.SmallGame.{SmallGame}
-use Rattle.rc_model.specs.SmallText.{IsSmall, IsSmallSheet, IsSmallPlan}
+use Rattle.rc_small.specs.SmallGame.{SmallGame}
+use Rattle.rc_small.specs.SmallText.{IsSmall, IsSmallSheet, IsSmallPlan}
 use Rattle.rc_model.specs.Tree.{Tree, printed}
 use Rattle.rc_form.specs.declared.fault.FormKind.{FormKind}
 use Rattle.rc_form.specs.declared.form.Form.{Form}

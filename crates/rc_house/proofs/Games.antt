@@ -1,9 +1,9 @@
 -- A sheet and a plan that are read are those of a small game, and those of a small game are read.
 use Rattle.std.proofs.Common.{◌≡◌, ℕ, List, [], ◌∷◌, Some, None, ℤ, sym, ap, subst, ◌∙◌}
 use Rattle.rc_model.specs.Tree.{Tree, word, list, Trees, printed, IsOpenAtMost}
-use Rattle.rc_model.specs.DeckText.{HaveWorths, IsList}
-use Rattle.rc_model.specs.SmallGame.{SmallGame}
-use Rattle.rc_model.specs.SmallText.{part_at, IsSmallSheet, IsSmallPlan}
+use Rattle.rc_small.specs.DeckText.{HaveWorths, IsList}
+use Rattle.rc_small.specs.SmallGame.{SmallGame}
+use Rattle.rc_small.specs.SmallText.{part_at, IsSmallSheet, IsSmallPlan}
 use Rattle.rc_form.specs.Form.{IsPrintable}
 use Rattle.rc_house.specs.SmallReading.{CountsReading, counts_at, PlanReading, plan_at}
 use Rattle.rc_house.specs.Parts.{SheetReading, sheet_reading, plan_reading, game_from}

@@ -5,15 +5,15 @@ use Rattle.std.proofs.lemmas.Slice.Eq.{bytes_eq-Decides}
 use Rattle.rc_model.specs.Tree.{Tree, printed}
 use Rattle.rc_model.specs.Words.{different}
 use Rattle.rc_model.specs.Deck.{Groups, Entry}
-use Rattle.rc_model.specs.DeckText.{in_deck, in_entries, DeckMention, names_of, attribute_name, value_name, DeckStands, EntriesStand, HaveWorths}
-use Rattle.rc_model.specs.SmallGame.{SmallGame, small_house}
-use Rattle.rc_model.specs.SmallText.{IsSmall, IsSmallSheet, IsSmallPlan, HasHouse}
+use Rattle.rc_small.specs.DeckText.{in_deck, in_entries, DeckMention, names_of, attribute_name, value_name, DeckStands, EntriesStand, HaveWorths}
+use Rattle.rc_small.specs.SmallGame.{SmallGame, small_house}
+use Rattle.rc_small.specs.SmallText.{IsSmall, IsSmallSheet, IsSmallPlan, HasHouse}
 use Rattle.std.specs.Prelude.{flat_map}
 use Rattle.rc_deck.proofs.PathLaws.{AreFaces-unique}
-use Rattle.rc_setup.specs.Naming.{AllDiffer}
-use Rattle.rc_setup.proofs.DeckLaws.{BothDiffer, deck_complete}
-use Rattle.rc_setup.proofs.EntryLaws.{entries_complete}
-use Rattle.rc_setup.proofs.WorthLaws.{names_in, worths_only}
+use Rattle.rc_small.specs.Naming.{AllDiffer}
+use Rattle.rc_small.proofs.DeckLaws.{BothDiffer, deck_complete}
+use Rattle.rc_small.proofs.EntryLaws.{entries_complete}
+use Rattle.rc_small.proofs.WorthLaws.{names_in, worths_only}
 use Rattle.rc_sheet.proofs.FewNames.{different_differ}
 use Rattle.rc_house.specs.Parts.{sheet_reading, plan_reading}
 use Rattle.rc_house.proofs.Options.{some_is}

@@ -6,7 +6,7 @@ use Rattle.std.specs.Global.{Global}
 use Rattle.std.proofs.lemmas.Option.{option_and_then_some}
 use Rattle.std.proofs.lemmas.List.{length-append}
 use Rattle.rc_model.specs.Tree.{Tree, word, list, Trees, nil, cons, nth, IsOpenAtMost, AreOpenAtMost, count}
-use Rattle.rc_model.specs.SmallText.{part_at}
+use Rattle.rc_small.specs.SmallText.{part_at}
 use Rattle.rc_model.specs.Placed.{starts, all_starts}
 use Rattle.rc_form.specs.declared.form.Form as form_type
 use Rattle.rc_form.specs.declared.form.Form.{Form, List as ListOf}
@@ -15,7 +15,7 @@ use Rattle.rc_form.specs.declared.form.Form.TheFolds.{fold-roll-Form}
 use Rattle.rc_form.specs.declared.form.Span.{Span}
 use denote.Ref.{Bor}
 use Rattle.rc_form.specs.Form.{packed, tree_step, tree_of, list_tree}
-use Rattle.rc_setup.specs.Size.{count_of_parts}
+use Rattle.rc_small.specs.Size.{count_of_parts}
 use Rattle.rc_house.specs.Parts.{part_in}
 
 -- a path leads first to the part at its first place

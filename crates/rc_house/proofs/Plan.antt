@@ -4,8 +4,8 @@ use Rattle.std.proofs.lemmas.Bool.{eqb-true}
 use Rattle.std.proofs.lemmas.List.{nil_from_length}
 use Rattle.std.proofs.lemmas.Option.{cond_some, option_and_then_some}
 use Rattle.rc_model.specs.Literal.{natural}
-use Rattle.rc_model.specs.SmallGame.{SmallGame}
-use Rattle.rc_model.specs.SmallText.{PlanWords, IsSmallPlan, spaced, script_text, plan_text}
+use Rattle.rc_small.specs.SmallGame.{SmallGame}
+use Rattle.rc_small.specs.SmallText.{PlanWords, IsSmallPlan, spaced, script_text, plan_text}
 use Rattle.rc_house.specs.SmallReading.{scripts_at, TailReading, tail_at, PlanReading, plan_at}
 use Rattle.rc_house.specs.Parts.{plan_reading}
 use Rattle.rc_house.proofs.Options.{step, some_is}

@@ -7,7 +7,7 @@ use Rattle.rc_house.specs.declared.transcript.Pick.{Pick as StoredPick}
 use Rattle.rc_house.specs.declared.transcript.Score.{Score as StoredScore}
 use Rattle.rc_house.specs.Transcript.{pick_of, player_score_of}
 use Rattle.rc_house.specs.Play.{play_of}
-use Rattle.rc_model.specs.SmallGame.{SmallGame, Play, below, rounds_of, turns_of, plays_within, score_of, score_at, scores_of, record_of}
+use Rattle.rc_small.specs.SmallGame.{SmallGame, Play, below, rounds_of, turns_of, plays_within, score_of, score_at, scores_of, record_of}
 use Rattle.rc_model.specs.Transcript.{Pick, Ending, done, limit}
 
 -- what was chosen, seen before or after it is taken out of the choices

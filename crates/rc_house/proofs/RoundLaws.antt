@@ -13,7 +13,7 @@ use Rattle.std.proofs.lemmas.List.Folds.{list_any-append}
 use Rattle.std.proofs.lemmas.List.Concat.{flat_map-append}
 use Rattle.std.proofs.lemmas.List.FromFn.{map-range_with_len_more}
 use Rattle.std.proofs.lemmas.Simd.{map-map}
-use Rattle.rc_model.specs.SmallGame.{SmallGame, Play, plays_of, round_of, below, hand_after, menu_size, scripted_item, play_from, through_last_play}
+use Rattle.rc_small.specs.SmallGame.{SmallGame, Play, plays_of, round_of, below, hand_after, menu_size, scripted_item, play_from, through_last_play}
 
 -- the numbers below n + 1 are those below n, and n
 pub below_more : (n : ℕ) → below (n + 1) ≡ below n ++ n ∷ []

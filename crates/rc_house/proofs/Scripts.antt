@@ -7,7 +7,7 @@ use Rattle.std.proofs.lemmas.Option.{option_and_then_some, some_pair_parts}
 use Rattle.std.proofs.lemmas.List.Splits.{join_with_byte-slice_split}
 use Rattle.std.proofs.lemmas.Slice.Eq.{bytes_eq-Decides}
 use Rattle.rc_model.specs.Literal.{is_digit}
-use Rattle.rc_model.specs.SmallText.{IsScriptNumber, spaced, script_text}
+use Rattle.rc_small.specs.SmallText.{IsScriptNumber, spaced, script_text}
 use Rattle.rc_house.specs.SmallReading.{words_of, numbers_of, script_of, script_at, scripts_at}
 use Rattle.rc_house.proofs.Options.{step, some_is, chosen}
 use Rattle.rc_house.proofs.Cuts.{behind_takes, behind_again, until_takes, until_again}

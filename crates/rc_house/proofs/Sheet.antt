@@ -5,7 +5,7 @@ use Rattle.std.proofs.lemmas.List.{nil_from_length}
 use Rattle.std.proofs.lemmas.Option.{cond_some, option_and_then_some, some_pair_parts}
 use Rattle.rc_model.specs.Literal.{integer}
 use Rattle.rc_model.specs.Tree.{Tree, printed}
-use Rattle.rc_model.specs.SmallText.{SheetParts, sheet_text}
+use Rattle.rc_small.specs.SmallText.{SheetParts, sheet_text}
 use Rattle.rc_house.specs.SmallReading.{players_at, setup_at, hand_size_at, CountsReading, counts_at}
 use Rattle.rc_house.proofs.Options.{step, some_is}
 use Rattle.rc_house.proofs.Cuts.{behind_takes, behind_again, until_takes, until_again}

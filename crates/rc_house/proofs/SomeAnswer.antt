@@ -1,7 +1,7 @@
 -- A command has an answer to each source.
 use Rattle.std.proofs.Common.{◌≡◌, ℕ, List, [], ◌∷◌, Option, Some, None, ◌⊎◌, inl, inr, refl, subst}
 use Rattle.rc_model.specs.Spelled.{Spelled}
-use Rattle.rc_model.specs.SmallText.{HasHouse}
+use Rattle.rc_small.specs.SmallText.{HasHouse}
 use Rattle.rc_model.specs.Tree.{Tree}
 use Rattle.rc_model.specs.Transcript.{line}
 use Rattle.rc_grammar.specs.declared.fault.SheetFault.{SheetFault}

@@ -4,16 +4,16 @@ use Rattle.std.specs.List.{All}
 use Rattle.std.proofs.lemmas.Bool.{cases_eq}
 use Rattle.rc_model.specs.Tree.{Tree, printed}
 use Rattle.rc_model.specs.Deck.{Groups, Entry, AreFaces, points_of}
-use Rattle.rc_model.specs.DeckText.{in_deck, in_entries, DeckStands, EntriesStand, HasEachOnce, HaveWorths}
+use Rattle.rc_small.specs.DeckText.{in_deck, in_entries, DeckStands, EntriesStand, HasEachOnce, HaveWorths}
 use Rattle.rc_model.specs.Spelled.{Spelled}
-use Rattle.rc_model.specs.SmallGame.{SmallGame, small_house}
-use Rattle.rc_model.specs.SmallText.{part_at, IsSmall, IsSmallSheet, IsSmallPlan, HasHouse}
+use Rattle.rc_small.specs.SmallGame.{SmallGame, small_house}
+use Rattle.rc_small.specs.SmallText.{part_at, IsSmall, IsSmallSheet, IsSmallPlan, HasHouse}
 use Rattle.rc_deck.proofs.PathLaws.{AreFaces-faces_of_groups, AreFaces-unique}
 use Rattle.rc_deck.specs.Product.{faces_of_groups}
-use Rattle.rc_setup.specs.Reading.{read_deck, read_entries}
-use Rattle.rc_setup.proofs.DeckLaws.{deck_sound, deck_complete}
-use Rattle.rc_setup.proofs.EntryLaws.{entries_sound, entries_complete}
-use Rattle.rc_setup.proofs.WorthLaws.{names_in}
+use Rattle.rc_small.specs.Reading.{read_deck, read_entries}
+use Rattle.rc_small.proofs.DeckLaws.{deck_sound, deck_complete}
+use Rattle.rc_small.proofs.EntryLaws.{entries_sound, entries_complete}
+use Rattle.rc_small.proofs.WorthLaws.{names_in}
 use Rattle.rc_house.specs.SmallReading.{counts_at, plan_at}
 use Rattle.rc_house.specs.Parts.{SheetReading, sheet_reading, game_from}
 use Rattle.rc_house.proofs.Decided.{Decided, option_cases, decide_le, decide_all, decide_different}

@@ -2,7 +2,7 @@
 use Rattle.std.specs.Prelude.{◌≡◌, ℕ, ◌⊎◌, List}
 use Rattle.rc_model.specs.Transcript.{line}
 use Rattle.rc_model.specs.Tree.{Tree}
-use Rattle.rc_model.specs.SmallText.{HasHouse}
+use Rattle.rc_small.specs.SmallText.{HasHouse}
 use Rattle.rc_play_model.specs.Plan.{Plan}
 use Rattle.rc_sheet_model.specs.Sheet as sheet
 use Rattle.rc_sheet_model.specs.Printing.{printed_sheet}

@@ -1,7 +1,7 @@
 -- The game that a value of the program stands for.
 use Rattle.std.specs.Prelude.{map}
 use Rattle.rc_house.specs.declared.game.SmallGame.{SmallGame as Stored}
-use Rattle.rc_model.specs.SmallGame.{SmallGame}
+use Rattle.rc_small.specs.SmallGame.{SmallGame}
 
 abbrev pub game_of : Stored → SmallGame
 game_of stored =

@@ -1,7 +1,7 @@
 -- What the two texts of a small game say, and the values of the program that stand for it.
 use Rattle.std.specs.Prelude.{ℕ, List, map, ℤ, Option, None}
 use Rattle.rc_model.specs.Tree.{Tree, word, list, nth}
-use Rattle.rc_model.specs.SmallGame.{SmallGame}
+use Rattle.rc_small.specs.SmallGame.{SmallGame}
 use Rattle.rc_house.specs.declared.small_text.parts.SheetParts.{SheetParts}
 use Rattle.rc_house.specs.declared.small_text.parts.SheetCounts.{SheetCounts}
 use Rattle.rc_house.specs.declared.small_text.parts.PlanParts.{PlanParts}

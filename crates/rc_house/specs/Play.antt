@@ -5,7 +5,7 @@ use Rattle.std.specs.Global.{Global}
 use Rattle.rc_house.specs.Transcript.{pick_of}
 use Rattle.rc_house.specs.declared.play.rounds.Play.{Play as StoredPlay}
 use Rattle.rc_model.specs.Clamp.{IsWithinClamp}
-use Rattle.rc_model.specs.SmallGame.{SmallGame, Play}
+use Rattle.rc_small.specs.SmallGame.{SmallGame, Play}
 
 -- The game lies within the limits of small games, and has one script for each player.
 pub record IsPlayable (game : SmallGame) : Type 0 where

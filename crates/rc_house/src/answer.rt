@@ -3,8 +3,8 @@ ghost use Rattle.std.specs.Prelude.{◌≡◌, ◌≢◌, ◌≤◌, ◌<◌, []
 ghost use Rattle.rc_model.specs.Placed.{IsPlaced};
 ghost use Rattle.rc_model.specs.Tree.{Tree};
 ghost use Rattle.rc_model.specs.Spelled.{Spelled};
-ghost use Rattle.rc_model.specs.SmallGame as model;
-ghost use Rattle.rc_model.specs.SmallText.{IsSmall, HasHouse};
+ghost use Rattle.rc_small.specs.SmallGame as model;
+ghost use Rattle.rc_small.specs.SmallText.{IsSmall, HasHouse};
 ghost use Rattle.rc_form.specs.Form.{tree_of, trees_of, IsPrintable};
 ghost use Rattle.rc_form.specs.SameForm.{IsOfAtoms};
 ghost use Rattle.rc_house.specs.Game.{game_of};

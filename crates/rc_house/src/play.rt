@@ -1,6 +1,6 @@
 //! The play of a small game, from its deal to its standings.
 ghost use Rattle.std.specs.Prelude.{◌≡◌, ◌≤◌, ◌<◌, [], ◌∷◌, map, length, flat_map, option_to_list, string_bytes, min, nat_le, if◌then◌else◌, IfOk};
-ghost use Rattle.rc_model.specs.SmallGame.{below, dealt_cards, plays_of, rounds_of, turns_of, plays_within, scores_of, rank_points, standings_of, record_of, small_house};
+ghost use Rattle.rc_small.specs.SmallGame.{below, dealt_cards, plays_of, rounds_of, turns_of, plays_within, scores_of, rank_points, standings_of, record_of, small_house};
 ghost use Rattle.rc_house.specs.Game.{game_of};
 ghost use Rattle.rc_house.specs.Transcript.{match_of, standing_of, ending_of};
 ghost use Rattle.rc_model.specs.Transcript.{done, limit};

@@ -1,8 +1,8 @@
 //! Reading the sheet and the plan of a small game.
 ghost use Rattle.std.specs.Prelude.{◌≡◌, ◌≤◌, ◌^◌, length, IfOk, IfSome, IfNone};
 ghost use Rattle.rc_model.specs.Placed.{starts};
-ghost use Rattle.rc_model.specs.SmallText.{IsSmallSheet, IsSmallPlan};
-ghost use Rattle.rc_model.specs.SmallGame as model;
+ghost use Rattle.rc_small.specs.SmallText.{IsSmallSheet, IsSmallPlan};
+ghost use Rattle.rc_small.specs.SmallGame as model;
 ghost use Rattle.rc_form.specs.Form.{tree_of, IsPrintable};
 ghost use Rattle.rc_house.specs.Game.{game_of};
 

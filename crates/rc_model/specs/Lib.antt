@@ -7,9 +7,6 @@ pub mod Spelled
 pub mod Literal
 pub mod Clamp
 pub mod Deck
-pub mod DeckText
 pub mod Transcript
-pub mod SmallGame
-pub mod SmallText
 pub mod Examples
 pub mod Limits

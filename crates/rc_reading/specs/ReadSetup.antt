@@ -3,7 +3,7 @@ use Rattle.std.specs.Prelude.{ℕ, nat_le, ◌&&◌, ◌==◌, if◌then◌else�
 use Rattle.rc_model.specs.Tree.{Tree, word, list, Trees, nil, cons}
 use Rattle.rc_model.specs.Literal.{integer}
 use Rattle.rc_model.specs.Deck.{Entry}
-use Rattle.rc_model.specs.DeckText.{DeckNames}
+use Rattle.rc_setup.specs.Naming.{DeckNames}
 use Rattle.rc_sheet_model.specs.Sheet.{Teams, DeckLine, Sheet, Who, game}
 use Rattle.rc_model.specs.Limits.{most_players}
 use Rattle.rc_sheet_model.specs.Naming.{Naming}

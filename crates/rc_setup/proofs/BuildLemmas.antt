@@ -2,7 +2,7 @@
 use Rattle.std.proofs.Common.{◌≡◌, ℕ, List, [], ◌∷◌, ◌++◌, map, refl, ap, ◌∙◌, append_assoc}
 use Rattle.std.proofs.lemmas.List.{map-append}
 use Rattle.rc_model.specs.Deck.{Groups, no_group, group, Branches, no_branch, branch, Entry}
-use Rattle.rc_model.specs.DeckText.{DeckNames}
+use Rattle.rc_setup.specs.Naming.{DeckNames}
 use Rattle.rc_deck.specs.declared.tree.Group.{Group as DeckGroup}
 use Rattle.rc_deck.specs.declared.tree.Branch.{Branch as DeckBranch}
 use Rattle.rc_deck.specs.declared.scoring.PointEntry.{PointEntry}

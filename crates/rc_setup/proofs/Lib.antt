@@ -1,13 +1,8 @@
 pub mod WordLemmas
-pub mod NamingLaws
-pub mod MentionLemmas
 pub mod FormLemmas
 pub mod SliceLemmas
 pub mod LoopLemmas
 pub mod BuildLemmas
 pub mod GroupLemmas
 pub mod OptionLemmas
-pub mod DeckLaws
-pub mod EntryLaws
-pub mod FaceLaws
-pub mod WorthLaws
+pub mod PointLemmas

@@ -1,7 +1,6 @@
 -- Slices of two or three parts.
 use Rattle.std.proofs.Common.{◌≡◌, ℕ, ◌<◌, ◌≤◌, List, [], ◌∷◌, length, get_or, None, Option, refl, sym, ap, ◌∙◌, arith}
-use Rattle.rc_model.specs.Tree.{list}
-use Rattle.rc_model.specs.DeckText.{in_entry, DeckNames}
+use Rattle.rc_setup.specs.Naming.{DeckNames}
 use Rattle.rc_form.specs.declared.form.Form.{Form}
 use Rattle.rc_form.specs.Form.{trees_of, packed}
 use Rattle.rc_setup.specs.Reading.{read_group_parts, read_entry_parts, unless_nil}
@@ -24,12 +23,6 @@ three (x ∷ y ∷ []) a b c long is-a is-b is-c = absurd (omega arith)
 three (x ∷ y ∷ z ∷ []) a b c long is-a is-b is-c =
     ap (λ w. w ∷ y ∷ z ∷ []) (sym is-a) ∙ ap (λ w. a ∷ w ∷ z ∷ []) (sym is-b) ∙ ap (λ w. a ∷ b ∷ w ∷ []) (sym is-c)
 three (x ∷ y ∷ z ∷ w ∷ ws) a b c long is-a is-b is-c = absurd (omega arith)
-
--- an entry of fewer than two parts mentions nothing
-pub in_entry_short : (forms : List Form) (from to : ℕ) → length forms < 2 → in_entry (list (packed (trees_of forms)) from to) ≡ []
-in_entry_short [] from to short = refl
-in_entry_short (form ∷ []) from to short = refl
-in_entry_short (form ∷ other ∷ forms) from to short = absurd (omega arith)
 
 -- a group has two parts, and an entry three
 pub read_group_other : (names : DeckNames) (forms : List Form) → (length forms ≡ 2 → ⊥) → read_group_parts names (packed (trees_of forms)) ≡ None

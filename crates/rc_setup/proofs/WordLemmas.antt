@@ -1,14 +1,12 @@
 -- Words are equal where their bytes are.
 use Rattle.std.proofs.Common.{◌≡◌, ℕ, ◌-◌, ◌&&◌, Bool, eqb, List, [], ◌∷◌, ◌++◌, length, get_or, take, replicate, refl, sym, ap, subst, ◌∙◌}
-use Rattle.std.specs.List.{list_any, position, position_or_len, IsDistinct}
+use Rattle.std.specs.List.{list_any, position, position_or_len}
 use Rattle.std.specs.Bool.{Decides, one_answer}
 use Rattle.std.specs.Str.{bytes_eq}
 use Rattle.std.proofs.Math.Seq.{take-append_seam}
 use Rattle.std.proofs.lemmas.Bool.{and_parts, and_from, eqb-true, eq-eqb, false≢true}
 use Rattle.std.proofs.lemmas.Slice.Eq.{bytes_eq-Decides}
-use Rattle.std.proofs.lemmas.Map.Keys.{apart_from_distinct}
 use Rattle.rc_names.specs.contracts.word.WordPartialEq.TheImpl.{eq-value}
-use Rattle.rc_setup.specs.Naming.{AllDiffer}
 
 -- the bytes of a word's field
 abbrev padded : List ℕ → List ℕ
@@ -43,12 +41,3 @@ list_any_word word words = list_any-alike _ _ (word_eq word) words
 
 pub position_word : (word : List ℕ) (words : List (List ℕ)) → position (eq-value.it word) words ≡ position (bytes_eq word) words
 position_word word words = rw (position_or_len-alike _ _ (word_eq word) words) refl
-
--- a set has no word twice
-pub words_differ : (words names : List (List ℕ)) → words ≡ names → IsDistinct eq-value.it words → AllDiffer names
-words_differ words names same distinct = subst AllDiffer same (
-    λ i j d lt within equal.
-    let apart = apart_from_distinct eq-value.it words i j d distinct lt within in
-    let told = word_eq (get_or words i d) (get_or words j d) ∙ (bytes_eq-Decides (get_or words i d) (get_or words j d)).1 equal in
-    false≢true (sym apart ∙ told)
-    )

@@ -1,23 +1,14 @@
--- Names of attributes and values, numbered as they are mentioned.
-use Rattle.std.specs.Prelude.{◌≢◌, ℕ, ◌≤◌, if◌then◌else◌, List, length, fold, AllPairs, Option, None}
+-- Names of attributes and values, and their numbers.
+use Rattle.std.specs.Prelude.{ℕ, ◌≤◌, if◌then◌else◌, List, length, Option, None}
 use Rattle.std.specs.List.{position}
 use Rattle.std.specs.Str.{bytes_eq}
 use Rattle.rc_model.specs.Tree.{Tree, word, list}
-use Rattle.rc_model.specs.Words.{is_variable, with_word}
-use Rattle.rc_model.specs.DeckText.{attribute, value, DeckMention, DeckNames}
+use Rattle.rc_model.specs.Words.{is_variable}
 
--- the names after a mention
-abbrev pub with_mention : DeckNames → DeckMention → DeckNames
-with_mention names (attribute name) = record { attrs = with_word names.attrs name; values = names.values }
-with_mention names (value name) = record { attrs = names.attrs; values = with_word names.values name }
-
--- the names after several mentions
-abbrev pub with_mentions : DeckNames → List DeckMention → DeckNames
-with_mentions names mentions = fold with_mention names mentions
-
--- no name stands twice
-abbrev pub AllDiffer : List (List ℕ) → Type 0
-AllDiffer names = AllPairs ◌≢◌ names
+-- the words of the attributes and of the values, each at the place that is its number
+pub record DeckNames : Type 0 where
+  pub attrs : List (List ℕ)
+  pub values : List (List ℕ)
 
 -- the numbers of the names fit in 16 bits
 abbrev pub AreFew : DeckNames → Type 0

@@ -1,35 +1,16 @@
 //! Point maps, read from forms.
-ghost use Rattle.std.specs.Prelude.{◌≡◌, ℕ, Some, None, List, IfOk, IfSome, IsNone, option_map};
-ghost use Rattle.rc_model.specs.Deck.{Entry};
-ghost use Rattle.rc_model.specs.DeckText.{EntriesStand};
+ghost use Rattle.std.specs.Prelude.{◌≡◌, Some, None, IfOk, option_map};
 ghost use Rattle.rc_form.specs.Form.{tree_of, trees_of, packed};
 ghost use Rattle.rc_deck.specs.Points.{entry_of, entries_of as entries_seen};
 ghost use Rattle.rc_setup.specs.Naming.{AreFew};
 ghost use Rattle.rc_setup.specs.Reading as reading;
 
-use crate::{Names, Numbers};
+use crate::Numbers;
 use rc_deck::{Memory, PointEntry, PointMap};
 use rc_form::{Form, integer};
 use std::alloc::Global;
 
-/// The point map that a form `(ENTRY ..)` stands for, each entry an `(ATTR (VALUE ..) n)`. `None` where it stands for none. There
-/// are at most 65,536 names of attributes, and of values.
-pub fn entries_of(alloc: Global, names: &Names, entries: &Form) -> Result<Option<PointMap>, Memory>
-    requires few { AreFew names.now }
-    ensures found { IfOk result (λ found. IfSome found
-        (λ points. EntriesStand names.now (entries_seen points) (tree_of entries.now))) }
-    ensures none { IfOk result (λ found. IsNone found
-        → (list : List Entry) → EntriesStand names.now list (tree_of entries.now) → ⊥) }
-    ensures only { IfOk result (λ found. IfSome found
-        (λ points. (list : List Entry) → EntriesStand names.now list (tree_of entries.now) → list ≡ entries_seen points)) }
-{
-    // The counts tell the proof that no name has two numbers.
-    let _attrs_differ = names.attr_count();
-    let _values_differ = names.value_count();
-    read_entries(alloc, names, entries)
-}
-
-/// The point map that a form `(ENTRY ..)` stands for, by any numbers of its names. `None` where it stands for none. There are at
+/// The point map that a form `(ENTRY ..)` stands for, each entry an `(ATTR (VALUE ..) n)`, by any numbers of its names. `None` where it stands for none. There are at
 /// most 65,536 names of attributes, and of values.
 pub fn read_entries<N: Numbers>(
     alloc: Global,

@@ -1,32 +1,14 @@
 //! Deck trees, read from forms.
-ghost use Rattle.std.specs.Prelude.{◌≡◌, Some, None, IsTrue, IfOk, IfSome, IsNone, option_map, codes};
-ghost use Rattle.rc_model.specs.Deck.{Groups};
-ghost use Rattle.rc_model.specs.DeckText.{DeckStands};
+ghost use Rattle.std.specs.Prelude.{◌≡◌, Some, None, IfOk, option_map, codes};
 ghost use Rattle.rc_form.specs.Form.{tree_of, trees_of, packed};
 ghost use Rattle.rc_deck.specs.Tree.{groups_of, groups_in, branches_in, attr_of, branches_of, value_of, inner_of};
 ghost use Rattle.rc_setup.specs.Naming.{AreFew, number_of};
 ghost use Rattle.rc_setup.specs.Reading as reading;
 
-use crate::{Names, Numbers};
+use crate::Numbers;
 use rc_deck::{Branch, DeckTree, Group, Memory};
 use rc_form::Form;
 use std::alloc::Global;
-
-/// The deck tree that a form `(deck GROUP ..)` stands for. `None` where it stands for none. There are at most 65,536 names of
-/// attributes, and of values.
-pub fn deck_of(alloc: Global, names: &Names, deck: &Form) -> Result<Option<DeckTree>, Memory>
-    requires few { AreFew names.now }
-    ensures found { IfOk result (λ found. IfSome found (λ tree. DeckStands names.now (groups_of tree) (tree_of deck.now))) }
-    ensures none { IfOk result (λ found. IsNone found
-        → (groups : Groups) → DeckStands names.now groups (tree_of deck.now) → ⊥) }
-    ensures only { IfOk result (λ found. IfSome found
-        (λ tree. (groups : Groups) → DeckStands names.now groups (tree_of deck.now) → groups ≡ groups_of tree)) }
-{
-    // The counts tell the proof that no name has two numbers.
-    let _attrs_differ = names.attr_count();
-    let _values_differ = names.value_count();
-    read_deck(alloc, names, deck)
-}
 
 /// The deck tree that a form `(deck GROUP ..)` stands for, by any numbers of its names. `None` where it stands for none. There are
 /// at most 65,536 names of attributes, and of values.

@@ -1,6 +1,6 @@
 //! The rounds of a game: who chooses what, before any turn limit.
 ghost use Rattle.std.specs.Prelude.{◌≡◌, ◌+◌, ◌*◌, ◌<◌, ◌≤◌, ◌++◌, map, reverse, take, drop, flat_map, length, IfOk, OnOk};
-ghost use Rattle.rc_model.specs.SmallGame.{below, menu_size, scripted_item, play_from, through_last_play, turns_of};
+ghost use Rattle.rc_small.specs.SmallGame.{below, menu_size, scripted_item, play_from, through_last_play, turns_of};
 ghost use Rattle.rc_house.specs.Play.{option_play_of, plays_in, choice_in};
 
 use crate::transcript::Pick;

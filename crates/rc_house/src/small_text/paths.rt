@@ -1,6 +1,6 @@
 //! Parts of a form.
 ghost use Rattle.std.specs.Prelude.{◌≡◌, option_map};
-ghost use Rattle.rc_model.specs.SmallText as model;
+ghost use Rattle.rc_small.specs.SmallText as model;
 ghost use Rattle.rc_form.specs.Form.{tree_of};
 ghost use Rattle.rc_house.specs.Parts.{part_in};
 

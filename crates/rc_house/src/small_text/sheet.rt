@@ -1,13 +1,13 @@
 //! The sheet of a small game.
 ghost use Rattle.std.specs.Prelude.{◌≡◌, ◌≤◌, ◌^◌, List, ℤ, length, option_map, IfOk, IfSome, IfNone};
 ghost use Rattle.std.specs.Option.{option_copied};
-ghost use Rattle.rc_model.specs.DeckText.{HaveWorths};
+ghost use Rattle.rc_small.specs.DeckText.{HaveWorths};
 ghost use Rattle.rc_model.specs.Placed.{starts};
-ghost use Rattle.rc_model.specs.SmallGame as model;
-ghost use Rattle.rc_model.specs.SmallText.{IsSmallSheet};
+ghost use Rattle.rc_small.specs.SmallGame as model;
+ghost use Rattle.rc_small.specs.SmallText.{IsSmallSheet};
 ghost use Rattle.rc_model.specs.Tree.{printed};
 ghost use Rattle.rc_form.specs.Form.{tree_of, IsPrintable};
-ghost use Rattle.rc_setup.specs.Size.{count_of_parts};
+ghost use Rattle.rc_small.specs.Size.{count_of_parts};
 ghost use Rattle.rc_house.specs.Parts.{sheet_parts_seen, sheet_reading, game_from, counts_seen};
 ghost use Rattle.rc_house.specs.SmallReading as reading;
 ghost use Rattle.rc_house.specs.SmallReading.{PlanReading};
@@ -18,7 +18,7 @@ use super::paths::part_at;
 use crate::printing::print;
 use rc_deck::Memory;
 use rc_form::{Form, integer};
-use rc_setup::worths_of;
+use rc_small::worths_of;
 use std::alloc::{AllocError, Global};
 
 /// What stands behind the number of cards that each player is dealt.

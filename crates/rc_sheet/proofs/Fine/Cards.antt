@@ -6,7 +6,7 @@ use Rattle.std.proofs.lemmas.List.Sums.{sum-map}
 use Rattle.std.proofs.lemmas.Grind.{flat_map-append}
 use Rattle.rc_model.specs.Tree.{Tree, word, list, Trees, nil, cons}
 use Rattle.rc_model.specs.Deck.{no_group, group, no_branch, branch, face_count, branch_count}
-use Rattle.rc_model.specs.DeckText.{DeckNames}
+use Rattle.rc_setup.specs.Naming.{DeckNames}
 use Rattle.rc_sheet_model.specs.Sheet.{DeckLine, Sheet}
 use Rattle.rc_model.specs.Limits.{most_cards}
 use Rattle.rc_sheet_model.specs.Naming.{Naming}

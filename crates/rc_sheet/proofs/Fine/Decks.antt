@@ -26,7 +26,7 @@ use Rattle.rc_semantics.specs.declared.role.Role.TheVariants.{DeckLocation as de
 use Rattle.rc_semantics.specs.SecondParts.{Standing, standing_in, word_in, part_at, front, attributes_of, attributes_below, attributes_among, inner_attributes}
 use Rattle.rc_semantics.specs.SecondNames.{is_named, mention_of}
 use Rattle.rc_semantics.specs.SecondFaults.{is_game, is_misplaced, second_faults}
-use Rattle.rc_model.specs.DeckText.{DeckNames}
+use Rattle.rc_setup.specs.Naming.{DeckNames}
 use Rattle.rc_setup.specs.Naming.{number_of}
 use Rattle.rc_setup.specs.Reading.{unless_nil, plain, read_groups, read_group, read_branch_list, read_branches, read_branch, read_deck}
 use Rattle.rc_setup.specs.Reading.{both as both_read}

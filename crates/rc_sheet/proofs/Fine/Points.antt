@@ -9,7 +9,7 @@ use Rattle.std.proofs.lemmas.List.Elements.{All-from_recursion, All-weaker}
 use Rattle.rc_model.specs.Tree.{Tree, word, list, Trees, nil, cons}
 use Rattle.rc_model.specs.Literal.{integer}
 use Rattle.rc_model.specs.Deck.{Entry}
-use Rattle.rc_model.specs.DeckText.{DeckNames}
+use Rattle.rc_setup.specs.Naming.{DeckNames}
 use Rattle.rc_sheet_model.specs.Sheet.{Sheet}
 use Rattle.rc_model.specs.Clamp.{IsWithinClamp, largest_number}
 use Rattle.rc_sheet_model.specs.WellFormed.{IsEntry}

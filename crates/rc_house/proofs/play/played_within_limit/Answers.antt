@@ -1,7 +1,7 @@
 use Rattle.std.proofs.Common.{ap, sym, ◌∙◌, map, take}
 use Rattle.std.proofs.lemmas.List.{take-map}
 use Rattle.std.specs.Prelude.{flat_map, option_to_list}
-use Rattle.rc_model.specs.SmallGame.{turns_of}
+use Rattle.rc_small.specs.SmallGame.{turns_of}
 use Rattle.rc_house.specs.Play.{option_play_of}
 use Rattle.rc_house.proofs.play.played_within_limit.Goals as goal
 

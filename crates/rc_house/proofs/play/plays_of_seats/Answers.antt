@@ -1,4 +1,4 @@
-use Rattle.rc_model.specs.SmallGame.{plays_of}
+use Rattle.rc_small.specs.SmallGame.{plays_of}
 use Rattle.rc_house.specs.Game.{game_of}
 use Rattle.rc_house.specs.Play.{plays_in}
 use Rattle.rc_house.proofs.RoundLaws.{map_below_more}

@@ -1,5 +1,5 @@
 use Rattle.std.proofs.Common.{◌≡◌, map}
-use Rattle.rc_model.specs.SmallGame.{below, plays_of}
+use Rattle.rc_small.specs.SmallGame.{below, plays_of}
 use Rattle.rc_house.specs.Game.{game_of}
 use Rattle.rc_house.specs.Play.{plays_in}
 use Rattle.rc_house.proofs.play.plays_of_seats.Given as goal

@@ -1,5 +1,5 @@
 use Rattle.std.proofs.Common.{◌≡◌, length, ap, ◌∙◌, arith}
-use Rattle.rc_model.specs.SmallGame.{below, through_last_play}
+use Rattle.rc_small.specs.SmallGame.{below, through_last_play}
 use Rattle.rc_house.specs.Game.{game_of}
 use Rattle.rc_house.proofs.RoundLaws.{laps_are}
 use Rattle.rc_house.proofs.play.rounds_of.Goals as goal

@@ -6,7 +6,7 @@ use Rattle.rc_form.specs.Form.{tree_of}
 use Rattle.rc_setup.specs.Reading.{both, entry_with, read_entry, read_value_list, read_points}
 use Rattle.rc_setup.proofs.FormLemmas.{tree_of_list}
 use Rattle.rc_setup.proofs.OptionLemmas.{both_none}
-use Rattle.rc_setup.proofs.EntryLaws.{points_sound}
+use Rattle.rc_setup.proofs.PointLemmas.{points_within}
 use Rattle.rc_setup.proofs.SliceLemmas.{read_entry_other}
 use Rattle.rc_setup.proofs.GroupLemmas.{get_or-any, read_entry_of}
 use Rattle.rc_setup.proofs.points_reading.read_entry.Goals as goal
@@ -53,9 +53,9 @@ returns-in-Some-2 g c =
     let values = c.in-Some-2.values.items in
     let e = read_entry_of names c.args.form.now c.in-List.items c.in-List.span c.index.result.now second third c.in-List.is (omega arith) c.index.ensures c.index-3.ensures c.index-2.ensures in
     let listed : Some values ≡ read_value_list names (tree_of second) = sym (ap (λ o. option_map (λ values. values.items) o) c.in-Some-2.is) ∙ c.in_ok-values.ensures in
-    let is = points_sound points (tree_of third) (sym c.in-Some-read_points.ensures) in
-    let least = is.within.0 in
-    let most = is.within.1 in
+    let within = points_within points (tree_of third) (sym c.in-Some-read_points.ensures) in
+    let least = within.0 in
+    let most = within.1 in
     let fits : SFits w64 points = first_of (search rules, omega (arith, ints, least, most)) in
     ap (λ entry. Some entry) c.entry_with.ensures
     ∙ ap (λ z. Some (entry_with attr (values, z))) (to_z-of_z fits)

@@ -3,7 +3,7 @@ use Rattle.std.proofs.lemmas.List.{length-reverse}
 use Rattle.std.proofs.lemmas.Result.{IfOk-at_ok}
 use Rattle.std.proofs.lemmas.Iterator.{items_from_collect, YieldsList-from_range}
 use Rattle.std.proofs.lemmas.List.FromFn.{length-range_with_len}
-use Rattle.rc_model.specs.SmallGame.{below}
+use Rattle.rc_small.specs.SmallGame.{below}
 use Rattle.rc_house.proofs.play.rounds.dealt_cards.Goals as goal
 
 pub returns-clause-cards : goal.returns-clause-cards

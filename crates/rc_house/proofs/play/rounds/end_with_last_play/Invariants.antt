@@ -1,6 +1,6 @@
 use Rattle.std.proofs.Common.{◌≡◌, map}
 use Rattle.std.specs.Prelude.{vec_len}
-use Rattle.rc_model.specs.SmallGame.{through_last_play}
+use Rattle.rc_small.specs.SmallGame.{through_last_play}
 use Rattle.rc_house.specs.Play.{option_play_of}
 use Rattle.rc_house.proofs.play.rounds.end_with_last_play.Given as goal
 

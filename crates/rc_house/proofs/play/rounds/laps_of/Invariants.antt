@@ -1,6 +1,6 @@
 use Rattle.std.proofs.Common.{◌≡◌, map}
 use Rattle.std.specs.Prelude.{flat_map}
-use Rattle.rc_model.specs.SmallGame.{below}
+use Rattle.rc_small.specs.SmallGame.{below}
 use Rattle.rc_house.specs.Play.{option_play_of, choice_in}
 use Rattle.rc_house.proofs.play.rounds.laps_of.Given as goal
 

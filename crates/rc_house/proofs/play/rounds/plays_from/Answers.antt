@@ -2,7 +2,7 @@ use Rattle.std.proofs.Common.{◌≡◌, ap, ◌∙◌, sym, arith}
 use Rattle.std.proofs.lemmas.List.{get_or_read}
 use Rattle.std.specs.Prelude.{slice_index}
 use Rattle.rc_house.specs.Play.{play_of}
-use Rattle.rc_model.specs.SmallGame.{menu_size, scripted_item, play_from}
+use Rattle.rc_small.specs.SmallGame.{menu_size, scripted_item, play_from}
 use Rattle.rc_house.proofs.RoundLaws.{map_below_more, hand_after_more, play_from_is}
 use Rattle.rc_house.proofs.play.rounds.plays_from.Goals as goal
 

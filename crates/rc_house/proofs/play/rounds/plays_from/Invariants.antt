@@ -1,5 +1,5 @@
 use Rattle.std.proofs.Common.{◌≡◌, ◌+◌, length, map}
-use Rattle.rc_model.specs.SmallGame.{below, hand_after, play_from}
+use Rattle.rc_small.specs.SmallGame.{below, hand_after, play_from}
 use Rattle.rc_house.specs.Play.{plays_in}
 use Rattle.rc_house.proofs.play.rounds.plays_from.Given as goal
 

@@ -1,5 +1,5 @@
 use Rattle.std.proofs.Common.{◌≡◌, map, take}
-use Rattle.rc_model.specs.SmallGame.{turns_of}
+use Rattle.rc_small.specs.SmallGame.{turns_of}
 use Rattle.rc_house.specs.Play.{option_play_of}
 use Rattle.rc_house.proofs.play.rounds.turns_in.Given as goal
 

@@ -1,5 +1,5 @@
 use Rattle.std.proofs.Common.{◌≡◌, drop}
-use Rattle.rc_model.specs.SmallText as model
+use Rattle.rc_small.specs.SmallText as model
 use Rattle.rc_form.specs.Form.{tree_of}
 use Rattle.rc_house.proofs.small_text.paths.part_at.Given as goal
 

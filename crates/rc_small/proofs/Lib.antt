@@ -1,0 +1,13 @@
+pub mod WordLemmas
+pub mod NamingLaws
+pub mod MentionLemmas
+pub mod FormLemmas
+pub mod SliceLemmas
+pub mod LoopLemmas
+pub mod BuildLemmas
+pub mod GroupLemmas
+pub mod OptionLemmas
+pub mod DeckLaws
+pub mod EntryLaws
+pub mod FaceLaws
+pub mod WorthLaws

@@ -1,0 +1,55 @@
+-- Slices of two or three parts.
+use Rattle.std.proofs.Common.{◌≡◌, ℕ, ◌<◌, ◌≤◌, List, [], ◌∷◌, length, get_or, None, Option, refl, sym, ap, ◌∙◌, arith}
+use Rattle.rc_model.specs.Tree.{list}
+use Rattle.rc_small.specs.DeckText.{in_entry, DeckNames}
+use Rattle.rc_form.specs.declared.form.Form.{Form}
+use Rattle.rc_form.specs.Form.{trees_of, packed}
+use Rattle.rc_small.specs.Reading.{read_group_parts, read_entry_parts, unless_nil}
+
+pub two_up : {X : Type 0} (xs : List X) (a b : X) → 2 ≤ length xs → a ≡ get_or xs 0 a → b ≡ get_or xs 1 b → (rest : List X) × (xs ≡ a ∷ b ∷ rest)
+two_up [] a b le is-a is-b = absurd (omega arith)
+two_up (x ∷ []) a b le is-a is-b = absurd (omega arith)
+two_up (x ∷ y ∷ rest) a b le is-a is-b = (rest, ap (λ z. z ∷ y ∷ rest) (sym is-a) ∙ ap (λ z. a ∷ z ∷ rest) (sym is-b))
+
+pub two : {X : Type 0} (xs : List X) (a b : X) → length xs ≡ 2 → a ≡ get_or xs 0 a → b ≡ get_or xs 1 b → xs ≡ a ∷ b ∷ []
+two [] a b long is-a is-b = absurd (omega arith)
+two (x ∷ []) a b long is-a is-b = absurd (omega arith)
+two (x ∷ y ∷ []) a b long is-a is-b = ap (λ z. z ∷ y ∷ []) (sym is-a) ∙ ap (λ z. a ∷ z ∷ []) (sym is-b)
+two (x ∷ y ∷ z ∷ zs) a b long is-a is-b = absurd (omega arith)
+
+pub three : {X : Type 0} (xs : List X) (a b c : X) → length xs ≡ 3 → a ≡ get_or xs 0 a → b ≡ get_or xs 1 b → c ≡ get_or xs 2 c → xs ≡ a ∷ b ∷ c ∷ []
+three [] a b c long is-a is-b is-c = absurd (omega arith)
+three (x ∷ []) a b c long is-a is-b is-c = absurd (omega arith)
+three (x ∷ y ∷ []) a b c long is-a is-b is-c = absurd (omega arith)
+three (x ∷ y ∷ z ∷ []) a b c long is-a is-b is-c =
+    ap (λ w. w ∷ y ∷ z ∷ []) (sym is-a) ∙ ap (λ w. a ∷ w ∷ z ∷ []) (sym is-b) ∙ ap (λ w. a ∷ b ∷ w ∷ []) (sym is-c)
+three (x ∷ y ∷ z ∷ w ∷ ws) a b c long is-a is-b is-c = absurd (omega arith)
+
+-- an entry of fewer than two parts mentions nothing
+pub in_entry_short : (forms : List Form) (from to : ℕ) → length forms < 2 → in_entry (list (packed (trees_of forms)) from to) ≡ []
+in_entry_short [] from to short = refl
+in_entry_short (form ∷ []) from to short = refl
+in_entry_short (form ∷ other ∷ forms) from to short = absurd (omega arith)
+
+-- a group has two parts, and an entry three
+pub read_group_other : (names : DeckNames) (forms : List Form) → (length forms ≡ 2 → ⊥) → read_group_parts names (packed (trees_of forms)) ≡ None
+read_group_other names [] other = refl
+read_group_other names (a ∷ []) other = refl
+read_group_other names (a ∷ b ∷ []) other = absurd (other refl)
+read_group_other names (a ∷ b ∷ c ∷ forms) other = refl
+
+pub read_entry_other : (names : DeckNames) (forms : List Form) → (length forms ≡ 3 → ⊥) → read_entry_parts names (packed (trees_of forms)) ≡ None
+read_entry_other names [] other = refl
+read_entry_other names (a ∷ []) other = refl
+read_entry_other names (a ∷ b ∷ []) other = refl
+read_entry_other names (a ∷ b ∷ c ∷ []) other = absurd (other refl)
+read_entry_other names (a ∷ b ∷ c ∷ d ∷ forms) other = refl
+
+-- where there is a form, what is found counts
+pub unless_nil_some : {A : Type 0} (forms : List Form) (found : Option A) → (length forms ≡ 0 → ⊥) → unless_nil (packed (trees_of forms)) found ≡ found
+unless_nil_some [] found some = absurd (some refl)
+unless_nil_some (form ∷ forms) found some = refl
+
+pub unless_nil_none : {A : Type 0} (forms : List Form) (found : Option A) → length forms ≡ 0 → unless_nil (packed (trees_of forms)) found ≡ None
+unless_nil_none [] found none = refl
+unless_nil_none (form ∷ forms) found none = absurd (omega arith)

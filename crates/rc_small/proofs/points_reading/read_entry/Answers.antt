@@ -1,0 +1,77 @@
+use Rattle.std.proofs.Common.{◌≡◌, ◌∙◌, ap, sym, Some, None, option_map, get_or, w64, arith, rules}
+use Rattle.std.proofs.Math.Facts.{to_z-of_z}
+use Rattle.std.proofs.lemmas.Int.{ints}
+use mir.Val.{SFits}
+use Rattle.rc_form.specs.Form.{tree_of}
+use Rattle.rc_small.specs.Reading.{both, entry_with, read_entry, read_value_list, read_points}
+use Rattle.rc_small.proofs.FormLemmas.{tree_of_list}
+use Rattle.rc_small.proofs.OptionLemmas.{both_none}
+use Rattle.rc_small.proofs.EntryLaws.{points_sound}
+use Rattle.rc_small.proofs.SliceLemmas.{read_entry_other}
+use Rattle.rc_small.proofs.GroupLemmas.{get_or-any, read_entry_of}
+use Rattle.rc_small.proofs.points_reading.read_entry.Goals as goal
+
+pub returns-then-len-ne3 : goal.returns-then-len-ne3
+returns-then-len-ne3 g c =
+    let names = g.N.Numbers.words c.args.names.now in
+    sym (ap (read_entry names) (tree_of_list _ c.in-List.items c.in-List.span c.in-List.is) ∙ read_entry_other names c.in-List.items.items (λ long. omega arith))
+
+pub returns-in_default-attr_number : goal.returns-in_default-attr_number
+returns-in_default-attr_number g c =
+    let names = g.N.Numbers.words c.args.names.now in
+    let items = c.in-List.items.items in
+    let head = c.index.result.now in
+    let second = get_or items 1 head in
+    let third = get_or items 2 head in
+    let e = read_entry_of names c.args.form.now c.in-List.items c.in-List.span head second third c.in-List.is (omega arith) c.index.ensures
+    (get_or-any items 1 head second (omega arith)) (get_or-any items 2 head third (omega arith)) in
+    ap (λ o. both entry_with o (both (λ values points. (values, points)) (read_value_list names (tree_of second)) (read_points (tree_of third)))) c.in_default-attr_number.ensures
+    ∙ sym e
+
+pub returns-in_default-read_points : goal.returns-in_default-read_points
+returns-in_default-read_points g c =
+    let names = g.N.Numbers.words c.args.names.now in
+    let items = c.in-List.items.items in
+    let head = c.index.result.now in
+    let second = get_or items 1 head in
+    let third = c.index-2.result.now in
+    let e = read_entry_of names c.args.form.now c.in-List.items c.in-List.span head second third c.in-List.is (omega arith) c.index.ensures
+    (get_or-any items 1 head second (omega arith)) c.index-2.ensures in
+    let list = read_value_list names (tree_of second) in
+    ap (both entry_with (Some c.in-Some.attr)) (sym (both_none (λ values points. (values, points)) list))
+    ∙ ap (λ o. both entry_with (Some c.in-Some.attr) (both (λ values points. (values, points)) list o)) c.in_default-read_points.ensures
+    ∙ ap (λ o. both entry_with o (both (λ values points. (values, points)) list (read_points (tree_of third)))) c.in-Some.ensures
+    ∙ sym e
+
+pub returns-in-Some-2 : goal.returns-in-Some-2
+returns-in-Some-2 g c =
+    let names = g.N.Numbers.words c.args.names.now in
+    let second = c.index-3.result.now in
+    let third = c.index-2.result.now in
+    let attr = c.in-Some.attr in
+    let points = c.in-Some-read_points.points in
+    let values = c.in-Some-2.values.items in
+    let e = read_entry_of names c.args.form.now c.in-List.items c.in-List.span c.index.result.now second third c.in-List.is (omega arith) c.index.ensures c.index-3.ensures c.index-2.ensures in
+    let listed : Some values ≡ read_value_list names (tree_of second) = sym (ap (λ o. option_map (λ values. values.items) o) c.in-Some-2.is) ∙ c.in_ok-values.ensures in
+    let is = points_sound points (tree_of third) (sym c.in-Some-read_points.ensures) in
+    let least = is.within.0 in
+    let most = is.within.1 in
+    let fits : SFits w64 points = first_of (search rules, omega (arith, ints, least, most)) in
+    ap (λ entry. Some entry) c.entry_with.ensures
+    ∙ ap (λ z. Some (entry_with attr (values, z))) (to_z-of_z fits)
+    ∙ ap (λ o. both entry_with (Some attr) (both (λ values points. (values, points)) o (Some points))) listed
+    ∙ ap (λ o. both entry_with (Some attr) (both (λ values points. (values, points)) (read_value_list names (tree_of second)) o)) c.in-Some-read_points.ensures
+    ∙ ap (λ o. both entry_with o (both (λ values points. (values, points)) (read_value_list names (tree_of second)) (read_points (tree_of third)))) c.in-Some.ensures
+    ∙ sym e
+
+pub returns-in-None : goal.returns-in-None
+returns-in-None g c =
+    let names = g.N.Numbers.words c.args.names.now in
+    let second = c.index-3.result.now in
+    let third = c.index-2.result.now in
+    let attr = c.in-Some.attr in
+    let e = read_entry_of names c.args.form.now c.in-List.items c.in-List.span c.index.result.now second third c.in-List.is (omega arith) c.index.ensures c.index-3.ensures c.index-2.ensures in
+    let listed : None ≡ read_value_list names (tree_of second) = sym (ap (λ o. option_map (λ values. values.items) o) c.in-None.is) ∙ c.in_ok-values.ensures in
+    ap (λ o. both entry_with (Some attr) (both (λ values points. (values, points)) o (read_points (tree_of third)))) listed
+    ∙ ap (λ o. both entry_with o (both (λ values points. (values, points)) (read_value_list names (tree_of second)) (read_points (tree_of third)))) c.in-Some.ensures
+    ∙ sym e

@@ -1,0 +1,133 @@
+//! Point maps, read from forms.
+ghost use Rattle.std.specs.Prelude.{◌≡◌, ℕ, Some, None, List, IfOk, IfSome, IsNone, option_map};
+ghost use Rattle.rc_model.specs.Deck.{Entry};
+ghost use Rattle.rc_small.specs.DeckText.{EntriesStand};
+ghost use Rattle.rc_form.specs.Form.{tree_of, trees_of, packed};
+ghost use Rattle.rc_deck.specs.Points.{entry_of, entries_of as entries_seen};
+ghost use Rattle.rc_small.specs.Naming.{AreFew};
+ghost use Rattle.rc_small.specs.Reading as reading;
+
+use crate::{Names, Numbers};
+use rc_deck::{Memory, PointEntry, PointMap};
+use rc_form::{Form, integer};
+use std::alloc::Global;
+
+/// The point map that a form `(ENTRY ..)` stands for, each entry an `(ATTR (VALUE ..) n)`. `None` where it stands for none. There
+/// are at most 65,536 names of attributes, and of values.
+pub fn entries_of(alloc: Global, names: &Names, entries: &Form) -> Result<Option<PointMap>, Memory>
+    requires few { AreFew names.now }
+    ensures found { IfOk result (λ found. IfSome found
+        (λ points. EntriesStand names.now (entries_seen points) (tree_of entries.now))) }
+    ensures none { IfOk result (λ found. IsNone found
+        → (list : List Entry) → EntriesStand names.now list (tree_of entries.now) → ⊥) }
+    ensures only { IfOk result (λ found. IfSome found
+        (λ points. (list : List Entry) → EntriesStand names.now list (tree_of entries.now) → list ≡ entries_seen points)) }
+{
+    // The counts tell the proof that no name has two numbers.
+    let _attrs_differ = names.attr_count();
+    let _values_differ = names.value_count();
+    read_entries(alloc, names, entries)
+}
+
+/// The point map that a form `(ENTRY ..)` stands for, by any numbers of its names. `None` where it stands for none. There are at
+/// most 65,536 names of attributes, and of values.
+pub fn read_entries<N: Numbers>(
+    alloc: Global,
+    names: &N,
+    entries: &Form,
+) -> Result<Option<PointMap>, Memory>
+    requires few { AreFew (N.words names.now) }
+    ensures { IfOk result (λ found. option_map entries_seen found
+        ≡ reading.read_entries (N.words names.now) (tree_of entries.now)) }
+{
+    let Form::List { items, .. } = entries else {
+        return Ok(None);
+    };
+    if items.is_empty() {
+        return Ok(None);
+    }
+    let mut entries = Vec::new(alloc);
+    for form in items {
+        match read_entry(alloc, names, form)? {
+            Some(entry) => entries.push(entry)?,
+            None => return Ok(None),
+        }
+    }
+    Ok(Some(PointMap { entries }))
+}
+
+fn read_entry<N: Numbers>(
+    alloc: Global,
+    names: &N,
+    form: &Form,
+) -> Result<Option<PointEntry>, Memory>
+    requires few { AreFew (N.words names.now) }
+    ensures { IfOk result (λ found. option_map entry_of found ≡ reading.read_entry (N.words names.now) (tree_of form.now)) }
+{
+    let Form::List { items, .. } = form else {
+        return Ok(None);
+    };
+    if items.len() != 3 {
+        return Ok(None);
+    }
+    let Some(attr) = names.attr_number(&items[0]) else {
+        return Ok(None);
+    };
+    let Some(points) = read_points(&items[2]) else {
+        return Ok(None);
+    };
+    match read_value_list(alloc, names, &items[1])? {
+        Some(values) => Ok(Some(entry_with(attr, values, points))),
+        None => Ok(None),
+    }
+}
+
+fn entry_with(attr: u16, values: Vec<u16>, points: i64) -> PointEntry
+    ensures { entry_of result ≡ reading.entry_with attr (values.items, points) }
+{
+    PointEntry {
+        attr,
+        values,
+        points,
+    }
+}
+
+fn read_value_list<N: Numbers>(
+    alloc: Global,
+    names: &N,
+    form: &Form,
+) -> Result<Option<Vec<u16>>, Memory>
+    requires few { AreFew (N.words names.now) }
+    ensures { IfOk result (λ found. option_map (λ values. values.items) found
+        ≡ reading.read_value_list (N.words names.now) (tree_of form.now)) }
+{
+    let Form::List { items, .. } = form else {
+        return Ok(None);
+    };
+    if items.is_empty() {
+        return Ok(None);
+    }
+    let mut values = Vec::new(alloc);
+    for item in items {
+        match names.value_number(item) {
+            Some(value) => values.push(value)?,
+            None => return Ok(None),
+        }
+    }
+    Ok(Some(values))
+}
+
+// The number of a literal within the clamp.
+fn read_points(form: &Form) -> Option<i64>
+    ensures { result ≡ reading.read_points (tree_of form.now) }
+{
+    let Form::Atom { word, .. } = form else {
+        return None;
+    };
+    let points = integer(word.bytes())?;
+    if -1_000_000_000 <= points && points <= 1_000_000_000 {
+        Some(points)
+    } else {
+        None
+    }
+}
