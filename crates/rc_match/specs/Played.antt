@@ -1,0 +1,23 @@
+-- What a match is played by, and where its play stands.
+use Rattle.std.specs.Prelude.{ℕ, List, ◌++◌}
+use Rattle.rc_model.specs.Transcript.{Pick}
+use Rattle.rc_play_model.specs.About.{About}
+use Rattle.rc_play_model.specs.Step.{Config}
+use Rattle.rc_play_model.specs.Plan.{Plan, Strategy, scripted, random, rollout}
+use Rattle.rc_play_model.specs.Play.{Played}
+use Rattle.rc_play_model.specs.Keyed.{chooser_of}
+
+-- the strategy needs no playouts
+abbrev pub IsOffhand : Strategy → Type 0
+IsOffhand (scripted numbers) = Unit {0}
+IsOffhand (random key) = Unit {0}
+IsOffhand (rollout rounds key) = ⊥
+
+-- a play with these picks before its own
+abbrev pub with_picks : List Pick → Played ℕ → Played ℕ
+with_picks picks p =
+    record { picks = picks ++ p.picks; ending = p.ending; table = p.table; control = p.control; dealer = p.dealer }
+
+-- what the seat's strategy picks there
+abbrev pub picked_at : About → Plan → ℕ → ℕ → ℕ → Config → ℕ
+picked_at about plan m seat site c = (chooser_of about plan m seat site c.table c.control 0).0

@@ -1,0 +1,184 @@
+//! The play of a match, from its start to its end.
+ghost use Rattle.std.specs.Prelude.{◌≡◌, ◌<◌, ◌≤◌, false, [], map, length, Some, All, IfOk, OnOk};
+ghost use Rattle.rc_model.specs.Numbers.{below};
+ghost use Rattle.rc_play_model.specs.Step.{start};
+ghost use Rattle.rc_play_model.specs.Play.{pick_at};
+ghost use Rattle.rc_play_model.specs.Plan.{strategy_at, deal_at};
+ghost use Rattle.rc_play_model.specs.Scores.{score_at};
+ghost use Rattle.rc_play_model.specs.Keyed.{keyed_match, keyed_play};
+ghost use Rattle.rc_rules.specs.Plan.{plan_seen, strategy_seen};
+ghost use Rattle.rc_rules.specs.Record.{pick_seen, ending_seen, score_seen, record_seen};
+ghost use Rattle.rc_rules.specs.Machine.{Decides, menu_here};
+ghost use Rattle.rc_match.specs.Played.{IsOffhand, picked_at};
+
+use crate::choice::choice_of;
+use rc_deck::Memory;
+use rc_play_model::menu_sizes_are_functions_of_views;
+use rc_rules::{About, Ended, Machine, MatchDealer, MatchRecord, Pick, Plan, Score, Scores, Stop, Strategy};
+use arrayvec::ArrayVec;
+use rc_ast::Sheet;
+ghost use Rattle.rc_play_model.specs.Scores.{rank_points};
+ghost use Rattle.rc_ast.specs.Sheet.{sheet_seen};
+use std::alloc::Global;
+
+/// Plays match `number` of a plan on a machine that stands at its start, and records it. The plan has a strategy for each player,
+/// and none that needs playouts.
+pub fn play_match<M: Machine + Drop>(
+    alloc: Global,
+    about: &About,
+    plan: &Plan,
+    number: u32,
+    machine: M,
+) -> Result<MatchRecord, Memory>
+    requires about { M.about machine ≡ about.now }
+    requires start { M.config machine ≡ start about.now }
+    requires fresh { M.spent machine ≡ false }
+    requires seats { length plan.now.strategies.items ≡ about.now.sheet.players }
+    requires offhand { All (λ strategy. IsOffhand (strategy_seen strategy)) plan.now.strategies.items }
+    requires number { number < length plan.now.matches.items }
+    ensures { IfOk result (λ r. keyed_match about.now (plan_seen plan.now) number ≡ Some (record_seen r)) }
+{
+    let mut machine = machine;
+    let deal = plan.matches[number as usize];
+    let mut dealer = MatchDealer::new(deal.deal);
+    let mut picks = Vec::new(alloc);
+    let stop = match play_on(about, plan, number, &mut machine, &mut dealer, &mut picks) {
+        Ok(stop) => stop,
+        Err(Memory) => return Err(Memory),
+    };
+    let scores = match scores_of(alloc, about, &machine.scores()) {
+        Ok(scores) => scores,
+        Err(Memory) => return Err(Memory),
+    };
+    Ok(MatchRecord {
+        number,
+        deal: deal.deal,
+        seats: deal.seats,
+        picks,
+        shuffles: dealer.count(),
+        stop,
+        turn: machine.control().turn,
+        scores,
+    })
+}
+
+// Plays on to the end, and gathers what was picked.
+fn play_on<M: Machine>(
+    about: &About,
+    plan: &Plan,
+    number: u32,
+    machine: &mut M,
+    dealer: &mut MatchDealer,
+    picks: &mut Vec<Pick>,
+) -> Result<Ended, Memory>
+    requires about { M.about machine.old ≡ about.now }
+    requires start { M.config machine.old ≡ start about.now }
+    requires fresh { M.spent machine.old ≡ false }
+    requires some { 1 ≤ length plan.now.strategies.items }
+    requires offhand { All (λ strategy. IsOffhand (strategy_seen strategy)) plan.now.strategies.items }
+    requires dealer { dealer.old ≡ record { deal = (deal_at (plan_seen plan.now) number).deal; count = 0 } }
+    requires number { number < length plan.now.matches.items }
+    requires none { picks.old.items ≡ [] }
+    ensures about { M.about machine.new ≡ about.now }
+    ensures fresh { OnOk result (M.spent machine.new ≡ false) }
+    ensures is { IfOk result (λ stop. keyed_play about.now (plan_seen plan.now) number
+        ≡ Some (record {
+          picks = map pick_seen picks.new.items;
+          ending = ending_seen stop;
+          table = (M.config machine.new).table;
+          control = (M.config machine.new).control;
+          dealer = dealer.new.count;
+        })) }
+{
+    loop {
+        let stop = match machine.advance(dealer) {
+            Ok(stop) => stop,
+            Err(Memory) => return Err(Memory),
+        };
+        match stop {
+            Stop::Done => return Ok(Ended::Done),
+            Stop::Limit => return Ok(Ended::Limit),
+            Stop::Decide { seat, site } => {
+                let pick = pick_of(about, plan, number, machine, seat, site);
+                if picks.push(pick).is_err() {
+                    return Err(Memory);
+                }
+                if machine.apply(pick.item, dealer).is_err() {
+                    return Err(Memory);
+                }
+            }
+        }
+    }
+}
+
+// What the seat picks that decides at this site.
+fn pick_of<M: Machine>(
+    about: &About,
+    plan: &Plan,
+    number: u32,
+    machine: &M,
+    seat: u8,
+    site: u8,
+) -> Pick
+    requires about { M.about machine.now ≡ about.now }
+    requires fresh { M.spent machine.now ≡ false }
+    requires decides { Decides about.now seat site (M.config machine.now) }
+    requires some { 1 ≤ length plan.now.strategies.items }
+    requires offhand { All (λ strategy. IsOffhand (strategy_seen strategy)) plan.now.strategies.items }
+    requires number { number < length plan.now.matches.items }
+    ensures is { pick_seen result
+        ≡ pick_at about.now seat site (picked_at about.now (plan_seen plan.now) number seat site (M.config machine.now)) (M.config machine.now) }
+    ensures offered { result.item < length (menu_here about.now (M.config machine.now)) }
+{
+    menu_sizes_are_functions_of_views();
+    let size = machine.menu().len() as u16;
+    let strategy = strategy_of(plan, number, seat);
+    let seed = plan.matches[number as usize].seats;
+    let item = choice_of(strategy, seed, seat, machine.control(), size);
+    Pick {
+        seat,
+        site,
+        item,
+        size,
+    }
+}
+
+// The strategy that a seat has in a match.
+fn strategy_of(plan: &Plan, number: u32, seat: u8) -> &Strategy
+    requires some { 1 ≤ length plan.now.strategies.items }
+    requires offhand { All (λ strategy. IsOffhand (strategy_seen strategy)) plan.now.strategies.items }
+    ensures is { strategy_seen result.now ≡ strategy_at (plan_seen plan.now) number seat }
+    ensures offhand { IsOffhand (strategy_seen result.now) }
+{
+    let held = (u64::from(seat) + u64::from(number)) % plan.strategies.len() as u64;
+    &plan.strategies[held as usize]
+}
+
+// Each player's score, with the rank points for it.
+fn scores_of(alloc: Global, about: &About, scores: &Scores) -> Result<Vec<Score>, Memory>
+    requires each { length scores.now.items ≡ about.now.sheet.players }
+    ensures { IfOk result (λ told. map score_seen told.items ≡ map (score_at about.now scores.now.items) (below about.now.sheet.players)) }
+{
+    let points = rank_points(about.sheet(), scores);
+    let mut told = Vec::new(alloc);
+    for player in 0..about.sheet().players {
+        let score = Score {
+            player,
+            score: scores[player as usize],
+            points: points[player as usize],
+        };
+        if told.push(score).is_err() {
+            return Err(Memory);
+        }
+    }
+    Ok(told)
+}
+
+// STANDIN
+fn rank_points(sheet: &Sheet, scores: &Scores) -> ArrayVec<u8, 8>
+    requires stand_in { ⊥ }
+    requires each { length scores.now.items ≡ sheet.now.players }
+    ensures { result.items ≡ map (rank_points (sheet_seen sheet.now) scores.now.items) (below sheet.now.players) }
+{
+    unreachable!()
+}
