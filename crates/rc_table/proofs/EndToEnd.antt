@@ -289,5 +289,6 @@ all_begin (suc n) = ap (λ starts. 0 ∷ starts) (all_begin n)
 
 pub empty_lists : (cells starts : List ℕ) (n : ℕ) → cells ≡ [] → starts ≡ replicate (n + 1) 0 → Edited cells starts (replicate n [])
 empty_lists cells starts n no_cells all_first =
+    let next : n + 1 ≡ suc n = omega arith in
     edited cells starts (replicate n []) (no_cells ∙ sym (none_joined n))
-    (all_first ∙ ap (λ k. replicate k 0) (omega arith) ∙ all_begin n)
+    (all_first ∙ ap (λ k. replicate k 0) next ∙ all_begin n)

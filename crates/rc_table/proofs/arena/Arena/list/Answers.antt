@@ -1,6 +1,5 @@
 use Rattle.std.proofs.Common.{length, [], arith, ap, sym}
 use Rattle.std.proofs.lemmas.List.{get_or_past}
-use Rattle.rc_table.specs.Arena.{lists_in}
 use Rattle.rc_table.proofs.EndToEnd.{inside, starts_count}
 use Rattle.rc_table.proofs.arena.Arena.list.Goals as goal
 

@@ -1,5 +1,4 @@
 use Rattle.std.proofs.Common.{arith, ap}
-use Rattle.rc_table.specs.Arena.{Lists}
 use Rattle.rc_table.proofs.EndToEnd.{empty_lists}
 use Rattle.rc_table.proofs.arena.Arena.new.Goals as goal
 
