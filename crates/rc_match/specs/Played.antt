@@ -1,11 +1,12 @@
 -- What a match is played by, and where its play stands.
-use Rattle.std.specs.Prelude.{ℕ, List, ◌++◌}
+use Rattle.std.specs.Prelude.{◌≡◌, ℕ, ◌-◌, List, ◌++◌, length, option_map}
 use Rattle.rc_model.specs.Transcript.{Pick}
 use Rattle.rc_play_model.specs.About.{About}
 use Rattle.rc_play_model.specs.Step.{Config}
-use Rattle.rc_play_model.specs.Plan.{Plan, Strategy, scripted, random, rollout}
-use Rattle.rc_play_model.specs.Play.{Played}
-use Rattle.rc_play_model.specs.Keyed.{chooser_of}
+use Rattle.rc_play_model.specs.Stop.{stop_of}
+use Rattle.rc_play_model.specs.Plan.{Plan, deal_at, Strategy, scripted, random, rollout}
+use Rattle.rc_play_model.specs.Play.{Played, from_stop, played_on}
+use Rattle.rc_play_model.specs.Keyed.{dealing_of, chooser_of, keyed_play}
 
 -- the strategy needs no playouts
 abbrev pub IsOffhand : Strategy → Type 0
@@ -21,3 +22,11 @@ with_picks picks p =
 -- what the seat's strategy picks there
 abbrev pub picked_at : About → Plan → ℕ → ℕ → ℕ → Config → ℕ
 picked_at about plan m seat site c = (chooser_of about plan m seat site c.table c.control 0).0
+
+-- With these picks made, the play of match m goes on from this configuration and this count of shuffles.
+abbrev pub GoesOn : About → Plan → ℕ → List Pick → ℕ → Config → Type 0
+GoesOn about plan m picks shuffles c =
+    let dealing = dealing_of (deal_at plan m).deal in
+    option_map (with_picks picks)
+    (from_stop (played_on about dealing (chooser_of about plan m) (about.turns - length picks)) (stop_of about dealing shuffles c))
+    ≡ keyed_play about plan m

@@ -55,6 +55,6 @@ fn picked(key: u64, seed: u64, seat: u8, turn: u32, size: u16) -> u16
     ensures is { result ≡ keyed.pick key (256 * seat + 2) seed turn size }
     ensures below { result < size }
 {
-    let key = key32(key, 256 * u64::from(seat) + 2, seed, u64::from(turn));
-    pick_by(&key, u32::from(size)) as u16
+    let key = key32(key, 256 * seat as u64 + 2, seed, turn as u64);
+    pick_by(&key, size as u32) as u16
 }

@@ -6,15 +6,15 @@ ghost use Rattle.rc_play_model.specs.Play.{pick_at};
 ghost use Rattle.rc_play_model.specs.Plan.{strategy_at, deal_at};
 ghost use Rattle.rc_play_model.specs.Scores.{score_at};
 ghost use Rattle.rc_play_model.specs.Keyed.{keyed_match, keyed_play};
-ghost use Rattle.rc_rules.specs.Plan.{plan_seen, strategy_seen};
+ghost use Rattle.rc_rules.specs.Plan.{plan_seen, deal_seen, strategy_seen};
 ghost use Rattle.rc_rules.specs.Record.{pick_seen, ending_seen, score_seen, record_seen};
 ghost use Rattle.rc_rules.specs.Machine.{Decides, menu_here};
 ghost use Rattle.rc_match.specs.Played.{IsOffhand, picked_at};
 
 use crate::choice::choice_of;
 use rc_deck::Memory;
-use rc_play_model::menu_sizes_are_functions_of_views;
-use rc_rules::{About, Ended, Machine, MatchDealer, MatchRecord, Pick, Plan, Score, Scores, Stop, Strategy};
+use rc_play_model::{every_play_ends, menu_sizes_are_functions_of_views};
+use rc_rules::{About, Deal, Ended, Machine, MatchDealer, MatchRecord, Pick, Plan, Score, Scores, Stop, Strategy};
 use arrayvec::ArrayVec;
 use rc_ast::Sheet;
 ghost use Rattle.rc_play_model.specs.Scores.{rank_points};
@@ -39,7 +39,7 @@ pub fn play_match<M: Machine + Drop>(
     ensures { IfOk result (λ r. keyed_match about.now (plan_seen plan.now) number ≡ Some (record_seen r)) }
 {
     let mut machine = machine;
-    let deal = plan.matches[number as usize];
+    let deal = deal_of(plan, number);
     let mut dealer = MatchDealer::new(deal.deal);
     let mut picks = Vec::new(alloc);
     let stop = match play_on(about, plan, number, &mut machine, &mut dealer, &mut picks) {
@@ -90,6 +90,7 @@ fn play_on<M: Machine>(
           dealer = dealer.new.count;
         })) }
 {
+    every_play_ends();
     loop {
         let stop = match machine.advance(dealer) {
             Ok(stop) => stop,
@@ -100,11 +101,13 @@ fn play_on<M: Machine>(
             Stop::Limit => return Ok(Ended::Limit),
             Stop::Decide { seat, site } => {
                 let pick = pick_of(about, plan, number, machine, seat, site);
-                if picks.push(pick).is_err() {
-                    return Err(Memory);
+                match picks.push(pick) {
+                    Ok(()) => {}
+                    Err(_) => return Err(Memory),
                 }
-                if machine.apply(pick.item, dealer).is_err() {
-                    return Err(Memory);
+                match machine.apply(pick.item, dealer) {
+                    Ok(()) => {}
+                    Err(Memory) => return Err(Memory),
                 }
             }
         }
@@ -131,9 +134,10 @@ fn pick_of<M: Machine>(
     ensures offered { result.item < length (menu_here about.now (M.config machine.now)) }
 {
     menu_sizes_are_functions_of_views();
+    let _sheet = about.sheet();
     let size = machine.menu().len() as u16;
     let strategy = strategy_of(plan, number, seat);
-    let seed = plan.matches[number as usize].seats;
+    let seed = deal_of(plan, number).seats;
     let item = choice_of(strategy, seed, seat, machine.control(), size);
     Pick {
         seat,
@@ -141,6 +145,14 @@ fn pick_of<M: Machine>(
         item,
         size,
     }
+}
+
+// The seeds of a match.
+fn deal_of(plan: &Plan, number: u32) -> Deal
+    requires { number < length plan.now.matches.items }
+    ensures { deal_seen result ≡ deal_at (plan_seen plan.now) number }
+{
+    plan.matches[number as usize]
 }
 
 // The strategy that a seat has in a match.
