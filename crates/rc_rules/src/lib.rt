@@ -8,6 +8,7 @@ mod menu;
 mod plan;
 mod record;
 mod stages;
+mod teams;
 
 pub use about::About;
 pub use control::{Control, Frame, Frames, Stop};
@@ -16,3 +17,4 @@ pub use menu::{Item, Menu, Scores, Spots};
 pub use plan::{Deal, Plan, Strategy};
 pub use record::{Ended, MatchRecord, Pick, Score, Standing};
 pub use stages::{class_of_stage, current_in, is_stage_of, owner_count};
+pub use teams::team_in;
