@@ -4,6 +4,7 @@
 mod about;
 mod control;
 mod dealer;
+mod machine;
 mod menu;
 mod plan;
 mod record;
@@ -13,6 +14,7 @@ mod teams;
 pub use about::About;
 pub use control::{Control, Frame, Frames, Stop};
 pub use dealer::{Dealer, MatchDealer};
+pub use machine::Machine;
 pub use menu::{Item, Menu, Scores, Spots};
 pub use plan::{Deal, Plan, Strategy};
 pub use record::{Ended, MatchRecord, Pick, Score, Standing};
