@@ -9,6 +9,7 @@ mod menu;
 mod plan;
 mod points;
 mod record;
+mod shape;
 mod stages;
 mod teams;
 
