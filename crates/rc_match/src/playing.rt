@@ -14,11 +14,7 @@ ghost use Rattle.rc_match.specs.Played.{IsOffhand, picked_at};
 use crate::choice::choice_of;
 use rc_deck::Memory;
 use rc_play_model::{every_play_ends, menu_sizes_are_functions_of_views};
-use rc_rules::{About, Deal, Ended, Machine, MatchDealer, MatchRecord, Pick, Plan, Score, Scores, Stop, Strategy};
-use arrayvec::ArrayVec;
-use rc_ast::Sheet;
-ghost use Rattle.rc_play_model.specs.Scores.{rank_points};
-ghost use Rattle.rc_ast.specs.Sheet.{sheet_seen};
+use rc_rules::{About, Deal, Ended, Machine, MatchDealer, MatchRecord, Pick, Plan, Score, Scores, Stop, Strategy, rank_points};
 use std::alloc::Global;
 
 /// Plays match `number` of a plan on a machine that stands at its start, and records it. The plan has a strategy for each player,
@@ -184,13 +180,4 @@ fn scores_of(alloc: Global, about: &About, scores: &Scores) -> Result<Vec<Score>
         }
     }
     Ok(told)
-}
-
-// STANDIN
-fn rank_points(sheet: &Sheet, scores: &Scores) -> ArrayVec<u8, 8>
-    requires stand_in { ⊥ }
-    requires each { length scores.now.items ≡ sheet.now.players }
-    ensures { result.items ≡ map (rank_points (sheet_seen sheet.now) scores.now.items) (below sheet.now.players) }
-{
-    unreachable!()
 }
