@@ -13,7 +13,13 @@ use rc_draw::{key32, pick_by};
 use rc_rules::{Control, Strategy};
 
 /// The item that a script or a pick by chance takes out of a menu of so many, by the seed of the seats.
-pub(crate) fn choice_of(strategy: &Strategy, seed: u64, seat: u8, control: &Control, size: u16) -> u16
+pub(crate) fn choice_of(
+    strategy: &Strategy,
+    seed: u64,
+    seat: u8,
+    control: &Control,
+    size: u16,
+) -> u16
     requires some { 0 < size }
     requires offhand { IsOffhand (strategy_seen strategy.now) }
     ensures below { result < size }

@@ -1,5 +1,5 @@
 //! The play of a match, from its start to its end.
-ghost use Rattle.std.specs.Prelude.{◌≡◌, ◌<◌, ◌≤◌, false, [], map, length, Some, All, IfOk, OnOk};
+ghost use Rattle.std.specs.Prelude.{◌≡◌, ◌<◌, ◌≤◌, false, [], map, length, slice_index_or, pos, Some, All, IfOk, OnOk};
 ghost use Rattle.rc_model.specs.Numbers.{below};
 ghost use Rattle.rc_play_model.specs.Step.{start};
 ghost use Rattle.rc_play_model.specs.Play.{pick_at};
@@ -12,9 +12,13 @@ ghost use Rattle.rc_rules.specs.Machine.{Decides, menu_here};
 ghost use Rattle.rc_match.specs.Played.{IsOffhand, picked_at};
 
 use crate::choice::choice_of;
+use arrayvec::ArrayVec;
 use rc_deck::Memory;
 use rc_play_model::{every_play_ends, menu_sizes_are_functions_of_views};
-use rc_rules::{About, Deal, Ended, Machine, MatchDealer, MatchRecord, Pick, Plan, Score, Scores, Stop, Strategy, rank_points};
+use rc_rules::{
+    About, Deal, Ended, Machine, MatchDealer, MatchRecord, Pick, Plan, Score, Scores, Stop,
+    Strategy, rank_points,
+};
 use std::alloc::Global;
 
 /// Plays match `number` of a plan on a machine that stands at its start, and records it. The plan has a strategy for each player,
@@ -34,6 +38,7 @@ pub fn play_match<M: Machine + Drop>(
     requires number { number < length plan.now.matches.items }
     ensures { IfOk result (λ r. keyed_match about.now (plan_seen plan.now) number ≡ Some (record_seen r)) }
 {
+    let _sheet = about.sheet();
     let mut machine = machine;
     let deal = deal_of(plan, number);
     let mut dealer = MatchDealer::new(deal.deal);
@@ -167,17 +172,31 @@ fn scores_of(alloc: Global, about: &About, scores: &Scores) -> Result<Vec<Score>
     requires each { length scores.now.items ≡ about.now.sheet.players }
     ensures { IfOk result (λ told. map score_seen told.items ≡ map (score_at about.now scores.now.items) (below about.now.sheet.players)) }
 {
-    let points = rank_points(about.sheet(), scores);
+    let sheet = about.sheet();
+    let points = rank_points(sheet, scores);
     let mut told = Vec::new(alloc);
-    for player in 0..about.sheet().players {
-        let score = Score {
-            player,
-            score: scores[player as usize],
-            points: points[player as usize],
-        };
-        if told.push(score).is_err() {
-            return Err(Memory);
+    for player in 0..sheet.players {
+        match told.push(score_of(scores, &points, player)) {
+            Ok(()) => {}
+            Err(_) => return Err(Memory),
         }
     }
     Ok(told)
+}
+
+// A player's score with the rank points for it.
+fn score_of(scores: &Scores, points: &ArrayVec<u8, 8>, player: u8) -> Score
+    requires scored { player < length scores.now.items }
+    requires ranked { player < length points.now.items }
+    ensures { score_seen result ≡ record {
+      player = player;
+      score = slice_index_or scores.now.items player (pos 0);
+      points = slice_index_or points.now.items player 0;
+    } }
+{
+    Score {
+        player,
+        score: scores[player as usize],
+        points: points[player as usize],
+    }
 }
