@@ -5,5 +5,5 @@ mod house;
 mod ranking;
 mod write;
 
-pub use house::{write_house, write_record, HouseText};
+pub use house::{HouseText, write_house, write_record};
 pub use ranking::standings;
