@@ -11,10 +11,12 @@ use rc_deck::Memory;
 use rc_rules::{MatchRecord, Standing};
 use std::alloc::{AllocError, Global};
 
-/// What a whole house text tells: the matches in order, and the standings.
+/// What a whole house text tells.
 #[derive(Debug, Drop)]
 pub struct HouseText {
+    /// The matches in order.
     pub matches: Vec<MatchRecord>,
+    /// The standings, from many points to few.
     pub standings: Vec<Standing>,
 }
 
