@@ -1,3 +1,4 @@
 pub mod FollowLemmas
 pub mod MenuLemmas
 pub mod ScoreLemmas
+pub mod StrategyLemmas

@@ -1,5 +1,6 @@
 -- What a match is played by, and where its play stands.
-use Rattle.std.specs.Prelude.{◌≡◌, ℕ, ◌-◌, List, ◌++◌, length, option_map}
+use Rattle.std.specs.Prelude.{◌≡◌, ℕ, ◌-◌, Bool, true, false, List, ◌++◌, length, option_map}
+use Rattle.std.specs.List.{list_any}
 use Rattle.rc_model.specs.Transcript.{Pick}
 use Rattle.rc_play_model.specs.About.{About}
 use Rattle.rc_play_model.specs.Step.{Config}
@@ -8,11 +9,14 @@ use Rattle.rc_play_model.specs.Plan.{Plan, deal_at, Strategy, scripted, random, 
 use Rattle.rc_play_model.specs.Play.{Played, from_stop, played_on}
 use Rattle.rc_play_model.specs.Keyed.{dealing_of, chooser_of, keyed_play}
 
--- the strategy needs no playouts
-abbrev pub IsOffhand : Strategy → Type 0
-IsOffhand (scripted numbers) = Unit {0}
-IsOffhand (random key) = Unit {0}
-IsOffhand (rollout rounds key) = ⊥
+-- whether a strategy needs playouts, and whether one of a plan does
+abbrev pub needs_playouts : Strategy → Bool
+needs_playouts (scripted numbers) = false
+needs_playouts (random key) = false
+needs_playouts (rollout rounds key) = true
+
+abbrev pub names_rollout : Plan → Bool
+names_rollout plan = list_any needs_playouts plan.strategies
 
 -- a play with these picks before its own
 abbrev pub with_picks : List Pick → Played ℕ → Played ℕ

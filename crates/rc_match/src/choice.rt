@@ -1,16 +1,41 @@
 //! What the strategies choose that need no playouts.
-ghost use Rattle.std.specs.Prelude.{◌≡◌, ◌<◌, ◌+◌, ◌*◌, slice_index};
+ghost use Rattle.std.specs.Prelude.{◌≡◌, ◌<◌, ◌+◌, ◌*◌, false, slice_index};
+ghost use Rattle.std.specs.List.{list_any};
 ghost use Rattle.rc_play_model.specs.About.{About};
 ghost use Rattle.rc_play_model.specs.View.{View};
 ghost use Rattle.rc_play_model.specs.Strategy.{menu_size, scripted_item};
 ghost use Rattle.rc_play_model.specs.Draws.{keyed};
 ghost use Rattle.rc_play_model.specs.Keyed.{choice_of};
 ghost use Rattle.rc_rules.specs.Control.{control_seen};
-ghost use Rattle.rc_rules.specs.Plan.{strategy_seen};
-ghost use Rattle.rc_match.specs.Played.{IsOffhand};
+ghost use Rattle.rc_rules.specs.Plan.{plan_seen, strategy_seen};
+ghost use Rattle.rc_match.specs.Played.{needs_playouts, names_rollout};
 
 use rc_draw::{key32, pick_by};
-use rc_rules::{Control, Strategy};
+use rc_rules::{Control, Plan, Strategy};
+
+/// Whether a plan names a strategy that needs playouts.
+#[tactic(auto, using(crate::proofs::StrategyLemmas::any_seen))]
+pub fn names_rollout(plan: &Plan) -> bool
+    ensures { result ≡ names_rollout (plan_seen plan.now) }
+{
+    any_needs_playouts(&plan.strategies)
+}
+
+fn any_needs_playouts(strategies: &[Strategy]) -> bool
+    ensures { result ≡ list_any (λ s. needs_playouts (strategy_seen s)) strategies.now }
+{
+    strategies.iter().any(|strategy| needs_playouts(strategy))
+}
+
+fn needs_playouts(strategy: &Strategy) -> bool
+    ensures { result ≡ needs_playouts (strategy_seen strategy.now) }
+{
+    match strategy {
+        Strategy::Script(_) => false,
+        Strategy::Random { .. } => false,
+        Strategy::Rollout { .. } => true,
+    }
+}
 
 /// The item that a script or a pick by chance takes out of a menu of so many, by the seed of the seats.
 pub(crate) fn choice_of(
@@ -21,7 +46,7 @@ pub(crate) fn choice_of(
     size: u16,
 ) -> u16
     requires some { 0 < size }
-    requires offhand { IsOffhand (strategy_seen strategy.now) }
+    requires offhand { needs_playouts (strategy_seen strategy.now) ≡ false }
     ensures below { result < size }
     ensures is { (about : About) (view : View) → view.seat ≡ seat → view.control ≡ control_seen control.now → menu_size about view ≡ size
         → choice_of about (strategy_seen strategy.now) seed view ≡ result }

@@ -4,4 +4,5 @@
 mod choice;
 mod playing;
 
+pub use choice::names_rollout;
 pub use playing::play_match;

@@ -1,15 +1,15 @@
 //! The play of a match, from its start to its end.
-ghost use Rattle.std.specs.Prelude.{◌≡◌, ◌<◌, ◌≤◌, false, [], map, length, slice_index_or, pos, Some, All, IfOk, OnOk};
+ghost use Rattle.std.specs.Prelude.{◌≡◌, ◌<◌, ◌≤◌, false, [], map, length, slice_index_or, pos, Some, IfOk, OnOk};
 ghost use Rattle.rc_model.specs.Numbers.{below};
 ghost use Rattle.rc_play_model.specs.Step.{start};
 ghost use Rattle.rc_play_model.specs.Play.{pick_at};
-ghost use Rattle.rc_play_model.specs.Plan.{strategy_at, deal_at};
+ghost use Rattle.rc_play_model.specs.Plan.{strategy_held, strategy_at, deal_at};
 ghost use Rattle.rc_play_model.specs.Scores.{score_at};
 ghost use Rattle.rc_play_model.specs.Keyed.{keyed_match, keyed_play};
 ghost use Rattle.rc_rules.specs.Plan.{plan_seen, deal_seen, strategy_seen};
 ghost use Rattle.rc_rules.specs.Record.{pick_seen, ending_seen, score_seen, record_seen};
 ghost use Rattle.rc_rules.specs.Machine.{Decides, menu_here};
-ghost use Rattle.rc_match.specs.Played.{IsOffhand, picked_at};
+ghost use Rattle.rc_match.specs.Played.{needs_playouts, names_rollout, picked_at};
 
 use crate::choice::choice_of;
 use arrayvec::ArrayVec;
@@ -34,9 +34,10 @@ pub fn play_match<M: Machine + Drop>(
     requires start { M.config machine ≡ start about.now }
     requires fresh { M.spent machine ≡ false }
     requires seats { length plan.now.strategies.items ≡ about.now.sheet.players }
-    requires offhand { All (λ strategy. IsOffhand (strategy_seen strategy)) plan.now.strategies.items }
+    requires offhand { names_rollout (plan_seen plan.now) ≡ false }
     requires number { number < length plan.now.matches.items }
-    ensures { IfOk result (λ r. keyed_match about.now (plan_seen plan.now) number ≡ Some (record_seen r)) }
+    ensures is { IfOk result (λ r. keyed_match about.now (plan_seen plan.now) number ≡ Some (record_seen r)) }
+    ensures each { IfOk result (λ r. length r.scores.items ≡ about.now.sheet.players) }
 {
     let _sheet = about.sheet();
     let mut machine = machine;
@@ -76,7 +77,7 @@ fn play_on<M: Machine>(
     requires start { M.config machine.old ≡ start about.now }
     requires fresh { M.spent machine.old ≡ false }
     requires some { 1 ≤ length plan.now.strategies.items }
-    requires offhand { All (λ strategy. IsOffhand (strategy_seen strategy)) plan.now.strategies.items }
+    requires offhand { names_rollout (plan_seen plan.now) ≡ false }
     requires dealer { dealer.old ≡ record { deal = (deal_at (plan_seen plan.now) number).deal; count = 0 } }
     requires number { number < length plan.now.matches.items }
     requires none { picks.old.items ≡ [] }
@@ -128,7 +129,7 @@ fn pick_of<M: Machine>(
     requires fresh { M.spent machine.now ≡ false }
     requires decides { Decides about.now seat site (M.config machine.now) }
     requires some { 1 ≤ length plan.now.strategies.items }
-    requires offhand { All (λ strategy. IsOffhand (strategy_seen strategy)) plan.now.strategies.items }
+    requires offhand { names_rollout (plan_seen plan.now) ≡ false }
     requires number { number < length plan.now.matches.items }
     ensures is { pick_seen result
         ≡ pick_at about.now seat site (picked_at about.now (plan_seen plan.now) number seat site (M.config machine.now)) (M.config machine.now) }
@@ -159,18 +160,27 @@ fn deal_of(plan: &Plan, number: u32) -> Deal
 // The strategy that a seat has in a match.
 fn strategy_of(plan: &Plan, number: u32, seat: u8) -> &Strategy
     requires some { 1 ≤ length plan.now.strategies.items }
-    requires offhand { All (λ strategy. IsOffhand (strategy_seen strategy)) plan.now.strategies.items }
+    requires offhand { names_rollout (plan_seen plan.now) ≡ false }
     ensures is { strategy_seen result.now ≡ strategy_at (plan_seen plan.now) number seat }
-    ensures offhand { IsOffhand (strategy_seen result.now) }
+    ensures offhand { needs_playouts (strategy_seen result.now) ≡ false }
 {
-    let held = (u64::from(seat) + u64::from(number)) % plan.strategies.len() as u64;
-    &plan.strategies[held as usize]
+    &plan.strategies[held_by(plan, number, seat)]
+}
+
+// The number of that strategy: the seat's and the match's, modulo how many there are.
+fn held_by(plan: &Plan, number: u32, seat: u8) -> usize
+    requires some { 1 ≤ length plan.now.strategies.items }
+    ensures is { result ≡ strategy_held (plan_seen plan.now) number seat }
+    ensures there { result < length plan.now.strategies.items }
+{
+    (seat as usize + number as usize) % plan.strategies.len()
 }
 
 // Each player's score, with the rank points for it.
 fn scores_of(alloc: Global, about: &About, scores: &Scores) -> Result<Vec<Score>, Memory>
     requires each { length scores.now.items ≡ about.now.sheet.players }
-    ensures { IfOk result (λ told. map score_seen told.items ≡ map (score_at about.now scores.now.items) (below about.now.sheet.players)) }
+    ensures is { IfOk result (λ told. map score_seen told.items ≡ map (score_at about.now scores.now.items) (below about.now.sheet.players)) }
+    ensures each { IfOk result (λ told. length told.items ≡ about.now.sheet.players) }
 {
     let sheet = about.sheet();
     let points = rank_points(sheet, scores);

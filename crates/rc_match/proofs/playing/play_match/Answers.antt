@@ -11,10 +11,10 @@ pub play_on-requires-clause-some : goal.play_on-requires-clause-some
 play_on-requires-clause-some g c = omega (arith, c.requires.seats, c.sheet-sheet.ensures.well.limits.some_players)
 
 pub scores_of-requires : goal.scores_of-requires
-scores_of-requires g c = record { each = long_below _ _ c.scores.result.items c.scores.ensures ∙ ap (λ about. about.sheet.players) c.in-Ok.ensures.about; }
+scores_of-requires g c = record { each = long_below _ _ c.scores.result.items c.scores.ensures ∙ ap (λ about. about.sheet.players) c.in-Ok.ensures.about }
 
-pub returns : goal.returns
-returns g c =
+pub returns-clause-is : goal.returns-clause-is
+returns-clause-is g c =
     let about = c.args.about.now in
     let plan = plan_seen c.args.plan.now in
     let number = c.args.number in
@@ -24,7 +24,7 @@ returns g c =
     let scores : c.scores.result.items ≡ scores_of about here.table here.control =
     c.scores.ensures ∙ ap (λ a. scores_of a here.table here.control) c.in-Ok.ensures.about in
     let told : map score_seen c.in-Ok-scores_of.scores.items ≡ map (score_at about (scores_of about here.table here.control)) (below about.sheet.players) =
-    c.in-Ok-scores_of.ensures ∙ ap (λ list. map (score_at about list) (below about.sheet.players)) scores in
+    c.in-Ok-scores_of.ensures.is ∙ ap (λ list. map (score_at about list) (below about.sheet.players)) scores in
     let count : c.play_on.new.dealer.count ≡ c.count.result = sym c.count.ensures in
     let turn : here.control.turn ≡ c.control.result.now.turn = ap (λ control. control.turn) (sym c.control.ensures) in
     let deal : (deal_at plan number).deal ≡ c.deal_of-deal.result.deal = ap (λ d. d.deal) (sym c.deal_of-deal.ensures) in

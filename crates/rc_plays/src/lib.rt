@@ -1,0 +1,6 @@
+//! The matches of a plan in order, and the house text that they make.
+#![tactic(auto)]
+
+mod plays;
+
+pub use plays::house_of;
