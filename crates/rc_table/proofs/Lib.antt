@@ -1,3 +1,4 @@
 pub mod EndToEnd
 pub mod Held
 pub mod ByLocation
+pub mod Orders
