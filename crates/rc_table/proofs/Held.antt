@@ -157,8 +157,8 @@ module _ (shape : Shape) (table : Table) (sound : IsSound shape table) where
   few_in_list limits loc =
       let cards = cards_held shape table sound in
       elim (cases_lt loc (length table.lists)) [
-        inl within ↦ list_short shape.places table.lists loc sound.locations few_each (omega (arith, cards, limits.cards)) within
-      | inr past ↦ let none = ap length (get_or_past table.lists loc [] past) in omega (arith, none)
+        | inl within ↦ list_short shape.places table.lists loc sound.locations few_each (omega (arith, cards, limits.cards)) within
+        | inr past ↦ let none = ap length (get_or_past table.lists loc [] past) in omega (arith, none)
       ]
 
   -- all that the lists hold together

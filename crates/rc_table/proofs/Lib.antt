@@ -2,3 +2,4 @@ pub mod EndToEnd
 pub mod Held
 pub mod ByLocation
 pub mod Orders
+pub mod Homes

@@ -1,12 +1,14 @@
 //! What changes a table. None of it takes memory.
-ghost use Rattle.std.specs.Prelude.{◌≡◌, ◌<◌, ◌≤◌, length, take};
+ghost use Rattle.std.specs.Prelude.{◌≡◌, ◌<◌, ◌≤◌, length, take, reverse, remove, MatchOption};
 ghost use Rattle.std.specs.List.Sorted.{IsPermutation};
 ghost use Rattle.rc_model.specs.Clamp.{IsWithinClamp};
 ghost use Rattle.rc_model.specs.Numbers.{below};
 ghost use Rattle.rc_play_model.specs.Bound.{HoldsCards, HoldsReferences};
-ghost use Rattle.rc_play_model.specs.Table.{list_at, put_top, put_bottom, remember_top, remember_bottom, forget_in, set_number, taken, reorder};
+ghost use Rattle.rc_play_model.specs.Table.{list_at, put_top, put_bottom, remember_top, remember_bottom, without_face, forget_in, set_number, taken, reorder};
 ghost use Rattle.rc_table.specs.Laid.{relaid};
 
+use crate::shape::Shape;
+use crate::sight::have_same_face;
 use crate::table::Table;
 use rc_play_model::edits_keep_tables_sound;
 
@@ -59,6 +61,18 @@ impl Table {
         }
     }
 
+    /// Takes the topmost reference with the card's face out of a `mem`, if there is one.
+    pub fn forget(&mut self, id: u16, loc: u16)
+        requires card { id < length self.old.shape.faces }
+        requires loc { HoldsReferences self.old.shape loc }
+        ensures { self.new ≡ relaid self.old (forget_in self.old.shape id loc self.old.table) }
+    {
+        edits_keep_tables_sound();
+        if let Some(place) = topmost(self.shape(), self.list(loc), id) {
+            self.lists.take_out(loc, place);
+        }
+    }
+
     /// Sets a number. Nothing changes where there is no such number.
     pub fn set_number(&mut self, num: u16, value: i64)
         requires clamped { IsWithinClamp value }
@@ -81,6 +95,20 @@ impl Table {
         let count = reordered(self.list(loc), order, &mut list);
         self.lists.rewrite(loc, &list[..count]);
     }
+}
+
+// The last place in a list of a card with this card's face.
+fn topmost(shape: &Shape, list: &[u16], id: u16) -> Option<usize>
+    ensures { MatchOption result
+        (reverse (without_face shape.now id (reverse list.now)) ≡ list.now)
+        (λ place. (place < length list.now) × (reverse (without_face shape.now id (reverse list.now)) ≡ remove list.now place)) }
+{
+    for place in (0..list.len()).rev() {
+        if have_same_face(shape, list[place], id) {
+            return Some(place);
+        }
+    }
+    None
 }
 
 // Writes a list in another order, and tells its length.

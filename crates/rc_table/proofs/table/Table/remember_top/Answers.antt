@@ -9,7 +9,7 @@ pub put_top-requires-clause-room : goal.put_top-requires-clause-room
 put_top-requires-clause-room c =
     let mem = subst (λ (laid : Laid). HoldsReferences laid.shape c.args.loc) (sym c.self.view_is) c.requires.loc in
     let room : has_room c.self.inside.shape.value c.args.loc (record { lists = c.self.inside.lists.all; numbers = c.self.inside.numbers.items }) ≡ true =
-     subst (λ (laid : Laid). has_room laid.shape c.args.loc laid.table ≡ true) (sym c.self.view_is) (sym c.has_room.ensures ∙ c.if-has_room.true) in
+    subst (λ (laid : Laid). has_room laid.shape c.args.loc laid.table ≡ true) (sym c.self.view_is) (sym c.has_room.ensures ∙ c.if-has_room.true) in
     let less = noted_fits _ _ c.self.invariant.sound c.args.loc mem room in
     omega (arith, less, c.self.invariant.fits)
 
@@ -18,7 +18,7 @@ invariant_of-self c =
     let mem = subst (λ (laid : Laid). HoldsReferences laid.shape c.args.loc) (sym c.self.view_is) c.requires.loc in
     let card = subst (λ (laid : Laid). c.args.id < length laid.shape.faces) (sym c.self.view_is) c.requires.card in
     let room : has_room c.self.inside.shape.value c.args.loc (record { lists = c.self.inside.lists.all; numbers = c.self.inside.numbers.items }) ≡ true =
-     subst (λ (laid : Laid). has_room laid.shape c.args.loc laid.table ≡ true) (sym c.self.view_is) (sym c.has_room.ensures ∙ c.if-has_room.true) in
+    subst (λ (laid : Laid). has_room laid.shape c.args.loc laid.table ≡ true) (sym c.self.view_is) (sym c.has_room.ensures ∙ c.if-has_room.true) in
     let sound = c.edits_keep_tables_sound.ensures.remembered _ _ c.args.id c.args.loc c.self.invariant.sound card mem in
     rw c.put_top.ensures
     (record {
