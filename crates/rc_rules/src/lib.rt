@@ -2,11 +2,15 @@
 #![tactic(auto)]
 
 mod control;
+mod dealer;
 mod menu;
 mod plan;
 mod record;
+mod stages;
 
 pub use control::{Control, Frame, Frames, Stop};
+pub use dealer::{Dealer, MatchDealer};
 pub use menu::{Item, Menu, Scores, Spots};
 pub use plan::{Deal, Plan, Strategy};
 pub use record::{Ended, MatchRecord, Pick, Score, Standing};
+pub use stages::{class_of_stage, current_in, is_stage_of, owner_count};
