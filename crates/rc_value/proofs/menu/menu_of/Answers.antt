@@ -1,10 +1,8 @@
 use Rattle.std.proofs.Common.{ap, sym, subst, ◌∙◌}
 use Rattle.std.specs.Prelude.{All}
 use Rattle.rc_play_model.specs.Menu.{menu_from as pure_menu_from, menu_of as pure_menu_of}
-use Rattle.rc_play_model.specs.Owners.{mover}
 use Rattle.rc_play_model.specs.Scene.{scene_of}
 use Rattle.rc_ast.specs.Sheet.{sheet_seen}
-use Rattle.rc_rules.specs.Control.{frames_seen}
 use Rattle.rc_value.specs.Binding.{BindsFew}
 use Rattle.rc_value.specs.Scene.{scene_seen}
 use Rattle.rc_value.proofs.menu.menu_of.Goals as goal

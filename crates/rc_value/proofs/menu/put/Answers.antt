@@ -1,7 +1,6 @@
-use Rattle.std.proofs.Common.{[], append-nil, arith, ap, sym, ◌∙◌}
+use Rattle.std.proofs.Common.{append-nil, arith, ap, sym, ◌∙◌}
 use Rattle.std.proofs.lemmas.List.{length-map, map-append}
 use Rattle.rc_rules.specs.Menu.{item_seen, menu_seen}
-use Rattle.rc_value.specs.Menu.{extended}
 use Rattle.rc_value.proofs.Offers.{put_more, put_none, full_is, room_is}
 use Rattle.rc_value.proofs.menu.put.Goals as goal
 
