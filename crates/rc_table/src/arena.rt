@@ -1,5 +1,5 @@
 //! Lists kept end to end.
-ghost use Rattle.std.specs.Prelude.{◌≡◌, ◌+◌, ◌-◌, ◌<◌, ◌≤◌, [], ◌++◌, length, map, take, drop, replicate, slice_index_or, slice_set, All, IfOk};
+ghost use Rattle.std.specs.Prelude.{◌≡◌, ◌+◌, ◌-◌, ◌<◌, ◌≤◌, [], ◌∷◌, ◌++◌, length, map, take, drop, replicate, slice_index_or, slice_set, All, IfOk};
 ghost use Rattle.std.specs.List.{concat, remove, insert};
 ghost use Rattle.rc_table.specs.Arena.{lists_in, IsInside};
 
@@ -102,7 +102,7 @@ impl Arena {
     }
 
     /// Takes an id out of a list.
-    pub(crate) fn take_out(&mut self, at: u16, place: u16)
+    pub(crate) fn take_out(&mut self, at: u16, place: usize)
         requires list { at < length self.old.all }
         requires place { place < length (slice_index_or self.old.all at []) }
         ensures { self.new ≡ record {
@@ -111,12 +111,12 @@ impl Arena {
         } }
     {
         let from = self.starts[at as usize];
-        self.cells.remove(from as usize + place as usize);
+        self.cells.remove(from as usize + place);
         lower(&mut self.starts, at as usize + 1);
     }
 
-    /// Puts an id into a list.
-    pub(crate) fn put_in(&mut self, at: u16, place: u16, id: u16)
+    // Puts an id into a list.
+    fn put_in(&mut self, at: u16, place: usize, id: u16)
         requires list { at < length self.old.all }
         requires place { place ≤ length (slice_index_or self.old.all at []) }
         requires room { length (concat self.old.all) < self.old.room }
@@ -126,10 +126,33 @@ impl Arena {
         } }
     {
         let from = self.starts[at as usize];
-        self.cells
-            .insert(from as usize + place as usize, id)
-            .unwrap();
+        self.cells.insert(from as usize + place, id).unwrap();
         raise(&mut self.starts, at as usize + 1);
+    }
+
+    /// Puts an id at the end of a list.
+    pub(crate) fn put_top(&mut self, at: u16, id: u16)
+        requires list { at < length self.old.all }
+        requires room { length (concat self.old.all) < self.old.room }
+        ensures { self.new ≡ record {
+          all = slice_set self.old.all at (slice_index_or self.old.all at [] ++ id ∷ []);
+          room = self.old.room;
+        } }
+    {
+        let top = self.list(at).len();
+        self.put_in(at, top, id);
+    }
+
+    /// Puts an id at the beginning of a list.
+    pub(crate) fn put_bottom(&mut self, at: u16, id: u16)
+        requires list { at < length self.old.all }
+        requires room { length (concat self.old.all) < self.old.room }
+        ensures { self.new ≡ record {
+          all = slice_set self.old.all at (id ∷ slice_index_or self.old.all at []);
+          room = self.old.room;
+        } }
+    {
+        self.put_in(at, 0, id);
     }
 
     /// Writes another list of the same length.

@@ -11,6 +11,13 @@ index-from-requires c =
     let here = inside a.cells.items a.starts.items _ c.args.at (seen _ _ _ _ c.self.invariant.0 c.self.view_is) c.requires.list in
     omega (arith, here.below, a.starts.ok.0)
 
+pub overflow_add-from : goal.overflow_add-from
+overflow_add-from c =
+    let a = c.self.inside in
+    let here = inside a.cells.items a.starts.items _ c.args.at (seen _ _ _ _ c.self.invariant.0 c.self.view_is) c.requires.list in
+    let from = c.index-from.ensures ∙ get_or_default a.starts.items c.args.at _ 0 (omega (arith, here.below)) in
+    omega (arith, here.to, here.within, from, c.requires.place, a.cells.ok.0, c.self.invariant.1, c.self.ranges)
+
 pub insert-requires : goal.insert-requires
 insert-requires c =
     let a = c.self.inside in
