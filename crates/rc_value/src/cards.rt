@@ -1,0 +1,34 @@
+//! Cards.
+ghost use Rattle.std.specs.Prelude.{◌≡◌};
+ghost use Rattle.rc_play_model.specs.Scene.{id_of};
+ghost use Rattle.rc_value.specs.Cards.{value_seen};
+
+use arrayvec::ArrayVec;
+
+/// A card, wherever it is, or a reference that was read in a location.
+#[derive(Clone, Copy, PartialEq, Eq, Debug)]
+pub enum Card {
+    Held(u16),
+    Noted { loc: u16, id: u16 },
+}
+
+impl Default for Card {
+    fn default() -> Card {
+        Card::Held(0)
+    }
+}
+
+impl Card {
+    /// The card's number, wherever it is.
+    pub fn id(self) -> u16
+        ensures { result ≡ id_of (value_seen self) }
+    {
+        match self {
+            Card::Held(id) => id,
+            Card::Noted { loc: _, id } => id,
+        }
+    }
+}
+
+/// The cards of a collection.
+pub type Cards = ArrayVec<Card, 512>;

@@ -1,0 +1,28 @@
+//! What expressions are worth at a table: numbers, tests, cards and collections.
+#![tactic(auto)]
+
+mod arithmetic;
+mod binding;
+mod cards;
+mod collection;
+mod current;
+mod expressions;
+mod groups;
+mod leaves;
+mod loops;
+mod menu;
+mod places;
+mod scene;
+mod scope;
+
+pub use arithmetic::{clamped_difference, clamped_product, clamped_sum};
+pub use binding::expressions_bind_few;
+pub use cards::{Card, Cards};
+pub use collection::Collection;
+pub use current::{Current, current_of};
+pub use expressions::{bare, card_of, coll_of, int_of, test_of};
+pub use groups::{Values, group_with, value_at, values_in};
+pub use menu::menu_of;
+pub use places::{loc_at, num_at, who_of};
+pub use scene::Scene;
+pub use scope::{Bind, Scope};
