@@ -3,7 +3,8 @@ use Rattle.std.proofs.Common.{None, ◌≡◌, ℕ, suc, ◌<◌, ◌≤◌, Lis
 use Rattle.std.specs.List.{All, Contains}
 use Rattle.std.proofs.lemmas.Bool.{cases_lt}
 use Rattle.std.proofs.lemmas.List.Elements.{All-nil, All-cons, All-contains, All-weaker}
-use Rattle.rc_model.specs.Tree.{Tree}
+use Rattle.rc_model.specs.Tree.{Tree, word, list, IsOpenAtMost}
+use Rattle.rc_form.specs.Form.{IsPrintable}
 use Rattle.rc_grammar.specs.declared.fault.SheetFault.{SheetFault}
 use Rattle.rc_semantics.specs.SecondFaults.{sheet_fault}
 use Rattle.rc_sheet_model.specs.Sheet.{Sheet, Loc}
@@ -124,3 +125,8 @@ pub accepted_so : {P Q : Sheet → List Tree → Type 0} (lists : List Tree)
     → ((sheet : Sheet) (others : List Tree) → P sheet others → Q sheet others) → IsAcceptedWith P lists → IsAcceptedWith Q lists
 accepted_so [] follows is = absurd is
 accepted_so (form ∷ others) follows is = (is.0, is.1, follows is.0 others is.2)
+
+-- a form that can be printed has at most 64 lists open at one place
+pub fits : (tree : Tree) → IsPrintable tree → IsOpenAtMost 64 tree
+fits (word bytes from to) printable = absurd printable
+fits (list parts from to) printable = printable

@@ -2,6 +2,9 @@
 use Rattle.std.proofs.Common.{◌≡◌, ℕ, List, inl, inr, refl, sym, ◌∙◌, ap, subst}
 use Rattle.rc_model.specs.Tree.{Tree}
 use Rattle.rc_sheet_model.specs.Sheet as sheets
+use Rattle.rc_play_model.specs.About.{about_of}
+use Rattle.rc_play_model.specs.Keyed.{keyed_house}
+use Rattle.rc_match.specs.Played.{names_rollout}
 use Rattle.rc_house.specs.declared.command.Command.{Command}
 use Rattle.rc_house.specs.declared.command.Command.TheVariants.{Play, Sheet}
 use Rattle.rc_house.specs.declared.refusal.Refusal.{Refusal}
@@ -11,8 +14,7 @@ use Rattle.rc_house.specs.Reading.{Reading, HasSheetFault, IsAcceptedWith}
 use Rattle.rc_house.specs.Answer.{Answer, text, refused, HasText, HasPlanRefusal, IsUnbuilt, HasRefusal, HasAnswer}
 use Rattle.rc_house.proofs.AcceptedLaws.{one_sheet_fault, accepted_no_fault, both_accepted}
 use Rattle.rc_house.proofs.OneReading.{one_reading, read_has_no_fault, one_form_fault}
-use Rattle.rc_house.proofs.OneGame.{one_house}
-use Rattle.rc_house.proofs.PlanLaws.{accepted_no_plan_fault, one_plan_fault}
+use Rattle.rc_house.proofs.PlanLaws.{accepted_no_plan_fault, one_plan_fault, one_accepted_plan}
 
 -- what is accepted of one reading is accepted of any
 accepted_of : (P : sheets.Sheet → List Tree → ℕ → Type 0) (source : List ℕ) (want : ℕ) (read other : Reading source want)
@@ -33,13 +35,18 @@ faulty_of source want read other kind at has =
 -- a command writes one text
 one_text : (command : Command) (source : List ℕ) (sheet : sheets.Sheet) (others : List Tree) (rest : ℕ) (bytes other : List ℕ)
     → HasText command source sheet others rest bytes → HasText command source sheet others rest other → other ≡ bytes
-one_text Play source sheet others rest bytes other has has' = one_house source bytes other has.2 has'.2
+one_text Play source sheet others rest bytes other has has' =
+    let same = one_accepted_plan source sheet.players others rest has.0 has'.0 has.1 has'.1 in
+    has'.3 ∙ ap (λ plan. keyed_house (about_of sheet plan.turns) plan) same ∙ sym has.3
 one_text Sheet source sheet others rest bytes other has has' = has' ∙ sym has
 
 -- a command that writes a text is built
 built : (command : Command) (source : List ℕ) (sheet : sheets.Sheet) (others : List Tree) (rest : ℕ) (bytes : List ℕ)
     → HasText command source sheet others rest bytes → IsUnbuilt command source sheet others rest → ⊥
-built Play source sheet others rest bytes has none = none.2 bytes has.2
+built Play source sheet others rest bytes has none =
+    let same = one_accepted_plan source sheet.players others rest has.0 none.0 has.1 none.1 in
+    let clash = sym none.2 ∙ ap names_rollout same ∙ has.2 in
+    absurd cc
 built Sheet source sheet others rest bytes has none = none
 
 -- where a text is written, or a command isn't built, the plan has no fault

@@ -1,5 +1,5 @@
 -- The lists behind a sheet are accepted as its plan, or they have one first fault.
-use Rattle.std.proofs.Common.{◌≡◌, ◌≢◌, ℕ, ◌⊎◌, List, [], ◌∷◌, Option, Some, None, IfSome, IfNone, ◌<◌, ◌≤◌, get_or, length, inl, inr, refl, sym, ◌∙◌, ap, subst, arith}
+use Rattle.std.proofs.Common.{◌≡◌, ◌≢◌, ℕ, ◌⊎◌, List, [], ◌∷◌, ◌<◌, ◌≤◌, get_or, length, inl, inr, refl, sym, ◌∙◌, ap, subst, arith}
 use Rattle.std.specs.List.{Contains}
 use Rattle.std.proofs.lemmas.Bool.{cases_eq}
 use Rattle.rc_model.specs.Tree.{Tree}
@@ -13,6 +13,7 @@ use Rattle.rc_house.specs.declared.refusal.Refusal.TheVariants as refusal
 use Rattle.rc_form.specs.Form.{tree_of, trees_of}
 use Rattle.rc_form.specs.declared.form.Form.{Form}
 use Rattle.rc_play_model.specs.Plan.{Plan}
+use Rattle.rc_plan_model.proofs.OnePlan.{one_plan}
 use Rattle.rc_plan_model.proofs.SomePlan.{some_plan}
 use Rattle.rc_house.specs.AcceptedPlan.{HasPlanFault, IsPlanAccepted, HasPlan}
 
@@ -30,6 +31,12 @@ accepted_no_plan_fault source players (form ∷ others) rest plan kind at is (in
 
 same_fault : (kind other : PlanKind) (at offset : ℕ) → other ≡ kind → offset ≡ at → refusal.Plan other offset ≡ refusal.Plan kind at
 same_fault kind other at offset is same = cc
+
+-- there is one accepted plan
+pub one_accepted_plan : (source : List ℕ) (players : ℕ) (others : List Tree) (rest : ℕ) (plan other : Plan)
+    → IsPlanAccepted source players others rest plan → IsPlanAccepted source players others rest other → other ≡ plan
+one_accepted_plan source players [] rest plan other is is' = absurd is
+one_accepted_plan source players (form ∷ others) rest plan other is is' = one_plan other plan form is'.0.stands is.0.stands
 
 -- there is one first fault
 pub one_plan_fault : (source : List ℕ) (players : ℕ) (others : List Tree) (rest : ℕ) (kind other : PlanKind) (at offset : ℕ)
@@ -79,12 +86,3 @@ pub others_are : (list forms : List Form) (plan : Form) (form : Tree) (others : 
     → plan ≡ get_or list 1 plan → trees_of forms ≡ form ∷ others → (more : List Tree) × (others ≡ tree_of plan ∷ more)
 others_are list forms plan form others is two item same =
     second_is list plan form others two item (ap trees_of is ∙ same)
-
--- what follows of what is there, and of what isn't
-pub some_then : {A : Type 0} (o : Option A) (P Q : A → Type 0) → ((a : A) → P a → Q a) → IfSome o P → IfSome o Q
-some_then None P Q follows is = tt
-some_then (Some a) P Q follows is = follows a is
-
-pub none_then : {A : Type 0} (o : Option A) (P Q : Type 0) → (P → Q) → IfNone o P → IfNone o Q
-none_then None P Q follows is = follows is
-none_then (Some a) P Q follows is = tt

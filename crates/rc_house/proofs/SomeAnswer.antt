@@ -1,7 +1,6 @@
 -- A command has an answer to each source.
-use Rattle.std.proofs.Common.{◌≡◌, ℕ, List, [], ◌∷◌, Option, Some, None, ◌⊎◌, inl, inr, refl, subst}
+use Rattle.std.proofs.Common.{◌≡◌, ℕ, Bool, true, false, List, [], ◌∷◌, Option, Some, None, ◌⊎◌, inl, inr, refl, subst}
 use Rattle.rc_model.specs.Spelled.{Spelled}
-use Rattle.rc_small.specs.SmallText.{HasHouse}
 use Rattle.rc_model.specs.Tree.{Tree}
 use Rattle.rc_model.specs.Transcript.{line}
 use Rattle.rc_grammar.specs.declared.fault.SheetFault.{SheetFault}
@@ -14,20 +13,23 @@ use Rattle.rc_form.proofs.ReadIsFault.{spelled_or_faulty}
 use Rattle.rc_form.proofs.AtomsAreRead.{of_atoms-first}
 use Rattle.rc_form.proofs.TopLists.{fits-first}
 use Rattle.rc_sheet.proofs.Accepted.{has_sheet}
+use Rattle.rc_play_model.specs.About.{about_of}
+use Rattle.rc_play_model.specs.Plan.{Plan}
+use Rattle.rc_play_model.specs.Keyed.{keyed_house}
+use Rattle.rc_match.specs.Played.{names_rollout}
 use Rattle.rc_house.specs.declared.command.Command.{Command}
 use Rattle.rc_house.specs.declared.command.Command.TheVariants.{Play, Sheet}
 use Rattle.rc_house.specs.declared.refusal.Refusal.TheVariants as refusal
 use Rattle.rc_house.specs.declared.status.SourceKind.TheVariants.{Shape, Unseen}
 use Rattle.rc_house.specs.Status.{source_kind, sheet_kind}
 use Rattle.rc_house.specs.Accepted.{IsSheetOf, IsAccepted}
-use Rattle.rc_house.specs.AcceptedPlan.{HasPlanFault, IsPlanAccepted, HasPlan}
+use Rattle.rc_house.specs.AcceptedPlan.{HasPlanFault, IsPlanAccepted}
 use Rattle.rc_house.specs.Command.{wanted}
 use Rattle.rc_house.specs.Reading.{IsAcceptedWith}
 use Rattle.rc_house.specs.Answer.{Answer, text, refused, HasAnswer}
 use Rattle.rc_house.proofs.AcceptedLaws.{in_sight_or_not}
 use Rattle.rc_house.proofs.AnswerLaws.{missing_answer, refused_answer, first_accepted, text_answer, plan_answer, unbuilt_answer}
 use Rattle.rc_house.proofs.PlanLaws.{IsPlanOrFault, plan_or_fault}
-use Rattle.rc_house.proofs.SomeGame.{house_or_not}
 
 -- the command has an answer to this source
 abbrev IsAnswered : Command → List ℕ → Type 0
@@ -50,21 +52,20 @@ accepted Play source form others rest sheet spelled is =
     sheet_is : IsAcceptedWith (λ other _. other ≡ sheet) (form ∷ others)
     sheet_is = first_accepted (form ∷ others) form others sheet refl is
 
-    by_house : HasPlan source sheet.players others rest
-        → ((bytes : List ℕ) × HasHouse source bytes) ⊎ ((bytes : List ℕ) → HasHouse source bytes → ⊥) → IsAnswered Play source
-    by_house plan (inl has) = (
-      text has.0,
-      text_answer Play source (form ∷ others) rest sheet has.0 spelled sheet_is
-          (λ first more same. (plan.0, subst (λ others. IsPlanAccepted source sheet.players others rest plan.0) (behind first more same) plan.1, has.1)),
+    by_seats : (plan : Plan) → IsPlanAccepted source sheet.players others rest plan → (needs : Bool) → names_rollout plan ≡ needs → IsAnswered Play source
+    by_seats plan planned false none = (
+      text (keyed_house (about_of sheet plan.turns) plan),
+      text_answer Play source (form ∷ others) rest sheet (keyed_house (about_of sheet plan.turns) plan) spelled sheet_is
+          (λ first more same. (plan, subst (λ others. IsPlanAccepted source sheet.players others rest plan) (behind first more same) planned, none, refl)),
     )
-    by_house plan (inr none) = (
+    by_seats plan planned true named = (
       refused refusal.Unbuilt,
       unbuilt_answer Play source (form ∷ others) rest sheet spelled sheet_is
-          (λ first more same. (plan.0, subst (λ others. IsPlanAccepted source sheet.players others rest plan.0) (behind first more same) plan.1, none)),
+          (λ first more same. (plan, subst (λ others. IsPlanAccepted source sheet.players others rest plan) (behind first more same) planned, named)),
     )
 
     by_plan : IsPlanOrFault source sheet.players others rest → IsAnswered Play source
-    by_plan (inl plan) = by_house plan (house_or_not source (form ∷ others) rest spelled)
+    by_plan (inl plan) = by_seats plan.0 plan.1 (names_rollout plan.0) refl
     by_plan (inr fault) = (
       refused (refusal.Plan fault.0 fault.1),
       plan_answer Play source (form ∷ others) rest sheet fault.0 fault.1 spelled sheet_is

@@ -33,3 +33,13 @@ HasPlanFault source players kind at [] rest = (kind ≡ Shape) × (at ≡ rest)
 HasPlanFault source players kind at (form ∷ others) rest =
     IsPlanFault form players kind at
     ⊎ ((plan_faults players form ≡ []) × (rest ≢ length source) × (kind ≡ Rest) × (at ≡ rest))
+
+-- Behind the first of these lists, the sheet, stands this plan, and it is accepted.
+abbrev pub IsPlanned : List ℕ → ℕ → List Tree → ℕ → Plan → Type 0
+IsPlanned source players lists rest plan =
+    (form : Tree) (others : List Tree) → lists ≡ form ∷ others → IsPlanAccepted source players others rest plan
+
+-- Behind the first of these lists stands a plan whose first fault is this.
+abbrev pub IsPlanFaulty : List ℕ → ℕ → PlanKind → ℕ → List Tree → ℕ → Type 0
+IsPlanFaulty source players kind at lists rest =
+    (form : Tree) (others : List Tree) → lists ≡ form ∷ others → HasPlanFault source players kind at others rest

@@ -1,12 +1,14 @@
 -- What a command answers to its source.
-use Rattle.std.specs.Prelude.{◌≡◌, ℕ, ◌⊎◌, List}
+use Rattle.std.specs.Prelude.{◌≡◌, ℕ, true, false, ◌⊎◌, List}
 use Rattle.rc_model.specs.Transcript.{line}
 use Rattle.rc_model.specs.Tree.{Tree}
-use Rattle.rc_small.specs.SmallText.{HasHouse}
+use Rattle.rc_play_model.specs.About.{about_of}
 use Rattle.rc_play_model.specs.Plan.{Plan}
+use Rattle.rc_play_model.specs.Keyed.{keyed_house}
 use Rattle.rc_sheet_model.specs.Sheet as sheet
 use Rattle.rc_sheet_model.specs.Printing.{printed_sheet}
 use Rattle.rc_plan_model.specs.declared.fault.PlanKind.{PlanKind}
+use Rattle.rc_match.specs.Played.{names_rollout}
 use Rattle.rc_house.specs.declared.command.Command.{Command}
 use Rattle.rc_house.specs.declared.command.Command.TheVariants.{Play, Sheet}
 use Rattle.rc_house.specs.declared.refusal.Refusal.{Refusal}
@@ -22,10 +24,12 @@ pub data Answer : Type 0 where
   text : (bytes : List ℕ) → Answer
   refused : (refusal : Refusal) → Answer
 
--- The text that a command writes where the sheet is accepted, with these lists behind it and the rest that begins here.
+-- The text that a command writes where the sheet is accepted, with these lists behind it and the rest that begins here. Of `play`
+-- it is the house text of the accepted plan: the plays of all matches in order, and the standings.
 abbrev pub HasText : Command → List ℕ → sheet.Sheet → List Tree → ℕ → List ℕ → Type 0
 HasText Play source sheet others rest bytes =
-    (plan : Plan) × IsPlanAccepted source sheet.players others rest plan × HasHouse source bytes
+    (plan : Plan) × IsPlanAccepted source sheet.players others rest plan × (names_rollout plan ≡ false)
+    × (bytes ≡ keyed_house (about_of sheet plan.turns) plan)
 HasText Sheet source sheet others rest bytes = bytes ≡ line (printed_sheet sheet)
 
 -- The plan's first fault, where the command reads a plan.
@@ -33,10 +37,10 @@ abbrev pub HasPlanRefusal : Command → List ℕ → sheet.Sheet → List Tree �
 HasPlanRefusal Play source sheet others rest kind at = HasPlanFault source sheet.players kind at others rest
 HasPlanRefusal Sheet source sheet others rest kind at = ⊥
 
--- What the command is to do with the source isn't built: the plan is accepted too, and the source is none of a small game.
+-- What the command is to do with the source isn't built: the plan is accepted too, and one of its strategies needs playouts.
 abbrev pub IsUnbuilt : Command → List ℕ → sheet.Sheet → List Tree → ℕ → Type 0
 IsUnbuilt Play source sheet others rest =
-    (plan : Plan) × IsPlanAccepted source sheet.players others rest plan × ((bytes : List ℕ) → HasHouse source bytes → ⊥)
+    (plan : Plan) × IsPlanAccepted source sheet.players others rest plan × (names_rollout plan ≡ true)
 IsUnbuilt Sheet source sheet others rest = ⊥
 
 -- Why a command refuses its source.

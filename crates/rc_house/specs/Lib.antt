@@ -2,13 +2,8 @@ pub mod Accepted
 pub mod AcceptedPlan
 pub mod Answer
 pub mod Command
-pub mod Game
 pub mod Outcome
-pub mod Parts
-pub mod Play
 pub mod Port
 pub mod Reading
 pub mod Running
-pub mod SmallReading
 pub mod Status
-pub mod Transcript

@@ -1,20 +1,16 @@
-//! Small games from their sources to their transcripts, and sheets as they are printed.
+//! The commands, from their words to the end: `play` plays a sheet by a plan, and `sheet` prints a sheet.
 #![tactic(auto)]
 
 mod accepting;
 mod answer;
 mod command;
-mod game;
 mod laws;
-mod play;
+mod planning;
 mod printing;
 mod refusal;
 mod running;
-mod small_text;
 mod status;
 mod table_examples;
-mod transcript;
-mod write;
 
 pub use laws::{a_printed_sheet_is_printed_again, one_answer, some_answer};
 pub use rc_plan::{PlanFail, PlanFault, PlanKind, plan_of};

@@ -1,25 +1,11 @@
-//! Forms and sheets as they are printed.
+//! Sheets as they are printed.
 ghost use Rattle.std.specs.Prelude.{◌≡◌, IfOk};
 ghost use Rattle.rc_model.specs.Transcript.{line};
-ghost use Rattle.rc_model.specs.Tree.{printed};
-ghost use Rattle.rc_form.specs.Form.{tree_of, IsPrintable};
 ghost use Rattle.rc_sheet_model.specs.Printing.{printed_sheet};
 ghost use Rattle.rc_ast.specs.Sheet.{sheet_seen};
 
 use rc_ast::{Sheet, print_sheet};
-use rc_form::{Form, FormMemory, print_form};
 use std::alloc::{AllocError, Global};
-
-/// A form as it is printed.
-pub fn print(alloc: Global, form: &Form) -> Result<Vec<u8>, AllocError>
-    requires { IsPrintable (tree_of form.now) }
-    ensures { IfOk result (λ bytes. bytes.items ≡ printed (tree_of form.now)) }
-{
-    match print_form(alloc, form) {
-        Ok(bytes) => Ok(bytes),
-        Err(FormMemory) => Err(AllocError),
-    }
-}
 
 /// A sheet as it is printed on a line.
 pub fn print_line(alloc: Global, sheet: &Sheet) -> Result<Vec<u8>, AllocError>

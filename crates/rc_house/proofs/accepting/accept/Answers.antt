@@ -3,7 +3,7 @@ use Rattle.rc_form.specs.Form.{tree_of}
 use Rattle.rc_sheet_model.specs.Sight.{IsInSight}
 use Rattle.rc_ast.specs.Sheet.{sheet_seen}
 use Rattle.rc_house.specs.Accepted.{IsSheetOf}
-use Rattle.rc_house.proofs.Games.{fits}
+use Rattle.rc_house.proofs.AcceptedLaws.{fits}
 use Rattle.rc_house.proofs.accepting.accept.Goals as goal
 
 pub sheet_of-requires-clause-shallow : goal.sheet_of-requires-clause-shallow

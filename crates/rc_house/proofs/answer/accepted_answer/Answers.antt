@@ -13,5 +13,5 @@ returns-in_ok-print_line-in-Sheet c =
     let same = ap (λ sheet. line (printed_sheet sheet)) c.sheet.ensures.same in
     let printed = c.in_ok-print_line-in-Sheet.ensures ∙ same in
     rw c.in-Sheet.is
-    (text_answer command.Sheet c.args.source.now (trees_of forms.list.items) forms.rest c.args.checked.now
+    (text_answer command.Sheet c.args.source.now (trees_of forms.list.items) forms.rest c.args.checked
     c.in_ok-print_line-in-Sheet.field-0.items read c.requires.accepted (λ form others same. printed))

@@ -1,41 +1,26 @@
-use Rattle.std.proofs.Common.{subst}
+use Rattle.std.proofs.Common.{ap, subst, ◌∙◌}
 use Rattle.rc_form.specs.Form.{trees_of}
-use Rattle.rc_house.specs.AcceptedPlan.{HasPlanFault, HasPlan}
+use Rattle.rc_rules.specs.Plan.{plan_seen}
+use Rattle.rc_house.specs.AcceptedPlan.{HasPlanFault, IsPlanned}
 use Rattle.rc_house.specs.declared.command.Command.TheVariants as command
-use Rattle.rc_house.proofs.AnswerLaws.{text_answer, plan_answer, unbuilt_answer}
+use Rattle.rc_house.proofs.AnswerLaws.{plan_answer}
 use Rattle.rc_house.proofs.answer.play_answer.Goals as goal
 
-pub returns-in-Some : goal.returns-in-Some
-returns-in-Some c =
+pub planned_answer-requires-clause-planned : goal.planned_answer-requires-clause-planned
+planned_answer-requires-clause-planned c =
+    let forms = c.args.forms.now in
+    subst (λ sheet. IsPlanned c.args.source.now sheet.players (trees_of forms.list.items) forms.rest (plan_seen c.in-Ok.plan)) c.sheet.ensures.same c.in-Ok.ensures.planned
+
+pub planned_answer-requires-clause-seats : goal.planned_answer-requires-clause-seats
+planned_answer-requires-clause-seats c = c.in-Ok.ensures.seats ∙ ap (λ sheet. sheet.players) c.sheet.ensures.same
+
+pub returns-in-Err-Fault : goal.returns-in-Err-Fault
+returns-in-Err-Fault c =
     let forms = c.args.forms.now in
     let source = c.args.source.now in
-    let has = rw c.in-Some.is at c.in_ok-fault.ensures.found in
+    let has = rw c.in-Err-Fault.field-0-is at c.in-Err-Fault.ensures.fault in
     rw c.plan_refused.ensures
-    (plan_answer command.Play source (trees_of forms.list.items) forms.rest c.args.checked.now c.in-Some.fault.kind c.in-Some.fault.at
+    (plan_answer command.Play source (trees_of forms.list.items) forms.rest c.args.checked c.in-Err-Fault.fault.kind c.in-Err-Fault.fault.at
     c.requires.read c.requires.accepted
     (λ form others same.
-    subst (λ sheet. HasPlanFault source sheet.players c.in-Some.fault.kind c.in-Some.fault.at others forms.rest) c.sheet.ensures.same (has form others same)))
-
-pub returns-in-Some-2 : goal.returns-in-Some-2
-returns-in-Some-2 c =
-    let forms = c.args.forms.now in
-    let source = c.args.source.now in
-    let none = rw c.in_default.is at c.in_ok-fault.ensures.none in
-    let has = rw c.in-Some-2.is at c.in_ok-text.ensures.found in
-    text_answer command.Play source (trees_of forms.list.items) forms.rest c.args.checked.now c.in-Some-2.text.items
-    c.requires.read c.requires.accepted
-    (λ form others same.
-    let plan = subst (λ sheet. HasPlan source sheet.players others forms.rest) c.sheet.ensures.same (none form others same) in
-    (plan.0, plan.1, has))
-
-pub returns-in-None : goal.returns-in-None
-returns-in-None c =
-    let forms = c.args.forms.now in
-    let source = c.args.source.now in
-    let plan = rw c.in_default.is at c.in_ok-fault.ensures.none in
-    let none = rw c.in-None.is at c.in_ok-text.ensures.none in
-    unbuilt_answer command.Play source (trees_of forms.list.items) forms.rest c.args.checked.now
-    c.requires.read c.requires.accepted
-    (λ form others same.
-    let accepted = subst (λ sheet. HasPlan source sheet.players others forms.rest) c.sheet.ensures.same (plan form others same) in
-    (accepted.0, accepted.1, none))
+    subst (λ sheet. HasPlanFault source sheet.players c.in-Err-Fault.fault.kind c.in-Err-Fault.fault.at others forms.rest) c.sheet.ensures.same (has form others same)))

@@ -1,9 +1,0 @@
-use Rattle.std.proofs.Common.{◌≡◌, ◌++◌, map, take}
-use Rattle.std.specs.Prelude.{flat_map, string_bytes}
-use Rattle.rc_model.specs.Transcript.{choose_line}
-use Rattle.rc_house.specs.Transcript.{pick_of}
-use Rattle.rc_house.proofs.write.write_picks.Given as goal
-
-abbrev pub invariant-loop-pick : goal.invariant-loop-pick
-invariant-loop-pick l =
-    string_bytes l.out ≡ string_bytes l.initial.out ++ flat_map choose_line (map pick_of (take l.pick-index l.picks))

@@ -1,0 +1,64 @@
+//! Plans that are accepted.
+ghost use Rattle.std.specs.Prelude.{◌≡◌, ◌≢◌, ◌≤◌, length, IfOk, IfErr, IfSome, IfNone, All};
+ghost use Rattle.rc_model.specs.Placed.{IsPlaced};
+ghost use Rattle.rc_form.specs.Form.{tree_of, trees_of};
+ghost use Rattle.rc_plan_model.specs.Limits.{IsWithinLimits};
+ghost use Rattle.rc_plan_model.specs.declared.fault.PlanKind.TheVariants as plan_kind;
+ghost use Rattle.rc_plan.specs.Reads.{IfPlanFault};
+ghost use Rattle.rc_rules.specs.Plan.{plan_seen};
+ghost use Rattle.rc_house.specs.AcceptedPlan.{IsPlanned, IsPlanFaulty};
+
+use rc_form::Forms;
+use rc_plan::{PlanFail, PlanFault, PlanKind, plan_of};
+use rc_rules::Plan;
+use std::alloc::Global;
+
+/// The plan behind the sheet in a source with these forms, for so many players; or its first fault.
+pub fn read_plan(
+    alloc: Global,
+    source: &[u8],
+    forms: &Forms,
+    players: u8,
+) -> Result<Plan, PlanFail>
+    requires small { length source.now ≤ 1048576 }
+    requires within { forms.now.rest ≤ length source.now }
+    requires placed { All (λ form. IsPlaced (length source.now) (tree_of form)) forms.now.list.items }
+    requires some { 1 ≤ players }
+    requires few { players ≤ 8 }
+    ensures planned { IfOk result (λ plan. IsPlanned source.now players (trees_of forms.now.list.items) forms.now.rest (plan_seen plan)) }
+    ensures limits { IfOk result (λ plan. IsWithinLimits (plan_seen plan)) }
+    ensures seats { IfOk result (λ plan. length (plan_seen plan).strategies ≡ players) }
+    ensures fault { IfErr result (λ fail. IfPlanFault fail (λ fault.
+        IsPlanFaulty source.now players fault.kind fault.at (trees_of forms.now.list.items) forms.now.rest)) }
+{
+    let Some(form) = forms.list.get(1) else {
+        return Err(PlanFail::Fault(PlanFault {
+            kind: PlanKind::Shape,
+            at: forms.rest as u32,
+        }));
+    };
+    let plan = match plan_of(alloc, form, players) {
+        Ok(plan) => plan,
+        Err(fail) => return Err(fail),
+    };
+    match rest_fault(source, forms.rest) {
+        Some(fault) => Err(PlanFail::Fault(fault)),
+        None => Ok(plan),
+    }
+}
+
+// The fault of a source where something follows what was read of it.
+fn rest_fault(source: &[u8], rest: usize) -> Option<PlanFault>
+    requires { rest ≤ 1048576 }
+    ensures found { IfSome result (λ fault. (rest ≢ length source.now) × (fault.kind ≡ plan_kind.Rest) × (fault.at ≡ rest)) }
+    ensures none { IfNone result (rest ≡ length source.now) }
+{
+    if rest == source.len() {
+        None
+    } else {
+        Some(PlanFault {
+            kind: PlanKind::Rest,
+            at: rest as u32,
+        })
+    }
+}
