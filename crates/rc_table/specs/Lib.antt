@@ -1,4 +1,3 @@
 pub mod Places
 pub mod Shape
-pub mod Codes
 pub mod Laid

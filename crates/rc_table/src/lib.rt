@@ -6,15 +6,11 @@
 //! takes memory.
 #![tactic(auto)]
 
-mod arena;
-mod edits;
 mod place;
 mod shape;
 mod sight;
-mod table;
 
 pub use place::{Owner, Place};
 pub use rc_names::LocKind as Kind;
 pub use shape::Shape;
-pub use sight::{face_number, sees};
-pub use table::Table;
+pub use sight::{face_number, have_same_face, sees};

@@ -1,11 +1,12 @@
 //! The shape of a sheet.
-ghost use Rattle.std.specs.Prelude.{◌≡◌, length, slice_get, option_map};
+ghost use Rattle.std.specs.Prelude.{◌≡◌, length, slice_get, slice_index_or, option_map};
 ghost use Rattle.rc_play_model.specs.Shape.{team_at, face_at, holds_references};
 ghost use Rattle.rc_table.specs.Places.{place_seen};
 ghost use Rattle.rc_table.specs.Shape.{IsShape, shape_of_parts, face_or_none};
 
 use crate::place::Place;
 use rc_deck::Face;
+use rc_names::LocKind;
 use std::marker::Model;
 
 /// How many players there are, each player's team, the locations in their order, how many numbers there are, and each card's
@@ -26,11 +27,10 @@ pub struct Shape {
 impl Model for Shape {
     ghost use Rattle.std.specs.Coded.{codes};
     ghost use Rattle.rc_play_model.specs.Shape.{Shape as PureShape};
-    ghost use Rattle.rc_table.specs.Codes.{shape_codes};
 
     ghost Value = { PureShape };
 
-    ghost coded = { Prim.hlevel (shape_codes, codes) };
+    ghost coded = { Prim.hlevel codes };
 
     ghost use Rattle.rc_table.specs.Shape.{IsShape, shape_of_parts};
 
