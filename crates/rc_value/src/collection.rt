@@ -1,0 +1,120 @@
+//! Collections.
+ghost use Rattle.std.specs.Prelude.{◌≡◌, ◌+◌, ◌<◌, ◌≤◌, ℕ, [], ◌∷◌, ◌++◌, length, map, take, Option, Some, slice_index_or, option_map};
+
+use crate::Card;
+use std::marker::Model;
+
+/// Where the cards of a collection stand: in a location, whose number says that it holds references, or in a list of its own.
+#[derive(Clone, Copy)]
+pub enum Source<'s> {
+    There { ids: &'s [u16], mem: Option<u16> },
+    Built(&'s [Card]),
+}
+
+/// A collection of at most 512 cards.
+#[derive(Drop)]
+pub struct Collection<'s> {
+    source: Source<'s>,
+}
+
+impl<'s> Model for Collection<'s> {
+    ghost use Rattle.std.specs.Prelude.{List, ◌≤◌, length};
+    ghost use Rattle.rc_play_model.specs.Scene.{CardValue};
+
+    ghost Value = { List CardValue };
+
+    ghost use Rattle.rc_value.specs.Seen.{listed};
+
+    ghost view = { λ c. listed c.source };
+
+    ghost invariant = { λ c. length (listed c.source) ≤ 512 };
+}
+
+impl<'s> Collection<'s> {
+    ghost use Rattle.rc_play_model.specs.Ends.{first_of, last_of};
+    ghost use Rattle.rc_play_model.specs.Value.{cut};
+    ghost use Rattle.rc_value.specs.Seen.{read_in};
+    ghost use Rattle.rc_value.specs.Cards.{value_seen, values_seen};
+
+    /// The cards of a location.
+    pub fn there(ids: &'s [u16], mem: Option<u16>) -> Collection<'s>
+        ensures { result ≡ cut (map (read_in mem) ids.now) }
+    {
+        let count = ids.len().min(512);
+        Collection {
+            source: Source::There {
+                ids: &ids[..count],
+                mem,
+            },
+        }
+    }
+
+    /// These cards.
+    pub fn built(cards: &'s [Card]) -> Collection<'s>
+        requires few { length cards.now ≤ 512 }
+        ensures { result ≡ values_seen cards.now }
+    {
+        Collection {
+            source: Source::Built(cards),
+        }
+    }
+
+    /// The first of these cards that count.
+    pub fn part(cards: &'s [Card]) -> Collection<'s>
+        ensures { result ≡ cut (values_seen cards.now) }
+    {
+        let count = cards.len().min(512);
+        Collection {
+            source: Source::Built(&cards[..count]),
+        }
+    }
+
+    /// How many there are.
+    pub fn len(&self) -> usize
+        ensures is { result ≡ length self.now }
+        ensures few { result ≤ 512 }
+    {
+        match &self.source {
+            Source::There { ids, mem: _ } => ids.len(),
+            Source::Built(cards) => cards.len(),
+        }
+    }
+
+    /// The card at a place.
+    pub fn at(&self, place: usize) -> Card
+        requires { place < length self.now }
+        ensures { value_seen result ≡ slice_index_or self.now place (value_seen result) }
+    {
+        match &self.source {
+            Source::There { ids, mem } => match *mem {
+                None => Card::Held(ids[place]),
+                Some(loc) => Card::Noted {
+                    loc,
+                    id: ids[place],
+                },
+            },
+            Source::Built(cards) => cards[place],
+        }
+    }
+
+    /// The first.
+    pub fn first(&self) -> Option<Card>
+        ensures { option_map value_seen result ≡ first_of self.now }
+    {
+        if self.len() == 0 {
+            return None;
+        }
+        Some(self.at(0))
+    }
+
+    /// The last.
+    pub fn last(&self) -> Option<Card>
+        ensures { option_map value_seen result ≡ last_of self.now }
+    {
+        let count = self.len();
+        if count == 0 {
+            return None;
+        }
+        Some(self.at(count - 1))
+    }
+}

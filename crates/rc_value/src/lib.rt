@@ -1,0 +1,11 @@
+//! What expressions are worth at a table: numbers, tests, cards and collections.
+#![tactic(auto)]
+
+mod arithmetic;
+mod cards;
+mod collection;
+mod scope;
+
+pub use cards::{Card, Cards};
+pub use collection::{Collection, Source};
+pub use scope::{Bind, Scope};

@@ -1,0 +1,94 @@
+//! Variables.
+ghost use Rattle.std.specs.Prelude.{◌≡◌, ◌+◌, ◌<◌, ◌≤◌, [], ◌∷◌, ◌++◌, length, slice_get, option_map};
+
+use crate::Card;
+use crate::collection::Collection;
+use std::marker::Model;
+
+/// What a variable stands for.
+#[derive(Clone, Copy)]
+pub enum Bind<'g> {
+    Player(u8),
+    Card(Card),
+    Group(&'g [Card]),
+}
+
+/// The variables in scope, from outside to inside.
+#[derive(Drop)]
+pub struct Scope<'g> {
+    binds: [Bind<'g>; 5],
+    count: usize,
+}
+
+impl<'g> Model for Scope<'g> {
+    ghost use Rattle.std.specs.Prelude.{List, ◌≡◌, ◌≤◌, length, map, take};
+    ghost use Rattle.rc_play_model.specs.Value.{Bind as PureBind};
+    ghost use Rattle.rc_play_model.specs.Scene.{CardValue};
+
+    ghost Value = { List (PureBind CardValue) };
+
+    ghost use Rattle.rc_value.specs.Seen.{bind_seen};
+
+    ghost view = { λ s. map bind_seen (take s.count s.binds) };
+
+    ghost invariant = { λ s. (s.count ≤ 5) × (length s.binds ≡ 5) };
+}
+
+impl<'g> Scope<'g> {
+    ghost use Rattle.rc_play_model.specs.Value.{player_of, card_of, group_of, cut};
+    ghost use Rattle.rc_value.specs.Seen.{bind_seen};
+    ghost use Rattle.rc_value.specs.Cards.{value_seen};
+
+    /// No variable.
+    pub fn empty() -> Scope<'g>
+        ensures { result ≡ [] }
+    {
+        Scope {
+            binds: [Bind::Player(0); 5],
+            count: 0,
+        }
+    }
+
+    /// These variables and one more inside them.
+    pub fn with(&self, bind: Bind<'g>) -> Scope<'g>
+        requires { length self.now < 5 }
+        ensures { result ≡ self.now ++ bind_seen bind.entry ∷ [] }
+    {
+        let mut binds = self.binds;
+        binds[self.count] = bind;
+        Scope {
+            binds,
+            count: self.count + 1,
+        }
+    }
+
+    /// The player that a variable stands for, or 0.
+    pub fn player(&self, var: u8) -> u8
+        ensures { result ≡ player_of (slice_get self.now var) }
+    {
+        match self.binds[..self.count].get(var as usize) {
+            Some(Bind::Player(player)) => *player,
+            _ => 0,
+        }
+    }
+
+    /// The group that a variable stands for.
+    pub fn group(&self, var: u8) -> Collection<'g>
+        ensures { result ≡ cut (group_of (slice_get self.now var)) }
+    {
+        match self.binds[..self.count].get(var as usize) {
+            Some(Bind::Group(cards)) => Collection::part(*cards),
+            _ => Collection::built(&[]),
+        }
+    }
+
+    /// The card that a variable stands for.
+    pub fn card(&self, var: u8) -> Option<Card>
+        ensures { option_map value_seen result ≡ card_of (slice_get self.now var) }
+    {
+        match self.binds[..self.count].get(var as usize) {
+            Some(Bind::Card(card)) => Some(*card),
+            _ => None,
+        }
+    }
+}
