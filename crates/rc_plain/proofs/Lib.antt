@@ -1,0 +1,2 @@
+pub mod FrameEnds
+pub mod StageLemmas

@@ -1,0 +1,141 @@
+//! A path into a sheet: which item is next.
+ghost use Rattle.std.specs.Prelude.{◌≡◌, ◌+◌, ◌<◌, ◌^◌, [], true, false, length, map, option_map, IsSome, Some};
+ghost use Rattle.rc_sheet_model.specs.Lists.{item_list};
+ghost use Rattle.rc_play_model.specs.Step.{Stage};
+ghost use Rattle.rc_play_model.specs.Path.{body_at, body_of, stage_at, stage_in, past, at_mark, into};
+ghost use Rattle.rc_ast.specs.Items.{item_seen};
+ghost use Rattle.rc_plain.specs.Paths.{item_at, Leaves};
+
+use arrayvec::ArrayVec;
+use rc_ast::{Class, SheetItem};
+use rc_rules::About;
+use std::marker::Model;
+
+/// The places of the stages whose bodies run, from outside to inside, the next place in the innermost body, and whether the
+/// item there is a stage that is open and stands at a round.
+#[derive(Debug, Drop)]
+pub struct Path {
+    outer: ArrayVec<usize, 64>,
+    next: usize,
+    at_round: bool,
+}
+
+impl Model for Path {
+    ghost use Rattle.std.specs.Coded.{codes};
+    ghost use Rattle.rc_play_model.specs.Path.{Path};
+
+    ghost Value = { Path };
+
+    ghost coded = { Prim.hlevel codes };
+
+    ghost view = { λ p. record { outer = p.outer.items; next = p.next; at_round = p.at_round } };
+}
+
+impl Path {
+    /// The first item of all.
+    pub fn start() -> Path
+        ensures { result ≡ record { outer = []; next = 0; at_round = false } }
+    {
+        Path {
+            outer: ArrayVec::new(),
+            next: 0,
+            at_round: false,
+        }
+    }
+
+    /// Whether a round of the stage that is next stands there.
+    pub fn at_round(&self) -> bool
+        ensures { result ≡ self.now.at_round }
+    {
+        self.at_round
+    }
+
+    /// Goes on behind the next item.
+    pub fn pass(&mut self)
+        requires { self.old.next + 1 < 2 ^ 64 }
+        ensures { self.new ≡ past self.old }
+    {
+        self.next += 1;
+        self.at_round = false;
+    }
+
+    /// Stays at the next item, a stage that opens.
+    pub fn open(&mut self)
+        ensures { self.new ≡ at_mark self.old }
+    {
+        self.at_round = true;
+    }
+
+    /// Goes to the begin of the next item's body.
+    pub fn enter(&mut self)
+        requires { length self.old.outer < 64 }
+        ensures { self.new ≡ into self.old }
+    {
+        self.outer.push(self.next);
+        self.next = 0;
+        self.at_round = false;
+    }
+
+    /// Goes back to the stage whose body runs, if there is one.
+    pub fn leave(&mut self) -> bool
+        ensures { Leaves self.old self.new result }
+    {
+        match self.outer.pop() {
+            None => false,
+            Some(place) => {
+                self.next = place;
+                self.at_round = true;
+                true
+            }
+        }
+    }
+
+    /// The item that is next, if there is one more in the body that runs.
+    pub fn item<'a>(&self, about: &'a About) -> Option<&'a SheetItem>
+        ensures is { option_map (λ item. item_seen item.now) result ≡ item_at about.now.sheet self.now }
+        ensures fits { IsSome result → self.now.next + 1 < 2 ^ 64 }
+    {
+        innermost(&about.sheet().items, self.outer.as_slice()).get(self.next)
+    }
+
+    /// The class of the stage that is next.
+    pub fn class(&self, about: &About) -> Class
+        ensures { (s : Stage) → stage_in (item_at about.now.sheet self.now) ≡ Some s → result ≡ s.class }
+    {
+        match self.item(about) {
+            Some(SheetItem::Stage { class, .. }) => *class,
+            _ => Class::Game,
+        }
+    }
+}
+
+/// The body within the stages at these places.
+fn innermost<'a>(items: &'a [SheetItem], outer: &[usize]) -> &'a [SheetItem]
+    ensures { map item_seen result.now ≡ body_at (map item_seen items.now) outer.now }
+{
+    let mut here = items;
+    for place in outer {
+        here = body_in(here, *place);
+    }
+    here
+}
+
+/// The body of the stage at a place; nothing where no stage is.
+fn body_in(items: &[SheetItem], place: usize) -> &[SheetItem]
+    ensures { map item_seen result.now ≡ body_of (stage_at (map item_seen items.now) place) }
+{
+    match items.get(place) {
+        Some(item) => stage_body(item),
+        None => &[],
+    }
+}
+
+fn stage_body(item: &SheetItem) -> &[SheetItem]
+    ensures { map item_seen result.now ≡ body_of (stage_in (Some (item_seen item.now))) }
+{
+    match item {
+        SheetItem::Stage { body, .. } => body,
+        SheetItem::Do(_) => &[],
+        SheetItem::Choice { .. } => &[],
+    }
+}
