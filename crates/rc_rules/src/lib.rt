@@ -6,9 +6,7 @@ mod control;
 mod dealer;
 mod menu;
 mod plan;
-mod points;
 mod record;
-mod shape;
 mod stages;
 
 pub use about::About;
@@ -16,7 +14,5 @@ pub use control::{Control, Frame, Frames, Stop};
 pub use dealer::{Dealer, MatchDealer};
 pub use menu::{Item, Menu, Scores, Spots};
 pub use plan::{Deal, Plan, Strategy};
-pub use points::rank_points;
 pub use record::{Ended, MatchRecord, Pick, Score, Standing};
-pub use shape::shape_of;
 pub use stages::{class_of_stage, current_in, is_stage_of, owner_count};
