@@ -5,7 +5,9 @@ use Rattle.rc_ast.specs.declared.expressions.Test.{Test}
 use Rattle.rc_ast.specs.Expressions.{test_seen}
 use Rattle.rc_ast.specs.Items.{item_seen, items_seen}
 use Rattle.rc_ast.proofs.ViewLemmas.{stage_seen}
-use Rattle.rc_sheet_model.specs.Sheet.{Class, SheetItem as PureItem}
+use Rattle.rc_ast.specs.declared.sheet.Sheet.{Sheet}
+use Rattle.rc_ast.specs.Sheet.{sheet_seen}
+use Rattle.rc_sheet_model.specs.Sheet.{Class, SheetItem as PureItem, Sheet as PureSheet}
 use Rattle.rc_sheet_model.specs.Lists.{items_from, item_list}
 use Rattle.rc_play_model.specs.Path.{body_of, stage_in}
 use Rattle.rc_play_model.specs.Step.{Stage as PureStage}
@@ -23,3 +25,7 @@ pub body_is : (item : SheetItem) (number : ℕ) (class : Class) (end : Test) (bo
     map item_seen body.items ≡ body_of (stage_in (Some (item_seen item)))
 body_is item number class end body is =
     sym (item_list-from (map item_seen body.items)) ∙ sym (ap body_of (stage_is item number class end body is))
+
+-- the items of a sheet, by what is known of its tree
+pub items_are : (sheet : Sheet) (pure : PureSheet) → sheet_seen sheet ≡ pure → map item_seen sheet.items.items ≡ item_list pure.items
+items_are sheet pure same = sym (item_list-from (map item_seen sheet.items.items)) ∙ ap (λ (s : PureSheet). item_list s.items) same

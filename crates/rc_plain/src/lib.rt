@@ -3,4 +3,5 @@
 
 mod frames;
 mod path;
-
+mod state;
+mod steps;

@@ -1,5 +1,5 @@
 //! A path into a sheet: which item is next.
-ghost use Rattle.std.specs.Prelude.{◌≡◌, ◌+◌, ◌<◌, ◌^◌, [], true, false, length, map, option_map, IsSome, Some};
+ghost use Rattle.std.specs.Prelude.{◌≡◌, ◌+◌, ◌<◌, ◌^◌, [], true, false, length, map, option_map, IsSome, Some, slice_get};
 ghost use Rattle.rc_sheet_model.specs.Lists.{item_list};
 ghost use Rattle.rc_play_model.specs.Step.{Stage};
 ghost use Rattle.rc_play_model.specs.Path.{body_at, body_of, stage_at, stage_in, past, at_mark, into};
@@ -95,7 +95,7 @@ impl Path {
         ensures is { option_map (λ item. item_seen item.now) result ≡ item_at about.now.sheet self.now }
         ensures fits { IsSome result → self.now.next + 1 < 2 ^ 64 }
     {
-        innermost(&about.sheet().items, self.outer.as_slice()).get(self.next)
+        item_in(innermost(&about.sheet().items, self.outer.as_slice()), self.next)
     }
 
     /// The class of the stage that is next.
@@ -107,6 +107,14 @@ impl Path {
             _ => Class::Game,
         }
     }
+}
+
+/// The item at a place.
+fn item_in(items: &[SheetItem], place: usize) -> Option<&SheetItem>
+    ensures is { option_map (λ item. item_seen item.now) result ≡ slice_get (map item_seen items.now) place }
+    ensures fits { IsSome result → place + 1 < 2 ^ 64 }
+{
+    items.get(place)
 }
 
 /// The body within the stages at these places.
