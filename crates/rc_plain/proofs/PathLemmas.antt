@@ -56,13 +56,16 @@ around_within : (items : List SheetItem) (outer : List ℕ) (next : ℕ) (behind
     length (around (left_here (within items outer behind) next false)) ≡ length outer + length (around behind)
 around_within items [] next behind are = let same = ap length (around_items (drop next items) behind) in omega (arith, same)
 around_within items (i ∷ outer) next behind are =
-    let rest = todos (drop (i + 1) items) ++ behind in
+    let rest : List Part = todos (drop (i + 1) items) ++ behind in
     let s = are.0 in
+    let start : length (around (left_here (within items (i ∷ outer) behind) next false))
+    ≡ length (around (left_here (within (item_list s.body) outer (turn s ∷ round s ∷ rest)) next false)) =
+    ap (λ (o : Option Stage). length (around (left_here (within (body_of o) outer (marks_of o ++ todos (drop (i + 1) items) ++ behind)) next false))) are.1 in
     let inner = around_within (item_list s.body) outer next (turn s ∷ round s ∷ rest) are.2 in
+    let opened : length (around (turn s ∷ round s ∷ rest)) ≡ length (around rest ++ s ∷ []) = refl in
     let here = length-append (around rest) (s ∷ []) in
     let same = ap length (around_items (drop (i + 1) items) behind) in
-    ap (λ o. length (around (left_here (within (body_of o) outer (marks_of o ++ rest)) next false))) are.1
-    ∙ inner ∙ (omega (arith, here, same))
+    omega (arith, start, inner, opened, here, same)
 
 -- so many as there are places
 pub open_stages : (items : List SheetItem) (path : Path) → ArePlaces items path.outer → path.at_round ≡ false →

@@ -184,8 +184,9 @@ impl State {
         ensures dealing { D.dealing dealer.new ≡ D.dealing dealer.old }
     {
         loop {
-            if let Some(stop) = self.step(about, dealer) {
-                return stop;
+            match self.step(about, dealer) {
+                Some(stop) => return stop,
+                None => {}
             }
         }
     }

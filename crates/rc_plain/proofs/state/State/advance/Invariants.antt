@@ -3,8 +3,8 @@ use Rattle.rc_play_model.specs.Stop.{stop_of, effort}
 use Rattle.rc_plain.specs.State.{IsReady, config_at}
 use Rattle.rc_plain.proofs.state.State.advance.Given as goal
 
-abbrev pub invariant-loop : goal.invariant-loop
-invariant-loop g l =
+abbrev pub invariant-loop-stop : goal.invariant-loop-stop
+invariant-loop-stop g l =
     record {
       ready : IsReady l.about l.self;
       dealing : g.D.Dealer.dealing l.dealer ≡ g.D.Dealer.dealing l.initial.dealer;
@@ -12,5 +12,5 @@ invariant-loop g l =
         ≡ stop_of l.about (g.D.Dealer.dealing l.dealer) (g.D.Dealer.state l.dealer) (config_at l.about l.self);
     }
 
-abbrev pub decreases-loop : goal.decreases-loop
-decreases-loop g l = effort l.about (config_at l.about l.self)
+abbrev pub decreases-loop-stop : goal.decreases-loop-stop
+decreases-loop-stop g l = effort l.about (config_at l.about l.self)
