@@ -7,6 +7,8 @@
 #![tactic(auto)]
 
 mod arena;
+mod edits;
+mod finding;
 mod place;
 mod shape;
 mod sight;
