@@ -2,8 +2,11 @@ pub mod Cards
 pub mod Seen
 pub mod Depth
 pub mod Binding
+pub mod Readable
 pub mod Scene
 pub mod Places
 pub mod Picks
 pub mod Groups
+pub mod Menu
+pub mod AlikeMenus
 pub mod Current
