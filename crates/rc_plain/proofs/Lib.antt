@@ -4,3 +4,6 @@ pub mod OwnerLemmas
 pub mod PathLemmas
 pub mod StepCases
 pub mod PlayLemmas
+pub mod SiteLemmas
+pub mod ScoreLemmas
+pub mod MachineLemmas

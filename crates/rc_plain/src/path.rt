@@ -1,21 +1,25 @@
 //! A path into a sheet: which item is next.
-ghost use Rattle.std.specs.Prelude.{◌≡◌, ◌+◌, ◌<◌, ◌^◌, [], true, false, length, map, option_map, IsSome, Some, slice_get};
+ghost use Rattle.std.specs.Prelude.{◌≡◌, ◌+◌, ◌<◌, ◌^◌, [], true, false, length, map, option_map, IsSome, Some, slice_get, ℕ, List};
+ghost use Rattle.rc_sheet_model.specs.Sheet.{Alt as PureAlt, choice};
 ghost use Rattle.rc_sheet_model.specs.Lists.{item_list};
 ghost use Rattle.rc_play_model.specs.Step.{Stage};
 ghost use Rattle.rc_play_model.specs.Path.{body_at, body_of, stage_at, stage_in, past, at_mark, into};
-ghost use Rattle.rc_ast.specs.Items.{item_seen};
+ghost use Rattle.rc_ast.specs.Items.{item_seen, alts_seen};
 ghost use Rattle.rc_plain.specs.Paths.{item_at, Leaves};
 
 use arrayvec::ArrayVec;
-use rc_ast::{Class, SheetItem};
+use rc_ast::{Alt, Class, SheetItem};
 use rc_rules::About;
 use std::marker::Model;
+
+/// The places of stages that stand in one another, from outside to inside.
+pub type Places = ArrayVec<usize, 64>;
 
 /// The places of the stages whose bodies run, from outside to inside, the next place in the innermost body, and whether the
 /// item there is a stage that is open and stands at a round.
 #[derive(Debug, Drop)]
 pub struct Path {
-    outer: ArrayVec<usize, 64>,
+    outer: Places,
     next: usize,
     at_round: bool,
 }
@@ -32,15 +36,22 @@ impl Model for Path {
 }
 
 impl Path {
+    /// The item at this place of the body within the stages at these places.
+    pub fn to(outer: Places, next: usize) -> Path
+        ensures { result ≡ record { outer = outer.items; next = next; at_round = false } }
+    {
+        Path {
+            outer,
+            next,
+            at_round: false,
+        }
+    }
+
     /// The first item of all.
     pub fn start() -> Path
         ensures { result ≡ record { outer = []; next = 0; at_round = false } }
     {
-        Path {
-            outer: ArrayVec::new(),
-            next: 0,
-            at_round: false,
-        }
+        Path::to(ArrayVec::new(), 0)
     }
 
     /// Whether a round of the stage that is next stands there.
@@ -106,6 +117,27 @@ impl Path {
             Some(SheetItem::Stage { class, .. }) => *class,
             _ => Class::Game,
         }
+    }
+
+    /// The alternatives of the choice that is next.
+    pub fn alts<'a>(&self, about: &'a About) -> &'a [Alt]
+        ensures alts { (site : ℕ) (alts : List PureAlt) → item_at about.now.sheet self.now ≡ Some (choice site alts) → alts_seen result.now ≡ alts }
+        ensures fits { (site : ℕ) (alts : List PureAlt) → item_at about.now.sheet self.now ≡ Some (choice site alts) → self.now.next + 1 < 2 ^ 64 }
+    {
+        match self.item(about) {
+            Some(item) => alts_in(item),
+            None => &[],
+        }
+    }
+}
+
+fn alts_in(item: &SheetItem) -> &[Alt]
+    ensures { (site : ℕ) (alts : List PureAlt) → item_seen item.now ≡ choice site alts → alts_seen result.now ≡ alts }
+{
+    match item {
+        SheetItem::Choice { alts, .. } => alts,
+        SheetItem::Do(_) => &[],
+        SheetItem::Stage { .. } => &[],
     }
 }
 

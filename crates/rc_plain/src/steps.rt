@@ -13,10 +13,10 @@ ghost use Rattle.rc_plain.specs.State.{IsOffered, IsReady, plain_of, config_at, 
 use crate::frames;
 use crate::state::{State, members};
 use rc_ast::{Alt, Class, Effect, SheetItem, Test};
+use rc_effects::do_effects;
 use rc_play_model::sites_fix_choices;
 use rc_rules::{About, Dealer, Stop, current_in};
 use rc_value::Scope;
-use rc_effects::do_effects;
 
 impl State {
     /// Does the effects that are next.

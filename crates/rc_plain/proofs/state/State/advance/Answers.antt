@@ -1,4 +1,4 @@
-use Rattle.std.proofs.Common.{◌≡◌, ap, sym, ◌∙◌, Some}
+use Rattle.std.proofs.Common.{◌≡◌, ap, sym, refl, ◌∙◌, Some}
 use Rattle.rc_play_model.specs.Stop.{stop_of}
 use Rattle.rc_play_model.proofs.StopLemmas.{steps_less, step_keeps, stop_here}
 use Rattle.rc_rules.specs.Control.{stop_seen}
@@ -35,4 +35,4 @@ returns-in-Some-clause-leads g c =
     c.loop-stop.invariant.stop
     ∙ stop_here about (g.D.Dealer.dealing c.loop-stop.dealer) (g.D.Dealer.state c.loop-stop.dealer) (config_at about c.loop-stop.self) (stop_seen c.in-Some.stop) after
     (c.step.ensures.leads ∙ ap (λ r. next_seen r after k) c.in-Some.is)
-    ∙ ap (λ dealer. Some (record { stop = stop_seen c.in-Some.stop; config = after; dealer = dealer })) (sym (c.in-Some.ensures.kept tt))
+    ∙ ap (λ dealer. Some (record { stop = stop_seen c.in-Some.stop; config = after; dealer = dealer })) (sym (c.in-Some.ensures.kept refl))

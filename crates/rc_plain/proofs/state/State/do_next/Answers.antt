@@ -34,10 +34,10 @@ returns-clause-leads g c =
     let dealing = g.D.Dealer.dealing c.args.dealer.now in
     let k = g.D.Dealer.state c.args.dealer.now in
     let effects = effects_seen c.args.effects.now in
-    let after = point_of c.do_effects.new.table (frames_seen c.do_effects.new.frames.items) (g.D.Dealer.state c.do_effects.new.dealer) in
+    let after = point_of c.do_effects.new.table c.do_effects.new.frames.items (g.D.Dealer.state c.do_effects.new.dealer) in
     do_leads m dealing k effects after
     (not_round about.sheet m.path c.requires.ready.play.stands (ap stage_in c.requires.here)) c.requires.here
-    (ap (λ vars. does about dealing vars effects (point_of c.args.self.now.table (frames_seen c.args.self.now.control.frames.items) k)) (sym c.empty.ensures)
+    (ap (λ vars. does about dealing vars effects (point_of c.args.self.now.table c.args.self.now.control.frames.items k)) (sym c.empty.ensures)
     ∙ c.do_effects.ensures.does)
     ∙ ap (λ path. goes after.dealer (config_of (moved m path after.table (with_frames m.control after.frames)))) (sym c.pass.ensures)
 
