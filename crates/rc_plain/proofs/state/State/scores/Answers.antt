@@ -1,4 +1,5 @@
-use Rattle.std.proofs.Common.{◌≡◌, ap, sym, ◌∙◌, ◌<◌, ◌++◌, ◌∷◌, [], length, map, arith}
+use Rattle.std.proofs.Common.{◌≡◌, ap, sym, ◌∙◌, ◌<◌, ◌++◌, ◌∷◌, [], length, map, rules, SFits, w64, arith}
+use Rattle.std.proofs.lemmas.Int.{to_z-of_z}
 use Rattle.rc_model.specs.Numbers.{below}
 use Rattle.rc_sheet_model.specs.Sheet.{Sheet}
 use Rattle.rc_play_model.specs.Scores.{score_of}
@@ -18,6 +19,9 @@ push-requires c =
 pub loop-player-preserved : goal.loop-player-preserved
 loop-player-preserved c =
     let f = score_of c.args.about.now c.args.self.now.table.table (control_seen c.args.self.now.control) in
-    c.push.ensures.items ∙ ap (λ xs. xs ++ c.score.result ∷ []) c.loop-player.invariant
+    let fits : SFits w64 c.score.result = search rules in
+    let kept = to_z-of_z w64 c.score.result fits in
+    c.push.ensures.items ∙ ap (λ s. c.loop-player.scores.items ++ s ∷ []) kept
+    ∙ ap (λ xs. xs ++ c.score.result ∷ []) c.loop-player.invariant
     ∙ ap (λ s. map f (below c.loop-player.player) ++ s ∷ []) c.score.ensures
     ∙ sym (below_one_more f c.loop-player.player)
