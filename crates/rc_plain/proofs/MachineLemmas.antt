@@ -13,10 +13,11 @@ use Rattle.rc_rules.specs.declared.menu.Item.{Item as RealItem}
 use Rattle.rc_rules.specs.Menu.{item_seen, menu_seen}
 use Rattle.std.proofs.lemmas.List.{length-map, get_or-map}
 use Rattle.rc_sheet_model.specs.WellFormed.{IsWellFormed}
-use Rattle.rc_play_model.specs.Step.{Stage, Part, todo, round, turn, todos, Config, start}
+use Rattle.rc_play_model.specs.Step.{Stage, Part, todo, round, turn, todos, Config, Stop, decide, is_done, is_limit, start}
 use Rattle.rc_play_model.specs.Path.{Path, stage_in, left_of, past}
 use Rattle.rc_play_model.specs.Decision.{left_at, at_site}
-use Rattle.rc_play_model.specs.Fits.{around, HasFrames, IsFrameOf, FitsSite, IsDecision}
+use Rattle.rc_play_model.specs.Fits.{around, HasFrames, IsFrameOf, FitsSite, IsDecision, IsAtStop}
+use Rattle.rc_rules.specs.Machine.{StandsWhereItStops}
 use Rattle.rc_play_model.proofs.PathLemmas.{left-item, left-round, turn_left, end_left}
 use Rattle.rc_play_model.proofs.FrameLemmas.{start_frames}
 use Rattle.rc_play_model.proofs.SiteLemmas.{alts_at_found}
@@ -120,6 +121,13 @@ pub record AtDecision (m : Plain) (site : ℕ) : Type 0 where
   pub there : item_at m.about.sheet m.path ≡ Some (choice site alts)
   pub same : alts_at m.about.sheet site ≡ alts
 
+abbrev alts_of : Option SheetItem → List Alt
+alts_of (Some (choice site alts)) = alts
+alts_of other = []
+
+same_alts : (site : ℕ) (alts alts' : List Alt) → Some (choice site alts) ≡ Some (choice site alts') → alts ≡ alts'
+same_alts site alts alts' is = ap alts_of is
+
 pub at_decision : (m : Plain) → IsPath m.about.sheet m.path → IsWellFormed m.about.sheet → (seat site : ℕ) → IsDecision m.about seat site (config_of m) →
     AtDecision m site
 at_decision m is formed seat site decision =
@@ -130,6 +138,20 @@ at_decision m is formed seat site decision =
       there = next.1;
       same = alts_at_found m.about.sheet site decision.alts m.path formed.numbered.sites next.0 next.1;
     }
+
+-- where a machine stops at a decision, something is offered
+pub stands_there : (m : Plain) → IsPath m.about.sheet m.path → IsWellFormed m.about.sheet → (stop : Stop) → IsAtStop m.about stop (config_of m) →
+    StandsWhereItStops m.about stop (config_of m)
+stands_there m is formed (decide seat site) there =
+    let at = at_decision m is formed seat site there in
+    let scene = scene_at m.about m.table m.control.frames in
+    let left = ap first_item (sym (left-item (item_list m.about.sheet.items) m.path (choice site at.alts) at.here at.there) ∙ there.first) in
+    record {
+      decision = there;
+      offered = subst (λ alts. 0 < length (menu_from scene alts)) (sym (at.same ∙ same_alts site at.alts there.alts left)) there.some;
+    }
+stands_there m is formed is_done there = tt
+stands_there m is formed is_limit there = tt
 
 -- a menu that has an item is one of alternatives
 pub some_alts : (about : About) (table : Table) (frames : List Frame) (alts : List Alt) → 0 < length (menu_from (scene_at about table frames) alts) → 0 < length alts

@@ -6,7 +6,7 @@ ghost use Rattle.rc_play_model.specs.Stop.{stop_of};
 ghost use Rattle.rc_play_model.specs.Decision.{at_site, choose};
 ghost use Rattle.rc_play_model.specs.Table.{opening};
 ghost use Rattle.rc_rules.specs.Control.{control_seen, stop_seen};
-ghost use Rattle.rc_rules.specs.Machine.{StandsAtDecision, menu_here};
+ghost use Rattle.rc_rules.specs.Machine.{StandsAtDecision, StandsWhereItStops, menu_here};
 ghost use Rattle.rc_plain.specs.Plain.{config_of, CanDecide};
 
 use crate::path::Path;
@@ -139,6 +139,7 @@ impl Machine for PlainMachine {
         ensures leads { IfOk result
             (λ stop. stop_of self.old.about (D.dealing dealer.old) (D.state dealer.old) (config_of self.old)
             ≡ Some (record { stop = stop_seen stop; config = config_of self.new; dealer = D.state dealer.new })) }
+        ensures stands { IfOk result (λ stop. StandsWhereItStops self.old.about (stop_seen stop) (config_of self.new)) }
         ensures fresh { OnOk result (false ≡ false) }
         ensures spent { false ≡ is_err result }
         ensures same { self.new.about ≡ self.old.about }

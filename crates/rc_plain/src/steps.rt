@@ -7,6 +7,7 @@ ghost use Rattle.rc_ast.specs.Expressions.{test_seen};
 ghost use Rattle.rc_ast.specs.Effects.{effects_seen};
 ghost use Rattle.rc_ast.specs.Items.{item_seen, alts_seen};
 ghost use Rattle.rc_rules.specs.Control.{stop_seen};
+ghost use Rattle.rc_rules.specs.Machine.{StandsWhereItStops};
 ghost use Rattle.rc_plain.specs.Paths.{item_at};
 ghost use Rattle.rc_plain.specs.State.{IsOffered, IsReady, plain_of, config_at, next_seen, LeadsTo};
 
@@ -14,7 +15,7 @@ use crate::frames;
 use crate::state::{State, members};
 use rc_ast::{Alt, Class, Effect, SheetItem, Test};
 use rc_effects::do_effects;
-use rc_play_model::sites_fix_choices;
+use rc_play_model::{sites_fix_choices, stops_stay};
 use rc_rules::{About, Dealer, Stop, current_in};
 use rc_value::Scope;
 
@@ -180,9 +181,12 @@ impl State {
         requires ready { IsReady about.now self.old }
         ensures leads { stop_of about.now (D.dealing dealer.old) (D.state dealer.old) (config_at about.now self.old)
             ≡ Some (record { stop = stop_seen result; config = config_at about.now self.new; dealer = D.state dealer.new }) }
+        ensures stands { StandsWhereItStops about.now (stop_seen result) (config_at about.now self.new) }
         ensures ready { IsReady about.now self.new }
         ensures dealing { D.dealing dealer.new ≡ D.dealing dealer.old }
     {
+        stops_stay();
+        let _sheet = about.sheet();
         loop {
             match self.step(about, dealer) {
                 Some(stop) => return stop,

@@ -13,7 +13,7 @@ choose-requires-clause-here g c =
     let about = c.args.about.now in
     let m = plain_of about c.args.self.now in
     let decision = c.requires.decision in
-    let at = at_decision m c.requires.ready.play.stands c.sheet-sheet.ensures.well decision.0 decision.1 decision.2 in
+    let at = at_decision m c.requires.ready.play.stands c.sheet-sheet.ensures.well decision.0 decision.1 decision.2.decision in
     (decision.1, at.there ∙ ap (λ alts. Some (choice decision.1 alts)) (sym (c.alts-alts.ensures.alts decision.1 at.alts at.there)))
 
 pub choose-requires-clause-fits : goal.choose-requires-clause-fits
@@ -21,7 +21,7 @@ choose-requires-clause-fits g c =
     let about = c.args.about.now in
     let m = plain_of about c.args.self.now in
     let decision = c.requires.decision in
-    let at = at_decision m c.requires.ready.play.stands c.sheet-sheet.ensures.well decision.0 decision.1 decision.2 in
+    let at = at_decision m c.requires.ready.play.stands c.sheet-sheet.ensures.well decision.0 decision.1 decision.2.decision in
     c.alts-alts.ensures.fits decision.1 at.alts at.there
 
 pub choose-requires-clause-offered : goal.choose-requires-clause-offered
@@ -29,9 +29,9 @@ choose-requires-clause-offered g c =
     let about = c.args.about.now in
     let m = plain_of about c.args.self.now in
     let decision = c.requires.decision in
-    let at = at_decision m c.requires.ready.play.stands c.sheet-sheet.ensures.well decision.0 decision.1 decision.2 in
+    let at = at_decision m c.requires.ready.play.stands c.sheet-sheet.ensures.well decision.0 decision.1 decision.2.decision in
     let alts = alts_seen c.alts-alts.result.now in
-    let same = ap (λ o. alts_at about.sheet (unwrap_or o 0)) decision.2.stands ∙ at.same ∙ sym (c.alts-alts.ensures.alts decision.1 at.alts at.there) in
+    let same = ap (λ o. alts_at about.sheet (unwrap_or o 0)) decision.2.decision.stands ∙ at.same ∙ sym (c.alts-alts.ensures.alts decision.1 at.alts at.there) in
     let menu = c.menu_here-menu.ensures ∙ ap (menu_from (scene_at about m.table m.control.frames)) same in
     let within = offered_here c.menu_here-menu.result.items (menu_from (scene_at about m.table m.control.frames) alts) c.args.item menu
           (subst (λ (xs : List Item). c.args.item < length xs) (sym c.menu_here-menu.ensures ∙ menu) c.requires.offered) in
@@ -45,9 +45,9 @@ returns-clause-leads g c =
     let about = c.args.about.now in
     let m = plain_of about c.args.self.now in
     let decision = c.requires.decision in
-    let at = at_decision m c.requires.ready.play.stands c.sheet-sheet.ensures.well decision.0 decision.1 decision.2 in
+    let at = at_decision m c.requires.ready.play.stands c.sheet-sheet.ensures.well decision.0 decision.1 decision.2.decision in
     let alts = alts_seen c.alts-alts.result.now in
-    let same = ap (λ o. alts_at about.sheet (unwrap_or o 0)) decision.2.stands ∙ at.same ∙ sym (c.alts-alts.ensures.alts decision.1 at.alts at.there) in
+    let same = ap (λ o. alts_at about.sheet (unwrap_or o 0)) decision.2.decision.stands ∙ at.same ∙ sym (c.alts-alts.ensures.alts decision.1 at.alts at.there) in
     let menu = c.menu_here-menu.ensures ∙ ap (menu_from (scene_at about m.table m.control.frames)) same in
     let within = offered_here c.menu_here-menu.result.items (menu_from (scene_at about m.table m.control.frames) alts) c.args.item menu
           (subst (λ (xs : List Item). c.args.item < length xs) (sym c.menu_here-menu.ensures ∙ menu) c.requires.offered) in
