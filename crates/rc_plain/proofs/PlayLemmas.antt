@@ -1,0 +1,106 @@
+-- Machines stay in play.
+use Rattle.std.proofs.Common.{◌≡◌, ℕ, ◌+◌, ◌≤◌, ◌<◌, Bool, true, false, List, [], ◌∷◌, ◌++◌, length, map, All, slice_get, slice_set, slice_index, zero, suc, Option, Some, None, refl, sym, ap, ◌∙◌, subst, true≢false, arith}
+use Rattle.std.specs.List.{AllByRecursion}
+use Rattle.std.proofs.lemmas.List.{length-map}
+use Rattle.std.proofs.lemmas.List.Elements.{All-from_recursion, recursion_from_All}
+use Rattle.rc_sheet_model.specs.Sheet.{SheetItem, Sheet}
+use Rattle.rc_sheet_model.specs.Lists.{item_list}
+use Rattle.rc_sheet_model.specs.WellFormed.{IsWellFormed}
+use Rattle.rc_play_model.specs.Control.{Control}
+use Rattle.rc_play_model.specs.Table.{Table}
+use Rattle.rc_play_model.specs.Effects.{Dealing}
+use Rattle.rc_play_model.specs.Step.{Stage, Config, Stop, goes, stops, step}
+use Rattle.rc_play_model.specs.Decision.{choose}
+use Rattle.rc_play_model.specs.Path.{Path, stage_in, left_of, past, at_mark, into, item_depth}
+use Rattle.rc_play_model.specs.Fits.{around, HasFrames}
+use Rattle.rc_play_model.proofs.FrameLemmas.{step_frames, choice_frames}
+use Rattle.rc_play_model.proofs.DepthLemmas.{shallow_path}
+use Rattle.rc_plain.specs.Paths.{ArePlaces, item_at, IsPath, Leaves}
+use Rattle.rc_plain.specs.Plain.{Plain, config_of, IsInPlay}
+use Rattle.rc_plain.proofs.PathLemmas.{one_more, all_but_last, open_stages}
+use Rattle.rc_plain.proofs.StepCases.{moved}
+
+module _ (m : Plain) (play : IsInPlay m) where
+  -- where a step leads
+  pub goes_on : (path : Path) (table : Table) (control : Control) (dealing : Dealing ℕ) (k k' : ℕ) → IsPath m.about.sheet path →
+      control.turn ≤ m.about.turns → All (λ n. n ≤ control.turn) control.made →
+      step m.about dealing k (config_of m) ≡ goes k' (config_of (moved m path table control)) → IsInPlay (moved m path table control)
+  goes_on path table control dealing k k' is turn counts leads =
+      record {
+        stands = is;
+        frames = step_frames m.about dealing k k' (config_of m) (config_of (moved m path table control)) play.frames leads;
+        turn = turn;
+        counts = counts;
+      }
+
+  -- where a choice leads
+  pub goes_on_behind : (path : Path) (table : Table) (control : Control) (dealing : Dealing ℕ) (x k k' : ℕ) → IsPath m.about.sheet path →
+      control.turn ≤ m.about.turns → All (λ n. n ≤ control.turn) control.made →
+      choose m.about dealing k x (config_of m) ≡ goes k' (config_of (moved m path table control)) → IsInPlay (moved m path table control)
+  goes_on_behind path table control dealing x k k' is turn counts leads =
+      record {
+        stands = is;
+        frames = choice_frames m.about dealing k k' x (config_of m) (config_of (moved m path table control)) play.frames leads;
+        turn = turn;
+        counts = counts;
+      }
+
+  pub past_is_path : IsPath m.about.sheet (past m.path)
+  past_is_path = record { places = play.stands.places; at_stage = λ e. absurd (true≢false (sym e)) }
+
+  pub mark_is_path : (s : Stage) → stage_in (item_at m.about.sheet m.path) ≡ Some s → IsPath m.about.sheet (at_mark m.path)
+  mark_is_path s is = record { places = play.stands.places; at_stage = λ e. (s, is) }
+
+  pub into_is_path : (s : Stage) → stage_in (item_at m.about.sheet m.path) ≡ Some s → IsPath m.about.sheet (into m.path)
+  into_is_path s is =
+      record {
+        places = one_more (item_list m.about.sheet.items) m.path.outer m.path.next s play.stands.places is;
+        at_stage = λ e. absurd (true≢false (sym e));
+      }
+
+  -- back at a stage whose body ran
+  pub left_stage : (path : Path) → Leaves m.path path true →
+      IsPath m.about.sheet path × (s : Stage) × (stage_in (item_at m.about.sheet path) ≡ Some s)
+  left_stage path leaves =
+      let items = item_list m.about.sheet.items in
+      let back = all_but_last items path.outer path.next (subst (ArePlaces items) leaves.0 play.stands.places) in
+      (record { places = back.0; at_stage = λ e. (back.1, back.2) }, back.1, back.2)
+
+  -- there is room for the frame of a stage that opens, and for its place
+  pub few_frames : (i : SheetItem) → IsWellFormed m.about.sheet → m.path.at_round ≡ false → item_at m.about.sheet m.path ≡ Some i →
+      length m.control.frames + item_depth i ≤ 63
+  few_frames i formed here is =
+      let shallow = shallow_path m.about.sheet m.path i formed is in
+      let open' = open_stages (item_list m.about.sheet.items) m.path play.stands.places here in
+      let numbers = ap length play.frames in
+      let frames = length-map m.control.frames (λ f. f.stage) in
+      let stages = length-map (around (config_of m).left) (λ s. s.number) in
+      omega (arith, shallow, open', numbers, frames, stages)
+
+  pub few_places : (i : SheetItem) → IsWellFormed m.about.sheet → item_at m.about.sheet m.path ≡ Some i → length m.path.outer < 64
+  few_places i formed is = let shallow = shallow_path m.about.sheet m.path i formed is in omega (arith, shallow)
+
+-- counts of decisions where one turn more is counted
+weaker : (turn : ℕ) (made : List ℕ) → AllByRecursion (λ n. n ≤ turn) made → AllByRecursion (λ n. n ≤ turn + 1) made
+weaker turn [] all = tt
+weaker turn (n ∷ made) all = let le = all.0 in (omega (arith, le), weaker turn made all.1)
+
+pub one_turn_counts : (turn : ℕ) (made : List ℕ) → All (λ n. n ≤ turn) made → All (λ n. n ≤ turn + 1) made
+one_turn_counts turn made all =
+    All-from_recursion (λ n. n ≤ turn + 1) made (weaker turn made (recursion_from_All (λ n. n ≤ turn) made all))
+
+-- and where one decision more is counted besides
+one_more_of : (turn seat : ℕ) (made : List ℕ) → AllByRecursion (λ n. n ≤ turn) made →
+    AllByRecursion (λ n. n ≤ turn + 1) (slice_set made seat (slice_index made seat + 1))
+one_more_of turn seat [] all = tt
+one_more_of turn zero (n ∷ made) all = let le = all.0 in (omega (arith, le), weaker turn made all.1)
+one_more_of turn (suc seat) (n ∷ made) all = let le = all.0 in (omega (arith, le), one_more_of turn seat made all.1)
+
+pub one_decision_counts : (turn seat : ℕ) (made : List ℕ) → All (λ n. n ≤ turn) made →
+    All (λ n. n ≤ turn + 1) (slice_set made seat (slice_index made seat + 1))
+one_decision_counts turn seat made all =
+    All-from_recursion (λ n. n ≤ turn + 1) _ (one_more_of turn seat made (recursion_from_All (λ n. n ≤ turn) made all))
+
+-- a dealing that leaves all as it is
+abbrev pub still : Dealing ℕ
+still = record { order = λ k size. []; next = λ k size. k }

@@ -1,0 +1,87 @@
+//! Decisions: what a mover may pick, and what follows.
+ghost use Rattle.std.specs.Prelude.{◌≡◌, ℕ, ◌+◌, ◌<◌, ◌^◌, length, Some};
+ghost use Rattle.rc_sheet_model.specs.Sheet.{choice};
+ghost use Rattle.rc_play_model.specs.Step.{goes};
+ghost use Rattle.rc_play_model.specs.Decision.{choose};
+ghost use Rattle.rc_ast.specs.Items.{alts_seen};
+ghost use Rattle.rc_rules.specs.Machine.{StandsAtDecision, menu_here};
+ghost use Rattle.rc_rules.specs.Menu.{item_seen, menu_seen};
+ghost use Rattle.rc_plain.specs.Paths.{item_at};
+ghost use Rattle.rc_plain.specs.Plain.{chosen_item};
+ghost use Rattle.rc_plain.specs.State.{IsReady, plain_of, config_at};
+
+use crate::state::{State, count_decision};
+use rc_ast::{Alt, Class};
+use rc_effects::do_item;
+use rc_play_model::sites_fix_choices;
+use rc_rules::{About, Dealer, Item, Menu, current_in};
+
+impl State {
+    /// What the mover may pick at the decision that is next.
+    pub fn menu_here(&self, about: &About) -> Menu
+        requires ready { IsReady about.now self.now }
+        requires decision { StandsAtDecision about.now (config_at about.now self.now) }
+        ensures { menu_seen result.items ≡ menu_here about.now (config_at about.now self.now) }
+    {
+        sites_fix_choices();
+        let _sheet = about.sheet();
+        match self.control.site {
+            Some(site) => self.menu(about, site, self.path.alts(about)),
+            None => unreachable!(),
+        }
+    }
+
+    /// Takes an item of the menu at the decision that is next, and does its effects.
+    pub fn apply<D: Dealer>(&mut self, about: &About, item: u16, dealer: &mut D)
+        requires ready { IsReady about.now self.old }
+        requires decision { StandsAtDecision about.now (config_at about.now self.old) }
+        requires offered { item < length (menu_here about.now (config_at about.now self.old)) }
+        ensures leads { choose about.now (D.dealing dealer.old) (D.state dealer.old) item (config_at about.now self.old)
+            ≡ goes (D.state dealer.new) (config_at about.now self.new) }
+        ensures ready { IsReady about.now self.new }
+        ensures dealing { D.dealing dealer.new ≡ D.dealing dealer.old }
+    {
+        sites_fix_choices();
+        let _sheet = about.sheet();
+        let menu = self.menu_here(about);
+        let alts = self.path.alts(about);
+        self.choose(about, alts, &menu.as_slice()[item as usize], dealer);
+    }
+
+    /// Takes this item of the menu at the choice that is next, and does its effects.
+    fn choose<D: Dealer>(
+        &mut self,
+        about: &About,
+        alts: &[Alt],
+        item: &Item,
+        dealer: &mut D,
+    )
+        requires ready { IsReady about.now self.old }
+        requires here { (site : ℕ) × (item_at about.now.sheet self.old.path ≡ Some (choice site (alts_seen alts.now))) }
+        requires fits { self.old.path.next + 1 < 2 ^ 64 }
+        requires below { self.old.control.turn < about.now.turns }
+        requires offered { (x : ℕ) × (chosen_item (plain_of about.now self.old) (alts_seen alts.now) x ≡ item_seen item.now) }
+        ensures leads { (x : ℕ) → chosen_item (plain_of about.now self.old) (alts_seen alts.now) x ≡ item_seen item.now
+            → choose about.now (D.dealing dealer.old) (D.state dealer.old) x (config_at about.now self.old)
+            ≡ goes (D.state dealer.new) (config_at about.now self.new) }
+        ensures ready { IsReady about.now self.new }
+        ensures dealing { D.dealing dealer.new ≡ D.dealing dealer.old }
+    {
+        let _turns = about.turns();
+        let seat = current_in(
+            about.sheet(),
+            Class::Player,
+            self.control.frames.as_slice(),
+        );
+        do_item(
+            about,
+            alts,
+            item,
+            &mut self.table,
+            &mut self.control.frames,
+            dealer,
+        );
+        count_decision(&mut self.control, seat);
+        self.path.pass();
+    }
+}

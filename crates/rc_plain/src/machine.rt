@@ -1,0 +1,181 @@
+//! The machine.
+ghost use Rattle.std.specs.Prelude.{◌≡◌, ◌<◌, false, length, Some, is_err, IfOk, OnOk, IsOk};
+ghost use Rattle.rc_play_model.specs.Shape.{shape_of};
+ghost use Rattle.rc_play_model.specs.Step.{goes, start};
+ghost use Rattle.rc_play_model.specs.Stop.{stop_of};
+ghost use Rattle.rc_play_model.specs.Decision.{at_site, choose};
+ghost use Rattle.rc_play_model.specs.Table.{opening};
+ghost use Rattle.rc_rules.specs.Control.{control_seen, stop_seen};
+ghost use Rattle.rc_rules.specs.Machine.{StandsAtDecision, StandsWhereItStops, menu_here};
+ghost use Rattle.rc_plain.specs.Plain.{config_of, CanDecide};
+
+use crate::path::Path;
+use crate::site::path_of;
+use crate::state::{State, new_control};
+use rc_deck::Memory;
+use rc_flow::Checked;
+use rc_play_model::sites_fix_choices;
+use rc_rules::{About, Control, Dealer, Machine, Menu, Scores, Stop};
+use rc_table::{Shape, Table};
+use std::alloc::Global;
+use std::marker::Model;
+use std::sync::Arc;
+
+/// A match that is played on the tree of its sheet. What is left to run is a path of places into the sheet. It takes memory when
+/// it is made, and none later.
+#[derive(Drop)]
+pub struct PlainMachine {
+    about: About,
+    state: State,
+}
+
+impl Model for PlainMachine {
+    ghost use Rattle.std.specs.Coded.{codes};
+    ghost use Rattle.rc_flow.specs.Codes.{sheet_codes};
+    ghost use Rattle.rc_plain.specs.Plain.{Plain};
+
+    ghost Value = { Plain };
+
+    ghost coded = { Prim.hlevel (sheet_codes, codes) };
+
+    ghost use Rattle.rc_plain.specs.State.{plain_of, IsReady};
+
+    ghost view = { λ m. plain_of m.about m.state };
+
+    ghost invariant = { λ m. IsReady m.about m.state };
+}
+
+impl PlainMachine {
+    /// A match at its start. The shape is the sheet's.
+    pub fn start(
+        alloc: Global,
+        checked: &Arc<Checked>,
+        shape: &Arc<Shape>,
+        turns: u32,
+    ) -> Result<PlainMachine, Memory>
+        requires { shape.now.value ≡ shape_of checked.now.value }
+        ensures about { IfOk result (λ m. m.about ≡ record { sheet = checked.now.value; shape = shape.now.value; turns = turns }) }
+        ensures start { IfOk result (λ m. config_of m ≡ start (record { sheet = checked.now.value; shape = shape.now.value; turns = turns })) }
+    {
+        let about = about_of(checked, shape, turns)?;
+        let table = Table::new(alloc, shape)?;
+        Ok(PlainMachine::with_opening(about, table))
+    }
+
+    /// A match at the decision for which this table and this control stand. The shape is the sheet's.
+    pub fn at(
+        checked: &Arc<Checked>,
+        shape: &Arc<Shape>,
+        turns: u32,
+        table: Table,
+        control: Control,
+    ) -> Result<PlainMachine, Memory>
+        requires shape { shape.now.value ≡ shape_of checked.now.value }
+        requires laid { table.shape ≡ shape.now.value }
+        requires decides { CanDecide (record { sheet = checked.now.value; shape = shape.now.value; turns = turns }) table.table (control_seen control) }
+        ensures about { IfOk result (λ m. m.about ≡ record { sheet = checked.now.value; shape = shape.now.value; turns = turns }) }
+        ensures at { IfOk result (λ m. config_of m
+            ≡ at_site (record { sheet = checked.now.value; shape = shape.now.value; turns = turns }) table.table (control_seen control)) }
+    {
+        let about = about_of(checked, shape, turns)?;
+        Ok(PlainMachine::at_decision(about, table, control))
+    }
+
+    fn with_opening(about: About, table: Table) -> PlainMachine
+        requires { table ≡ record { shape = about.shape; table = opening about.shape } }
+        ensures about { result.about ≡ about }
+        ensures start { config_of result ≡ start about }
+    {
+        let control = new_control(&about);
+        PlainMachine {
+            about,
+            state: State {
+                table,
+                control,
+                path: Path::start(),
+            },
+        }
+    }
+
+    fn at_decision(about: About, table: Table, control: Control) -> PlainMachine
+        requires laid { table.shape ≡ about.shape }
+        requires decides { CanDecide about table.table (control_seen control) }
+        ensures about { result.about ≡ about }
+        ensures at { config_of result ≡ at_site about table.table (control_seen control) }
+    {
+        sites_fix_choices();
+        let _sheet = about.sheet();
+        let path = path_of(&about, &control);
+        PlainMachine {
+            about,
+            state: State {
+                table,
+                control,
+                path,
+            },
+        }
+    }
+}
+
+// What the match is played by.
+fn about_of(checked: &Arc<Checked>, shape: &Arc<Shape>, turns: u32) -> Result<About, Memory>
+    requires { shape.now.value ≡ shape_of checked.now.value }
+    ensures { IfOk result (λ about. about ≡ record { sheet = checked.now.value; shape = shape.now.value; turns = turns }) }
+{
+    let checked = Arc::try_clone(checked)?;
+    let shape = Arc::try_clone(shape)?;
+    Ok(About::new(checked, shape, turns))
+}
+
+impl Machine for PlainMachine {
+    ghost about = { λ m. m.about };
+
+    ghost config = { config_of };
+
+    ghost spent = { λ m. false };
+
+    fn advance<D: Dealer>(&mut self, dealer: &mut D) -> Result<Stop, Memory>
+        ensures ok { IsOk result }
+        ensures leads { IfOk result
+            (λ stop. stop_of self.old.about (D.dealing dealer.old) (D.state dealer.old) (config_of self.old)
+            ≡ Some (record { stop = stop_seen stop; config = config_of self.new; dealer = D.state dealer.new })) }
+        ensures stands { IfOk result (λ stop. StandsWhereItStops self.old.about (stop_seen stop) (config_of self.new)) }
+        ensures fresh { OnOk result (false ≡ false) }
+        ensures spent { false ≡ is_err result }
+        ensures same { self.new.about ≡ self.old.about }
+        ensures dealing { D.dealing dealer.new ≡ D.dealing dealer.old }
+    {
+        Ok(self.state.advance(&self.about, dealer))
+    }
+
+    fn menu(&self) -> Menu {
+        self.state.menu_here(&self.about)
+    }
+
+    fn apply<D: Dealer>(&mut self, item: u16, dealer: &mut D) -> Result<(), Memory>
+        requires decision { StandsAtDecision self.old.about (config_of self.old) }
+        requires offered { item < length (menu_here self.old.about (config_of self.old)) }
+        ensures ok { IsOk result }
+        ensures leads { OnOk result
+            (choose self.old.about (D.dealing dealer.old) (D.state dealer.old) item (config_of self.old)
+            ≡ goes (D.state dealer.new) (config_of self.new)) }
+        ensures spent { false ≡ is_err result }
+        ensures same { self.new.about ≡ self.old.about }
+        ensures dealing { D.dealing dealer.new ≡ D.dealing dealer.old }
+    {
+        self.state.apply(&self.about, item, dealer);
+        Ok(())
+    }
+
+    fn scores(&self) -> Scores {
+        self.state.scores(&self.about)
+    }
+
+    fn table(&self) -> &Table {
+        &self.state.table
+    }
+
+    fn control(&self) -> &Control {
+        &self.state.control
+    }
+}

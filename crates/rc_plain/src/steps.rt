@@ -1,0 +1,197 @@
+//! The steps of a match.
+ghost use Rattle.std.specs.Prelude.{◌≡◌, ℕ, ◌+◌, ◌<◌, ◌≤◌, ◌^◌, [], length, IsSome, None, Some, true, false};
+ghost use Rattle.rc_sheet_model.specs.Sheet.{SheetItems, do_item, stage, choice};
+ghost use Rattle.rc_play_model.specs.Step.{goes, step};
+ghost use Rattle.rc_play_model.specs.Stop.{stop_of};
+ghost use Rattle.rc_ast.specs.Expressions.{test_seen};
+ghost use Rattle.rc_ast.specs.Effects.{effects_seen};
+ghost use Rattle.rc_ast.specs.Items.{item_seen, alts_seen};
+ghost use Rattle.rc_rules.specs.Control.{stop_seen};
+ghost use Rattle.rc_rules.specs.Machine.{StandsWhereItStops};
+ghost use Rattle.rc_plain.specs.Paths.{item_at};
+ghost use Rattle.rc_plain.specs.State.{IsOffered, IsReady, plain_of, config_at, next_seen, LeadsTo};
+
+use crate::frames;
+use crate::state::{State, members};
+use rc_ast::{Alt, Class, Effect, SheetItem, Test};
+use rc_effects::do_effects;
+use rc_play_model::{sites_fix_choices, stops_stay};
+use rc_rules::{About, Dealer, Stop, current_in};
+use rc_value::Scope;
+
+impl State {
+    /// Does the effects that are next.
+    fn do_next<D: Dealer>(&mut self, about: &About, effects: &[Effect], dealer: &mut D)
+        requires ready { IsReady about.now self.old }
+        requires here { item_at about.now.sheet self.old.path ≡ Some (do_item (effects_seen effects.now)) }
+        requires fits { self.old.path.next + 1 < 2 ^ 64 }
+        ensures leads { step about.now (D.dealing dealer.old) (D.state dealer.old) (config_at about.now self.old)
+            ≡ goes (D.state dealer.new) (config_at about.now self.new) }
+        ensures ready { IsReady about.now self.new }
+        ensures dealing { D.dealing dealer.new ≡ D.dealing dealer.old }
+    {
+        let _sheet = about.sheet();
+        do_effects(
+            about,
+            &Scope::empty(),
+            effects,
+            &mut self.table,
+            &mut self.control.frames,
+            dealer,
+        );
+        self.path.pass();
+    }
+
+    /// Passes over the choice that is next where it offers nothing; else its mover decides.
+    fn choice_next(&mut self, about: &About, site: u8, alts: &[Alt]) -> Option<Stop>
+        requires ready { IsReady about.now self.old }
+        requires here { item_at about.now.sheet self.old.path ≡ Some (choice site (alts_seen alts.now)) }
+        requires fits { self.old.path.next + 1 < 2 ^ 64 }
+        ensures leads { LeadsTo about.now (config_at about.now self.old) result (config_at about.now self.new) }
+        ensures ready { IsReady about.now self.new }
+    {
+        sites_fix_choices();
+        let _sheet = about.sheet();
+        if self.menu(about, site, alts).is_empty() {
+            self.path.pass();
+            return None;
+        }
+        self.decide(about, site)
+    }
+
+    /// Stops at the choice that is next, where the turn limit isn't met.
+    fn decide(&mut self, about: &About, site: u8) -> Option<Stop>
+        requires ready { IsReady about.now self.old }
+        requires here { IsOffered (plain_of about.now self.old) site }
+        ensures leads { LeadsTo about.now (config_at about.now self.old) result (config_at about.now self.new) }
+        ensures ready { IsReady about.now self.new }
+    {
+        if self.control.turn >= about.turns() {
+            return Some(Stop::Limit);
+        }
+        let seat = current_in(
+            about.sheet(),
+            Class::Player,
+            self.control.frames.as_slice(),
+        );
+        self.control.site = Some(site);
+        Some(Stop::Decide { seat, site })
+    }
+
+    /// Opens the stage that is next, or goes on at its round.
+    fn stage_next(&mut self, about: &About, number: u16, class: Class, end: &Test) -> Option<Stop>
+        requires ready { IsReady about.now self.old }
+        requires here { (body : SheetItems) × (item_at about.now.sheet self.old.path ≡ Some (stage number class (test_seen end.now) body)) }
+        requires fits { self.old.path.next + 1 < 2 ^ 64 }
+        ensures leads { LeadsTo about.now (config_at about.now self.old) result (config_at about.now self.new) }
+        ensures ready { IsReady about.now self.new }
+    {
+        if self.path.at_round() {
+            return self.round_next(about, end);
+        }
+        frames::open(&mut self.control.frames, about.sheet(), number, class);
+        self.path.open();
+        None
+    }
+
+    /// Leaves the stage where its end test holds; else a round of it begins, where the turn limit isn't met.
+    fn round_next(&mut self, about: &About, end: &Test) -> Option<Stop>
+        requires ready { IsReady about.now self.old }
+        requires round { self.old.path.at_round ≡ true }
+        requires here { (number : ℕ) × (class : Class) × (body : SheetItems)
+            × (item_at about.now.sheet self.old.path ≡ Some (stage number class (test_seen end.now) body)) }
+        requires fits { self.old.path.next + 1 < 2 ^ 64 }
+        ensures leads { LeadsTo about.now (config_at about.now self.old) result (config_at about.now self.new) }
+        ensures ready { IsReady about.now self.new }
+    {
+        let _sheet = about.sheet();
+        if self.ends(about, end) {
+            frames::close(&mut self.control.frames);
+            self.path.pass();
+            return None;
+        }
+        if self.control.turn >= about.turns() {
+            return Some(Stop::Limit);
+        }
+        self.control.turn += 1;
+        self.path.enter();
+        None
+    }
+
+    /// Goes back to the stage whose body has ended, and to its next member; at the end of all nothing is left.
+    fn leave(&mut self, about: &About) -> Option<Stop>
+        requires ready { IsReady about.now self.old }
+        requires end { item_at about.now.sheet self.old.path ≡ None }
+        ensures leads { LeadsTo about.now (config_at about.now self.old) result (config_at about.now self.new) }
+        ensures ready { IsReady about.now self.new }
+    {
+        if !self.path.leave() {
+            return Some(Stop::Done);
+        }
+        let count = members(about, self.path.class(about));
+        frames::pass(&mut self.control.frames, count);
+        None
+    }
+
+    /// Does what the item that is next says.
+    fn step_at<D: Dealer>(
+        &mut self,
+        about: &About,
+        item: &SheetItem,
+        dealer: &mut D,
+    ) -> Option<Stop>
+        requires ready { IsReady about.now self.old }
+        requires here { item_at about.now.sheet self.old.path ≡ Some (item_seen item.now) }
+        requires fits { self.old.path.next + 1 < 2 ^ 64 }
+        ensures leads { step about.now (D.dealing dealer.old) (D.state dealer.old) (config_at about.now self.old)
+            ≡ next_seen result (config_at about.now self.new) (D.state dealer.new) }
+        ensures ready { IsReady about.now self.new }
+        ensures dealing { D.dealing dealer.new ≡ D.dealing dealer.old }
+        ensures kept { IsSome result → D.state dealer.new ≡ D.state dealer.old }
+    {
+        match item {
+            SheetItem::Do(effects) => {
+                self.do_next(about, effects, dealer);
+                None
+            }
+            SheetItem::Choice { site, alts } => self.choice_next(about, *site, alts),
+            SheetItem::Stage {
+                number, class, end, ..
+            } => self.stage_next(about, *number, *class, end),
+        }
+    }
+
+    /// A step.
+    fn step<D: Dealer>(&mut self, about: &About, dealer: &mut D) -> Option<Stop>
+        requires ready { IsReady about.now self.old }
+        ensures leads { step about.now (D.dealing dealer.old) (D.state dealer.old) (config_at about.now self.old)
+            ≡ next_seen result (config_at about.now self.new) (D.state dealer.new) }
+        ensures ready { IsReady about.now self.new }
+        ensures dealing { D.dealing dealer.new ≡ D.dealing dealer.old }
+        ensures kept { IsSome result → D.state dealer.new ≡ D.state dealer.old }
+    {
+        match self.path.item(about) {
+            None => self.leave(about),
+            Some(item) => self.step_at(about, item, dealer),
+        }
+    }
+
+    /// Goes on to the next stop.
+    pub fn advance<D: Dealer>(&mut self, about: &About, dealer: &mut D) -> Stop
+        requires ready { IsReady about.now self.old }
+        ensures leads { stop_of about.now (D.dealing dealer.old) (D.state dealer.old) (config_at about.now self.old)
+            ≡ Some (record { stop = stop_seen result; config = config_at about.now self.new; dealer = D.state dealer.new }) }
+        ensures stands { StandsWhereItStops about.now (stop_seen result) (config_at about.now self.new) }
+        ensures ready { IsReady about.now self.new }
+        ensures dealing { D.dealing dealer.new ≡ D.dealing dealer.old }
+    {
+        stops_stay();
+        let _sheet = about.sheet();
+        loop {
+            match self.step(about, dealer) {
+                Some(stop) => return stop,
+                None => {}
+            }
+        }
+    }
+}
