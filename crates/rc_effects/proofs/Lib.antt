@@ -1,6 +1,0 @@
-pub mod Innermost
-pub mod Readings
-pub mod Rows
-pub mod Orders
-pub mod Steps
-pub mod Members
