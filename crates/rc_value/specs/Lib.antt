@@ -1,3 +1,4 @@
 pub mod Cards
 pub mod Seen
 pub mod Depth
+pub mod Binding
