@@ -1,4 +1,6 @@
 //! Where a match stands beside its table.
+ghost use Rattle.std.specs.Prelude.{◌≡◌};
+ghost use Rattle.rc_rules.specs.Control.{control_seen};
 
 use arrayvec::ArrayVec;
 
@@ -36,5 +38,19 @@ impl Control {
     pub fn copy(&self) -> Control
         ensures { control_seen result ≡ control_seen self.now }
     {
+        Control {
+            site: self.site,
+            frames: copied(&self.frames),
+            turn: self.turn,
+            made: copied(&self.made),
+        }
     }
+}
+
+fn copied<T: Copy + Default + Drop, const CAP: usize>(list: &ArrayVec<T, CAP>) -> ArrayVec<T, CAP>
+    ensures { result.items ≡ list.now.items }
+{
+    let mut copy = ArrayVec::new();
+    let _fits = copy.try_extend_from_slice(list.as_slice());
+    copy
 }

@@ -1,4 +1,14 @@
 //! Who shuffles.
+ghost use Rattle.std.specs.Prelude.{◌≡◌, ◌≤◌, ℕ, length};
+ghost use Rattle.std.specs.List.Sorted.{IsPermutation};
+ghost use Rattle.rc_model.specs.Numbers.{below};
+ghost use Rattle.rc_play_model.specs.Table.{taken};
+ghost use Rattle.rc_play_model.specs.Effects.{Dealing};
+ghost use Rattle.rc_play_model.specs.Keyed.{dealing_of};
+
+use rc_draw::{key32, shuffle_by};
+use rc_play_model::{keys_pick_and_permute, tables_of_matches_are_sound};
+use std::marker::Model;
 
 /// Permutes lists. How it does so no call changes; which order the next list takes is a matter of the state in which it is.
 pub trait Dealer {
@@ -22,21 +32,48 @@ pub struct MatchDealer {
 }
 
 impl Model for MatchDealer {
-    Value = { Dealt }  -- record of specs/Dealer.antt: deal, count
+    ghost use Rattle.rc_rules.specs.Dealer.{Dealt};
+
+    ghost Value = { Dealt };
+
+    ghost view = { λ d. record { deal = d.deal; count = d.count } };
 }
 
 impl MatchDealer {
     /// A dealer before its first shuffle.
     pub fn new(deal: u64) -> MatchDealer
         ensures { result ≡ record { deal = deal; count = 0 } }
+    {
+        MatchDealer { deal, count: 0 }
+    }
 
     /// How many lists it shuffled, modulo 2^32.
     pub fn count(&self) -> u32
         ensures { result ≡ self.now.count }
+    {
+        self.count
+    }
 }
 
 impl Dealer for MatchDealer {
-    ghost dealing = { λ d. dealing_of d.deal };      // rc_play_model.specs.Keyed
+    ghost dealing = { λ d. dealing_of d.deal };
+
     ghost state = { λ d. d.count };
-    fn shuffle(..)  // by shuffle_by and key32(deal, 1, count, 0) of rc_draw
+
+    fn shuffle(&mut self, list: &mut [u16]) {
+        put_in_turn(self.deal, u64::from(self.count), list);
+        self.count = self.count.wrapping_add(1);
+    }
+}
+
+// Puts a list into the order of this shuffle of a match.
+fn put_in_turn(deal: u64, turn: u64, list: &mut [u16])
+    requires few { length list.old ≤ 512 }
+    ensures taken { list.new ≡ taken ((dealing_of deal).order turn (length list.old)) list.old }
+    ensures order { IsPermutation (below (length list.old)) ((dealing_of deal).order turn (length list.old)) }
+{
+    keys_pick_and_permute();
+    tables_of_matches_are_sound();
+    let key = key32(deal, 1, turn, 0);
+    shuffle_by(&key, list);
 }

@@ -1,22 +1,16 @@
 //! The rules of play: what a match is played by, where it stands, what it offers, who shuffles, and what comes out of it.
 #![tactic(auto)]
 
-mod about;
 mod control;
 mod dealer;
 mod menu;
 mod plan;
-mod points;
 mod record;
-mod shape;
 mod stages;
 
-pub use about::About;
 pub use control::{Control, Frame, Frames, Stop};
 pub use dealer::{Dealer, MatchDealer};
 pub use menu::{Item, Menu, Scores, Spots};
 pub use plan::{Deal, Plan, Strategy};
-pub use points::rank_points;
 pub use record::{Ended, MatchRecord, Pick, Score, Standing};
-pub use shape::shape_of;
 pub use stages::{class_of_stage, current_in, is_stage_of, owner_count};

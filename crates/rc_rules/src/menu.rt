@@ -6,7 +6,7 @@ use arrayvec::ArrayVec;
 pub type Spots = ArrayVec<u16, 4>;
 
 /// An item of a menu: an alternative, by its place, with the positions of its bindings.
-#[derive(Debug, Drop)]
+#[derive(Debug, Default, Drop)]
 pub struct Item {
     pub alt: u32,
     pub spots: Spots,

@@ -1,6 +1,9 @@
 -- A table with the shape that it is laid for: what contracts see of a table.
-use Rattle.rc_play_model.specs.Shape.{Shape as PureShape}
-use Rattle.rc_play_model.specs.Table.{Table as PureTable}
+use Rattle.std.specs.Prelude.{ℕ, ◌+◌, ◌*◌, ◌≤◌, min, length, count_by}
+use Rattle.rc_sheet_model.specs.WellFormed.{is_mem}
+use Rattle.rc_play_model.specs.Shape.{Place as PurePlace, Shape as PureShape}
+use Rattle.rc_play_model.specs.Table.{Table as PureTable, IsSound, most_references, most_in_mem}
+use Rattle.rc_table.specs.Shape.{IsShape}
 
 pub record Laid : Type 0 where
   pub shape : PureShape
@@ -9,3 +12,14 @@ pub record Laid : Type 0 where
 -- the same shape with another table
 abbrev pub relaid : Laid → PureTable → Laid
 relaid laid table = record { shape = laid.shape; table = table }
+
+-- how many cards and references the locations of a shape can hold together
+abbrev pub most_held : PureShape → ℕ
+most_held shape =
+    length shape.faces + min most_references (most_in_mem * count_by (λ (place : PurePlace). is_mem place.kind) shape.places)
+
+-- what a table keeps: it is sound, and has room for all that later edits put into it
+pub record IsLaid (laid : Laid) (room : ℕ) : Type 0 where
+  pub limits : IsShape laid.shape
+  pub sound : IsSound laid.shape laid.table
+  pub fits : most_held laid.shape ≤ room

@@ -1,3 +1,4 @@
 pub mod Places
 pub mod Shape
+pub mod Arena
 pub mod Laid

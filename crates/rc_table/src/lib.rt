@@ -6,11 +6,14 @@
 //! takes memory.
 #![tactic(auto)]
 
+mod arena;
 mod place;
 mod shape;
 mod sight;
+mod table;
 
 pub use place::{Owner, Place};
 pub use rc_names::LocKind as Kind;
 pub use shape::Shape;
 pub use sight::{face_number, have_same_face, sees};
+pub use table::Table;

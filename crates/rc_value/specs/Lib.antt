@@ -2,3 +2,8 @@ pub mod Cards
 pub mod Seen
 pub mod Depth
 pub mod Binding
+pub mod Scene
+pub mod Places
+pub mod Picks
+pub mod Groups
+pub mod Current

@@ -1,0 +1,330 @@
+//! The values of expressions.
+ghost use Rattle.std.specs.Prelude.{◌≡◌, ◌+◌, ◌<◌, ◌≤◌, ◌++◌, ◌∷◌, [], map, filter, length, option_map, IfSome};
+ghost use Rattle.std.specs.List.{list_all, list_any};
+ghost use Rattle.rc_model.specs.Numbers.{below};
+ghost use Rattle.rc_play_model.specs.Value.{card_value, coll_value, colls_value, int_value, test_value, tests_value, card_bound, player_bound, cut};
+ghost use Rattle.rc_ast.specs.Expressions.{coll_seen, colls_seen, int_seen, test_seen, tests_seen};
+ghost use Rattle.rc_ast.specs.Expressions.{card_seen};
+ghost use Rattle.rc_value.specs.Cards.{value_seen, values_seen};
+ghost use Rattle.rc_value.specs.Depth.{card_depth, coll_depth, colls_depth, int_depth, test_depth, tests_depth, over_depth};
+ghost use Rattle.rc_value.specs.Picks.{picked_of, measured_of};
+ghost use Rattle.rc_value.specs.Scene.{scene_seen};
+
+use crate::arithmetic::{clamped_difference, clamped_product, clamped_sum};
+use crate::collection::Collection;
+use crate::leaves::{are_same, attr_of, cards_of, number_of, worth_of_some};
+use crate::loops::{Measure, Pick, append, card_at, fill, keep, measure_from, pick_from};
+use crate::places::who_of;
+use crate::scene::Scene;
+use crate::scope::{Bind, Scope};
+use crate::{Card, Cards};
+use rc_ast::{CardExpr, CollExpr, Domain, IntExpr, Test};
+
+/// The cards of a location or of a variable, which need no list of their own. None for another expression.
+pub fn bare<'a>(scene: &'a Scene, scope: &'a Scope, expr: &CollExpr) -> Option<Collection<'a>>
+    ensures { IfSome result (λ cards. cards ≡ coll_value (scene_seen scene.now) scope.now (coll_seen expr.now)) }
+{
+    match expr {
+        CollExpr::Var(var) => Some(scope.group(*var)),
+        CollExpr::Loc(loc) => Some(cards_of(scene, scope, loc)),
+        CollExpr::Filter(_, _, _) => None,
+        CollExpr::Union(_) => None,
+    }
+}
+
+/// The cards of a collection, written into an empty list.
+#[cycle(values)]
+pub fn coll_of(scene: &Scene, scope: &Scope, expr: &CollExpr, out: &mut Cards)
+    requires empty { out.old.items ≡ [] }
+    requires fits { length scope.now + coll_depth (coll_seen expr.now) ≤ 5 }
+    ensures { values_seen out.new.items ≡ coll_value (scene_seen scene.now) scope.now (coll_seen expr.now) }
+{
+    match expr {
+        CollExpr::Var(var) => fill(out, &scope.group(*var)),
+        CollExpr::Loc(loc) => fill(out, &cards_of(scene, scope, loc)),
+        CollExpr::Filter(cards, _, test) => {
+            coll_of(scene, scope, cards, out);
+            pass(scene, scope, test, out);
+        }
+        CollExpr::Union(parts) => join(scene, scope, parts, out),
+    }
+}
+
+// Keeps those that pass.
+#[cycle(values)]
+fn pass(scene: &Scene, scope: &Scope, test: &Test, out: &mut Cards)
+    requires fits { length scope.now + (1 + test_depth (test_seen test.now)) ≤ 5 }
+    ensures { values_seen out.new.items ≡ filter (λ c. test_value (scene_seen scene.now) (scope.now ++ card_bound c ∷ []) (test_seen test.now)) (values_seen out.old.items) }
+{
+    let mut kept = 0;
+    for place in 0..out.len() {
+        let card = card_at(&*out, place);
+        let passes = test_of(scene, &scope.with(Bind::Card(card)), test);
+        kept = keep(out, kept, card, passes);
+    }
+    out.truncate(kept);
+}
+
+#[cycle(values)]
+#[tactic(auto, using(crate::proofs::Steps::colls_here))]
+fn join(scene: &Scene, scope: &Scope, parts: &Vec<CollExpr>, out: &mut Cards)
+    requires empty { out.old.items ≡ [] }
+    requires fits { length scope.now + colls_depth (colls_seen parts.now.items) ≤ 5 }
+    ensures { values_seen out.new.items ≡ cut (colls_value (scene_seen scene.now) scope.now (colls_seen parts.now.items)) }
+{
+    for part in parts {
+        add(scene, scope, part, out);
+    }
+}
+
+// Puts the cards of a collection behind others, as long as there is room.
+#[cycle(values)]
+fn add(scene: &Scene, scope: &Scope, expr: &CollExpr, out: &mut Cards)
+    requires fits { length scope.now + coll_depth (coll_seen expr.now) ≤ 5 }
+    ensures is { values_seen out.new.items ≡ cut (values_seen out.old.items ++ coll_value (scene_seen scene.now) scope.now (coll_seen expr.now)) }
+    ensures few { length out.new.items ≤ 512 }
+{
+    match bare(&*scene, &*scope, expr) {
+        Some(cards) => append(out, &cards),
+        None => add_built(scene, scope, expr, out),
+    }
+}
+
+#[cycle(values)]
+fn add_built(scene: &Scene, scope: &Scope, expr: &CollExpr, out: &mut Cards)
+    requires fits { length scope.now + coll_depth (coll_seen expr.now) ≤ 5 }
+    ensures is { values_seen out.new.items ≡ cut (values_seen out.old.items ++ coll_value (scene_seen scene.now) scope.now (coll_seen expr.now)) }
+    ensures few { length out.new.items ≤ 512 }
+{
+    let mut room = Cards::new();
+    coll_of(scene, scope, expr, &mut room);
+    append(out, &Collection::built(room.as_slice()));
+}
+
+/// The card that an expression stands for.
+#[cycle(values)]
+pub fn card_of(scene: &Scene, scope: &Scope, expr: &CardExpr) -> Option<Card>
+    requires fits { length scope.now + card_depth (card_seen expr.now) ≤ 5 }
+    ensures { option_map value_seen result ≡ card_value (scene_seen scene.now) scope.now (card_seen expr.now) }
+{
+    match expr {
+        CardExpr::Var(var) => scope.card(*var),
+        CardExpr::Top(cards) => picked(scene, scope, cards, Pick::Top),
+        CardExpr::Bottom(cards) => picked(scene, scope, cards, Pick::Bottom),
+        CardExpr::Max(cards, map) => picked(scene, scope, cards, Pick::Max(*map)),
+        CardExpr::Min(cards, map) => picked(scene, scope, cards, Pick::Min(*map)),
+    }
+}
+
+#[cycle(values)]
+fn picked(scene: &Scene, scope: &Scope, expr: &CollExpr, pick: Pick) -> Option<Card>
+    requires fits { length scope.now + coll_depth (coll_seen expr.now) ≤ 5 }
+    ensures { option_map value_seen result ≡ picked_of (scene_seen scene.now) pick (coll_value (scene_seen scene.now) scope.now (coll_seen expr.now)) }
+{
+    match bare(&*scene, &*scope, expr) {
+        Some(cards) => pick_from(scene, &cards, pick),
+        None => picked_built(scene, scope, expr, pick),
+    }
+}
+
+#[cycle(values)]
+fn picked_built(scene: &Scene, scope: &Scope, expr: &CollExpr, pick: Pick) -> Option<Card>
+    requires fits { length scope.now + coll_depth (coll_seen expr.now) ≤ 5 }
+    ensures { option_map value_seen result ≡ picked_of (scene_seen scene.now) pick (coll_value (scene_seen scene.now) scope.now (coll_seen expr.now)) }
+{
+    let mut room = Cards::new();
+    coll_of(scene, scope, expr, &mut room);
+    pick_from(scene, &Collection::built(room.as_slice()), pick)
+}
+
+/// The number that an expression stands for.
+#[cycle(values)]
+pub fn int_of(scene: &Scene, scope: &Scope, expr: &IntExpr) -> i64
+    requires fits { length scope.now + int_depth (int_seen expr.now) ≤ 5 }
+    ensures { result ≡ int_value (scene_seen scene.now) scope.now (int_seen expr.now) }
+{
+    match expr {
+        IntExpr::Lit(value) => *value,
+        IntExpr::Num(num) => number_of(scene, scope, num),
+        IntExpr::Size(cards) => measured(scene, scope, cards, Measure::Size),
+        IntExpr::Sum(cards, map) => measured(scene, scope, cards, Measure::Sum(*map)),
+        IntExpr::Points(card, map) => worth_of_some(scene, card_of(scene, scope, card), *map),
+        IntExpr::Add(a, b) => clamped_sum(int_of(scene, scope, a), int_of(scene, scope, b)),
+        IntExpr::Sub(a, b) => clamped_difference(int_of(scene, scope, a), int_of(scene, scope, b)),
+        IntExpr::Mul(a, b) => clamped_product(int_of(scene, scope, a), int_of(scene, scope, b)),
+    }
+}
+
+#[cycle(values)]
+fn measured(scene: &Scene, scope: &Scope, expr: &CollExpr, what: Measure) -> i64
+    requires fits { length scope.now + coll_depth (coll_seen expr.now) ≤ 5 }
+    ensures { result ≡ measured_of (scene_seen scene.now) what (coll_value (scene_seen scene.now) scope.now (coll_seen expr.now)) }
+{
+    match bare(&*scene, &*scope, expr) {
+        Some(cards) => measure_from(scene, &cards, what),
+        None => measured_built(scene, scope, expr, what),
+    }
+}
+
+#[cycle(values)]
+fn measured_built(scene: &Scene, scope: &Scope, expr: &CollExpr, what: Measure) -> i64
+    requires fits { length scope.now + coll_depth (coll_seen expr.now) ≤ 5 }
+    ensures { result ≡ measured_of (scene_seen scene.now) what (coll_value (scene_seen scene.now) scope.now (coll_seen expr.now)) }
+{
+    let mut room = Cards::new();
+    coll_of(scene, scope, expr, &mut room);
+    measure_from(scene, &Collection::built(room.as_slice()), what)
+}
+
+/// Whether a test holds.
+#[cycle(values)]
+pub fn test_of(scene: &Scene, scope: &Scope, expr: &Test) -> bool
+    requires fits { length scope.now + test_depth (test_seen expr.now) ≤ 5 }
+    ensures { result ≡ test_value (scene_seen scene.now) scope.now (test_seen expr.now) }
+{
+    match expr {
+        Test::EqInt(a, b) => int_of(scene, scope, a) == int_of(scene, scope, b),
+        Test::EqCard(a, b) => are_same(scene, card_of(scene, scope, a), card_of(scene, scope, b)),
+        Test::EqAttr(a, attr, b, other) => {
+            attr_of(scene, card_of(scene, scope, a), *attr)
+                == attr_of(scene, card_of(scene, scope, b), *other)
+        }
+        Test::EqWho(a, b) => who_of(scene, scope, a) == who_of(scene, scope, b),
+        Test::Ne(inner) => !test_of(scene, scope, inner),
+        Test::Less(a, b) => int_of(scene, scope, a) < int_of(scene, scope, b),
+        Test::LessEq(a, b) => int_of(scene, scope, a) <= int_of(scene, scope, b),
+        Test::More(a, b) => int_of(scene, scope, a) > int_of(scene, scope, b),
+        Test::MoreEq(a, b) => int_of(scene, scope, a) >= int_of(scene, scope, b),
+        Test::Is(card, attr, value) => attr_of(scene, card_of(scene, scope, card), *attr)
+            == Some(*value),
+        Test::And(tests) => all_tests(scene, scope, tests),
+        Test::Or(tests) => any_test(scene, scope, tests),
+        Test::Not(inner) => !test_of(scene, scope, inner),
+        Test::All(domain, _, inner) => match domain {
+            Domain::Players => all_players(scene, scope, inner),
+            Domain::Coll(cards) => match bare(&*scene, &*scope, cards) {
+                Some(cards) => all_cards(scene, scope, &cards, inner),
+                None => over_built(scene, scope, expr),
+            },
+            Domain::Parts(_, _) => unreachable!(),
+        },
+        Test::Any(domain, _, inner) => match domain {
+            Domain::Players => any_player(scene, scope, inner),
+            Domain::Coll(cards) => match bare(&*scene, &*scope, cards) {
+                Some(cards) => any_card(scene, scope, &cards, inner),
+                None => over_built(scene, scope, expr),
+            },
+            Domain::Parts(_, _) => unreachable!(),
+        },
+    }
+}
+
+// A test that runs over cards which stand in no list.
+#[cycle(values)]
+fn over_built(scene: &Scene, scope: &Scope, expr: &Test) -> bool
+    requires over { over_depth (test_seen expr.now) < 6 }
+    requires fits { length scope.now + test_depth (test_seen expr.now) ≤ 5 }
+    ensures { result ≡ test_value (scene_seen scene.now) scope.now (test_seen expr.now) }
+{
+    match expr {
+        Test::All(domain, _, inner) => match domain {
+            Domain::Players => unreachable!(),
+            Domain::Coll(cards) => {
+                let mut room = Cards::new();
+                coll_of(scene, scope, cards, &mut room);
+                all_cards(scene, scope, &Collection::built(room.as_slice()), inner)
+            }
+            Domain::Parts(_, _) => unreachable!(),
+        },
+        Test::Any(domain, _, inner) => match domain {
+            Domain::Players => unreachable!(),
+            Domain::Coll(cards) => {
+                let mut room = Cards::new();
+                coll_of(scene, scope, cards, &mut room);
+                any_card(scene, scope, &Collection::built(room.as_slice()), inner)
+            }
+            Domain::Parts(_, _) => unreachable!(),
+        },
+        _ => unreachable!(),
+    }
+}
+
+#[cycle(values)]
+#[tactic(auto, using(crate::proofs::Steps::tests_here))]
+fn all_tests(scene: &Scene, scope: &Scope, tests: &Vec<Test>) -> bool
+    requires fits { length scope.now + tests_depth (tests_seen tests.now.items) ≤ 5 }
+    ensures { result ≡ list_all (λ b. b) (tests_value (scene_seen scene.now) scope.now (tests_seen tests.now.items)) }
+{
+    for test in tests {
+        if !test_of(scene, scope, test) {
+            return false;
+        }
+    }
+    true
+}
+
+#[cycle(values)]
+#[tactic(auto, using(crate::proofs::Steps::tests_here))]
+fn any_test(scene: &Scene, scope: &Scope, tests: &Vec<Test>) -> bool
+    requires fits { length scope.now + tests_depth (tests_seen tests.now.items) ≤ 5 }
+    ensures { result ≡ list_any (λ b. b) (tests_value (scene_seen scene.now) scope.now (tests_seen tests.now.items)) }
+{
+    for test in tests {
+        if test_of(scene, scope, test) {
+            return true;
+        }
+    }
+    false
+}
+
+#[cycle(values)]
+fn all_players(scene: &Scene, scope: &Scope, test: &Test) -> bool
+    requires fits { length scope.now + (1 + test_depth (test_seen test.now)) ≤ 5 }
+    ensures { result ≡ list_all (λ m. test_value (scene_seen scene.now) (scope.now ++ m ∷ []) (test_seen test.now)) (map (λ n. player_bound n) (below (scene_seen scene.now).known.sheet.players)) }
+{
+    for player in 0..scene.sheet.players {
+        if !test_of(scene, &scope.with(Bind::Player(player)), test) {
+            return false;
+        }
+    }
+    true
+}
+
+#[cycle(values)]
+fn any_player(scene: &Scene, scope: &Scope, test: &Test) -> bool
+    requires fits { length scope.now + (1 + test_depth (test_seen test.now)) ≤ 5 }
+    ensures { result ≡ list_any (λ m. test_value (scene_seen scene.now) (scope.now ++ m ∷ []) (test_seen test.now)) (map (λ n. player_bound n) (below (scene_seen scene.now).known.sheet.players)) }
+{
+    for player in 0..scene.sheet.players {
+        if test_of(scene, &scope.with(Bind::Player(player)), test) {
+            return true;
+        }
+    }
+    false
+}
+
+#[cycle(values)]
+fn all_cards(scene: &Scene, scope: &Scope, cards: &Collection, test: &Test) -> bool
+    requires fits { length scope.now + (1 + test_depth (test_seen test.now)) ≤ 5 }
+    ensures { result ≡ list_all (λ m. test_value (scene_seen scene.now) (scope.now ++ m ∷ []) (test_seen test.now)) (map (λ c. card_bound c) cards.now) }
+{
+    for place in 0..cards.len() {
+        if !test_of(scene, &scope.with(Bind::Card(cards.at(place))), test) {
+            return false;
+        }
+    }
+    true
+}
+
+#[cycle(values)]
+fn any_card(scene: &Scene, scope: &Scope, cards: &Collection, test: &Test) -> bool
+    requires fits { length scope.now + (1 + test_depth (test_seen test.now)) ≤ 5 }
+    ensures { result ≡ list_any (λ m. test_value (scene_seen scene.now) (scope.now ++ m ∷ []) (test_seen test.now)) (map (λ c. card_bound c) cards.now) }
+{
+    for place in 0..cards.len() {
+        if test_of(scene, &scope.with(Bind::Card(cards.at(place))), test) {
+            return true;
+        }
+    }
+    false
+}

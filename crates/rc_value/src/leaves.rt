@@ -1,0 +1,138 @@
+//! What a scene says of cards, locations and numbers.
+ghost use Rattle.std.specs.Prelude.{◌≡◌, ◌≤◌, [], ◌∷◌, pos, option_map, slice_get, Some, None, if◌then◌else◌};
+ghost use Rattle.rc_model.specs.Clamp.{IsWithinClamp};
+ghost use Rattle.rc_play_model.specs.Shape.{face_eq, holds_references};
+ghost use Rattle.rc_play_model.specs.Value.{worth, worth_of_any, attr_of_any, both, loc_place, num_place, number_there, cards_there, cut};
+ghost use Rattle.rc_ast.specs.Names.{loc_seen, num_seen};
+ghost use Rattle.rc_table.specs.Shape.{face_or_none};
+ghost use Rattle.rc_value.specs.Cards.{value_seen};
+ghost use Rattle.rc_value.specs.Scene.{scene_seen};
+
+use crate::Card;
+use crate::collection::Collection;
+use crate::places::{loc_at, num_at};
+use crate::scene::Scene;
+use crate::scope::Scope;
+use rc_ast::{Loc, Num};
+use rc_deck::{Face, attr, points};
+use rc_table::Shape;
+
+// The face of a card, if it is one.
+#[tactic(auto, unfolding(crate::specs::Scene::scene_seen))]
+fn face_of<'s>(scene: &Scene<'s>, card: Card) -> Option<&'s Face>
+    ensures { (scene_seen scene.now).face (value_seen card) ≡ face_or_none (option_map (λ face. face.now) result) }
+{
+    let id = match card {
+        Card::Held(id) => id,
+        Card::Noted { loc: _, id } => id,
+    };
+    scene.table.shape().face(id)
+}
+
+// The pairs of a card's face.
+fn pairs_of<'s>(scene: &Scene<'s>, card: Card) -> &'s [(u16, u16)]
+    ensures { result.now ≡ (scene_seen scene.now).face (value_seen card) }
+{
+    match face_of(scene, card) {
+        Some(face) => face.pairs(),
+        None => &[],
+    }
+}
+
+// Whether two faces are equal.
+fn are_equal(a: &[(u16, u16)], b: &[(u16, u16)]) -> bool
+    ensures { result ≡ face_eq a.now b.now }
+{
+    if a.len() != b.len() {
+        return false;
+    }
+    for place in 0..a.len() {
+        let (attr, value) = a[place];
+        let (other, worth) = b[place];
+        if attr != other || value != worth {
+            return false;
+        }
+    }
+    true
+}
+
+/// What a card is worth by a point map.
+#[tactic(auto, unfolding(crate::specs::Scene::scene_seen))]
+pub fn worth_of(scene: &Scene, card: Card, map: u16) -> i64
+    ensures is { result ≡ worth (scene_seen scene.now) map (value_seen card) }
+    ensures few { IsWithinClamp result }
+{
+    let Some(map) = scene.sheet.points.get(map as usize) else {
+        return 0;
+    };
+    match face_of(scene, card) {
+        Some(face) => points(map, face),
+        None => 0,
+    }
+}
+
+/// What a card is worth, if there is one, and 0 else.
+pub fn worth_of_some(scene: &Scene, card: Option<Card>, map: u16) -> i64
+    ensures { result ≡ worth_of_any (scene_seen scene.now) map (option_map value_seen card) }
+{
+    match card {
+        Some(card) => worth_of(scene, card, map),
+        None => 0,
+    }
+}
+
+/// The value of a card for an attribute, if there is a card and it has one.
+#[tactic(auto, unfolding(crate::specs::Scene::scene_seen))]
+pub fn attr_of(scene: &Scene, card: Option<Card>, name: u16) -> Option<u16>
+    ensures { result ≡ attr_of_any (scene_seen scene.now) name (option_map value_seen card) }
+{
+    match card {
+        Some(card) => match face_of(scene, card) {
+            Some(face) => attr(face, name),
+            None => None,
+        },
+        None => None,
+    }
+}
+
+/// Whether two cards have the same face, or both are nothing.
+pub fn are_same(scene: &Scene, a: Option<Card>, b: Option<Card>) -> bool
+    ensures { result ≡ both face_eq (option_map (scene_seen scene.now).face (option_map value_seen a)) (option_map (scene_seen scene.now).face (option_map value_seen b)) }
+{
+    match a {
+        None => b.is_none(),
+        Some(a) => match b {
+            None => false,
+            Some(b) => are_equal(pairs_of(scene, a), pairs_of(scene, b)),
+        },
+    }
+}
+
+/// The value of a number that the game keeps, and 0 where there is no such number.
+#[tactic(auto, unfolding(crate::specs::Scene::scene_seen))]
+pub fn number_of(scene: &Scene, scope: &Scope, num: &Num) -> i64
+    ensures { result ≡ number_there (scene_seen scene.now).known.numbers (num_place (scene_seen scene.now).known scope.now (num_seen num.now)) }
+{
+    match num_at(scene, scope, num) {
+        Some(num) => scene.table.number(num),
+        None => 0,
+    }
+}
+
+// The location, where it holds references.
+fn mem_at(shape: &Shape, loc: u16) -> Option<u16>
+    ensures { result ≡ (if holds_references (slice_get shape.now.places loc) then Some loc else None) }
+{
+    if shape.holds_references(loc) { Some(loc) } else { None }
+}
+
+/// The cards of a location, and none where there is no such location.
+#[tactic(auto, unfolding(crate::specs::Scene::scene_seen))]
+pub fn cards_of<'a>(scene: &'a Scene, scope: &Scope, loc: &Loc) -> Collection<'a>
+    ensures { result ≡ cut (cards_there (scene_seen scene.now) (loc_place (scene_seen scene.now).known scope.now (loc_seen loc.now))) }
+{
+    match loc_at(scene, scope, loc) {
+        Some(loc) => Collection::there(scene.table.list(loc), mem_at(scene.table.shape(), loc)),
+        None => Collection::built(&[]),
+    }
+}

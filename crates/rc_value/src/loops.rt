@@ -1,0 +1,126 @@
+//! Loops over the cards of a collection.
+ghost use Rattle.std.specs.Prelude.{◌≡◌, ◌+◌, ◌<◌, ◌++◌, ◌∷◌, [], ◌≤◌, length, slice_set, slice_index_or, option_map, int_lt, if◌then◌else◌};
+ghost use Rattle.rc_play_model.specs.Value.{cut, sum_worth, best_of, int_more, worth};
+ghost use Rattle.rc_value.specs.Cards.{value_seen, values_seen};
+ghost use Rattle.rc_value.specs.Picks.{picked_of, measured_of};
+ghost use Rattle.rc_value.specs.Scene.{scene_seen};
+
+use crate::collection::Collection;
+use crate::leaves::worth_of;
+use crate::scene::Scene;
+use crate::{Card, Cards};
+
+/// Which card of a collection.
+#[derive(Clone, Copy)]
+pub enum Pick {
+    Top,
+    Bottom,
+    Max(u16),
+    Min(u16),
+}
+
+/// Which number of a collection.
+#[derive(Clone, Copy)]
+pub enum Measure {
+    Size,
+    Sum(u16),
+}
+
+/// The card of a collection.
+pub fn pick_from(scene: &Scene, cards: &Collection, pick: Pick) -> Option<Card>
+    ensures { option_map value_seen result ≡ picked_of (scene_seen scene.now) pick cards.now }
+{
+    match pick {
+        Pick::Top => cards.last(),
+        Pick::Bottom => cards.first(),
+        Pick::Max(map) => best(scene, cards, map, true),
+        Pick::Min(map) => best(scene, cards, map, false),
+    }
+}
+
+/// The number of a collection.
+pub fn measure_from(scene: &Scene, cards: &Collection, what: Measure) -> i64
+    ensures { result ≡ measured_of (scene_seen scene.now) what cards.now }
+{
+    match what {
+        Measure::Size => cards.len() as i64,
+        Measure::Sum(map) => sum(scene, cards, map),
+    }
+}
+
+/// Puts the cards of a collection behind others, as long as there is room.
+pub fn append(all: &mut Cards, more: &Collection)
+    ensures is { values_seen all.new.items ≡ cut (values_seen all.old.items ++ more.now) }
+    ensures few { length all.new.items ≤ 512 }
+{
+    let room = 512 - all.len();
+    for place in 0..more.len().min(room) {
+        all.push(more.at(place));
+    }
+}
+
+/// Writes the cards of a collection into an empty list.
+pub fn fill(all: &mut Cards, cards: &Collection)
+    requires empty { all.old.items ≡ [] }
+    ensures { values_seen all.new.items ≡ cards.now }
+{
+    let _count = cards.len();
+    append(all, cards);
+}
+
+/// The card at a place.
+pub fn card_at(cards: &Cards, place: usize) -> Card
+    requires { place < length cards.now.items }
+    ensures { value_seen result ≡ slice_index_or (values_seen cards.now.items) place (value_seen result) }
+{
+    cards[place]
+}
+
+// The sum of what the cards are worth.
+fn sum(scene: &Scene, cards: &Collection, map: u16) -> i64
+    ensures { result ≡ sum_worth (scene_seen scene.now) map cards.now }
+{
+    let mut sum = 0i64;
+    for place in 0..cards.len() {
+        sum += worth_of(scene, cards.at(place), map);
+    }
+    sum.clamp(-1_000_000_000, 1_000_000_000)
+}
+
+// The first of the largest, or of the smallest.
+fn best(scene: &Scene, cards: &Collection, map: u16, largest: bool) -> Option<Card>
+    ensures { option_map value_seen result ≡ best_of (if largest then int_more else int_lt) (worth (scene_seen scene.now) map) cards.now }
+{
+    let count = cards.len();
+    if count == 0 {
+        return None;
+    }
+    let mut found = cards.at(0);
+    for place in 1..count {
+        found = better(scene, found, cards.at(place), map, largest);
+    }
+    Some(found)
+}
+
+// The other card, where it is worth more, or less.
+fn better(scene: &Scene, found: Card, other: Card, map: u16, largest: bool) -> Card
+    ensures { value_seen result ≡ (if (if largest then int_more else int_lt) (worth (scene_seen scene.now) map (value_seen other)) (worth (scene_seen scene.now) map (value_seen found)) then value_seen other else value_seen found) }
+{
+    let a = worth_of(scene, other, map);
+    let b = worth_of(scene, found, map);
+    let is_better = if largest { a > b } else { a < b };
+    if is_better { other } else { found }
+}
+
+/// Writes a card at the end of those kept so far, where it passes, and says how many are kept then.
+pub fn keep(cards: &mut Cards, kept: usize, card: Card, passes: bool) -> usize
+    requires room { kept < length cards.old.items }
+    ensures is { values_seen cards.new.items ≡ (if passes then slice_set (values_seen cards.old.items) kept (value_seen card) else values_seen cards.old.items) }
+    ensures count { result ≡ (if passes then kept + 1 else kept) }
+{
+    if passes {
+        cards[kept] = card;
+        return kept + 1;
+    }
+    kept
+}
