@@ -1,6 +1,7 @@
 //! The rules of play: what a match is played by, where it stands, what it offers, who shuffles, and what comes out of it.
 #![tactic(auto)]
 
+mod about;
 mod control;
 mod dealer;
 mod menu;
@@ -8,6 +9,7 @@ mod plan;
 mod record;
 mod stages;
 
+pub use about::About;
 pub use control::{Control, Frame, Frames, Stop};
 pub use dealer::{Dealer, MatchDealer};
 pub use menu::{Item, Menu, Scores, Spots};
