@@ -6,3 +6,4 @@ pub mod Placing
 pub mod Faces
 pub mod Best
 pub mod Firsts
+pub mod PointLemmas

@@ -2,6 +2,7 @@ pub mod Cards
 pub mod Seen
 pub mod Depth
 pub mod Binding
+pub mod Readable
 pub mod Scene
 pub mod Places
 pub mod Picks

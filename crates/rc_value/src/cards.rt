@@ -1,4 +1,7 @@
 //! Cards.
+ghost use Rattle.std.specs.Prelude.{◌≡◌};
+ghost use Rattle.rc_play_model.specs.Scene.{id_of};
+ghost use Rattle.rc_value.specs.Cards.{value_seen};
 
 use arrayvec::ArrayVec;
 
@@ -12,6 +15,18 @@ pub enum Card {
 impl Default for Card {
     fn default() -> Card {
         Card::Held(0)
+    }
+}
+
+impl Card {
+    /// The card's number, wherever it is.
+    pub fn id(self) -> u16
+        ensures { result ≡ id_of (value_seen self) }
+    {
+        match self {
+            Card::Held(id) => id,
+            Card::Noted { loc: _, id } => id,
+        }
     }
 }
 

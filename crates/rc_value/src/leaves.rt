@@ -1,5 +1,6 @@
 //! What a scene says of cards, locations and numbers.
-ghost use Rattle.std.specs.Prelude.{◌≡◌, ◌≤◌, [], ◌∷◌, pos, option_map, slice_get, Some, None, if◌then◌else◌};
+ghost use Rattle.std.specs.Prelude.{◌≡◌, ◌≤◌, [], ◌∷◌, pos, option_map, unwrap_or, IfSome, All, slice_get, slice_index_or, Some, None, if◌then◌else◌};
+ghost use Rattle.rc_deck.specs.Points.{entries_of};
 ghost use Rattle.rc_model.specs.Clamp.{IsWithinClamp};
 ghost use Rattle.rc_play_model.specs.Shape.{face_eq, holds_references};
 ghost use Rattle.rc_play_model.specs.Value.{worth, worth_of_any, attr_of_any, both, loc_place, num_place, number_there, cards_there, cut};
@@ -14,55 +15,32 @@ use crate::places::{loc_at, num_at};
 use crate::scene::Scene;
 use crate::scope::Scope;
 use rc_ast::{Loc, Num};
-use rc_deck::{Face, attr, points};
-use rc_table::Shape;
+use rc_deck::{Face, PointMap, attr, points};
+use rc_table::{Shape, have_same_face};
 
 // The face of a card, if it is one.
 #[tactic(auto, unfolding(crate::specs::Scene::scene_seen))]
 fn face_of<'s>(scene: &Scene<'s>, card: Card) -> Option<&'s Face>
     ensures { (scene_seen scene.now).face (value_seen card) ≡ face_or_none (option_map (λ face. face.now) result) }
 {
-    let id = match card {
-        Card::Held(id) => id,
-        Card::Noted { loc: _, id } => id,
-    };
-    scene.table.shape().face(id)
+    scene.table.shape().face(card.id())
 }
 
-// The pairs of a card's face.
-fn pairs_of<'s>(scene: &Scene<'s>, card: Card) -> &'s [(u16, u16)]
-    ensures { result.now ≡ (scene_seen scene.now).face (value_seen card) }
+// The point map with this number, if there is one.
+#[tactic(auto, unfolding(crate::specs::Scene::scene_seen))]
+fn map_of<'s>(scene: &Scene<'s>, map: u16) -> Option<&'s PointMap>
+    ensures is { slice_index_or (scene_seen scene.now).known.sheet.points map [] ≡ unwrap_or (option_map (λ found. entries_of found.now) result) [] }
+    ensures clamped { IfSome result (λ found. All (λ entry. IsWithinClamp entry.points) (entries_of found.now)) }
 {
-    match face_of(scene, card) {
-        Some(face) => face.pairs(),
-        None => &[],
-    }
-}
-
-// Whether two faces are equal.
-fn are_equal(a: &[(u16, u16)], b: &[(u16, u16)]) -> bool
-    ensures { result ≡ face_eq a.now b.now }
-{
-    if a.len() != b.len() {
-        return false;
-    }
-    for place in 0..a.len() {
-        let (attr, value) = a[place];
-        let (other, worth) = b[place];
-        if attr != other || value != worth {
-            return false;
-        }
-    }
-    true
+    scene.sheet.points.get(map as usize)
 }
 
 /// What a card is worth by a point map.
-#[tactic(auto, unfolding(crate::specs::Scene::scene_seen))]
 pub fn worth_of(scene: &Scene, card: Card, map: u16) -> i64
     ensures is { result ≡ worth (scene_seen scene.now) map (value_seen card) }
     ensures few { IsWithinClamp result }
 {
-    let Some(map) = scene.sheet.points.get(map as usize) else {
+    let Some(map) = map_of(scene, map) else {
         return 0;
     };
     match face_of(scene, card) {
@@ -96,6 +74,7 @@ pub fn attr_of(scene: &Scene, card: Option<Card>, name: u16) -> Option<u16>
 }
 
 /// Whether two cards have the same face, or both are nothing.
+#[tactic(auto, unfolding(crate::specs::Scene::scene_seen))]
 pub fn are_same(scene: &Scene, a: Option<Card>, b: Option<Card>) -> bool
     ensures { result ≡ both face_eq (option_map (scene_seen scene.now).face (option_map value_seen a)) (option_map (scene_seen scene.now).face (option_map value_seen b)) }
 {
@@ -103,7 +82,7 @@ pub fn are_same(scene: &Scene, a: Option<Card>, b: Option<Card>) -> bool
         None => b.is_none(),
         Some(a) => match b {
             None => false,
-            Some(b) => are_equal(pairs_of(scene, a), pairs_of(scene, b)),
+            Some(b) => have_same_face(scene.table.shape(), a.id(), b.id()),
         },
     }
 }
@@ -123,7 +102,11 @@ pub fn number_of(scene: &Scene, scope: &Scope, num: &Num) -> i64
 fn mem_at(shape: &Shape, loc: u16) -> Option<u16>
     ensures { result ≡ (if holds_references (slice_get shape.now.places loc) then Some loc else None) }
 {
-    if shape.holds_references(loc) { Some(loc) } else { None }
+    if shape.holds_references(loc) {
+        Some(loc)
+    } else {
+        None
+    }
 }
 
 /// The cards of a location, and none where there is no such location.

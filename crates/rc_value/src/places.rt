@@ -1,7 +1,8 @@
 //! Where locations and numbers stand.
-ghost use Rattle.std.specs.Prelude.{◌≡◌, ◌≤◌, option_map, slice_get};
+ghost use Rattle.std.specs.Prelude.{◌≡◌, ◌≤◌, option_map, slice_get, sum_by};
+ghost use Rattle.rc_model.specs.Limits.{most_locations, most_numbers};
 ghost use Rattle.rc_sheet_model.specs.Naming.{class_of as class_of_who};
-ghost use Rattle.rc_sheet_model.specs.WellFormed.{IsWellFormed, owner_count};
+ghost use Rattle.rc_sheet_model.specs.WellFormed.{owner_count};
 ghost use Rattle.rc_play_model.specs.Owners.{class_eq};
 ghost use Rattle.rc_play_model.specs.Shape.{first_loc};
 ghost use Rattle.rc_play_model.specs.Value.{who_value, loc_place, num_place};
@@ -83,7 +84,7 @@ fn class_of_num(sheet: &Sheet, name: u16) -> Option<Class>
 
 // How many locations stand before those of a name, and how many numbers.
 fn locations_before(sheet: &Sheet, name: u16) -> u16
-    requires well { IsWellFormed (sheet_seen sheet.now) }
+    requires limit { sum_by (λ loc. owner_count (sheet_seen sheet.now) loc.class) (sheet_seen sheet.now).locs ≤ most_locations }
     ensures is { result ≡ first_loc (sheet_seen sheet.now) (sheet_seen sheet.now).locs name }
     ensures few { result ≤ 256 }
 {
@@ -95,7 +96,7 @@ fn locations_before(sheet: &Sheet, name: u16) -> u16
 }
 
 fn numbers_before(sheet: &Sheet, name: u16) -> u16
-    requires well { IsWellFormed (sheet_seen sheet.now) }
+    requires limit { sum_by (λ num. owner_count (sheet_seen sheet.now) num.class) (sheet_seen sheet.now).nums ≤ most_numbers }
     ensures is { result ≡ first_num (sheet_seen sheet.now) (sheet_seen sheet.now).nums name }
     ensures few { result ≤ 256 }
 {

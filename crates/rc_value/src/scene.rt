@@ -1,10 +1,10 @@
 //! What expressions are read in.
-ghost use Rattle.std.specs.Prelude.{◌≡◌};
-ghost use Rattle.rc_sheet_model.specs.WellFormed.{IsWellFormed};
 ghost use Rattle.rc_ast.specs.Sheet.{sheet_seen};
 ghost use Rattle.rc_rules.specs.Control.{frames_seen};
 ghost use Rattle.rc_value.specs.Current.{IsCurrent};
+ghost use Rattle.rc_value.specs.Readable.{IsReadable};
 
+use crate::binding::expressions_bind_few;
 use crate::current::{Current, current_of};
 use rc_ast::Sheet;
 use rc_rules::Frame;
@@ -17,26 +17,23 @@ pub struct Scene<'s> {
     pub(crate) table: &'s Table,
     pub(crate) frames: &'s [Frame],
     pub(crate) current: Current,
-    ghost well: { IsWellFormed (sheet_seen sheet.now) },
+    ghost readable: { IsReadable (sheet_seen sheet.now) },
     ghost current_is: { IsCurrent (sheet_seen sheet.now) (frames_seen frames.now) current },
 }
 
 impl<'s> Scene<'s> {
+    ghost use Rattle.std.specs.Prelude.{◌≡◌};
+    ghost use Rattle.rc_sheet_model.specs.WellFormed.{IsWellFormed};
     ghost use Rattle.rc_play_model.specs.Scene.{scene_of};
     ghost use Rattle.rc_value.specs.Scene.{scene_seen};
 
     /// The scene of a table with these open stages.
-    #[tactic(auto, unfolding(crate::specs::Scene::scene_seen))]
     pub fn new(sheet: &'s Sheet, table: &'s Table, frames: &'s [Frame]) -> Scene<'s>
         requires well { IsWellFormed (sheet_seen sheet.now) }
         ensures { scene_seen result ≡ scene_of (sheet_seen sheet.now) table.now.shape table.now.table (frames_seen frames.now) }
     {
-        Scene {
-            sheet,
-            table,
-            frames,
-            current: current_of(sheet, frames),
-        }
+        let current = current_of(sheet, frames);
+        Scene::with_current(sheet, table, frames, current)
     }
 
     /// The same where it is known who is current.
@@ -51,6 +48,7 @@ impl<'s> Scene<'s> {
         requires current_is { IsCurrent (sheet_seen sheet.now) (frames_seen frames.now) current }
         ensures { scene_seen result ≡ scene_of (sheet_seen sheet.now) table.now.shape table.now.table (frames_seen frames.now) }
     {
+        expressions_bind_few();
         Scene {
             sheet,
             table,

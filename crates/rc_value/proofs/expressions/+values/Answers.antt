@@ -1,0 +1,200 @@
+use Rattle.std.proofs.Common.{◌≡◌, ◌++◌, ◌∷◌, [], map, rules, arith, ap, sym, ◌∙◌}
+use Rattle.std.proofs.lemmas.Grind.{common_steps}
+use Rattle.std.proofs.lemmas.List.{length-map, take-map}
+use Rattle.std.specs.List.{list_all, list_any}
+use Rattle.rc_model.specs.Numbers.{below}
+use Rattle.rc_play_model.specs.Value.{card_bound, player_bound, cut, coll_value, colls_value, test_value}
+use Rattle.rc_ast.specs.Expressions.{test_seen, coll_seen, colls_seen, domain_seen}
+use Rattle.rc_value.specs.Cards.{value_seen, values_seen}
+use Rattle.rc_value.specs.Scene.{scene_seen}
+use Rattle.rc_sheet_model.specs.Sheet.{all_of, any_of, each_card}
+use Rattle.rc_value.proofs.Passing.{pass_step, pass_end}
+use Rattle.rc_value.proofs.Steps.{players_are, all_stop, all_on, all_end, any_stop, any_on, any_end, players_count, player_here, union_on, union_end, colls_here, tests_here, and_here, or_here, union_here, and_depth, or_depth, union_depth, inner_is, tests_on, tests_off}
+use Rattle.rc_ast.specs.declared.expressions.CardExpr.TheFolds
+use Rattle.rc_value.proofs.expressions.+values.Goals as goal
+
+pub test_of-returns-in-And : goal.test_of-returns-in-And
+test_of-returns-in-And t c =
+    let e = and_here c.args.expr.now c.in-And.tests c.in-And.is in grind (arith, common_steps, e)
+
+pub test_of-returns-in-Or : goal.test_of-returns-in-Or
+test_of-returns-in-Or t c =
+    let e = or_here c.args.expr.now c.in-Or.tests c.in-Or.is in grind (arith, common_steps, e)
+
+pub coll_of-returns-in-Union : goal.coll_of-returns-in-Union
+coll_of-returns-in-Union t c =
+    let e = union_here c.args.expr.now c.in-Union.parts c.in-Union.is in grind (arith, common_steps, e)
+
+pub all_tests-loop-test-preserved : goal.all_tests-loop-test-preserved
+all_tests-loop-test-preserved t c =
+    let e = tests_here c.deref-test-items.result.now c.loop-test.test-index c.test-item.result c.loop-test-test.true c.test-item.is in
+    record {
+      fits = omega arith;
+      told =
+          tests_on (scene_seen c.args.scene.now) c.args.scope.now c.deref-test-items.result.now c.loop-test.test-index c.test-item.result c.test_of.result
+          c.loop-test-test.true c.test-item.is c.test_of.ensures c.if-not-test_of.false c.loop-test.invariant.told;
+    }
+
+pub any_test-loop-test-preserved : goal.any_test-loop-test-preserved
+any_test-loop-test-preserved t c =
+    let e = tests_here c.deref-test-items.result.now c.loop-test.test-index c.test-item.result c.loop-test-test.true c.test-item.is in
+    record {
+      fits = omega arith;
+      told =
+          tests_off (scene_seen c.args.scene.now) c.args.scope.now c.deref-test-items.result.now c.loop-test.test-index c.test-item.result c.test_of.result
+          c.loop-test-test.true c.test-item.is c.test_of.ensures c.if-test_of.false c.loop-test.invariant.told;
+    }
+
+pub join-loop-part-preserved : goal.join-loop-part-preserved
+join-loop-part-preserved t c =
+    let e = colls_here c.deref-part-items.result.now c.loop-part.part-index c.part-item.result c.loop-part-test.true c.part-item.is in
+    record {
+      few = c.add.ensures.few;
+      fits = omega arith;
+      told =
+          union_on (scene_seen c.args.scene.now) c.args.scope.now (values_seen c.loop-part.out.items) (values_seen c.add.new.out.items)
+          c.deref-part-items.result.now c.loop-part.part-index c.part-item.result c.loop-part-test.true c.part-item.is
+          c.add.ensures.is c.loop-part.invariant.told;
+    }
+
+pub join-returns : goal.join-returns
+join-returns t c =
+    let n = length-map c.loop-part.out.items value_seen in
+    union_end (scene_seen c.args.scene.now) c.args.scope.now (values_seen c.loop-part.out.items)
+    c.deref-part-items.result.now c.loop-part.part-index c.loop-part-test.false (omega arith) c.loop-part.invariant.told
+    ∙ ap (λ xs. cut (colls_value (scene_seen c.args.scene.now) c.args.scope.now (colls_seen xs))) c.deref-part-items.ensures.value
+
+pub all_cards-loop-place-preserved : goal.all_cards-loop-place-preserved
+all_cards-loop-place-preserved t c =
+    all_on (λ x. test_value (scene_seen c.args.scene.now) (c.args.scope.now ++ card_bound x ∷ []) (test_seen c.args.test.now))
+    c.args.cards.now c.loop-place.place (value_seen c.at.result) (omega (arith, c.len-place-end.ensures.is)) c.at.ensures
+    (inner_is (scene_seen c.args.scene.now) c.args.scope.now c.with.result (card_bound (value_seen c.at.result)) c.args.test.now c.test_of.result c.with.ensures c.test_of.ensures ∙ c.if-not-test_of.false) c.loop-place.invariant
+
+pub all_cards-returns-then-not-test_of : goal.all_cards-returns-then-not-test_of
+all_cards-returns-then-not-test_of t c =
+    all_stop (λ m. test_value (scene_seen c.args.scene.now) (c.args.scope.now ++ m ∷ []) (test_seen c.args.test.now)) (λ x. card_bound x)
+    c.args.cards.now c.loop-place.place (value_seen c.at.result) (omega (arith, c.len-place-end.ensures.is)) c.at.ensures
+    (inner_is (scene_seen c.args.scene.now) c.args.scope.now c.with.result (card_bound (value_seen c.at.result)) c.args.test.now c.test_of.result c.with.ensures c.test_of.ensures ∙ c.if-not-test_of.true) c.loop-place.invariant
+
+pub all_cards-returns : goal.all_cards-returns
+all_cards-returns t c =
+    all_end (λ m. test_value (scene_seen c.args.scene.now) (c.args.scope.now ++ m ∷ []) (test_seen c.args.test.now)) (λ x. card_bound x)
+    c.args.cards.now c.loop-place.place (omega (arith, c.len-place-end.ensures.is)) c.loop-place.invariant
+
+pub all_players-loop-player-preserved : goal.all_players-loop-player-preserved
+all_players-loop-player-preserved t c =
+    let n = players_count c.args.scene.now.sheet.now.players in
+    all_on (λ x. test_value (scene_seen c.args.scene.now) (c.args.scope.now ++ player_bound x ∷ []) (test_seen c.args.test.now))
+    (below c.args.scene.now.sheet.now.players) c.loop-player.player c.loop-player.player (omega arith) (player_here c.args.scene.now.sheet.now.players c.loop-player.player c.loop-player-test.true)
+    (inner_is (scene_seen c.args.scene.now) c.args.scope.now c.with.result (player_bound c.loop-player.player) c.args.test.now c.test_of.result c.with.ensures c.test_of.ensures ∙ c.if-not-test_of.false) c.loop-player.invariant
+
+pub all_players-returns-then-not-test_of : goal.all_players-returns-then-not-test_of
+all_players-returns-then-not-test_of t c =
+    let n = players_count c.args.scene.now.sheet.now.players in
+    all_stop (λ m. test_value (scene_seen c.args.scene.now) (c.args.scope.now ++ m ∷ []) (test_seen c.args.test.now)) (λ x. player_bound x)
+    (below c.args.scene.now.sheet.now.players) c.loop-player.player c.loop-player.player (omega arith) (player_here c.args.scene.now.sheet.now.players c.loop-player.player c.loop-player-test.true)
+    (inner_is (scene_seen c.args.scene.now) c.args.scope.now c.with.result (player_bound c.loop-player.player) c.args.test.now c.test_of.result c.with.ensures c.test_of.ensures ∙ c.if-not-test_of.true) c.loop-player.invariant
+    ∙ ap (λ k. list_all (λ m. test_value (scene_seen c.args.scene.now) (c.args.scope.now ++ m ∷ []) (test_seen c.args.test.now)) (map (λ x. player_bound x) (below k))) (sym (players_are c.args.scene.now))
+
+pub all_players-returns : goal.all_players-returns
+all_players-returns t c =
+    let n = players_count c.args.scene.now.sheet.now.players in
+    all_end (λ m. test_value (scene_seen c.args.scene.now) (c.args.scope.now ++ m ∷ []) (test_seen c.args.test.now)) (λ x. player_bound x)
+    (below c.args.scene.now.sheet.now.players) c.loop-player.player (omega arith) c.loop-player.invariant
+    ∙ ap (λ k. list_all (λ m. test_value (scene_seen c.args.scene.now) (c.args.scope.now ++ m ∷ []) (test_seen c.args.test.now)) (map (λ x. player_bound x) (below k))) (sym (players_are c.args.scene.now))
+
+pub any_card-loop-place-preserved : goal.any_card-loop-place-preserved
+any_card-loop-place-preserved t c =
+    any_on (λ x. test_value (scene_seen c.args.scene.now) (c.args.scope.now ++ card_bound x ∷ []) (test_seen c.args.test.now))
+    c.args.cards.now c.loop-place.place (value_seen c.at.result) (omega (arith, c.len-place-end.ensures.is)) c.at.ensures
+    (inner_is (scene_seen c.args.scene.now) c.args.scope.now c.with.result (card_bound (value_seen c.at.result)) c.args.test.now c.test_of.result c.with.ensures c.test_of.ensures ∙ c.if-test_of.false) c.loop-place.invariant
+
+pub any_card-returns-then-test_of : goal.any_card-returns-then-test_of
+any_card-returns-then-test_of t c =
+    any_stop (λ m. test_value (scene_seen c.args.scene.now) (c.args.scope.now ++ m ∷ []) (test_seen c.args.test.now)) (λ x. card_bound x)
+    c.args.cards.now c.loop-place.place (value_seen c.at.result) (omega (arith, c.len-place-end.ensures.is)) c.at.ensures
+    (inner_is (scene_seen c.args.scene.now) c.args.scope.now c.with.result (card_bound (value_seen c.at.result)) c.args.test.now c.test_of.result c.with.ensures c.test_of.ensures ∙ c.if-test_of.true) c.loop-place.invariant
+
+pub any_card-returns : goal.any_card-returns
+any_card-returns t c =
+    any_end (λ m. test_value (scene_seen c.args.scene.now) (c.args.scope.now ++ m ∷ []) (test_seen c.args.test.now)) (λ x. card_bound x)
+    c.args.cards.now c.loop-place.place (omega (arith, c.len-place-end.ensures.is)) c.loop-place.invariant
+
+pub any_player-loop-player-preserved : goal.any_player-loop-player-preserved
+any_player-loop-player-preserved t c =
+    let n = players_count c.args.scene.now.sheet.now.players in
+    any_on (λ x. test_value (scene_seen c.args.scene.now) (c.args.scope.now ++ player_bound x ∷ []) (test_seen c.args.test.now))
+    (below c.args.scene.now.sheet.now.players) c.loop-player.player c.loop-player.player (omega arith) (player_here c.args.scene.now.sheet.now.players c.loop-player.player c.loop-player-test.true)
+    (inner_is (scene_seen c.args.scene.now) c.args.scope.now c.with.result (player_bound c.loop-player.player) c.args.test.now c.test_of.result c.with.ensures c.test_of.ensures ∙ c.if-test_of.false) c.loop-player.invariant
+
+pub any_player-returns-then-test_of : goal.any_player-returns-then-test_of
+any_player-returns-then-test_of t c =
+    let n = players_count c.args.scene.now.sheet.now.players in
+    any_stop (λ m. test_value (scene_seen c.args.scene.now) (c.args.scope.now ++ m ∷ []) (test_seen c.args.test.now)) (λ x. player_bound x)
+    (below c.args.scene.now.sheet.now.players) c.loop-player.player c.loop-player.player (omega arith) (player_here c.args.scene.now.sheet.now.players c.loop-player.player c.loop-player-test.true)
+    (inner_is (scene_seen c.args.scene.now) c.args.scope.now c.with.result (player_bound c.loop-player.player) c.args.test.now c.test_of.result c.with.ensures c.test_of.ensures ∙ c.if-test_of.true) c.loop-player.invariant
+    ∙ ap (λ k. list_any (λ m. test_value (scene_seen c.args.scene.now) (c.args.scope.now ++ m ∷ []) (test_seen c.args.test.now)) (map (λ x. player_bound x) (below k))) (sym (players_are c.args.scene.now))
+
+pub any_player-returns : goal.any_player-returns
+any_player-returns t c =
+    let n = players_count c.args.scene.now.sheet.now.players in
+    any_end (λ m. test_value (scene_seen c.args.scene.now) (c.args.scope.now ++ m ∷ []) (test_seen c.args.test.now)) (λ x. player_bound x)
+    (below c.args.scene.now.sheet.now.players) c.loop-player.player (omega arith) c.loop-player.invariant
+    ∙ ap (λ k. list_any (λ m. test_value (scene_seen c.args.scene.now) (c.args.scope.now ++ m ∷ []) (test_seen c.args.test.now)) (map (λ x. player_bound x) (below k))) (sym (players_are c.args.scene.now))
+
+pub test_of-all_tests-requires : goal.test_of-all_tests-requires
+test_of-all_tests-requires t c =
+    let e = and_depth c.args.expr.now c.in-And.tests c.in-And.is in (search (rules, TheFolds.the_lemmas), omega arith)
+
+pub test_of-any_test-requires : goal.test_of-any_test-requires
+test_of-any_test-requires t c =
+    let e = or_depth c.args.expr.now c.in-Or.tests c.in-Or.is in (search (rules, TheFolds.the_lemmas), omega arith)
+
+pub coll_of-join-requires : goal.coll_of-join-requires
+coll_of-join-requires t c =
+    let e = union_depth c.args.expr.now c.in-Union.parts c.in-Union.is in
+    (search (rules, TheFolds.the_lemmas), (c.requires.empty, omega arith))
+
+pub pass-loop-place-preserved : goal.pass-loop-place-preserved
+pass-loop-place-preserved t c =
+    let n = length-map c.loop-place.out.items value_seen in
+    let m = length-map c.args.out.now.items value_seen in
+    let h = c.loop-place.invariant.told in
+    let k = h.same in
+    record {
+      told =
+          pass_step (λ x. test_value (scene_seen c.args.scene.now) (c.args.scope.now ++ card_bound x ∷ []) (test_seen c.args.test.now)) (values_seen c.args.out.now.items) _ (values_seen c.loop-place.out.items) (values_seen c.keep-kept.new.cards.items)
+          c.loop-place.kept c.keep-kept.result c.loop-place.place (value_seen c.card_at-card.result) c.test_of-passes.result h
+          (omega (arith, c.len-place-end.ensures.value)) c.card_at-card.ensures
+          (inner_is (scene_seen c.args.scene.now) c.args.scope.now c.with.result (card_bound (value_seen c.card_at-card.result)) c.args.test.now c.test_of-passes.result c.with.ensures c.test_of-passes.ensures)
+          c.keep-kept.ensures.is c.keep-kept.ensures.count;
+    }
+
+pub pass-returns : goal.pass-returns
+pass-returns t c =
+    let m = length-map c.args.out.now.items value_seen in
+    ap values_seen c.truncate.ensures.items ∙ sym (take-map value_seen c.loop-place.kept c.loop-place.out.items)
+    ∙ pass_end (λ x. test_value (scene_seen c.args.scene.now) (c.args.scope.now ++ card_bound x ∷ []) (test_seen c.args.test.now)) (values_seen c.args.out.now.items) _ (values_seen c.loop-place.out.items) c.loop-place.kept c.loop-place.place c.loop-place.invariant.told
+    (omega (arith, c.len-place-end.ensures.value))
+
+pub over_built-returns-in-Coll : goal.over_built-returns-in-Coll
+over_built-returns-in-Coll t c =
+    let e : test_seen c.args.expr.now ≡ all_of (each_card (coll_seen c.in-Coll.cards)) c.in-All.field-1 (test_seen c.in-All.inner.value) =
+    ap test_seen c.in-All.is ∙ ap (λ d. all_of (domain_seen d) c.in-All.field-1 (test_seen c.in-All.inner.value)) c.in-Coll.is in
+    let b : c.built.result ≡ coll_value (scene_seen c.args.scene.now) c.args.scope.now (coll_seen c.in-Coll.cards) =
+    c.built.ensures ∙ ap values_seen c.as_slice.ensures.value ∙ c.coll_of.ensures in
+    c.all_cards.ensures
+    ∙ ap (λ x. list_all (λ m. test_value (scene_seen c.args.scene.now) (c.args.scope.now ++ m ∷ []) (test_seen x)) (map (λ k. card_bound k) c.built.result)) c.deref.ensures
+    ∙ ap (λ xs. list_all (λ m. test_value (scene_seen c.args.scene.now) (c.args.scope.now ++ m ∷ []) (test_seen c.in-All.inner.value)) (map (λ k. card_bound k) xs)) b
+    ∙ ap (test_value (scene_seen c.args.scene.now) c.args.scope.now) (sym e)
+
+pub over_built-returns-in-Coll-domain : goal.over_built-returns-in-Coll-domain
+over_built-returns-in-Coll-domain t c =
+    let e : test_seen c.args.expr.now ≡ any_of (each_card (coll_seen c.in-Coll-domain.cards)) c.in-Any.field-1 (test_seen c.in-Any.inner.value) =
+    ap test_seen c.in-Any.is ∙ ap (λ d. any_of (domain_seen d) c.in-Any.field-1 (test_seen c.in-Any.inner.value)) c.in-Coll-domain.is in
+    let b : c.built-in-Coll-domain.result ≡ coll_value (scene_seen c.args.scene.now) c.args.scope.now (coll_seen c.in-Coll-domain.cards) =
+    c.built-in-Coll-domain.ensures ∙ ap values_seen c.as_slice-in-Coll-domain.ensures.value ∙ c.coll_of-in-Coll-domain.ensures in
+    c.any_card.ensures
+    ∙ ap (λ x. list_any (λ m. test_value (scene_seen c.args.scene.now) (c.args.scope.now ++ m ∷ []) (test_seen x)) (map (λ k. card_bound k) c.built-in-Coll-domain.result)) c.deref-in-Coll-domain.ensures
+    ∙ ap (λ xs. list_any (λ m. test_value (scene_seen c.args.scene.now) (c.args.scope.now ++ m ∷ []) (test_seen c.in-Any.inner.value)) (map (λ k. card_bound k) xs)) b
+    ∙ ap (test_value (scene_seen c.args.scene.now) c.args.scope.now) (sym e)
