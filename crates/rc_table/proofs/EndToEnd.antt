@@ -1,15 +1,13 @@
 -- Lists kept end to end: where each lies, and what an edit of one makes of the cells and of the places where they begin.
-use Rattle.std.proofs.Common.{◌≡◌, ℕ, zero, suc, ◌+◌, ◌-◌, ◌<◌, ◌≤◌, List, [], ◌∷◌, ◌++◌, length, get_or, set, take, drop, map, replicate, slice_range, refl, sym, ap, ◌∙◌, arith, append_assoc, length-append, length-drop, append-nil}
+use Rattle.std.proofs.Common.{◌≡◌, ℕ, zero, suc, ◌+◌, ◌-◌, ◌<◌, ◌≤◌, List, [], ◌∷◌, ◌++◌, length, get_or, set, take, drop, map, replicate, slice_range, refl, sym, ap, ◌∙◌, subst, arith, append_assoc, length-append, append-nil}
 use Rattle.std.proofs.lemmas.List.{take_at, drop_at, take_all}
 use Rattle.std.proofs.Math.Seq.{drop-append_seam, take-append_seam}
 use Rattle.std.proofs.lemmas.List.Edits.{insert-append_left, insert-append_right, remove-append_left, remove-append_right, length-remove, length-insert}
-use Rattle.std.specs.List.{concat, insert, remove, refill}
-use Rattle.std.proofs.lemmas.List.{take_rest}
-use Rattle.std.proofs.lemmas.List.Elements.{All-take, All-drop}
+use Rattle.std.specs.List.{concat, insert, remove}
+use Rattle.std.proofs.lemmas.List.Elements.{All-drop}
 use Rattle.std.specs.List.{All}
 use Rattle.std.proofs.Math.ListN.{drop_of_length-le}
-use borrow.Rule.Slice.PartMut.{put_mid, post_of}
-use Rattle.rc_table.specs.Arena.{offsets, lists_in, IsArena, IsInside}
+use Rattle.rc_table.specs.Arena.{Lists, offsets, lists_in, IsArena, IsInside}
 
 pub length-offsets : (at : ℕ) (ls : List (List ℕ)) → length (offsets at ls) ≡ suc (length ls)
 length-offsets at [] = refl
@@ -44,15 +42,9 @@ lists_joined before (l ∷ m ∷ ls) =
     ap (λ x. x ∷ lists_in (before ++ (l ++ more)) (offsets (length before + length l) (m ∷ ls))) (cut_range before l more)
     ∙ ap (λ xs. l ∷ xs) rest
 
-pub lists_are : (cells starts : List ℕ) (ls : List (List ℕ)) → cells ≡ concat ls → starts ≡ offsets 0 ls →
-    lists_in cells starts ≡ ls
-lists_are cells starts ls e f = ap (λ xs. lists_in xs starts) e ∙ ap (λ xs. lists_in (concat ls) xs) f ∙ lists_joined [] ls
-
-pub arena_of : (cells starts : List ℕ) (ls : List (List ℕ)) → cells ≡ concat ls → starts ≡ offsets 0 ls →
-    IsArena cells starts
-arena_of cells starts ls e f =
-    let same : lists_in cells starts ≡ ls = lists_are cells starts ls e f in
-    record { cells_are = e ∙ ap concat (sym same); starts_are = f ∙ ap (offsets 0) (sym same) }
+pub lists_are : (cells starts : List ℕ) (lists : List (List ℕ)) → IsArena cells starts lists → lists_in cells starts ≡ lists
+lists_are cells starts lists arena =
+    ap (λ xs. lists_in xs starts) arena.cells_are ∙ ap (λ xs. lists_in (concat lists) xs) arena.starts_are ∙ lists_joined [] lists
 
 -- an edit of one list, in what lies end to end
 pub concat-remove : (ls : List (List ℕ)) (k pos : ℕ) → k < length ls → pos < length (get_or ls k []) →
@@ -133,15 +125,17 @@ concat-take (l ∷ ls) (suc k) lt =
     let e = concat-take ls k (omega arith) in
     omega (arith, e, length-append l (concat (take (suc k) ls)), length-append l (concat (take k ls)))
 
+pub starts_count : (cells starts : List ℕ) (lists : List (List ℕ)) → IsArena cells starts lists → length starts ≡ suc (length lists)
+starts_count cells starts lists arena = ap length arena.starts_are ∙ length-offsets 0 lists
+
 -- where a list lies
-pub inside : (cells starts : List ℕ) (k : ℕ) → IsArena cells starts → k < length (lists_in cells starts) → IsInside cells starts k
-inside cells starts k arena lt =
-    let ls : List (List ℕ) = lists_in cells starts in
+pub inside : (cells starts : List ℕ) (ls : List (List ℕ)) (k : ℕ) → IsArena cells starts ls → k < length ls → IsInside cells starts ls k
+inside cells starts ls k arena lt =
     let front : List ℕ = concat (take k ls) in
     let l : List ℕ = get_or ls k [] in
     let more : List ℕ = concat (drop (suc k) ls) in
     let next : k + 1 ≡ suc k = omega arith in
-    let count : length starts ≡ suc (length ls) = ap length arena.starts_are ∙ length-offsets 0 ls in
+    let count = starts_count cells starts ls arena in
     let from : get_or starts k 0 ≡ length front =
     ap (λ xs. get_or xs k 0) arena.starts_are ∙ offset_at 0 ls k (omega arith) ∙ omega arith in
     let to' : get_or starts (suc k) 0 ≡ length front + length l =
@@ -160,63 +154,44 @@ inside cells starts k arena lt =
           ∙ ap (λ xs. slice_range xs (length front) (length front + length l)) split ∙ cut_range front l more;
     }
 
--- what is written to each place from one on
-mid_all : (f : ℕ → ℕ) (xs : List ℕ) (a : ℕ) → a ≤ length xs →
-    put_mid a (length xs - a) xs (map f (take (length xs - a) (drop a xs))) ≡ take a xs ++ map f (drop a xs)
-mid_all f xs a le =
-    let n : ℕ = length xs - a in
-    let none : post_of a n xs ≡ [] = drop_of_length-le (drop a xs) (omega (arith, length-drop a xs)) in
-    ap (λ ys. take a xs ++ (map f ys ++ post_of a n xs)) (take_rest xs a)
-    ∙ ap (λ zs. take a xs ++ (map f (drop a xs) ++ zs)) none ∙ ap (λ ys. take a xs ++ ys) (append-nil (map f (drop a xs)))
+-- what a Vec has after a whole list of its length was written over it
+pub refilled : (len : ℕ) (xs ws : List ℕ) → len ≡ length xs → length ws ≡ length xs → take len (ws ++ drop (length ws) xs) ≡ ws
+refilled len xs ws is e =
+    ap (λ ys. take len (ws ++ ys)) (drop_of_length-le xs (omega arith)) ∙ ap (take len) (append-nil ws) ∙ take_all len ws (omega arith)
 
-pub record Edited (cells starts : List ℕ) (lists : List (List ℕ)) : Type 0 where
-  pub arena : IsArena cells starts
-  pub lists_are : lists_in cells starts ≡ lists
-
-edited : (cells starts : List ℕ) (ls : List (List ℕ)) → cells ≡ concat ls → starts ≡ offsets 0 ls → Edited cells starts ls
-edited cells starts ls e f = record { arena = arena_of cells starts ls e f; lists_are = lists_are cells starts ls e f }
-
-pub removed : (cells starts cells' mid : List ℕ) (k pos from : ℕ) → IsArena cells starts → k < length (lists_in cells starts) →
-    pos < length (get_or (lists_in cells starts) k []) → from ≡ length (concat (take k (lists_in cells starts))) →
-    cells' ≡ remove cells (from + pos) → mid ≡ map (λ s. s - 1) (take (length starts - (k + 1)) (drop (k + 1) starts)) →
-    Edited cells' (put_mid (k + 1) (length starts - (k + 1)) starts mid)
-    (set (lists_in cells starts) k (remove (get_or (lists_in cells starts) k []) pos))
-removed cells starts cells' mid k pos from arena lt in_list is_from is_cells is_mid =
-    let ls : List (List ℕ) = lists_in cells starts in
+pub removed : (cells starts cells' starts' : List ℕ) (ls : List (List ℕ)) (k pos from : ℕ) → IsArena cells starts ls → k < length ls →
+    pos < length (get_or ls k []) → from ≡ get_or starts k 0 → cells' ≡ remove cells (from + pos) →
+    starts' ≡ take (k + 1) starts ++ map (λ s. s - 1) (drop (k + 1) starts) → IsArena cells' starts' (set ls k (remove (get_or ls k []) pos))
+removed cells starts cells' starts' ls k pos from arena lt in_list is_from is_cells is_starts =
     let l' : List ℕ = remove (get_or ls k []) pos in
     let next : k + 1 ≡ suc k = omega arith in
-    let i = inside cells starts k arena lt in
-    let e : cells' ≡ concat (set ls k l') =
-    is_cells ∙ ap (λ xs. remove xs (from + pos)) arena.cells_are ∙ ap (λ n. remove (concat ls) (n + pos)) is_from
-    ∙ sym (concat-remove ls k pos lt in_list) in
-    let f : put_mid (k + 1) (length starts - (k + 1)) starts mid ≡ offsets 0 (set ls k l') =
-    ap (put_mid (k + 1) (length starts - (k + 1)) starts) is_mid
-    ∙ mid_all (λ s. s - 1) starts (k + 1) (omega arith)
-    ∙ ap (λ n. take n starts ++ map (λ s. s - 1) (drop n starts)) next
-    ∙ ap (λ xs. take (suc k) xs ++ map (λ s. s - 1) (drop (suc k) xs)) arena.starts_are
-    ∙ sym (offsets-lower 0 ls k l' lt (length-remove (get_or ls k []) pos in_list)) in
-    edited cells' _ (set ls k l') e f
+    let i = inside cells starts ls k arena lt in
+    record {
+      cells_are =
+          is_cells ∙ ap (λ xs. remove xs (from + pos)) arena.cells_are ∙ ap (λ n. remove (concat ls) (n + pos)) (is_from ∙ i.from)
+          ∙ sym (concat-remove ls k pos lt in_list);
+      starts_are =
+          is_starts ∙ ap (λ n. take n starts ++ map (λ s. s - 1) (drop n starts)) next
+          ∙ ap (λ xs. take (suc k) xs ++ map (λ s. s - 1) (drop (suc k) xs)) arena.starts_are
+          ∙ sym (offsets-lower 0 ls k l' lt (length-remove (get_or ls k []) pos in_list));
+    }
 
-pub inserted : (cells starts cells' mid : List ℕ) (k pos from y : ℕ) → IsArena cells starts → k < length (lists_in cells starts) →
-    pos ≤ length (get_or (lists_in cells starts) k []) → from ≡ length (concat (take k (lists_in cells starts))) →
-    cells' ≡ insert cells (from + pos) y → mid ≡ map (λ s. s + 1) (take (length starts - (k + 1)) (drop (k + 1) starts)) →
-    Edited cells' (put_mid (k + 1) (length starts - (k + 1)) starts mid)
-    (set (lists_in cells starts) k (insert (get_or (lists_in cells starts) k []) pos y))
-inserted cells starts cells' mid k pos from y arena lt in_list is_from is_cells is_mid =
-    let ls : List (List ℕ) = lists_in cells starts in
+pub inserted : (cells starts cells' starts' : List ℕ) (ls : List (List ℕ)) (k pos from y : ℕ) → IsArena cells starts ls → k < length ls →
+    pos ≤ length (get_or ls k []) → from ≡ get_or starts k 0 → cells' ≡ insert cells (from + pos) y →
+    starts' ≡ take (k + 1) starts ++ map (λ s. s + 1) (drop (k + 1) starts) → IsArena cells' starts' (set ls k (insert (get_or ls k []) pos y))
+inserted cells starts cells' starts' ls k pos from y arena lt in_list is_from is_cells is_starts =
     let l' : List ℕ = insert (get_or ls k []) pos y in
     let next : k + 1 ≡ suc k = omega arith in
-    let i = inside cells starts k arena lt in
-    let e : cells' ≡ concat (set ls k l') =
-    is_cells ∙ ap (λ xs. insert xs (from + pos) y) arena.cells_are ∙ ap (λ n. insert (concat ls) (n + pos) y) is_from
-    ∙ sym (concat-insert ls k pos y lt in_list) in
-    let f : put_mid (k + 1) (length starts - (k + 1)) starts mid ≡ offsets 0 (set ls k l') =
-    ap (put_mid (k + 1) (length starts - (k + 1)) starts) is_mid
-    ∙ mid_all (λ s. s + 1) starts (k + 1) (omega arith)
-    ∙ ap (λ n. take n starts ++ map (λ s. s + 1) (drop n starts)) next
-    ∙ ap (λ xs. take (suc k) xs ++ map (λ s. s + 1) (drop (suc k) xs)) arena.starts_are
-    ∙ sym (offsets-raise 0 ls k l' lt (length-insert (get_or ls k []) pos y in_list)) in
-    edited cells' _ (set ls k l') e f
+    let i = inside cells starts ls k arena lt in
+    record {
+      cells_are =
+          is_cells ∙ ap (λ xs. insert xs (from + pos) y) arena.cells_are ∙ ap (λ n. insert (concat ls) (n + pos) y) (is_from ∙ i.from)
+          ∙ sym (concat-insert ls k pos y lt in_list);
+      starts_are =
+          is_starts ∙ ap (λ n. take n starts ++ map (λ s. s + 1) (drop n starts)) next
+          ∙ ap (λ xs. take (suc k) xs ++ map (λ s. s + 1) (drop (suc k) xs)) arena.starts_are
+          ∙ sym (offsets-raise 0 ls k l' lt (length-insert (get_or ls k []) pos y in_list));
+    }
 
 -- no start lies behind the cells
 offset-le : (at : ℕ) (ls : List (List ℕ)) (j d : ℕ) → j < length (offsets at ls) → get_or (offsets at ls) j d ≤ at + length (concat ls)
@@ -225,20 +200,36 @@ offset-le at [] (suc j) d lt = absurd (omega arith)
 offset-le at (l ∷ ls) zero d lt = omega arith
 offset-le at (l ∷ ls) (suc j) d lt = omega (arith, length-append l (concat ls), offset-le (at + length l) ls j d (omega arith))
 
-pub starts_below : (cells starts : List ℕ) (n a : ℕ) → IsArena cells starts → length cells < 1536 →
-    All (λ s. s < 1536) (take n (drop a starts))
-starts_below cells starts n a arena room =
-    All-take (λ s. s < 1536) n (drop a starts) (All-drop (λ s. s < 1536) a starts (λ j d lt.
-    let same : length starts ≡ length (offsets 0 (lists_in cells starts)) = ap length arena.starts_are in
-    let le = offset-le 0 (lists_in cells starts) j d (omega arith) in
-    let len : length cells ≡ length (concat (lists_in cells starts)) = ap length arena.cells_are in
-    let e : get_or starts j d ≡ get_or (offsets 0 (lists_in cells starts)) j d = ap (λ xs. get_or xs j d) arena.starts_are in
-    omega arith))
+pub starts_below : (cells starts : List ℕ) (ls : List (List ℕ)) (a limit : ℕ) → IsArena cells starts ls → length cells < limit →
+    All (λ s. s < limit) (drop a starts)
+starts_below cells starts ls a limit arena room =
+    All-drop (λ s. s < limit) a starts (λ j d lt.
+    let same : length starts ≡ length (offsets 0 ls) = ap length arena.starts_are in
+    let le = offset-le 0 ls j d (omega arith) in
+    let len : length cells ≡ length (concat ls) = ap length arena.cells_are in
+    let e : get_or starts j d ≡ get_or (offsets 0 ls) j d = ap (λ xs. get_or xs j d) arena.starts_are in
+    omega arith)
 
-pub starts_count : (cells starts : List ℕ) → IsArena cells starts → length starts ≡ suc (length (lists_in cells starts))
-starts_count cells starts arena = ap length arena.starts_are ∙ length-offsets 0 (lists_in cells starts)
+-- behind a list that isn't empty no list begins at 0
+offset-ge : (at : ℕ) (ls : List (List ℕ)) (j d : ℕ) → j < length (offsets at ls) → at ≤ get_or (offsets at ls) j d
+offset-ge at [] zero d lt = omega arith
+offset-ge at [] (suc j) d lt = absurd (omega arith)
+offset-ge at (l ∷ ls) zero d lt = omega arith
+offset-ge at (l ∷ ls) (suc j) d lt = let rest = offset-ge (at + length l) ls j d (omega arith) in omega (arith, rest)
 
--- a list of the same length in a location's place
+some_behind : (at : ℕ) (ls : List (List ℕ)) (k : ℕ) → k < length ls → 0 < length (get_or ls k []) → All (λ s. 1 ≤ s) (drop (suc k) (offsets at ls))
+some_behind at [] k lt some = absurd (omega (arith, lt))
+some_behind at (l ∷ ls) zero lt some = λ j d less. let ge = offset-ge (at + length l) ls j d less in omega (arith, ge, some)
+some_behind at (l ∷ ls) (suc k) lt some = some_behind (at + length l) ls k (omega (arith, lt)) some
+
+pub starts_above : (cells starts : List ℕ) (ls : List (List ℕ)) (k : ℕ) → IsArena cells starts ls → k < length ls → 0 < length (get_or ls k []) →
+    All (λ s. 1 ≤ s) (drop (k + 1) starts)
+starts_above cells starts ls k arena lt some =
+    let next : suc k ≡ k + 1 = omega arith in
+    subst (λ xs. All (λ s. 1 ≤ s) (drop (k + 1) xs)) (sym arena.starts_are)
+    (subst (λ n. All (λ s. 1 ≤ s) (drop n (offsets 0 ls))) next (some_behind 0 ls k lt some))
+
+-- a list of the same length in another's place
 concat-set : (ls : List (List ℕ)) (k : ℕ) (l' : List ℕ) → k < length ls →
     concat (set ls k l') ≡ concat (take k ls) ++ (l' ++ concat (drop (suc k) ls))
 concat-set [] k l' lt = absurd (omega arith)
@@ -251,32 +242,24 @@ offsets-same at [] k l' e lt = absurd (omega arith)
 offsets-same at (l ∷ ls) zero l' e lt = ap (λ n. at ∷ offsets (at + n) ls) e
 offsets-same at (l ∷ ls) (suc k) l' e lt = ap (λ xs. at ∷ xs) (offsets-same (at + length l) ls k l' e (omega arith))
 
-refill_same : (xs ws : List ℕ) → length ws ≡ length xs → refill (length xs) xs ws ≡ ws
-refill_same xs ws e =
-    ap (λ ys. take (length xs) (ws ++ ys)) (drop_of_length-le xs (omega arith))
-    ∙ ap (take (length xs)) (append-nil ws) ∙ take_all (length xs) ws (omega arith)
-
-pub replaced : (cells starts seen list : List ℕ) (k from to : ℕ) → IsArena cells starts → k < length (lists_in cells starts) →
-    length list ≡ length (get_or (lists_in cells starts) k []) → from ≡ length (concat (take k (lists_in cells starts))) →
-    to ≡ from + length (get_or (lists_in cells starts) k []) → seen ≡ cells →
-    Edited (refill (length cells) cells (take from seen ++ (list ++ post_of from (to - from) seen))) starts (set (lists_in cells starts) k list)
-replaced cells starts seen list k from to arena lt same is_from is_to is_seen =
-    let ls : List (List ℕ) = lists_in cells starts in
+pub replaced : (cells starts cells' list : List ℕ) (ls : List (List ℕ)) (k from : ℕ) → IsArena cells starts ls → k < length ls →
+    length list ≡ length (get_or ls k []) → from ≡ get_or starts k 0 → cells' ≡ take from cells ++ (list ++ drop (from + length list) cells) →
+    IsArena cells' starts (set ls k list)
+replaced cells starts cells' list ls k from arena lt same is_from is_cells =
     let front : List ℕ = concat (take k ls) in
     let l : List ℕ = get_or ls k [] in
     let more : List ℕ = concat (drop (suc k) ls) in
-    let split : seen ≡ front ++ (l ++ more) = is_seen ∙ arena.cells_are ∙ concat-split ls k lt in
-    let before : take from seen ≡ front = ap (take from) split ∙ take_at front (l ++ more) from (sym is_from) in
-    let behind : post_of from (to - from) seen ≡ more =
-    ap (λ xs. drop (to - from) xs) (ap (drop from) split ∙ drop_at front (l ++ more) from (sym is_from))
-    ∙ drop_at l more (to - from) (omega arith) in
-    let e : take from seen ++ (list ++ post_of from (to - from) seen) ≡ concat (set ls k list) =
-    ap (λ xs. xs ++ (list ++ post_of from (to - from) seen)) before ∙ ap (λ xs. front ++ (list ++ xs)) behind ∙ sym (concat-set ls k list lt) in
-    let n : length (take from seen ++ (list ++ post_of from (to - from) seen)) ≡ length cells =
-    ap length (ap (λ xs. xs ++ (list ++ post_of from (to - from) seen)) before ∙ ap (λ xs. front ++ (list ++ xs)) behind)
-    ∙ length-append front (list ++ more) ∙ ap (λ m. length front + m) (length-append list more ∙ ap (λ m. m + length more) same)
-    ∙ sym (ap length (sym is_seen ∙ split) ∙ length-append front (l ++ more) ∙ ap (λ m. length front + m) (length-append l more)) in
-    edited _ starts (set ls k list) (refill_same cells _ n ∙ e) (arena.starts_are ∙ sym (offsets-same 0 ls k list same lt))
+    let i = inside cells starts ls k arena lt in
+    let at : length front ≡ from = sym (is_from ∙ i.from) in
+    let split : cells ≡ front ++ (l ++ more) = arena.cells_are ∙ concat-split ls k lt in
+    let before : take from cells ≡ front = ap (take from) split ∙ take_at front (l ++ more) from at in
+    let together : cells ≡ (front ++ l) ++ more = split ∙ sym (append_assoc front l more) in
+    let behind : drop (from + length list) cells ≡ more =
+    ap (drop (from + length list)) together ∙ drop_at (front ++ l) more (from + length list) (omega (arith, length-append front l, at, same)) in
+    record {
+      cells_are = is_cells ∙ ap (λ xs. xs ++ (list ++ drop (from + length list) cells)) before ∙ ap (λ xs. front ++ (list ++ xs)) behind ∙ sym (concat-set ls k list lt);
+      starts_are = arena.starts_are ∙ sym (offsets-same 0 ls k list same lt);
+    }
 
 -- empty lists
 none_joined : (n : ℕ) → concat (replicate n []) ≡ []
@@ -287,8 +270,18 @@ all_begin : (n : ℕ) → replicate (suc n) 0 ≡ offsets 0 (replicate n [])
 all_begin zero = refl
 all_begin (suc n) = ap (λ starts. 0 ∷ starts) (all_begin n)
 
-pub empty_lists : (cells starts : List ℕ) (n : ℕ) → cells ≡ [] → starts ≡ replicate (n + 1) 0 → Edited cells starts (replicate n [])
+pub empty_lists : (cells starts : List ℕ) (n : ℕ) → cells ≡ [] → starts ≡ replicate (n + 1) 0 → IsArena cells starts (replicate n [])
 empty_lists cells starts n no_cells all_first =
     let next : n + 1 ≡ suc n = omega arith in
-    edited cells starts (replicate n []) (no_cells ∙ sym (none_joined n))
-    (all_first ∙ ap (λ k. replicate k 0) next ∙ all_begin n)
+    record {
+      cells_are = no_cells ∙ sym (none_joined n);
+      starts_are = all_first ∙ ap (λ k. replicate k 0) next ∙ all_begin n;
+    }
+
+-- what an arena's view and its fields say of one another
+pub seen : (cells starts : List ℕ) (room : ℕ) (now : Lists) → IsArena cells starts (lists_in cells starts) →
+    record { all = lists_in cells starts; room = room } ≡ now → IsArena cells starts now.all
+seen cells starts room now arena is = subst (λ (lists : Lists). IsArena cells starts lists.all) is arena
+
+pub kept : (cells starts : List ℕ) (lists : List (List ℕ)) → IsArena cells starts lists → IsArena cells starts (lists_in cells starts)
+kept cells starts lists arena = subst (IsArena cells starts) (sym (lists_are cells starts lists arena)) arena

@@ -1,2 +1,3 @@
 pub mod EndToEnd
 pub mod Held
+pub mod ByLocation

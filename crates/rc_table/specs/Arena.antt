@@ -17,14 +17,15 @@ lists_in cells [] = []
 lists_in cells (from ∷ []) = []
 lists_in cells (from ∷ to ∷ rest) = slice_range cells from to ∷ lists_in cells (to ∷ rest)
 
-pub record IsArena (cells starts : List ℕ) : Type 0 where
-  pub cells_are : cells ≡ concat (lists_in cells starts)
-  pub starts_are : starts ≡ offsets 0 (lists_in cells starts)
+-- the lists end to end, and where each begins
+pub record IsArena (cells starts : List ℕ) (lists : List (List ℕ)) : Type 0 where
+  pub cells_are : cells ≡ concat lists
+  pub starts_are : starts ≡ offsets 0 lists
 
--- where one of the lists lies
-pub record IsInside (cells starts : List ℕ) (at : ℕ) : Type 0 where
+-- where one of them lies
+pub record IsInside (cells starts : List ℕ) (lists : List (List ℕ)) (at : ℕ) : Type 0 where
   pub below : at + 1 < length starts
-  pub from : slice_index_or starts at 0 ≡ length (concat (take at (lists_in cells starts)))
-  pub to : slice_index_or starts (at + 1) 0 ≡ slice_index_or starts at 0 + length (slice_index_or (lists_in cells starts) at [])
+  pub from : slice_index_or starts at 0 ≡ length (concat (take at lists))
+  pub to : slice_index_or starts (at + 1) 0 ≡ slice_index_or starts at 0 + length (slice_index_or lists at [])
   pub within : slice_index_or starts (at + 1) 0 ≤ length cells
-  pub part : slice_range cells (slice_index_or starts at 0) (slice_index_or starts (at + 1) 0) ≡ slice_index_or (lists_in cells starts) at []
+  pub part : slice_range cells (slice_index_or starts at 0) (slice_index_or starts (at + 1) 0) ≡ slice_index_or lists at []

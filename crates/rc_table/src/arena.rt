@@ -1,7 +1,7 @@
 //! Lists kept end to end.
-ghost use Rattle.std.specs.Prelude.{◌≡◌, ◌+◌, ◌-◌, ◌<◌, ◌≤◌, [], length, map, replicate, slice_index_or, slice_set, All, IfOk};
+ghost use Rattle.std.specs.Prelude.{◌≡◌, ◌+◌, ◌-◌, ◌<◌, ◌≤◌, [], ◌∷◌, ◌++◌, length, map, take, drop, replicate, slice_index_or, slice_set, All, IfOk};
 ghost use Rattle.std.specs.List.{concat, remove, insert};
-ghost use Rattle.rc_table.specs.Arena.{lists_in, IsArena, IsInside};
+ghost use Rattle.rc_table.specs.Arena.{lists_in, IsInside};
 
 use rc_deck::Memory;
 use std::alloc::Global;
@@ -25,12 +25,42 @@ impl Model for Arena {
 
     ghost view = { λ a. record { all = lists_in a.cells.items a.starts.items; room = a.room } };
 
-    ghost invariant = { λ a. IsArena a.cells.items a.starts.items × (vec_len a.cells ≤ a.room) × (a.room ≤ vec_capacity a.cells) };
+    ghost invariant = { λ a. IsArena a.cells.items a.starts.items (lists_in a.cells.items a.starts.items) × (vec_len a.cells ≤ a.room) × (a.room ≤ vec_capacity a.cells) };
+}
+
+// One less, from a place on.
+fn lower(starts: &mut [u16], from: usize)
+    requires from { from ≤ length starts.old }
+    requires some { All (λ start. 1 ≤ start) (drop from starts.old) }
+    ensures { starts.new ≡ take from starts.old ++ map (λ start. start - 1) (drop from starts.old) }
+{
+    for start in starts[from..].iter_mut() {
+        *start -= 1;
+    }
+}
+
+// One more, from a place on.
+fn raise(starts: &mut [u16], from: usize)
+    requires from { from ≤ length starts.old }
+    requires few { All (λ start. start < 65535) (drop from starts.old) }
+    ensures { starts.new ≡ take from starts.old ++ map (λ start. start + 1) (drop from starts.old) }
+{
+    for start in starts[from..].iter_mut() {
+        *start += 1;
+    }
+}
+
+// Writes a list over as many cells.
+fn write(cells: &mut [u16], from: usize, list: &[u16])
+    requires { from + length list.now ≤ length cells.old }
+    ensures { cells.new ≡ take from cells.old ++ (list.now ++ drop (from + length list.now) cells.old) }
+{
+    cells[from..from + list.len()].copy_from_slice(list);
 }
 
 // The cells of a list.
 fn cells_of<'a>(cells: &'a [u16], starts: &[u16], at: usize) -> &'a [u16]
-    requires { IsInside cells.now starts.now at }
+    requires { IsInside cells.now starts.now (lists_in cells.now starts.now) at }
     ensures { result.now ≡ slice_index_or (lists_in cells.now starts.now) at [] }
 {
     &cells[starts[at] as usize..starts[at + 1] as usize]
@@ -69,5 +99,69 @@ impl Arena {
             return cells_of(&self.cells, &self.starts, at as usize);
         }
         &[]
+    }
+
+    /// Takes an id out of a list.
+    pub(crate) fn take_out(&mut self, at: u16, place: usize)
+        requires list { at < length self.old.all }
+        requires place { place < length (slice_index_or self.old.all at []) }
+        ensures { self.new ≡ record {
+          all = slice_set self.old.all at (remove (slice_index_or self.old.all at []) place);
+          room = self.old.room;
+        } }
+    {
+        let from = self.starts[at as usize];
+        self.cells.remove(from as usize + place);
+        lower(&mut self.starts, at as usize + 1);
+    }
+
+    // Puts an id into a list.
+    fn put_in(&mut self, at: u16, place: usize, id: u16)
+        requires list { at < length self.old.all }
+        requires place { place ≤ length (slice_index_or self.old.all at []) }
+        requires room { length (concat self.old.all) < self.old.room }
+        ensures { self.new ≡ record {
+          all = slice_set self.old.all at (insert (slice_index_or self.old.all at []) place id);
+          room = self.old.room;
+        } }
+    {
+        let from = self.starts[at as usize];
+        self.cells.insert(from as usize + place, id).unwrap();
+        raise(&mut self.starts, at as usize + 1);
+    }
+
+    /// Puts an id at the end of a list.
+    pub(crate) fn put_top(&mut self, at: u16, id: u16)
+        requires list { at < length self.old.all }
+        requires room { length (concat self.old.all) < self.old.room }
+        ensures { self.new ≡ record {
+          all = slice_set self.old.all at (slice_index_or self.old.all at [] ++ id ∷ []);
+          room = self.old.room;
+        } }
+    {
+        let top = self.list(at).len();
+        self.put_in(at, top, id);
+    }
+
+    /// Puts an id at the beginning of a list.
+    pub(crate) fn put_bottom(&mut self, at: u16, id: u16)
+        requires list { at < length self.old.all }
+        requires room { length (concat self.old.all) < self.old.room }
+        ensures { self.new ≡ record {
+          all = slice_set self.old.all at (id ∷ slice_index_or self.old.all at []);
+          room = self.old.room;
+        } }
+    {
+        self.put_in(at, 0, id);
+    }
+
+    /// Writes another list of the same length.
+    pub(crate) fn rewrite(&mut self, at: u16, list: &[u16])
+        requires list { at < length self.old.all }
+        requires length { length list.now ≡ length (slice_index_or self.old.all at []) }
+        ensures { self.new ≡ record { all = slice_set self.old.all at list.now; room = self.old.room } }
+    {
+        let from = self.starts[at as usize];
+        write(&mut self.cells, from as usize, list);
     }
 }

@@ -5,13 +5,14 @@ use Rattle.rc_table.proofs.arena.Arena.list.Goals as goal
 
 pub cells_of-requires : goal.cells_of-requires
 cells_of-requires c =
-    let arena = c.self.invariant.0 in
-    let count = starts_count c.self.inside.cells.items c.self.inside.starts.items arena in
+    let a = c.self.inside in
+    let count = starts_count a.cells.items a.starts.items _ c.self.invariant.0 in
     rw (c.deref.ensures.value, c.deref-then-at-len.ensures.value)
-    (inside c.self.inside.cells.items c.self.inside.starts.items c.args.at arena (omega (arith, count, c.self.inside.starts.ok.0)))
+    (inside a.cells.items a.starts.items _ c.args.at c.self.invariant.0 (omega (arith, count, a.starts.ok.0)))
 
 pub returns : goal.returns
 returns c =
-    let count = starts_count c.self.inside.cells.items c.self.inside.starts.items c.self.invariant.0 in
+    let a = c.self.inside in
+    let count = starts_count a.cells.items a.starts.items _ c.self.invariant.0 in
     let same = ap (λ x. length x.all) c.self.view_is in
-    sym (get_or_past c.args.self.now.all c.args.at [] (omega (arith, count, same, c.self.inside.starts.ok.0)))
+    sym (get_or_past c.args.self.now.all c.args.at [] (omega (arith, count, same, a.starts.ok.0)))
