@@ -1,1 +1,5 @@
 pub mod StageLemmas
+pub mod TeamLemmas
+pub mod PointLemmas
+pub mod PartitionLemmas
+pub mod ShapeLemmas

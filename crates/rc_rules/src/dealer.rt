@@ -13,6 +13,7 @@ use std::marker::Model;
 /// Permutes lists. How it does so no call changes; which order the next list takes is a matter of the state in which it is.
 pub trait Dealer {
     ghost dealing: { Self → Dealing ℕ };
+
     ghost state: { Self → ℕ };
 
     /// Puts a list of at most 512 items into the order of the state, and goes on to the next state.

@@ -4,15 +4,22 @@
 mod about;
 mod control;
 mod dealer;
+mod machine;
 mod menu;
 mod plan;
+mod points;
 mod record;
+mod shape;
 mod stages;
+mod teams;
 
 pub use about::About;
 pub use control::{Control, Frame, Frames, Stop};
 pub use dealer::{Dealer, MatchDealer};
+pub use machine::Machine;
 pub use menu::{Item, Menu, Scores, Spots};
 pub use plan::{Deal, Plan, Strategy};
+pub use points::rank_points;
 pub use record::{Ended, MatchRecord, Pick, Score, Standing};
 pub use stages::{class_of_stage, current_in, is_stage_of, owner_count};
+pub use teams::team_in;

@@ -8,7 +8,7 @@ pub type Spots = ArrayVec<u16, 4>;
 /// An item of a menu: an alternative, by its place, with the positions of its bindings.
 #[derive(Debug, Default, Drop)]
 pub struct Item {
-    pub alt: u32,
+    pub alt: usize,
     pub spots: Spots,
 }
 

@@ -1,8 +1,11 @@
 -- How many cards and references a sound table holds: each card once, and references within their limits.
-use Rattle.std.proofs.Common.{◌≡◌, ℕ, zero, suc, ◌+◌, ◌*◌, ◌<◌, ◌≤◌, Bool, true, false, cond, ◌==◌, inl, inr, List, [], ◌∷◌, ◌++◌, length, get_or, slice_get, sum_by, zip, Some, refl, sym, ap, ap₂, ◌∙◌, arith, length-append}
+use Rattle.std.proofs.Common.{◌≡◌, ℕ, zero, suc, ◌+◌, ◌*◌, ◌<◌, ◌≤◌, Bool, true, false, cond, ◌==◌, inl, inr, List, [], ◌∷◌, ◌++◌, length, get_or, set, slice_get, nat_lt, subst, sum_by, zip, Some, refl, sym, ap, ap₂, ◌∙◌, arith, length-append}
 use Rattle.std.specs.Prelude.{All, count_by}
-use Rattle.std.specs.List.{AllByRecursion, concat}
-use Rattle.std.proofs.lemmas.Bool.{cases_lt}
+use Rattle.std.specs.List.{AllByRecursion, concat, remove}
+use Rattle.std.proofs.lemmas.List.Edits.{length-remove}
+use Rattle.std.proofs.lemmas.Option.{slice_get_within}
+use Rattle.std.proofs.lemmas.Bool.Decides.{Decides-ltb}
+use Rattle.std.proofs.lemmas.Bool.{cases_lt, cond-true}
 use Rattle.std.proofs.lemmas.List.{get_or_past}
 use Rattle.std.proofs.lemmas.List.Elements.{recursion_from_All}
 use Rattle.std.proofs.lemmas.List.FromFn.{length-range_with_len}
@@ -10,7 +13,9 @@ use Rattle.std.proofs.lemmas.List.Sums.{sum_by-cons}
 use Rattle.rc_model.specs.Numbers.{below}
 use Rattle.rc_sheet_model.specs.WellFormed.{is_mem}
 use Rattle.rc_play_model.specs.Shape.{Place, Shape}
-use Rattle.rc_play_model.specs.Table.{Table, IsSound, list_at, times_in, references_in, references}
+use Rattle.rc_play_model.specs.Table.{Table, IsSound, list_at, times_in, references_in, references, has_room, onto, under, remember_top, remember_bottom}
+use Rattle.rc_play_model.specs.Bound.{HoldsReferences}
+use Rattle.rc_play_model.proofs.Faces.{both_true}
 use Rattle.rc_play_model.proofs.CardLemmas.{append_each}
 use Rattle.rc_play_model.proofs.Counting.{one_if, passing, same, passing-is, passing-append, passing-all, each_once}
 use Rattle.rc_table.specs.Shape.{IsShape}
@@ -130,6 +135,20 @@ list_short (place ∷ places) (list ∷ lists) (suc loc) same all cards within =
     let n = length-append (cond (is_mem place.kind) [] list) (cards_in places lists) in
     list_short places lists loc (omega (arith, same)) all.1 (omega (arith, n, cards)) (omega (arith, within))
 
+one_fewer : (lists : List (List ℕ)) (loc place : ℕ) → place < length (get_or lists loc []) →
+    length (concat (set lists loc (remove (get_or lists loc []) place))) + 1 ≡ length (concat lists)
+one_fewer [] loc place within = absurd (omega (arith, within))
+one_fewer (list ∷ lists) zero place within =
+    let here = length-remove list place within in
+    let before = length-append list (concat lists) in
+    let after = length-append (remove list place) (concat lists) in
+    omega (arith, here, before, after)
+one_fewer (list ∷ lists) (suc loc) place within =
+    let rest = one_fewer lists loc place within in
+    let before = length-append list (concat lists) in
+    let after = length-append list (concat (set lists loc (remove (get_or lists loc []) place))) in
+    omega (arith, rest, before, after)
+
 module _ (shape : Shape) (table : Table) (sound : IsSound shape table) where
   few_each : AllByRecursion few (zip shape.places table.lists)
   few_each = recursion_from_All few (zip shape.places table.lists) sound.mems
@@ -138,8 +157,8 @@ module _ (shape : Shape) (table : Table) (sound : IsSound shape table) where
   few_in_list limits loc =
       let cards = cards_held shape table sound in
       elim (cases_lt loc (length table.lists)) [
-        inl within ↦ list_short shape.places table.lists loc sound.locations few_each (omega (arith, cards, limits.cards)) within
-      | inr past ↦ let none = ap length (get_or_past table.lists loc [] past) in omega (arith, none)
+        | inl within ↦ list_short shape.places table.lists loc sound.locations few_each (omega (arith, cards, limits.cards)) within
+        | inr past ↦ let none = ap length (get_or_past table.lists loc [] past) in omega (arith, none)
       ]
 
   -- all that the lists hold together
@@ -160,3 +179,26 @@ module _ (shape : Shape) (table : Table) (sound : IsSound shape table) where
       let most = notes_fewer shape.places table.lists loc p few_each is mem within less in
       let mems = passing-is holds_notes shape.places in
       omega (arith, cards, all, most, mems, fewer)
+
+  -- one fewer where one is taken out
+  pub fewer_fit : (loc place : ℕ) → place < length (list_at table loc) →
+      length (concat (set table.lists loc (remove (list_at table loc) place))) < most_held shape
+  fewer_fit loc place within = let fewer = one_fewer table.lists loc place within in omega (arith, fewer, all_fit)
+
+  -- and one more where there is room for a reference
+  pub noted_fits : (loc : ℕ) → HoldsReferences shape loc → has_room shape loc table ≡ true → length (concat table.lists) < most_held shape
+  noted_fits loc mem room =
+      let both = both_true (nat_lt (length (list_at table loc)) 512) (nat_lt (references shape table) 1024) room in
+      let within = slice_get_within shape.places loc mem.0 mem.1 in
+      let less = (Decides-ltb (length (list_at table loc)) 512).0 both.0 in
+      let fewer = (Decides-ltb (references shape table) 1024).0 both.1 in
+      one_more_fits loc mem.0 mem.1 mem.2 (omega (arith, within, sound.locations)) less fewer
+
+-- what is remembered where there is room
+pub noted_top : (shape : Shape) (table : Table) (id loc : ℕ) → has_room shape loc table ≡ true → IsSound shape (remember_top shape id loc table) →
+    IsSound shape (onto id loc table)
+noted_top shape table id loc room = subst (IsSound shape) (cond-true (has_room shape loc table) (onto id loc table) table room)
+
+pub noted_bottom : (shape : Shape) (table : Table) (id loc : ℕ) → has_room shape loc table ≡ true → IsSound shape (remember_bottom shape id loc table) →
+    IsSound shape (under id loc table)
+noted_bottom shape table id loc room = subst (IsSound shape) (cond-true (has_room shape loc table) (under id loc table) table room)

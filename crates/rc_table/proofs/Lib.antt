@@ -1,3 +1,5 @@
 pub mod EndToEnd
 pub mod Held
 pub mod ByLocation
+pub mod Orders
+pub mod Homes

@@ -7,6 +7,7 @@
 #![tactic(auto)]
 
 mod arena;
+mod edits;
 mod finding;
 mod place;
 mod shape;

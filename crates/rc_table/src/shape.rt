@@ -1,6 +1,7 @@
 //! The shape of a sheet.
 ghost use Rattle.std.specs.Prelude.{◌≡◌, length, slice_get, slice_index_or, option_map};
 ghost use Rattle.rc_play_model.specs.Shape.{team_at, face_at, holds_references};
+ghost use Rattle.rc_table.specs.Laid.{most_held};
 ghost use Rattle.rc_table.specs.Places.{place_seen};
 ghost use Rattle.rc_table.specs.Shape.{IsShape, shape_of_parts, face_or_none};
 
@@ -52,7 +53,14 @@ impl Shape {
         requires { IsShape (shape_of_parts players team_of.items places.items numbers faces.items home.items) }
         ensures { result ≡ shape_of_parts players team_of.items places.items numbers faces.items home.items }
     {
-        Shape { players, team_of, places, numbers, faces, home }
+        Shape {
+            players,
+            team_of,
+            places,
+            numbers,
+            faces,
+            home,
+        }
     }
 
     /// How many players there are.
@@ -91,7 +99,13 @@ impl Shape {
     pub fn holds_references(&self, loc: u16) -> bool
         ensures { result ≡ holds_references (slice_get self.now.places loc) }
     {
-        matches!(self.place(loc), Some(Place { kind: LocKind::Mem, .. }))
+        matches!(
+            self.place(loc),
+            Some(Place {
+                kind: LocKind::Mem,
+                ..
+            })
+        )
     }
 
     /// How many numbers there are.
@@ -123,5 +137,18 @@ impl Shape {
             Some(loc) => *loc,
             None => 0,
         }
+    }
+
+    /// How many cards and references the locations can hold together.
+    pub(crate) fn most_held(&self) -> u16
+        ensures { result ≡ most_held self.now }
+    {
+        let mut mems = 0usize;
+        for place in &self.places {
+            if matches!(place.kind, LocKind::Mem) {
+                mems += 1;
+            }
+        }
+        (self.faces.len() + (512 * mems).min(1024)) as u16
     }
 }

@@ -1,10 +1,16 @@
 //! The table.
-ghost use Rattle.std.specs.Prelude.{◌≡◌, ◌≤◌, length};
+ghost use Rattle.std.specs.Prelude.{◌≡◌, ◌≤◌, length, map, IfOk};
+ghost use Rattle.rc_model.specs.Numbers.{below};
 ghost use Rattle.rc_model.specs.Clamp.{IsWithinClamp};
-ghost use Rattle.rc_play_model.specs.Table.{IsSound, list_at, number_at};
+ghost use Rattle.rc_play_model.specs.Table.{IsSound, list_at, number_at, at_home, opening};
+ghost use Rattle.rc_play_model.specs.Bound.{HasHomes};
+ghost use Rattle.rc_table.specs.Laid.{most_held};
 
 use crate::arena::Arena;
 use crate::shape::Shape;
+use rc_deck::Memory;
+use rc_play_model::opening_tables_are_sound;
+use std::alloc::Global;
 use std::marker::Model;
 use std::sync::Arc;
 
@@ -29,6 +35,34 @@ impl Model for Table {
 }
 
 impl Table {
+    /// The table of the start: each card in its first location, no reference, and all numbers 0. It takes all memory that
+    /// later edits need.
+    pub fn new(alloc: Global, shape: &Arc<Shape>) -> Result<Table, Memory>
+        ensures { IfOk result (λ table. table ≡ record { shape = shape.now.value; table = opening shape.now.value }) }
+    {
+        opening_tables_are_sound();
+        let shape = Arc::try_clone(shape)?;
+        let _limits = shape.players();
+        let lists = homes(alloc, &shape)?;
+        let numbers = vec![in alloc; 0; shape.numbers() as usize]?;
+        Ok(Table {
+            shape,
+            lists,
+            numbers,
+        })
+    }
+
+    /// The same table once more, with room for all that later edits need.
+    pub fn copy(&self, alloc: Global) -> Result<Table, Memory>
+        ensures { IfOk result (λ copy. copy ≡ self.now) }
+    {
+        Ok(Table {
+            shape: Arc::try_clone(&self.shape)?,
+            lists: self.lists.copy(alloc)?,
+            numbers: Vec::from_slice(alloc, &self.numbers)?,
+        })
+    }
+
     /// The shape that the table is laid for.
     pub fn shape(&self) -> &Shape
         ensures is { result.now ≡ self.now.shape }
@@ -55,4 +89,16 @@ impl Table {
             None => 0,
         }
     }
+}
+
+// The lists of the start: each card in its first location.
+fn homes(alloc: Global, shape: &Shape) -> Result<Arena, Memory>
+    requires { HasHomes shape.now }
+    ensures { IfOk result (λ lists. lists ≡ record { all = map (at_home shape.now) (below (length shape.now.places)); room = most_held shape.now }) }
+{
+    let mut lists = Arena::new(alloc, shape.locations(), shape.most_held())?;
+    for id in 0..shape.cards() {
+        lists.put_top(shape.home(id), id);
+    }
+    Ok(lists)
 }

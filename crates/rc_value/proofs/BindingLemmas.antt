@@ -1,5 +1,5 @@
 -- In a well formed sheet at most four variables are bound around any place.
-use Rattle.std.proofs.Common.{◌≡◌, ℕ, zero, suc, ◌+◌, ◌≤◌, ◌<◌, ◌==◌, max, Bool, true, false, if◌then◌else◌, List, [], ◌∷◌, ◌++◌, slice_index_or, refl, arith}
+use Rattle.std.proofs.Common.{◌≡◌, ℕ, ◌+◌, ◌≤◌, ◌==◌, Bool, true, false, if◌then◌else◌, List, [], ◌∷◌, ◌++◌, slice_index_or, refl, arith}
 use Rattle.std.specs.List.{AllByRecursion}
 use Rattle.std.specs.Prelude.{All}
 use Rattle.std.proofs.lemmas.List.Elements.{All-from_recursion}
@@ -9,7 +9,7 @@ use Rattle.rc_sheet_model.specs.Sheet.{card_sort}
 use Rattle.rc_sheet_model.specs.WellFormed.{Around, outside, in_stage, behind, IsCard, IsColl, AreColls, IsInt, IsTest, AreTests, IsRange, IsDomain, IsAlt, AreAlts, IsItem, AreItems, IsWellFormed}
 use Rattle.rc_play_model.specs.Menu.{alts_in_item, alts_in, alts_at}
 use Rattle.rc_value.specs.Depth.{card_depth, coll_depth, colls_depth, int_depth, test_depth, tests_depth, domain_depth}
-use Rattle.rc_value.specs.Binding.{range_depth, alt_depth, domains_in, BindsFew}
+use Rattle.rc_value.specs.Binding.{range_depth, BindsFew}
 
 module _ (sheet : Sheet) where
   mutual

@@ -7,3 +7,4 @@ pub mod Faces
 pub mod Best
 pub mod Firsts
 pub mod PointLemmas
+pub mod Offers

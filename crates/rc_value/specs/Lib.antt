@@ -7,4 +7,6 @@ pub mod Scene
 pub mod Places
 pub mod Picks
 pub mod Groups
+pub mod Menu
+pub mod AlikeMenus
 pub mod Current

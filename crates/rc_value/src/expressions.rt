@@ -1,12 +1,12 @@
 //! The values of expressions.
-ghost use Rattle.std.specs.Prelude.{◌≡◌, ◌+◌, ◌<◌, ◌≤◌, ◌++◌, ◌∷◌, [], map, filter, length, option_map, IfSome};
+ghost use Rattle.std.specs.Prelude.{◌≡◌, ◌+◌, ◌<◌, ◌≤◌, ◌++◌, ◌∷◌, [], map, filter, length, option_map, IfSome, true};
 ghost use Rattle.std.specs.List.{list_all, list_any};
 ghost use Rattle.rc_model.specs.Numbers.{below};
 ghost use Rattle.rc_play_model.specs.Value.{card_value, coll_value, colls_value, int_value, test_value, tests_value, card_bound, player_bound, cut};
 ghost use Rattle.rc_ast.specs.Expressions.{coll_seen, colls_seen, int_seen, test_seen, tests_seen};
 ghost use Rattle.rc_ast.specs.Expressions.{card_seen};
 ghost use Rattle.rc_value.specs.Cards.{value_seen, values_seen};
-ghost use Rattle.rc_value.specs.Depth.{card_depth, coll_depth, colls_depth, int_depth, test_depth, tests_depth, over_depth};
+ghost use Rattle.rc_value.specs.Depth.{card_depth, coll_depth, colls_depth, int_depth, test_depth, tests_depth, runs_over_cards};
 ghost use Rattle.rc_value.specs.Picks.{picked_of, measured_of};
 ghost use Rattle.rc_value.specs.Scene.{scene_seen};
 
@@ -222,7 +222,7 @@ pub fn test_of(scene: &Scene, scope: &Scope, expr: &Test) -> bool
 // A test that runs over cards which stand in no list.
 #[cycle(values)]
 fn over_built(scene: &Scene, scope: &Scope, expr: &Test) -> bool
-    requires over { over_depth (test_seen expr.now) < 6 }
+    requires over { runs_over_cards (test_seen expr.now) ≡ true }
     requires fits { length scope.now + test_depth (test_seen expr.now) ≤ 5 }
     ensures { result ≡ test_value (scene_seen scene.now) scope.now (test_seen expr.now) }
 {

@@ -53,16 +53,17 @@ fn is_known(values: &Values, value: u16) -> bool
     values.as_slice().iter().any(|other| value == *other)
 }
 
-/// The cards that have this value of the attribute, written into an empty list.
-pub fn group_with(scene: &Scene, cards: &Collection, name: u16, value: u16, out: &mut Cards)
-    requires empty { out.old.items ≡ [] }
-    ensures { values_seen out.new.items ≡ filter (λ c. both nat_same (attr_value (scene_seen scene.now) name c) (Some value)) cards.now }
+/// The cards that have this value of the attribute.
+pub fn group_with(scene: &Scene, cards: &Collection, name: u16, value: u16) -> Cards
+    ensures { values_seen result.items ≡ filter (λ c. both nat_same (attr_value (scene_seen scene.now) name c) (Some value)) cards.now }
 {
+    let mut group = Cards::new();
     for place in 0..cards.len() {
         let card = cards.at(place);
         let has = has_value(scene, card, name, value);
-        put(out, card, has);
+        put(&mut group, card, has);
     }
+    group
 }
 
 fn has_value(scene: &Scene, card: Card, name: u16, value: u16) -> bool

@@ -1,4 +1,4 @@
-use Rattle.std.proofs.Common.{drop, if◌then◌else◌, int_lt, arith}
+use Rattle.std.proofs.Common.{if◌then◌else◌, int_lt, arith}
 use Rattle.rc_play_model.specs.Value.{int_more, worth}
 use Rattle.rc_value.specs.Cards.{value_seen}
 use Rattle.rc_value.specs.Scene.{scene_seen}

@@ -1,6 +1,4 @@
-use Rattle.std.proofs.Common.{arith, ap, ◌∙◌, ◌+◌}
-use Rattle.std.specs.Prelude.{sum_by, take}
-use Rattle.std.proofs.lemmas.List.Sums.{sum_by-take-le}
+use Rattle.std.proofs.Common.{arith, ◌∙◌}
 use Rattle.rc_sheet_model.specs.Sheet.{NumName}
 use Rattle.rc_sheet_model.specs.WellFormed.{owner_count}
 use Rattle.rc_ast.specs.Names.{num_name_seen}

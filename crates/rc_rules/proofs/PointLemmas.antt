@@ -1,0 +1,59 @@
+-- Sums over the players, from the first on.
+use Rattle.std.proofs.Common.{◌≡◌, ℕ, zero, suc, ◌+◌, ◌==◌, Bool, true, false, if◌then◌else◌, List, [], ◌∷◌, ◌++◌, map, fold, pos, ℤ, ◌+ℤ◌, refl, ap, ◌∙◌, arith}
+use Rattle.std.specs.Prelude.{filter, slice_index_or, sum_by}
+use Rattle.std.specs.List.{range_with_len}
+use Rattle.std.proofs.lemmas.List.{map-append, append-nil}
+use Rattle.std.proofs.lemmas.List.Elements.{filter-append}
+use Rattle.std.proofs.lemmas.List.Sums.{fold_push, sum_by_push}
+use Rattle.std.proofs.lemmas.Int.{ints}
+use Rattle.rc_model.specs.Numbers.{below}
+use Rattle.rc_sheet_model.specs.Sheet.{Sheet}
+use Rattle.rc_play_model.specs.Shape.{team_in}
+use Rattle.rc_rules.specs.Points.{share}
+
+-- one number more
+range_push : (a n : ℕ) → range_with_len a (suc n) ≡ range_with_len a n ++ (a + n) ∷ []
+range_push a zero = ap (λ k. k ∷ []) (let e : a ≡ a + 0 = omega arith in e)
+range_push a (suc n) =
+    ap (λ ns. a ∷ ns) (range_push (a + 1) n)
+    ∙ ap (λ k. a ∷ (range_with_len (a + 1) n ++ k ∷ [])) (let e : a + 1 + n ≡ a + suc n = omega arith in e)
+
+pub below_push : (n : ℕ) → below (n + 1) ≡ below n ++ n ∷ []
+below_push n =
+    ap below (let e : n + 1 ≡ suc n = omega arith in e) ∙ range_push 0 n
+    ∙ ap (λ k. below n ++ k ∷ []) (let e : 0 + n ≡ n = omega arith in e)
+
+-- one item more
+pub mapped_push : {X : Type 0} (f : ℕ → X) (n : ℕ) → map f (below (n + 1)) ≡ map f (below n) ++ f n ∷ []
+mapped_push f n = ap (map f) (below_push n) ∙ map-append f (below n) (n ∷ [])
+
+-- one number more in a sum
+pub summed_push : (f : ℕ → ℕ) (n : ℕ) → sum_by f (below (n + 1)) ≡ sum_by f (below n) + f n
+summed_push f n = ap (sum_by f) (below_push n) ∙ sum_by_push f (below n) n
+
+-- the sum of the scores of a team's players below a number
+abbrev pub sum_below : Sheet → List ℤ → ℕ → ℕ → ℤ
+sum_below sheet scores team n =
+    fold ◌+ℤ◌ (pos 0) (map (λ player. slice_index_or scores player (pos 0)) (filter (λ player. team_in sheet.teams player == team) (below n)))
+
+-- one player more
+pub sum_below_push : (sheet : Sheet) (scores : List ℤ) (team n : ℕ) →
+    sum_below sheet scores team (n + 1) ≡ sum_below sheet scores team n +ℤ share sheet scores team n
+sum_below_push sheet scores team n =
+    ap (λ ns. total (filter mine ns)) (below_push n) ∙ ap total (filter-append mine (below n) (n ∷ [])) ∙ by (mine n)
+  where
+    mine : ℕ → Bool
+    mine player = team_in sheet.teams player == team
+
+    score : ℕ → ℤ
+    score player = slice_index_or scores player (pos 0)
+
+    total : List ℕ → ℤ
+    total players = fold ◌+ℤ◌ (pos 0) (map score players)
+
+    by : (b : Bool) →
+        total (filter mine (below n) ++ (if b then n ∷ [] else [])) ≡ total (filter mine (below n)) +ℤ (if b then score n else pos 0)
+    by true =
+        ap (fold ◌+ℤ◌ (pos 0)) (map-append score (filter mine (below n)) (n ∷ []))
+        ∙ fold_push ◌+ℤ◌ (pos 0) (map score (filter mine (below n))) (score n)
+    by false = ap total (append-nil (filter mine (below n))) ∙ omega (arith, ints)

@@ -1,0 +1,125 @@
+//! What changes a table. None of it takes memory.
+ghost use Rattle.std.specs.Prelude.{◌≡◌, ◌<◌, ◌≤◌, length, take, reverse, remove, MatchOption};
+ghost use Rattle.std.specs.List.Sorted.{IsPermutation};
+ghost use Rattle.rc_model.specs.Clamp.{IsWithinClamp};
+ghost use Rattle.rc_model.specs.Numbers.{below};
+ghost use Rattle.rc_play_model.specs.Bound.{HoldsCards, HoldsReferences};
+ghost use Rattle.rc_play_model.specs.Table.{list_at, put_top, put_bottom, remember_top, remember_bottom, without_face, forget_in, set_number, taken, reorder};
+ghost use Rattle.rc_table.specs.Laid.{relaid};
+
+use crate::shape::Shape;
+use crate::sight::have_same_face;
+use crate::table::Table;
+use rc_play_model::edits_keep_tables_sound;
+
+impl Table {
+    /// Takes a card out of its place and puts it on top of a location of cards.
+    pub fn put_top(&mut self, id: u16, loc: u16)
+        requires card { id < length self.old.shape.faces }
+        requires loc { HoldsCards self.old.shape loc }
+        ensures { self.new ≡ relaid self.old (put_top self.old.shape id loc self.old.table) }
+    {
+        edits_keep_tables_sound();
+        let (from, place) = self.place_of(id);
+        self.lists.take_out(from, place as usize);
+        self.lists.put_top(loc, id);
+    }
+
+    /// Takes a card out of its place and puts it at the bottom of a location of cards.
+    pub fn put_bottom(&mut self, id: u16, loc: u16)
+        requires card { id < length self.old.shape.faces }
+        requires loc { HoldsCards self.old.shape loc }
+        ensures { self.new ≡ relaid self.old (put_bottom self.old.shape id loc self.old.table) }
+    {
+        edits_keep_tables_sound();
+        let (from, place) = self.place_of(id);
+        self.lists.take_out(from, place as usize);
+        self.lists.put_bottom(loc, id);
+    }
+
+    /// Puts a reference on top of a `mem`; nothing changes where that `mem` holds 512, or all of them 1,024.
+    pub fn remember_top(&mut self, id: u16, loc: u16)
+        requires card { id < length self.old.shape.faces }
+        requires loc { HoldsReferences self.old.shape loc }
+        ensures { self.new ≡ relaid self.old (remember_top self.old.shape id loc self.old.table) }
+    {
+        edits_keep_tables_sound();
+        if self.has_room(loc) {
+            self.lists.put_top(loc, id);
+        }
+    }
+
+    /// Puts a reference at the bottom of a `mem`; nothing changes where that `mem` holds 512, or all of them 1,024.
+    pub fn remember_bottom(&mut self, id: u16, loc: u16)
+        requires card { id < length self.old.shape.faces }
+        requires loc { HoldsReferences self.old.shape loc }
+        ensures { self.new ≡ relaid self.old (remember_bottom self.old.shape id loc self.old.table) }
+    {
+        edits_keep_tables_sound();
+        if self.has_room(loc) {
+            self.lists.put_bottom(loc, id);
+        }
+    }
+
+    /// Takes the topmost reference with the card's face out of a `mem`, if there is one.
+    pub fn forget(&mut self, id: u16, loc: u16)
+        requires card { id < length self.old.shape.faces }
+        requires loc { HoldsReferences self.old.shape loc }
+        ensures { self.new ≡ relaid self.old (forget_in self.old.shape id loc self.old.table) }
+    {
+        edits_keep_tables_sound();
+        if let Some(place) = topmost(self.shape(), self.list(loc), id) {
+            self.lists.take_out(loc, place);
+        }
+    }
+
+    /// Sets a number. Nothing changes where there is no such number.
+    pub fn set_number(&mut self, num: u16, value: i64)
+        requires clamped { IsWithinClamp value }
+        ensures { self.new ≡ relaid self.old (set_number num value self.old.table) }
+    {
+        edits_keep_tables_sound();
+        if let Some(number) = self.numbers.get_mut(num as usize) {
+            *number = value;
+        }
+    }
+
+    /// Puts the list of a location, of whatever kind, into another order.
+    pub fn reorder(&mut self, loc: u16, order: &[u16])
+        requires loc { loc < length self.old.shape.places }
+        requires order { IsPermutation (below (length (list_at self.old.table loc))) order.now }
+        ensures { self.new ≡ relaid self.old (reorder loc order.now self.old.table) }
+    {
+        edits_keep_tables_sound();
+        let mut list = [0; 512];
+        let count = reordered(self.list(loc), order, &mut list);
+        self.lists.rewrite(loc, &list[..count]);
+    }
+}
+
+// The last place in a list of a card with this card's face.
+fn topmost(shape: &Shape, list: &[u16], id: u16) -> Option<usize>
+    ensures { MatchOption result
+        (reverse (without_face shape.now id (reverse list.now)) ≡ list.now)
+        (λ place. (place < length list.now) × (reverse (without_face shape.now id (reverse list.now)) ≡ remove list.now place)) }
+{
+    for place in (0..list.len()).rev() {
+        if have_same_face(shape, list[place], id) {
+            return Some(place);
+        }
+    }
+    None
+}
+
+// Writes a list in another order, and tells its length.
+fn reordered(list: &[u16], order: &[u16], room: &mut [u16]) -> usize
+    requires fits { length list.now ≤ length room.old }
+    requires order { IsPermutation (below (length list.now)) order.now }
+    ensures count { result ≡ length list.now }
+    ensures is { take result room.new ≡ taken order.now list.now }
+{
+    for (at, place) in order.iter().enumerate() {
+        room[at] = list[*place as usize];
+    }
+    order.len()
+}

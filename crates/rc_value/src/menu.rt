@@ -1,0 +1,268 @@
+//! What a choice offers.
+ghost use Rattle.std.specs.Prelude.{◌≡◌, ◌+◌, ◌<◌, ◌≤◌, ◌++◌, ◌∷◌, [], length, map, take, if◌then◌else◌, All};
+ghost use Rattle.rc_model.specs.Numbers.{below};
+ghost use Rattle.rc_play_model.specs.Value.{card_bound, player_bound, group_bound, coll_value, groups_by};
+ghost use Rattle.rc_play_model.specs.Menu.{spots_of, from_each, alts_at, menu_of as pure_menu_of, menu_from as pure_menu_from};
+ghost use Rattle.rc_ast.specs.Expressions.{coll_seen};
+ghost use Rattle.rc_ast.specs.Items.{alt_seen, alts_seen};
+ghost use Rattle.rc_rules.specs.Menu.{item_seen, menu_seen};
+ghost use Rattle.rc_value.specs.Cards.{values_seen};
+ghost use Rattle.rc_value.specs.Scene.{scene_seen};
+ghost use Rattle.rc_value.specs.Depth.{coll_depth};
+ghost use Rattle.rc_value.specs.Binding.{BindsFew, alt_depth, domains_in};
+ghost use Rattle.rc_value.specs.AlikeMenus.{EqualAtAlike};
+ghost use Rattle.rc_value.specs.Menu.{extended};
+
+use crate::Cards;
+use crate::collection::Collection;
+use crate::expressions::{bare, coll_of, test_of};
+use crate::groups::{group_with, value_at, values_in};
+use crate::scene::Scene;
+use crate::scope::{Bind, Scope};
+use rc_ast::{Alt, CollExpr, Domain};
+use rc_play_model::alike_states_have_equal_menus;
+use rc_rules::{Item, Menu, Spots};
+
+// The same item once more.
+fn copy_of(item: &Item) -> Item
+    ensures { item_seen result ≡ item_seen item.now }
+{
+    let mut spots = Spots::new();
+    let _fits = spots.try_extend_from_slice(item.spots.as_slice());
+    Item {
+        alt: item.alt,
+        spots,
+    }
+}
+
+// The item with one more position.
+fn with_spot(item: &Item, spot: u16) -> Item
+    requires { length item.now.spots.items < 4 }
+    ensures { item_seen result ≡ extended (item_seen item.now) (spot ∷ []) }
+{
+    let mut next = copy_of(item);
+    next.spots.push(spot);
+    next
+}
+
+// Puts an item behind the others, where there is room.
+fn put(menu: &mut Menu, item: &Item)
+    ensures { menu_seen menu.new.items ≡ take 256 (menu_seen menu.old.items ++ extended (item_seen item.now) [] ∷ []) }
+{
+    if !menu.is_full() {
+        menu.push(copy_of(item));
+    }
+}
+
+// The same where it passes.
+fn put_if(menu: &mut Menu, item: &Item, passes: bool)
+    ensures { menu_seen menu.new.items ≡ take 256 (menu_seen menu.old.items ++ (if passes then extended (item_seen item.now) [] ∷ [] else [])) }
+{
+    let _count = menu.len();
+    if passes {
+        put(menu, item);
+    }
+}
+
+// The items that an alternative offers behind the positions that are bound so far.
+#[cycle(menu)]
+fn offer(scene: &Scene, scope: &Scope, alt: &Alt, item: &Item, menu: &mut Menu)
+    requires fits { length scope.now + alt_depth (alt_seen alt.now) ≤ 5 }
+    requires room { length item.now.spots.items + domains_in (alt_seen alt.now) ≤ 4 }
+    ensures { menu_seen menu.new.items ≡ take 256 (menu_seen menu.old.items
+        ++ map (extended (item_seen item.now)) (spots_of (scene_seen scene.now) scope.now (alt_seen alt.now))) }
+{
+    match alt {
+        Alt::Do(_) => put(menu, item),
+        Alt::If(guard, _) => put_if(menu, item, test_of(scene, scope, guard)),
+        Alt::Any(domain, _, inner) => match domain {
+            Domain::Players => offer_players(scene, scope, inner, item, menu),
+            Domain::Coll(cards) => match bare(&*scene, &*scope, cards) {
+                Some(cards) => offer_cards(scene, scope, &cards, inner, item, menu),
+                None => offer_built(scene, scope, inner, cards, item, menu),
+            },
+            Domain::Parts(cards, name) => offer_parts(
+                scene, scope, inner, cards, *name, item, menu,
+            ),
+        },
+    }
+}
+
+// The same with the cards of an expression that needs a list of its own.
+#[cycle(menu)]
+fn offer_built(
+    scene: &Scene,
+    scope: &Scope,
+    inner: &Alt,
+    cards: &CollExpr,
+    item: &Item,
+    menu: &mut Menu,
+)
+    requires domain { length scope.now + coll_depth (coll_seen cards.now) ≤ 5 }
+    requires fits { length scope.now + (1 + alt_depth (alt_seen inner.now)) ≤ 5 }
+    requires room { length item.now.spots.items + (1 + domains_in (alt_seen inner.now)) ≤ 4 }
+    ensures { menu_seen menu.new.items ≡ take 256 (menu_seen menu.old.items
+        ++ map (extended (item_seen item.now)) (from_each (λ m. spots_of (scene_seen scene.now) (scope.now ++ m ∷ []) (alt_seen inner.now)) 0
+        (map (λ c. card_bound c) (coll_value (scene_seen scene.now) scope.now (coll_seen cards.now))))) }
+{
+    let mut room = Cards::new();
+    coll_of(scene, scope, cards, &mut room);
+    offer_cards(
+        scene,
+        scope,
+        &Collection::built(room.as_slice()),
+        inner,
+        item,
+        menu,
+    );
+}
+
+#[cycle(menu)]
+fn offer_cards(
+    scene: &Scene,
+    scope: &Scope,
+    cards: &Collection,
+    inner: &Alt,
+    item: &Item,
+    menu: &mut Menu,
+)
+    requires fits { length scope.now + (1 + alt_depth (alt_seen inner.now)) ≤ 5 }
+    requires room { length item.now.spots.items + (1 + domains_in (alt_seen inner.now)) ≤ 4 }
+    ensures { menu_seen menu.new.items ≡ take 256 (menu_seen menu.old.items
+        ++ map (extended (item_seen item.now)) (from_each (λ m. spots_of (scene_seen scene.now) (scope.now ++ m ∷ []) (alt_seen inner.now)) 0
+        (map (λ c. card_bound c) cards.now))) }
+{
+    let _count = menu.len();
+    for place in 0..cards.len() {
+        if menu.is_full() {
+            return;
+        }
+        offer(
+            scene,
+            &scope.with(Bind::Card(cards.at(place))),
+            inner,
+            &with_spot(item, place as u16),
+            menu,
+        );
+    }
+}
+
+#[cycle(menu)]
+fn offer_players(scene: &Scene, scope: &Scope, inner: &Alt, item: &Item, menu: &mut Menu)
+    requires fits { length scope.now + (1 + alt_depth (alt_seen inner.now)) ≤ 5 }
+    requires room { length item.now.spots.items + (1 + domains_in (alt_seen inner.now)) ≤ 4 }
+    ensures { menu_seen menu.new.items ≡ take 256 (menu_seen menu.old.items
+        ++ map (extended (item_seen item.now)) (from_each (λ m. spots_of (scene_seen scene.now) (scope.now ++ m ∷ []) (alt_seen inner.now)) 0
+        (map (λ n. player_bound n) (below (scene_seen scene.now).known.sheet.players)))) }
+{
+    let _count = menu.len();
+    for player in 0..scene.sheet.players {
+        if menu.is_full() {
+            return;
+        }
+        offer(
+            scene,
+            &scope.with(Bind::Player(player)),
+            inner,
+            &with_spot(item, player as u16),
+            menu,
+        );
+    }
+}
+
+// The same with the groups of the cards.
+#[cycle(menu)]
+fn offer_parts(
+    scene: &Scene,
+    scope: &Scope,
+    inner: &Alt,
+    cards: &CollExpr,
+    name: u16,
+    item: &Item,
+    menu: &mut Menu,
+)
+    requires domain { length scope.now + coll_depth (coll_seen cards.now) ≤ 5 }
+    requires fits { length scope.now + (1 + alt_depth (alt_seen inner.now)) ≤ 5 }
+    requires room { length item.now.spots.items + (1 + domains_in (alt_seen inner.now)) ≤ 4 }
+    ensures { menu_seen menu.new.items ≡ take 256 (menu_seen menu.old.items
+        ++ map (extended (item_seen item.now)) (from_each (λ m. spots_of (scene_seen scene.now) (scope.now ++ m ∷ []) (alt_seen inner.now)) 0
+        (map (λ g. group_bound g) (groups_by (scene_seen scene.now) name (coll_value (scene_seen scene.now) scope.now (coll_seen cards.now)))))) }
+{
+    let _count = menu.len();
+    let mut room = Cards::new();
+    coll_of(scene, scope, cards, &mut room);
+    let all = Collection::built(room.as_slice());
+    let values = values_in(scene, &all, name);
+    for place in 0..values.len() {
+        if menu.is_full() {
+            return;
+        }
+        offer_group(
+            scene,
+            scope,
+            inner,
+            &group_with(scene, &all, name, value_at(&values, place)),
+            &with_spot(item, place as u16),
+            menu,
+        );
+    }
+}
+
+// The same with one group.
+#[cycle(menu)]
+fn offer_group(
+    scene: &Scene,
+    scope: &Scope,
+    inner: &Alt,
+    group: &Cards,
+    item: &Item,
+    menu: &mut Menu,
+)
+    requires fits { length scope.now + (1 + alt_depth (alt_seen inner.now)) ≤ 5 }
+    requires room { length item.now.spots.items + domains_in (alt_seen inner.now) ≤ 4 }
+    ensures { menu_seen menu.new.items ≡ take 256 (menu_seen menu.old.items
+        ++ map (extended (item_seen item.now)) (spots_of (scene_seen scene.now) (scope.now ++ group_bound (values_seen group.now.items) ∷ []) (alt_seen inner.now))) }
+{
+    offer(
+        scene,
+        &(&*scope).with(Bind::Group((&*group).as_slice())),
+        inner,
+        item,
+        menu,
+    );
+}
+
+/// The menu of a choice site with these alternatives: the first 256 items that they offer.
+///
+/// At states that are alike to the mover the menus are equal.
+pub fn menu_of(scene: &Scene, site: u8, alts: &[Alt]) -> Menu
+    requires site { alts_seen alts.now ≡ alts_at (scene_seen scene.now).known.sheet site }
+    ensures is { menu_seen result.items ≡ pure_menu_of (scene_seen scene.now) site }
+    ensures alike { EqualAtAlike scene.now site (menu_seen result.items) }
+{
+    alike_states_have_equal_menus();
+    menu_from(scene, alts)
+}
+
+// What alternatives offer.
+fn menu_from(scene: &Scene, alts: &[Alt]) -> Menu
+    requires few { All (BindsFew 0) (alts_seen alts.now) }
+    ensures { menu_seen result.items ≡ pure_menu_from (scene_seen scene.now) (alts_seen alts.now) }
+{
+    let mut menu = Menu::new();
+    let scope = Scope::empty();
+    for number in 0..alts.len() {
+        offer(scene, &scope, &alts[number], &first_item(number), &mut menu);
+    }
+    menu
+}
+
+// An alternative that binds nothing yet.
+fn first_item(alt: usize) -> Item
+    ensures { item_seen result ≡ record { alt = alt; spots = [] } }
+{
+    Item {
+        alt,
+        spots: Spots::new(),
+    }
+}
