@@ -9,7 +9,7 @@ ghost use Rattle.rc_table.specs.Laid.{relaid};
 
 use crate::shape::Shape;
 use crate::sight::have_same_face;
-use crate::table::Table;
+use crate::table::{LONGEST_LIST, Table};
 use rc_play_model::edits_keep_tables_sound;
 
 impl Table {
@@ -91,7 +91,7 @@ impl Table {
         ensures { self.new ≡ relaid self.old (reorder loc order.now self.old.table) }
     {
         edits_keep_tables_sound();
-        let mut list = [0; 512];
+        let mut list = [0; LONGEST_LIST];
         let count = reordered(self.list(loc), order, &mut list);
         self.lists.rewrite(loc, &list[..count]);
     }

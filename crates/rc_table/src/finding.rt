@@ -4,6 +4,7 @@ ghost use Rattle.std.specs.List.{list_any};
 ghost use Rattle.rc_play_model.specs.Shape.{holds_references};
 ghost use Rattle.rc_play_model.specs.Table.{list_at, index_in, loc_of, place_of, references, has_room};
 
+use crate::shape::{MOST_IN_MEM, MOST_REFERENCES};
 use crate::table::Table;
 
 // The first place of an id in a list, or the list's length.
@@ -45,6 +46,7 @@ impl Table {
         ensures is { result ≡ place_of self.now.shape self.now.table id }
         ensures there { result.1 < length (list_at self.now.table result.0) }
     {
+        // what is known of a sound table
         let _shape = self.shape();
         let loc = self.loc_of(id);
         (loc, position(self.list(loc), id) as u16)
@@ -76,6 +78,6 @@ impl Table {
     pub(crate) fn has_room(&self, loc: u16) -> bool
         ensures { result ≡ has_room self.now.shape loc self.now.table }
     {
-        self.list(loc).len() < 512 && self.references() < 1024
+        self.list(loc).len() < MOST_IN_MEM && self.references() < MOST_REFERENCES
     }
 }

@@ -10,6 +10,12 @@ use rc_deck::Face;
 use rc_names::LocKind;
 use std::marker::Model;
 
+/// The most references in one `mem`.
+pub(crate) const MOST_IN_MEM: usize = 512;
+
+/// The most references in all of them together.
+pub(crate) const MOST_REFERENCES: usize = 1024;
+
 /// How many players there are, each player's team, the locations in their order, how many numbers there are, and each card's
 /// face and first location.
 ///
@@ -149,6 +155,6 @@ impl Shape {
                 mems += 1;
             }
         }
-        (self.faces.len() + (512 * mems).min(1024)) as u16
+        (self.faces.len() + (MOST_IN_MEM * mems).min(MOST_REFERENCES)) as u16
     }
 }

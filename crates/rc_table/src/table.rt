@@ -14,6 +14,9 @@ use std::alloc::Global;
 use std::marker::Model;
 use std::sync::Arc;
 
+/// The most ids in one location.
+pub(crate) const LONGEST_LIST: usize = 512;
+
 /// Where the cards of a match are: the list of each location from bottom to top, and the numbers. Each table is sound, and
 /// knows the shape that it is laid for.
 #[derive(Drop)]
@@ -42,7 +45,8 @@ impl Table {
     {
         opening_tables_are_sound();
         let shape = Arc::try_clone(shape)?;
-        let _limits = shape.players();
+        // what a shape keeps
+        let _players = shape.players();
         let lists = homes(alloc, &shape)?;
         let numbers = vec![in alloc; 0; shape.numbers() as usize]?;
         Ok(Table {
