@@ -1,0 +1,6 @@
+pub mod Innermost
+pub mod Point
+pub mod Under
+pub mod Context
+pub mod Leads
+pub mod Bindings
