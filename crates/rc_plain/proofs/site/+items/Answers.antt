@@ -1,4 +1,4 @@
-use Rattle.std.proofs.Common.{◌≡◌, ℕ, ◌+◌, ◌≤◌, ap, sym, ◌∙◌, subst, ◌++◌, ◌∷◌, [], Some, arith, rules, length, take, ◌-◌}
+use Rattle.std.proofs.Common.{◌≡◌, ℕ, ◌+◌, ap, sym, ◌∙◌, subst, ◌++◌, ◌∷◌, [], Some, arith, rules, length}
 use Rattle.rc_play_model.specs.Menu.{alts_in_item}
 use Rattle.rc_play_model.specs.Path.{items_depth}
 use Rattle.rc_ast.specs.Items.{item_seen, items_seen}

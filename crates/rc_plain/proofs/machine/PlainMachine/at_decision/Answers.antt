@@ -1,6 +1,6 @@
-use Rattle.std.proofs.Common.{◌≡◌, ◌≤◌, List, ap, sym, ◌∙◌, arith}
+use Rattle.std.proofs.Common.{List, ap, sym, ◌∙◌, arith}
 use Rattle.std.specs.Prelude.{unwrap_or}
-use Rattle.rc_play_model.specs.Step.{Part, Config}
+use Rattle.rc_play_model.specs.Step.{Part}
 use Rattle.rc_play_model.specs.Decision.{left_at}
 use Rattle.rc_rules.specs.Control.{control_seen}
 use Rattle.rc_plain.specs.Plain.{Plain}

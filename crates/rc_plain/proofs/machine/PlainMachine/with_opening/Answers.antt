@@ -1,4 +1,4 @@
-use Rattle.std.proofs.Common.{◌≡◌, ap}
+use Rattle.std.proofs.Common.{ap}
 use Rattle.rc_table.specs.Laid.{Laid}
 use Rattle.rc_rules.specs.Control.{control_seen}
 use Rattle.rc_plain.proofs.MachineLemmas.{start_ready}

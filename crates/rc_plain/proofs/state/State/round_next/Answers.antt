@@ -1,10 +1,9 @@
-use Rattle.std.proofs.Common.{◌≡◌, ap, sym, ◌∙◌, ◌<◌, ◌≤◌, ◌+◌, length, subst, refl, arith}
-use Rattle.rc_sheet_model.specs.Sheet.{stage}
+use Rattle.std.proofs.Common.{ap, sym, ◌∙◌, ◌<◌, subst, refl, arith}
 use Rattle.rc_sheet_model.specs.WellFormed.{outside}
 use Rattle.rc_play_model.specs.Step.{Stage, goes, with_frames, one_turn_more}
 use Rattle.rc_play_model.specs.Path.{stage_in}
 use Rattle.rc_ast.specs.Expressions.{test_seen}
-use Rattle.rc_rules.specs.Control.{control_seen, frames_seen}
+use Rattle.rc_rules.specs.Control.{frames_seen}
 use Rattle.rc_plain.specs.Paths.{IsPath}
 use Rattle.rc_plain.specs.Plain.{config_of}
 use Rattle.rc_plain.specs.State.{plain_of}

@@ -1,10 +1,10 @@
-use Rattle.std.proofs.Common.{◌≡◌, ap, sym, ◌∙◌, ◌<◌, ◌≤◌, ◌+◌, length, map, subst, refl, arith}
+use Rattle.std.proofs.Common.{ap, sym, ◌∙◌, subst, arith}
 use Rattle.std.proofs.lemmas.List.{length-map}
 use Rattle.rc_sheet_model.specs.Sheet.{stage}
 use Rattle.rc_play_model.specs.Step.{Stage, goes, with_frames, opened}
-use Rattle.rc_play_model.specs.Path.{stage_in, item_depth}
+use Rattle.rc_play_model.specs.Path.{stage_in}
 use Rattle.rc_ast.specs.Expressions.{test_seen}
-use Rattle.rc_rules.specs.Control.{control_seen, frames_seen, frame_seen}
+use Rattle.rc_rules.specs.Control.{frames_seen, frame_seen}
 use Rattle.rc_plain.specs.Paths.{IsPath}
 use Rattle.rc_plain.specs.Plain.{config_of}
 use Rattle.rc_plain.specs.State.{plain_of}
