@@ -18,8 +18,8 @@ invariant_of-result c =
     record {
       laid = c.requires.laid;
       play = site_plays m site found.stands fits
-        (c.sites_fix_choices.ensures.left about.sheet site found.alts c.path_of-path.result c.sheet-sheet.ensures.well.numbered.sites found.here found.there)
-        (omega (arith, below));
+          (c.sites_fix_choices.ensures.left about.sheet site found.alts c.path_of-path.result c.sheet-sheet.ensures.well.numbered.sites found.here found.there)
+          (omega (arith, below));
     }
 
 pub returns-clause-at : goal.returns-clause-at

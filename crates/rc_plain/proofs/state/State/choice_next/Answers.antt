@@ -36,6 +36,6 @@ returns-then-is_empty-clause-ready c =
     record {
       laid = c.requires.ready.laid;
       play = goes_on m play c.pass.new.self m.table m.control still 0 0
-        (subst (IsPath c.args.about.now.sheet) (sym c.pass.ensures) (past_is_path m play)) play.turn play.counts
-        (returns-then-is_empty-clause-leads c still 0);
+          (subst (IsPath c.args.about.now.sheet) (sym c.pass.ensures) (past_is_path m play)) play.turn play.counts
+          (returns-then-is_empty-clause-leads c still 0);
     }

@@ -48,6 +48,6 @@ returns-clause-ready g c =
     record {
       laid = c.do_effects.ensures.shape;
       play = goes_on m play c.pass.new.self c.do_effects.new.table.table (with_frames m.control (frames_seen c.do_effects.new.frames.items))
-        (g.D.Dealer.dealing c.args.dealer.now) (g.D.Dealer.state c.args.dealer.now) (g.D.Dealer.state c.do_effects.new.dealer)
-        (subst (IsPath c.args.about.now.sheet) (sym c.pass.ensures) (past_is_path m play)) play.turn play.counts (returns-clause-leads g c);
+          (g.D.Dealer.dealing c.args.dealer.now) (g.D.Dealer.state c.args.dealer.now) (g.D.Dealer.state c.do_effects.new.dealer)
+          (subst (IsPath c.args.about.now.sheet) (sym c.pass.ensures) (past_is_path m play)) play.turn play.counts (returns-clause-leads g c);
     }

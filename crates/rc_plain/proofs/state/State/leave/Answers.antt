@@ -47,5 +47,5 @@ returns-clause-ready c =
     record {
       laid = c.requires.ready.laid;
       play = goes_on m play path m.table (with_frames m.control (frames_seen c.pass.new.frames.items)) still 0 0
-        back.0 play.turn play.counts (returns-clause-leads c still 0);
+          back.0 play.turn play.counts (returns-clause-leads c still 0);
     }

@@ -42,6 +42,6 @@ returns-clause-ready c =
     record {
       laid = c.requires.ready.laid;
       play = goes_on m play c.open-2.new.self m.table (with_frames m.control (frames_seen c.open.new.frames.items)) still 0 0
-        (subst (IsPath about.sheet) (sym c.open-2.ensures) (mark_is_path m play s (ap stage_in c.requires.here.1))) play.turn play.counts
-        (returns-clause-leads c still 0);
+          (subst (IsPath about.sheet) (sym c.open-2.ensures) (mark_is_path m play s (ap stage_in c.requires.here.1))) play.turn play.counts
+          (returns-clause-leads c still 0);
     }
