@@ -1,0 +1,5 @@
+pub mod Innermost
+pub mod Readings
+pub mod Rows
+pub mod Orders
+pub mod Steps

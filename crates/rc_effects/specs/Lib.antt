@@ -1,0 +1,5 @@
+pub mod Innermost
+pub mod Point
+pub mod Under
+pub mod Context
+pub mod Leads

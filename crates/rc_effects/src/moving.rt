@@ -1,0 +1,90 @@
+//! Cards that go somewhere else.
+ghost use Rattle.std.specs.Prelude.{◌≡◌, length, fold, All};
+ghost use Rattle.rc_sheet_model.specs.Sheet.{move, move_all as move_all_of};
+ghost use Rattle.rc_play_model.specs.Bound.{HoldsCards, IsCardOf};
+ghost use Rattle.rc_play_model.specs.Effects.{move_card};
+ghost use Rattle.rc_ast.specs.Names.{loc_seen};
+ghost use Rattle.rc_ast.specs.Expressions.{card_seen, coll_seen};
+ghost use Rattle.rc_ast.specs.Effects.{end_seen};
+ghost use Rattle.rc_table.specs.Laid.{relaid};
+ghost use Rattle.rc_value.specs.Cards.{value_seen, values_seen};
+ghost use Rattle.rc_effects.specs.Context.{Stands};
+ghost use Rattle.rc_effects.specs.Under.{IsEffectUnder};
+ghost use Rattle.rc_effects.specs.Leads.{LeadsTo};
+
+use crate::context::Context;
+use crate::reading::{card_now, cards_now, loc_now};
+use rc_ast::{CardExpr, CollExpr, End, Loc};
+use rc_rules::Frames;
+use rc_table::Table;
+use rc_value::{Card, Cards};
+
+/// Moves a card to an end of a location.
+pub fn move_one(
+    context: &Context,
+    card: &CardExpr,
+    end: End,
+    loc: &Loc,
+    table: &mut Table,
+    frames: &Frames,
+)
+    requires stands { Stands context.now table.old frames.now.items }
+    requires well { IsEffectUnder context.now.about.now.sheet context.now.scope.now (move (card_seen card.now) (end_seen end) (loc_seen loc.now)) }
+    ensures leads { LeadsTo context.now (move (card_seen card.now) (end_seen end) (loc_seen loc.now)) table.old frames.now.items table.new frames.now.items }
+    ensures stands { Stands context.now table.new frames.now.items }
+{
+    let Some(at) = loc_now(context, loc, &*table, frames) else {
+        return;
+    };
+    let Some(card) = card_now(context, card, &*table, frames) else {
+        return;
+    };
+    put(table, card, end, at);
+}
+
+/// Moves all cards of a collection, one after the other. Which cards they are is read before the first one moves.
+pub fn move_all(
+    context: &Context,
+    cards: &CollExpr,
+    end: End,
+    loc: &Loc,
+    table: &mut Table,
+    frames: &Frames,
+)
+    requires stands { Stands context.now table.old frames.now.items }
+    requires well { IsEffectUnder context.now.about.now.sheet context.now.scope.now (move_all_of (coll_seen cards.now) (end_seen end) (loc_seen loc.now)) }
+    ensures leads { LeadsTo context.now (move_all_of (coll_seen cards.now) (end_seen end) (loc_seen loc.now)) table.old frames.now.items table.new frames.now.items }
+    ensures stands { Stands context.now table.new frames.now.items }
+{
+    let Some(at) = loc_now(context, loc, &*table, frames) else {
+        return;
+    };
+    let mut room = Cards::new();
+    cards_now(context, cards, &*table, frames, &mut room);
+    put_all(table, room.as_slice(), end, at);
+}
+
+// Puts these cards there, the first one first.
+fn put_all(table: &mut Table, cards: &[Card], end: End, at: u16)
+    requires cards { All (λ card. IsCardOf table.old.shape (value_seen card)) cards.now }
+    requires holds { HoldsCards table.old.shape at }
+    ensures { table.new ≡ relaid table.old (fold (move_card table.old.shape (end_seen end) at) table.old.table (values_seen cards.now)) }
+{
+    for card in cards {
+        put(table, *card, end, at);
+    }
+}
+
+// Puts a card there. A reference stays where it is.
+fn put(table: &mut Table, card: Card, end: End, at: u16)
+    requires card { IsCardOf table.old.shape (value_seen card) }
+    requires holds { HoldsCards table.old.shape at }
+    ensures { table.new ≡ relaid table.old (move_card table.old.shape (end_seen end) at table.old.table (value_seen card)) }
+{
+    if let Card::Held(id) = card {
+        match end {
+            End::Top => table.put_top(id, at),
+            End::Bottom => table.put_bottom(id, at),
+        }
+    }
+}

@@ -1,0 +1,63 @@
+//! Locations that are shuffled.
+ghost use Rattle.std.specs.Prelude.{◌≡◌, ◌≤◌, ◌<◌, length};
+ghost use Rattle.rc_model.specs.Numbers.{below};
+ghost use Rattle.rc_sheet_model.specs.Sheet.{shuffle as shuffle_of};
+ghost use Rattle.rc_play_model.specs.Table.{list_at, reorder};
+ghost use Rattle.rc_play_model.specs.Effects.{does_one};
+ghost use Rattle.rc_ast.specs.Names.{loc_seen};
+ghost use Rattle.rc_table.specs.Laid.{relaid};
+ghost use Rattle.rc_effects.specs.Context.{Stands};
+ghost use Rattle.rc_effects.specs.Under.{IsEffectUnder};
+ghost use Rattle.rc_effects.specs.Point.{point_of};
+
+use crate::context::Context;
+use crate::reading::loc_now;
+use arrayvec::ArrayVec;
+use rc_ast::Loc;
+use rc_rules::{Dealer, Frames};
+use rc_table::Table;
+
+/// Shuffles a location.
+pub fn shuffle<D: Dealer>(
+    context: &Context,
+    loc: &Loc,
+    table: &mut Table,
+    frames: &Frames,
+    dealer: &mut D,
+)
+    requires stands { Stands context.now table.old frames.now.items }
+    requires well { IsEffectUnder context.now.about.now.sheet context.now.scope.now (shuffle_of (loc_seen loc.now)) }
+    ensures does { does_one context.now.about.now (D.dealing dealer.old) context.now.scope.now (shuffle_of (loc_seen loc.now))
+        (point_of table.old frames.now.items (D.state dealer.old)) ≡ point_of table.new frames.now.items (D.state dealer.new) }
+    ensures stands { Stands context.now table.new frames.now.items }
+    ensures dealing { D.dealing dealer.new ≡ D.dealing dealer.old }
+{
+    let Some(at) = loc_now(context, loc, &*table, frames) else {
+        return;
+    };
+    shuffle_at(table, at, dealer);
+}
+
+fn shuffle_at<D: Dealer>(table: &mut Table, at: u16, dealer: &mut D)
+    requires there { at < length table.old.shape.places }
+    ensures table { table.new ≡ relaid table.old (reorder at ((D.dealing dealer.old).order (D.state dealer.old) (length (list_at table.old.table at))) table.old.table) }
+    ensures next { D.state dealer.new ≡ (D.dealing dealer.old).next (D.state dealer.old) (length (list_at table.old.table at)) }
+    ensures dealing { D.dealing dealer.new ≡ D.dealing dealer.old }
+{
+    let mut order = places(table.list(at).len());
+    dealer.shuffle(order.as_mut_slice());
+    table.reorder(at, order.as_slice());
+}
+
+// The places of a list of so many items.
+#[tactic(auto, using(crate::proofs::Orders::below_more))]
+fn places(count: usize) -> ArrayVec<u16, 512>
+    requires few { count ≤ 512 }
+    ensures { result.items ≡ below count }
+{
+    let mut places = ArrayVec::new();
+    for place in 0..count {
+        places.push(place as u16);
+    }
+    places
+}
