@@ -15,9 +15,6 @@ use Rattle.rc_plain.proofs.StepCases.{moved, do_leads}
 use Rattle.rc_plain.proofs.PlayLemmas.{goes_on, past_is_path}
 use Rattle.rc_plain.proofs.state.State.do_next.Goals as goal
 
-pub do_effects-requires-clause-stand_in : goal.do_effects-requires-clause-stand_in
-do_effects-requires-clause-stand_in g c = ?
-
 pub do_effects-requires-clause-well : goal.do_effects-requires-clause-well
 do_effects-requires-clause-well g c =
     let sheet = c.args.about.now.sheet in
