@@ -3,3 +3,4 @@ pub mod Readings
 pub mod Rows
 pub mod Orders
 pub mod Steps
+pub mod MemberLemmas

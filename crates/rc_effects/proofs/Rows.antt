@@ -1,16 +1,19 @@
 -- Effects that hold others, and the effects of a vector from a place on.
 use Rattle.std.proofs.Common.{◌≡◌, ℕ, zero, suc, ◌<◌, List, [], ◌∷◌, length, get_or, Vec, Global, refl, sym, ap, ◌∙◌, subst, arith}
 use Rattle.rc_sheet_model.specs.Sheet.{when, repeat, for_each, Sheet}
-use Rattle.rc_sheet_model.specs.WellFormed.{Around, IsEffect, AreEffects}
+use Rattle.rc_sheet_model.specs.WellFormed.{Around, IsEffect, AreEffects, IsAlt, AreAlts}
 use Rattle.rc_ast.specs.declared.expressions.IntExpr.{IntExpr}
 use Rattle.rc_ast.specs.declared.expressions.Test.{Test}
 use Rattle.rc_ast.specs.declared.expressions.Domain.{Domain}
 use Rattle.rc_ast.specs.declared.effects.Effect.{Effect, If, Repeat, Each}
+use Rattle.rc_ast.specs.declared.items.Alt.{Alt}
+use Rattle.rc_ast.specs.Items.{alt_seen, alts_seen}
 use Rattle.rc_ast.specs.Expressions.{int_seen, test_seen, domain_seen}
 use Rattle.rc_ast.specs.Effects.{effect_seen, effects_seen}
 use Rattle.rc_ast.proofs.ViewLemmas.{if_seen, repeat_seen, each_seen}
 use Rattle.rc_play_model.specs.Scene.{Vars}
-use Rattle.rc_effects.specs.Under.{IsEffectUnder, AreEffectsUnder}
+use Rattle.rc_effects.specs.Under.{IsEffectUnder, AreEffectsUnder, IsAltUnder}
+use Rattle.rc_effects.specs.Bindings.{AreAltsOutside}
 
 pub is_if : (e : Effect) (t : Test) (es : Vec Effect Global) → e ≡ If t es → effect_seen e ≡ when (test_seen t) (effects_seen es.items)
 is_if e t es is = ap effect_seen is ∙ if_seen t es
@@ -33,3 +36,21 @@ module _ (sheet : Sheet) where
   pub effect_under : (vars : Vars) (es : List Effect) → AreEffectsUnder sheet vars (effects_seen es) → (i : ℕ) (e : Effect) → i < length es →
       e ≡ get_or es i e → IsEffectUnder sheet vars (effect_seen e)
   effect_under vars es are i e lt is = (are.0, are.1, are.2, each_effect are.0 es are.3 i e lt is)
+
+  each_alt : (around : Around) (alts : List Alt) → AreAlts sheet around (alts_seen alts) → (i : ℕ) (alt : Alt) → i < length alts → alt ≡ get_or alts i alt →
+      IsAlt sheet around (alt_seen alt)
+  each_alt around [] are i alt lt is = absurd (omega (arith, lt))
+  each_alt around (a ∷ alts) are zero alt lt is = subst (λ alt. IsAlt sheet around (alt_seen alt)) (sym is) are.0
+  each_alt around (a ∷ alts) are (suc i) alt lt is = each_alt around alts are.1 i alt (omega (arith, lt)) is
+
+  -- each of the alternatives outside all binders stands under no variable
+  pub alt_under : (alts : List Alt) → AreAltsOutside sheet (alts_seen alts) → (vars : Vars) → vars ≡ [] → (i : ℕ) (alt : Alt) → i < length alts →
+      alt ≡ get_or alts i alt → IsAltUnder sheet vars (alt_seen alt)
+  alt_under alts are vars none i alt lt is =
+      let outside = are.1 in
+      let long : length vars ≡ 0 = ap length none in (
+        are.0,
+        omega (arith, outside),
+        omega (arith, long),
+        each_alt are.0 alts are.2 i alt lt is,
+      )

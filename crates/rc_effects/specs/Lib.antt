@@ -3,3 +3,4 @@ pub mod Point
 pub mod Under
 pub mod Context
 pub mod Leads
+pub mod Bindings

@@ -2,8 +2,8 @@
 -- one without a binder.
 use Rattle.std.specs.Prelude.{ℕ, ◌+◌, ◌≤◌, List, length}
 use Rattle.rc_model.specs.Limits.{most_variables}
-use Rattle.rc_sheet_model.specs.Sheet.{CardExpr, CollExpr, IntExpr, Test, Effect, Effects, Alt, Sheet}
-use Rattle.rc_sheet_model.specs.WellFormed.{Around, IsCard, IsColl, IsInt, IsTest, IsEffect, AreEffects, IsAlt, AreAlts}
+use Rattle.rc_sheet_model.specs.Sheet.{CardExpr, CollExpr, IntExpr, Test, Domain, Effect, Effects, Alt, Sheet}
+use Rattle.rc_sheet_model.specs.WellFormed.{Around, IsCard, IsColl, IsInt, IsTest, IsDomain, IsEffect, AreEffects, IsAlt}
 use Rattle.rc_play_model.specs.Scene.{Vars}
 
 abbrev pub IsCardUnder : Sheet → Vars → CardExpr → Type 0
@@ -27,3 +27,8 @@ AreEffectsUnder sheet vars effects =
 
 abbrev pub IsAltUnder : Sheet → Vars → Alt → Type 0
 IsAltUnder sheet vars alt = (around : Around) × (around.binders ≤ most_variables) × (length vars ≤ around.binders + 1) × IsAlt sheet around alt
+
+-- a domain of an alternative
+abbrev pub IsDomainUnder : Sheet → Vars → Domain → Type 0
+IsDomainUnder sheet vars domain =
+    (around : Around) × (around.binders ≤ most_variables) × (length vars ≤ around.binders + 1) × IsDomain sheet around domain

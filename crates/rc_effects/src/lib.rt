@@ -6,6 +6,8 @@
 mod context;
 mod cycling;
 mod effects;
+mod items;
+mod members;
 mod moving;
 mod numbers;
 mod reading;
@@ -13,3 +15,4 @@ mod references;
 mod shuffling;
 
 pub use effects::do_effects;
+pub use items::do_item;
