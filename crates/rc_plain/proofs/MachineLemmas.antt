@@ -70,7 +70,7 @@ site_plays m site is fits left within =
     record {
       stands = is;
       frames = numbers_same m.about.sheet (around (config_of m).left) m.control.frames
-        (subst (λ parts. AllZip (IsFrameOf m.about.sheet) (around parts) m.control.frames) left fits.frames);
+          (subst (λ parts. AllZip (IsFrameOf m.about.sheet) (around parts) m.control.frames) left fits.frames);
       turn = within;
       counts = fits.counts;
     }
@@ -108,6 +108,7 @@ first_is_next m is i rest first = by_round m.path.at_round refl where
   by_item None here at = absurd (let e = sym (none_left m is here at) ∙ ap first_item first in cc)
   by_item (Some j) here at =
       at ∙ ap first_item (sym (left-item (item_list m.about.sheet.items) m.path j here at)) ∙ ap first_item first
+
   by_round : (b : Bool) → m.path.at_round ≡ b → (m.path.at_round ≡ false) × (item_at m.about.sheet m.path ≡ Some i)
   by_round true at =
       let s = is.at_stage at in

@@ -22,9 +22,12 @@ within_first items i outer s is = body-more items i outer ∙ ap (λ o. body_at 
 pub one_more : (items : List SheetItem) (outer : List ℕ) (n : ℕ) (s : Stage) → ArePlaces items outer → stage_at (body_at items outer) n ≡ Some s →
     ArePlaces items (outer ++ n ∷ [])
 one_more items [] n s are is = (s, is, tt)
-one_more items (i ∷ outer) n s are is =
-    (are.0, are.1, one_more (item_list (are.0).body) outer n s are.2
-    (ap (λ body. stage_at body n) (sym (within_first items i outer are.0 are.1)) ∙ is))
+one_more items (i ∷ outer) n s are is = (
+  are.0,
+  are.1,
+  one_more (item_list (are.0).body) outer n s are.2
+      (ap (λ body. stage_at body n) (sym (within_first items i outer are.0 are.1)) ∙ is),
+)
 
 pub all_but_last : (items : List SheetItem) (outer : List ℕ) (n : ℕ) → ArePlaces items (outer ++ n ∷ []) →
     ArePlaces items outer × (s : Stage) × (stage_at (body_at items outer) n ≡ Some s)
@@ -99,7 +102,7 @@ none_within (k ∷ outer) behind n i is = none_within outer _ n i is
 
 through : (sheet : Sheet) (k n : ℕ) (outer : List ℕ) (i : SheetItem) →
     ((around : Around) (body : SheetItems) (behind : List Part) → around.binders ≡ 0 → AreItems sheet around body →
-      slice_get (within (item_list body) outer behind).0 n ≡ Some i → IsOutside sheet i) →
+    slice_get (within (item_list body) outer behind).0 n ≡ Some i → IsOutside sheet i) →
     (around : Around) → around.binders ≡ 0 → (o : Option SheetItem) → ((j : SheetItem) → o ≡ Some j → IsItem sheet around j) → (behind : List Part) →
     slice_get (within (body_of (stage_in o)) outer behind).0 n ≡ Some i → IsOutside sheet i
 through sheet k n outer i rest around no_binder None are behind is = absurd (none_within outer behind n i is)

@@ -57,19 +57,25 @@ none_in_stage site number class end body x is none =
 
 pub found_here : (site other place i : ℕ) (alts : Vec Alt Global) (xs : List SheetItem) (x : SheetItem) (before after : List ℕ) → i < length xs → x ≡ get_or xs i x →
     place ≡ i → x ≡ Choice other alts → other ≡ site → after ≡ before → Finds (items_seen xs) site before after (Some place)
-found_here site other place i alts xs x before after lt is at choice_is that same =
-    ([], alts_seen alts.items, same ∙ sym (append-nil before), tt,
-    ap (slice_get (item_list (items_seen xs))) at ∙ tree_at xs i x lt is ∙ ap (λ y. Some (item_seen y)) choice_is
-    ∙ ap (λ k. Some (choice k (alts_seen alts.items))) that)
+found_here site other place i alts xs x before after lt is at choice_is that same = (
+  [],
+  alts_seen alts.items,
+  same ∙ sym (append-nil before),
+  tt,
+  ap (slice_get (item_list (items_seen xs))) at ∙ tree_at xs i x lt is ∙ ap (λ y. Some (item_seen y)) choice_is
+      ∙ ap (λ k. Some (choice k (alts_seen alts.items))) that,
+)
 
 found_below : (items body : SheetItems) (site place : ℕ) (before between after : List ℕ) (s : PureStage) (r : Option ℕ) → stage_at (item_list items) place ≡ Some s →
     s.body ≡ body → between ≡ before ++ place ∷ [] → is_some r ≡ true → Finds body site between after r → Finds items site before after r
 found_below items body site place before between after s None there same more some finds = absurd (true≢false (sym some))
-found_below items body site place before between after s (Some n) there same more some finds =
-    (place ∷ finds.0, finds.1,
-    finds.2 ∙ ap (λ xs. xs ++ finds.0) more ∙ append_assoc before (place ∷ []) finds.0,
-    (s, there, subst (λ b. ArePlaces (item_list b) finds.0) (sym same) finds.3),
-    ap (λ xs. slice_get xs n) (within_first (item_list items) place finds.0 s there ∙ ap (λ b. body_at (item_list b) finds.0) same) ∙ finds.4)
+found_below items body site place before between after s (Some n) there same more some finds = (
+  place ∷ finds.0,
+  finds.1,
+  finds.2 ∙ ap (λ xs. xs ++ finds.0) more ∙ append_assoc before (place ∷ []) finds.0,
+  (s, there, subst (λ b. ArePlaces (item_list b) finds.0) (sym same) finds.3),
+  ap (λ xs. slice_get xs n) (within_first (item_list items) place finds.0 s there ∙ ap (λ b. body_at (item_list b) finds.0) same) ∙ finds.4,
+)
 
 pub found_in_stage : (site place i number : ℕ) (class : Class) (end : Test) (body : Vec SheetItem Global) (xs : List SheetItem) (x : SheetItem) (before between after : List ℕ) (r : Option ℕ) →
     i < length xs → x ≡ get_or xs i x → place ≡ i → x ≡ Stage number class end body → between ≡ before ++ place ∷ [] → is_some r ≡ true →

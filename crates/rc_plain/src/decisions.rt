@@ -49,13 +49,7 @@ impl State {
     }
 
     /// Takes this item of the menu at the choice that is next, and does its effects.
-    fn choose<D: Dealer>(
-        &mut self,
-        about: &About,
-        alts: &[Alt],
-        item: &Item,
-        dealer: &mut D,
-    )
+    fn choose<D: Dealer>(&mut self, about: &About, alts: &[Alt], item: &Item, dealer: &mut D)
         requires ready { IsReady about.now self.old }
         requires here { (site : ℕ) × (item_at about.now.sheet self.old.path ≡ Some (choice site (alts_seen alts.now))) }
         requires fits { self.old.path.next + 1 < 2 ^ 64 }
@@ -68,11 +62,7 @@ impl State {
         ensures dealing { D.dealing dealer.new ≡ D.dealing dealer.old }
     {
         let _turns = about.turns();
-        let seat = current_in(
-            about.sheet(),
-            Class::Player,
-            self.control.frames.as_slice(),
-        );
+        let seat = current_in(about.sheet(), Class::Player, self.control.frames.as_slice());
         do_item(
             about,
             alts,

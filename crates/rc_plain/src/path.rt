@@ -106,7 +106,10 @@ impl Path {
         ensures is { option_map (λ item. item_seen item.now) result ≡ item_at about.now.sheet self.now }
         ensures fits { IsSome result → self.now.next + 1 < 2 ^ 64 }
     {
-        item_in(innermost(&about.sheet().items, self.outer.as_slice()), self.next)
+        item_in(
+            innermost(&about.sheet().items, self.outer.as_slice()),
+            self.next,
+        )
     }
 
     /// The class of the stage that is next.

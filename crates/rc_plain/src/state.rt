@@ -68,8 +68,8 @@ impl State {
         expressions_bind_few();
         let sheet = about.sheet();
         let scene = Scene::new(sheet, &self.table, self.control.frames.as_slice());
-        let none = Scope::empty();
-        int_of(&scene, &none.with(Bind::Player(player)), &sheet.score)
+        let empty = Scope::empty();
+        int_of(&scene, &empty.with(Bind::Player(player)), &sheet.score)
     }
 }
 

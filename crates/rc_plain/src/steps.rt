@@ -69,11 +69,7 @@ impl State {
         if self.control.turn >= about.turns() {
             return Some(Stop::Limit);
         }
-        let seat = current_in(
-            about.sheet(),
-            Class::Player,
-            self.control.frames.as_slice(),
-        );
+        let seat = current_in(about.sheet(), Class::Player, self.control.frames.as_slice());
         self.control.site = Some(site);
         Some(Stop::Decide { seat, site })
     }
@@ -156,7 +152,10 @@ impl State {
             }
             SheetItem::Choice { site, alts } => self.choice_next(about, *site, alts),
             SheetItem::Stage {
-                number, class, end, ..
+                number,
+                class,
+                end,
+                ..
             } => self.stage_next(about, *number, *class, end),
         }
     }

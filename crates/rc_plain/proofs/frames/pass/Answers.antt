@@ -1,4 +1,4 @@
-use Rattle.std.proofs.Common.{◌≡◌, ap, sym, ◌∙◌, ◌++◌, ◌∷◌, [], option_to_list}
+use Rattle.std.proofs.Common.{ap, sym, ◌∙◌, ◌++◌, ◌∷◌, [], option_to_list}
 use Rattle.rc_play_model.specs.Step.{passed}
 use Rattle.rc_rules.specs.Control.{frames_seen, frame_seen}
 use Rattle.rc_plain.proofs.FrameEnds.{passed-append, frames_seen-append}

@@ -1,4 +1,4 @@
-use Rattle.std.proofs.Common.{◌≡◌, ap, sym, ◌∙◌, drop, ◌+◌, get_or, map}
+use Rattle.std.proofs.Common.{ap, sym, ◌∙◌, drop, ◌+◌, get_or, map}
 use Rattle.std.proofs.lemmas.List.{drop_more}
 use Rattle.rc_ast.specs.Items.{item_seen}
 use Rattle.rc_play_model.specs.Path.{body_at}

@@ -1,4 +1,4 @@
-use Rattle.std.proofs.Common.{◌≡◌, ℕ, ◌+◌, ◌≤◌, ap, sym, ◌∙◌, subst, ◌++◌, ◌∷◌, [], Some, arith, rules, length, take, ◌-◌}
+use Rattle.std.proofs.Common.{◌≡◌, ℕ, ◌+◌, ap, sym, ◌∙◌, subst, ◌++◌, ◌∷◌, [], Some, arith, rules, length}
 use Rattle.rc_play_model.specs.Menu.{alts_in_item}
 use Rattle.rc_play_model.specs.Path.{items_depth}
 use Rattle.rc_ast.specs.Items.{item_seen, items_seen}
@@ -19,7 +19,7 @@ returns-then-other-site t c =
 pub find-found-requires : goal.find-found-requires
 find-found-requires t c =
     let deep = room_below c.in-Stage.number c.in-Stage.class c.in-Stage.end c.in-Stage.body c.deref-item-items.result.now c.loop-item.item-index c.item-item.result
-          c.loop-item-test.true c.item-item.is c.in-Stage.is in
+    c.loop-item-test.true c.item-item.is c.in-Stage.is in
     let whole = ap (λ xs. items_depth (items_seen xs)) c.deref-item-items.ensures.value in
     let room = c.requires.room in
     let same = ap length c.loop-item.invariant.same in
@@ -44,16 +44,18 @@ loop-item-preserved t c =
     let same = c.loop-item.invariant.same in
     let kept : (c.match-item.outer.items ≡ c.args.outer.now.items) × (alts_in_item site (item_seen x) ≡ []) =
     elim c.match-item.branch [
-      in-Do w ↦ (ap (λ (v : ArrayVec ℕ). v.items) w.outer-is ∙ same, ap (λ y. alts_in_item site (item_seen y)) w.in-Do.is)
-    | in-Choice+else-other-site w ↦
-        (ap (λ (v : ArrayVec ℕ). v.items) w.outer-is ∙ same,
-        other_choice site w.in-Choice.other w.in-Choice.alts x w.in-Choice.is w.if-other-site.false)
-    | in-Stage+else-is_some w ↦
-        let none = not_found (items_seen w.in-Stage.body.items) site w.push.new.self.items w.find-found.new.outer.items w.find-found.result
-        (sym w.is_some.ensures ∙ w.if-is_some.false) w.find-found.ensures in
-        (ap (λ (v : ArrayVec ℕ). v.items) w.outer-is ∙ w.pop.ensures.rest
-        ∙ but_last c.loop-item.outer.items w.find-found.new.outer.items c.loop-item.place (none.0 ∙ w.push.ensures.items) ∙ same,
-        none_in_stage site w.in-Stage.number w.in-Stage.class w.in-Stage.end w.in-Stage.body x w.in-Stage.is none.1)
+      | in-Do w ↦ (ap (λ (v : ArrayVec ℕ). v.items) w.outer-is ∙ same, ap (λ y. alts_in_item site (item_seen y)) w.in-Do.is)
+      | in-Choice+else-other-site w ↦ (
+        ap (λ (v : ArrayVec ℕ). v.items) w.outer-is ∙ same,
+        other_choice site w.in-Choice.other w.in-Choice.alts x w.in-Choice.is w.if-other-site.false,
+      )
+      | in-Stage+else-is_some w ↦
+          let none = not_found (items_seen w.in-Stage.body.items) site w.push.new.self.items w.find-found.new.outer.items w.find-found.result
+          (sym w.is_some.ensures ∙ w.if-is_some.false) w.find-found.ensures in (
+            ap (λ (v : ArrayVec ℕ). v.items) w.outer-is ∙ w.pop.ensures.rest
+                ∙ but_last c.loop-item.outer.items w.find-found.new.outer.items c.loop-item.place (none.0 ∙ w.push.ensures.items) ∙ same,
+            none_in_stage site w.in-Stage.number w.in-Stage.class w.in-Stage.end w.in-Stage.body x w.in-Stage.is none.1,
+          )
     ] in
     record {
       same = kept.0;

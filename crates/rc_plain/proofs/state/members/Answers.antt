@@ -1,4 +1,4 @@
-use Rattle.std.proofs.Common.{◌≡◌, ap, ◌∙◌, ◌<◌, ◌≤◌, arith, rules}
+use Rattle.std.proofs.Common.{ap, ◌∙◌, ◌<◌, arith, rules}
 use Rattle.rc_sheet_model.specs.WellFormed.{owner_count}
 use Rattle.rc_plain.proofs.OwnerLemmas.{few_owners}
 use Rattle.rc_plain.proofs.state.members.Goals as goal

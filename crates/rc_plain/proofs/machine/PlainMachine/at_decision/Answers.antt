@@ -1,6 +1,6 @@
-use Rattle.std.proofs.Common.{◌≡◌, ◌≤◌, List, ap, sym, ◌∙◌, arith}
+use Rattle.std.proofs.Common.{List, ap, sym, ◌∙◌, arith}
 use Rattle.std.specs.Prelude.{unwrap_or}
-use Rattle.rc_play_model.specs.Step.{Part, Config}
+use Rattle.rc_play_model.specs.Step.{Part}
 use Rattle.rc_play_model.specs.Decision.{left_at}
 use Rattle.rc_rules.specs.Control.{control_seen}
 use Rattle.rc_plain.specs.Plain.{Plain}
@@ -18,8 +18,8 @@ invariant_of-result c =
     record {
       laid = c.requires.laid;
       play = site_plays m site found.stands fits
-        (c.sites_fix_choices.ensures.left about.sheet site found.alts c.path_of-path.result c.sheet-sheet.ensures.well.numbered.sites found.here found.there)
-        (omega (arith, below));
+          (c.sites_fix_choices.ensures.left about.sheet site found.alts c.path_of-path.result c.sheet-sheet.ensures.well.numbered.sites found.here found.there)
+          (omega (arith, below));
     }
 
 pub returns-clause-at : goal.returns-clause-at

@@ -1,4 +1,4 @@
-use Rattle.std.proofs.Common.{◌≡◌, ap, ◌∙◌}
+use Rattle.std.proofs.Common.{ap, ◌∙◌}
 use Rattle.rc_rules.specs.Machine.{menu_here}
 use Rattle.rc_plain.specs.Plain.{Plain, config_of}
 use Rattle.rc_plain.proofs.machine.PlainMachineMachine.menu.Goals as goal

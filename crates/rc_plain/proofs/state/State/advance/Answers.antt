@@ -23,9 +23,9 @@ loop-stop-preserved g c =
       ready = c.step.ensures.ready;
       dealing = c.step.ensures.dealing ∙ c.loop-stop.invariant.dealing;
       stop = c.loop-stop.invariant.stop
-        ∙ step_keeps about (g.D.Dealer.dealing c.loop-stop.dealer) (g.D.Dealer.state c.loop-stop.dealer) k (config_at about c.loop-stop.self) after
+          ∙ step_keeps about (g.D.Dealer.dealing c.loop-stop.dealer) (g.D.Dealer.state c.loop-stop.dealer) k (config_at about c.loop-stop.self) after
           (c.step.ensures.leads ∙ ap (λ r. next_seen r after k) c.in-None.is)
-        ∙ ap (λ dealing. stop_of about dealing k after) (sym c.step.ensures.dealing);
+          ∙ ap (λ dealing. stop_of about dealing k after) (sym c.step.ensures.dealing);
     }
 
 pub returns-in-Some-clause-leads : goal.returns-in-Some-clause-leads

@@ -9,7 +9,7 @@ invariant-loop-stop g l =
       ready : IsReady l.about l.self;
       dealing : g.D.Dealer.dealing l.dealer ≡ g.D.Dealer.dealing l.initial.dealer;
       stop : stop_of l.about (g.D.Dealer.dealing l.initial.dealer) (g.D.Dealer.state l.initial.dealer) (config_at l.about l.initial.self)
-        ≡ stop_of l.about (g.D.Dealer.dealing l.dealer) (g.D.Dealer.state l.dealer) (config_at l.about l.self);
+          ≡ stop_of l.about (g.D.Dealer.dealing l.dealer) (g.D.Dealer.state l.dealer) (config_at l.about l.self);
     }
 
 abbrev pub decreases-loop-stop : goal.decreases-loop-stop

@@ -34,11 +34,12 @@ choose-requires-clause-offered g c =
     let same = ap (λ o. alts_at about.sheet (unwrap_or o 0)) decision.2.decision.stands ∙ at.same ∙ sym (c.alts-alts.ensures.alts decision.1 at.alts at.there) in
     let menu = c.menu_here-menu.ensures ∙ ap (menu_from (scene_at about m.table m.control.frames)) same in
     let within = offered_here c.menu_here-menu.result.items (menu_from (scene_at about m.table m.control.frames) alts) c.args.item menu
-          (subst (λ (xs : List Item). c.args.item < length xs) (sym c.menu_here-menu.ensures ∙ menu) c.requires.offered) in
-    (c.args.item,
-    chosen_here c.menu_here-menu.result.items c.index-as_slice-item.result (menu_from (scene_at about m.table m.control.frames) alts) c.args.item
-    (record { alt = 0; spots = [] }) menu within
-    (c.index-as_slice-item.is ∙ ap (λ xs. get_or xs c.args.item c.index-as_slice-item.result) c.as_slice.ensures.value))
+    (subst (λ (xs : List Item). c.args.item < length xs) (sym c.menu_here-menu.ensures ∙ menu) c.requires.offered) in (
+      c.args.item,
+      chosen_here c.menu_here-menu.result.items c.index-as_slice-item.result (menu_from (scene_at about m.table m.control.frames) alts) c.args.item
+          (record { alt = 0; spots = [] }) menu within
+          (c.index-as_slice-item.is ∙ ap (λ xs. get_or xs c.args.item c.index-as_slice-item.result) c.as_slice.ensures.value),
+    )
 
 pub returns-clause-leads : goal.returns-clause-leads
 returns-clause-leads g c =
@@ -50,7 +51,7 @@ returns-clause-leads g c =
     let same = ap (λ o. alts_at about.sheet (unwrap_or o 0)) decision.2.decision.stands ∙ at.same ∙ sym (c.alts-alts.ensures.alts decision.1 at.alts at.there) in
     let menu = c.menu_here-menu.ensures ∙ ap (menu_from (scene_at about m.table m.control.frames)) same in
     let within = offered_here c.menu_here-menu.result.items (menu_from (scene_at about m.table m.control.frames) alts) c.args.item menu
-          (subst (λ (xs : List Item). c.args.item < length xs) (sym c.menu_here-menu.ensures ∙ menu) c.requires.offered) in
+    (subst (λ (xs : List Item). c.args.item < length xs) (sym c.menu_here-menu.ensures ∙ menu) c.requires.offered) in
     c.choose.ensures.leads c.args.item
     (chosen_here c.menu_here-menu.result.items c.index-as_slice-item.result (menu_from (scene_at about m.table m.control.frames) alts) c.args.item
     (record { alt = 0; spots = [] }) menu within

@@ -1,13 +1,11 @@
-use Rattle.std.proofs.Common.{◌≡◌, ℕ, ap, sym, ◌∙◌, ◌<◌, length, map, subst, refl, [], arith, true, false}
+use Rattle.std.proofs.Common.{ap, sym, ◌∙◌, length, subst}
 use Rattle.std.proofs.lemmas.Bool.{eqb-true}
 use Rattle.std.proofs.lemmas.List.{length-map}
-use Rattle.rc_sheet_model.specs.Sheet.{choice}
 use Rattle.rc_play_model.specs.Menu.{menu_from}
 use Rattle.rc_play_model.specs.About.{scene_at}
 use Rattle.rc_play_model.specs.Step.{goes}
 use Rattle.rc_play_model.specs.Path.{stage_in}
 use Rattle.rc_ast.specs.Items.{alts_seen}
-use Rattle.rc_rules.specs.Control.{control_seen, frames_seen}
 use Rattle.rc_rules.specs.Menu.{item_seen}
 use Rattle.rc_plain.specs.Paths.{IsPath}
 use Rattle.rc_plain.specs.Plain.{config_of}
@@ -38,6 +36,6 @@ returns-then-is_empty-clause-ready c =
     record {
       laid = c.requires.ready.laid;
       play = goes_on m play c.pass.new.self m.table m.control still 0 0
-        (subst (IsPath c.args.about.now.sheet) (sym c.pass.ensures) (past_is_path m play)) play.turn play.counts
-        (returns-then-is_empty-clause-leads c still 0);
+          (subst (IsPath c.args.about.now.sheet) (sym c.pass.ensures) (past_is_path m play)) play.turn play.counts
+          (returns-then-is_empty-clause-leads c still 0);
     }

@@ -41,7 +41,7 @@ returns-clause-leads g c =
     let after = point_of c.do_item.new.table c.do_item.new.frames.items (g.D.Dealer.state c.do_item.new.dealer) in
     let scene = scene_at about m.table m.control.frames in
     let moves = c.current_in-seat.ensures ∙ ap (λ sheet. mover sheet (frames_seen c.as_slice.result.now)) c.sheet.ensures.same
-          ∙ ap (λ frames. mover about.sheet (frames_seen frames)) c.as_slice.ensures.value in
+    ∙ ap (λ frames. mover about.sheet (frames_seen frames)) c.as_slice.ensures.value in
     λ x chosen.
     choose_leads m dealing k x c.requires.here.0 seat alts after
     (not_round about.sheet m.path c.requires.ready.play.stands (ap stage_in c.requires.here.1)) c.requires.here.1
@@ -60,10 +60,10 @@ returns-clause-ready g c =
     record {
       laid = c.do_item.ensures.shape;
       play = goes_on_behind m play c.pass.new.self c.do_item.new.table.table (control_seen c.count_decision.new.control)
-        (g.D.Dealer.dealing c.args.dealer.now) c.requires.offered.0 (g.D.Dealer.state c.args.dealer.now) (g.D.Dealer.state c.do_item.new.dealer)
-        (subst (IsPath about.sheet) (sym c.pass.ensures) (past_is_path m play))
-        (subst (λ (control : Control). control.turn ≤ about.turns) (sym c.count_decision.ensures) (omega (arith, below)))
-        (subst (λ (control : Control). All (λ n. n ≤ control.turn) control.made) (sym c.count_decision.ensures)
-        (one_decision_counts m.control.turn seat m.control.made play.counts))
-        (returns-clause-leads g c c.requires.offered.0 c.requires.offered.1);
+          (g.D.Dealer.dealing c.args.dealer.now) c.requires.offered.0 (g.D.Dealer.state c.args.dealer.now) (g.D.Dealer.state c.do_item.new.dealer)
+          (subst (IsPath about.sheet) (sym c.pass.ensures) (past_is_path m play))
+          (subst (λ (control : Control). control.turn ≤ about.turns) (sym c.count_decision.ensures) (omega (arith, below)))
+          (subst (λ (control : Control). All (λ n. n ≤ control.turn) control.made) (sym c.count_decision.ensures)
+          (one_decision_counts m.control.turn seat m.control.made play.counts))
+          (returns-clause-leads g c c.requires.offered.0 c.requires.offered.1);
     }

@@ -1,7 +1,7 @@
-use Rattle.std.proofs.Common.{◌≡◌, ap, sym, ◌∙◌, ◌<◌, ◌≤◌, subst, refl}
+use Rattle.std.proofs.Common.{ap, ◌∙◌, ◌<◌, ◌≤◌, subst}
 use Rattle.rc_play_model.specs.Owners.{mover}
 use Rattle.rc_play_model.specs.Path.{stage_in}
-use Rattle.rc_rules.specs.Control.{control_seen, frames_seen}
+use Rattle.rc_rules.specs.Control.{frames_seen}
 use Rattle.rc_plain.specs.State.{plain_of}
 use Rattle.rc_plain.proofs.PathLemmas.{not_round}
 use Rattle.rc_plain.proofs.StepCases.{full_leads, decide_leads}

@@ -15,9 +15,6 @@ use Rattle.rc_plain.proofs.StepCases.{moved, do_leads}
 use Rattle.rc_plain.proofs.PlayLemmas.{goes_on, past_is_path}
 use Rattle.rc_plain.proofs.state.State.do_next.Goals as goal
 
-pub do_effects-requires-clause-stand_in : goal.do_effects-requires-clause-stand_in
-do_effects-requires-clause-stand_in g c = ?
-
 pub do_effects-requires-clause-well : goal.do_effects-requires-clause-well
 do_effects-requires-clause-well g c =
     let sheet = c.args.about.now.sheet in
@@ -48,6 +45,6 @@ returns-clause-ready g c =
     record {
       laid = c.do_effects.ensures.shape;
       play = goes_on m play c.pass.new.self c.do_effects.new.table.table (with_frames m.control (frames_seen c.do_effects.new.frames.items))
-        (g.D.Dealer.dealing c.args.dealer.now) (g.D.Dealer.state c.args.dealer.now) (g.D.Dealer.state c.do_effects.new.dealer)
-        (subst (IsPath c.args.about.now.sheet) (sym c.pass.ensures) (past_is_path m play)) play.turn play.counts (returns-clause-leads g c);
+          (g.D.Dealer.dealing c.args.dealer.now) (g.D.Dealer.state c.args.dealer.now) (g.D.Dealer.state c.do_effects.new.dealer)
+          (subst (IsPath c.args.about.now.sheet) (sym c.pass.ensures) (past_is_path m play)) play.turn play.counts (returns-clause-leads g c);
     }

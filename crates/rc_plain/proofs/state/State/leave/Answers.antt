@@ -1,14 +1,13 @@
-use Rattle.std.proofs.Common.{◌≡◌, ap, sym, ◌∙◌, ◌<◌, ◌≤◌, length, subst, refl, true, false}
+use Rattle.std.proofs.Common.{ap, sym, ◌∙◌, subst}
 use Rattle.rc_sheet_model.specs.Lists.{item_list}
 use Rattle.rc_sheet_model.specs.WellFormed.{owner_count}
-use Rattle.rc_play_model.specs.Step.{Stage, goes, with_frames, passed}
+use Rattle.rc_play_model.specs.Step.{with_frames, passed}
 use Rattle.rc_play_model.specs.Path.{stage_in, body_at}
-use Rattle.rc_rules.specs.Control.{control_seen, frames_seen}
-use Rattle.rc_plain.specs.Paths.{IsPath, Leaves}
-use Rattle.rc_plain.specs.Plain.{config_of}
+use Rattle.rc_rules.specs.Control.{frames_seen}
+use Rattle.rc_plain.specs.Paths.{Leaves}
 use Rattle.rc_plain.specs.State.{plain_of}
 use Rattle.rc_plain.proofs.PathLemmas.{not_round, past_end}
-use Rattle.rc_plain.proofs.StepCases.{moved, end_leads, turn_leads}
+use Rattle.rc_plain.proofs.StepCases.{end_leads, turn_leads}
 use Rattle.rc_plain.proofs.PlayLemmas.{goes_on, left_stage, still}
 use Rattle.rc_plain.proofs.state.State.leave.Goals as goal
 
@@ -48,5 +47,5 @@ returns-clause-ready c =
     record {
       laid = c.requires.ready.laid;
       play = goes_on m play path m.table (with_frames m.control (frames_seen c.pass.new.frames.items)) still 0 0
-        back.0 play.turn play.counts (returns-clause-leads c still 0);
+          back.0 play.turn play.counts (returns-clause-leads c still 0);
     }

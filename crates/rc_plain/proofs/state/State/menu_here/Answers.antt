@@ -1,8 +1,5 @@
-use Rattle.std.proofs.Common.{◌≡◌, ap, sym, ◌∙◌, subst, Some, None}
-use Rattle.std.specs.Prelude.{unwrap_or}
+use Rattle.std.proofs.Common.{ap, sym, ◌∙◌}
 use Rattle.rc_play_model.specs.Menu.{alts_at}
-use Rattle.rc_play_model.specs.About.{menu_at}
-use Rattle.rc_rules.specs.Control.{control_seen}
 use Rattle.rc_plain.specs.State.{plain_of}
 use Rattle.rc_plain.proofs.MachineLemmas.{at_decision, same_site}
 use Rattle.rc_plain.proofs.state.State.menu_here.Goals as goal

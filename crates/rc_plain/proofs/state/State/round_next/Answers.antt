@@ -1,10 +1,9 @@
-use Rattle.std.proofs.Common.{◌≡◌, ap, sym, ◌∙◌, ◌<◌, ◌≤◌, ◌+◌, length, subst, refl, arith}
-use Rattle.rc_sheet_model.specs.Sheet.{stage}
+use Rattle.std.proofs.Common.{ap, sym, ◌∙◌, ◌<◌, subst, refl, arith}
 use Rattle.rc_sheet_model.specs.WellFormed.{outside}
 use Rattle.rc_play_model.specs.Step.{Stage, goes, with_frames, one_turn_more}
 use Rattle.rc_play_model.specs.Path.{stage_in}
 use Rattle.rc_ast.specs.Expressions.{test_seen}
-use Rattle.rc_rules.specs.Control.{control_seen, frames_seen}
+use Rattle.rc_rules.specs.Control.{frames_seen}
 use Rattle.rc_plain.specs.Paths.{IsPath}
 use Rattle.rc_plain.specs.Plain.{config_of}
 use Rattle.rc_plain.specs.State.{plain_of}
@@ -32,9 +31,9 @@ returns-then-ends-clause-ready c =
     record {
       laid = c.requires.ready.laid;
       play = goes_on m play c.pass.new.self m.table (with_frames m.control frames) still 0 0
-        (subst (IsPath about.sheet) (sym c.pass.ensures) (past_is_path m play)) play.turn play.counts
-        (close_leads m still 0 s frames c.requires.round (ap stage_in here.3) (sym c.ends.ensures ∙ c.if-ends.true) (sym c.close.ensures)
-        ∙ ap (λ path. goes 0 (config_of (moved m path m.table (with_frames m.control frames)))) (sym c.pass.ensures));
+          (subst (IsPath about.sheet) (sym c.pass.ensures) (past_is_path m play)) play.turn play.counts
+          (close_leads m still 0 s frames c.requires.round (ap stage_in here.3) (sym c.ends.ensures ∙ c.if-ends.true) (sym c.close.ensures)
+          ∙ ap (λ path. goes 0 (config_of (moved m path m.table (with_frames m.control frames)))) (sym c.pass.ensures));
     }
 
 pub enter-requires : goal.enter-requires
@@ -63,6 +62,6 @@ returns-clause-ready c =
     record {
       laid = c.requires.ready.laid;
       play = goes_on m play c.enter.new.self m.table (one_turn_more m.control) still 0 0
-        (subst (IsPath about.sheet) (sym c.enter.ensures) (into_is_path m play s (ap stage_in here.3)))
-        (omega (arith, below)) (one_turn_counts m.control.turn m.control.made play.counts) (returns-clause-leads c still 0);
+          (subst (IsPath about.sheet) (sym c.enter.ensures) (into_is_path m play s (ap stage_in here.3)))
+          (omega (arith, below)) (one_turn_counts m.control.turn m.control.made play.counts) (returns-clause-leads c still 0);
     }

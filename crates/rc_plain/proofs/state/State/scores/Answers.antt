@@ -1,4 +1,4 @@
-use Rattle.std.proofs.Common.{◌≡◌, ap, sym, ◌∙◌, ◌<◌, ◌++◌, ◌∷◌, [], length, map, rules, SFits, w64, arith}
+use Rattle.std.proofs.Common.{ap, sym, ◌∙◌, ◌++◌, ◌∷◌, [], length, map, rules, SFits, w64, arith}
 use Rattle.std.proofs.lemmas.Int.{to_z-of_z}
 use Rattle.rc_model.specs.Numbers.{below}
 use Rattle.rc_sheet_model.specs.Sheet.{Sheet}

@@ -1,10 +1,10 @@
-use Rattle.std.proofs.Common.{◌≡◌, ap, sym, ◌∙◌, ◌<◌, ◌≤◌, ◌+◌, length, map, subst, refl, arith}
+use Rattle.std.proofs.Common.{ap, sym, ◌∙◌, subst, arith}
 use Rattle.std.proofs.lemmas.List.{length-map}
 use Rattle.rc_sheet_model.specs.Sheet.{stage}
 use Rattle.rc_play_model.specs.Step.{Stage, goes, with_frames, opened}
-use Rattle.rc_play_model.specs.Path.{stage_in, item_depth}
+use Rattle.rc_play_model.specs.Path.{stage_in}
 use Rattle.rc_ast.specs.Expressions.{test_seen}
-use Rattle.rc_rules.specs.Control.{control_seen, frames_seen, frame_seen}
+use Rattle.rc_rules.specs.Control.{frames_seen, frame_seen}
 use Rattle.rc_plain.specs.Paths.{IsPath}
 use Rattle.rc_plain.specs.Plain.{config_of}
 use Rattle.rc_plain.specs.State.{plain_of}
@@ -42,6 +42,6 @@ returns-clause-ready c =
     record {
       laid = c.requires.ready.laid;
       play = goes_on m play c.open-2.new.self m.table (with_frames m.control (frames_seen c.open.new.frames.items)) still 0 0
-        (subst (IsPath about.sheet) (sym c.open-2.ensures) (mark_is_path m play s (ap stage_in c.requires.here.1))) play.turn play.counts
-        (returns-clause-leads c still 0);
+          (subst (IsPath about.sheet) (sym c.open-2.ensures) (mark_is_path m play s (ap stage_in c.requires.here.1))) play.turn play.counts
+          (returns-clause-leads c still 0);
     }
