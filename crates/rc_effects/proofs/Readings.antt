@@ -1,5 +1,5 @@
 -- What expressions stand for in a sound table: cards of the shape, numbers within the clamp, and locations that are there.
-use Rattle.std.proofs.Common.{◌≡◌, ℕ, List, [], ◌∷◌, map, slice_get, true, false, Option, Some, None, IfSome, refl, sym, ap, ◌∙◌, subst}
+use Rattle.std.proofs.Common.{◌≡◌, ℕ, List, [], ◌∷◌, map, slice_get, true, false, Option, Some, None, IfSome, sym, ap, ◌∙◌, subst}
 use Rattle.std.specs.Prelude.{option_map, All}
 use Rattle.std.specs.List.{AllByRecursion}
 use Rattle.std.proofs.lemmas.List.Elements.{recursion_from_All, All-from_recursion}

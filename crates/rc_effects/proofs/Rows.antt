@@ -1,5 +1,5 @@
 -- Effects that hold others, and the effects of a vector from a place on.
-use Rattle.std.proofs.Common.{◌≡◌, ℕ, zero, suc, ◌<◌, List, [], ◌∷◌, length, get_or, Vec, Global, refl, sym, ap, ◌∙◌, subst, arith}
+use Rattle.std.proofs.Common.{◌≡◌, ℕ, zero, suc, ◌<◌, List, [], ◌∷◌, length, get_or, Vec, Global, sym, ap, ◌∙◌, subst, arith}
 use Rattle.rc_sheet_model.specs.Sheet.{when, repeat, for_each, Sheet}
 use Rattle.rc_sheet_model.specs.WellFormed.{Around, IsEffect, AreEffects, IsAlt, AreAlts}
 use Rattle.rc_ast.specs.declared.expressions.IntExpr.{IntExpr}

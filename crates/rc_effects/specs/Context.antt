@@ -1,8 +1,8 @@
 -- What effects are done under, and what they start from.
-use Rattle.std.specs.Prelude.{◌≡◌, ℕ, List, All}
-use Rattle.rc_play_model.specs.About.{About, scene_at}
+use Rattle.std.specs.Prelude.{◌≡◌, List, All}
+use Rattle.rc_play_model.specs.About.{scene_at}
 use Rattle.rc_play_model.specs.Value.{Scene}
-use Rattle.rc_play_model.specs.Scene.{CardValue, Vars}
+use Rattle.rc_play_model.specs.Scene.{CardValue}
 use Rattle.rc_play_model.specs.Bound.{IsBindOf}
 use Rattle.rc_table.specs.Laid.{Laid}
 use Rattle.rc_rules.specs.declared.control.Frame.{Frame}

@@ -154,11 +154,13 @@ fn repeat<D: Dealer>(
     }
 }
 
+const MOST_REPEATS: i64 = 1000;
+
 // How often effects are repeated, by a count.
 fn times_of(count: i64) -> u16
     ensures { result ≡ times_in count }
 {
-    count.clamp(0, 1000) as u16
+    count.clamp(0, MOST_REPEATS) as u16
 }
 
 #[cycle(effects)]

@@ -68,13 +68,7 @@ fn player_at(context: &Context, spot: u16) -> Member
     }
 }
 
-fn card_at(
-    context: &Context,
-    cards: &CollExpr,
-    spot: u16,
-    table: &Table,
-    frames: &Frames,
-) -> Member
+fn card_at(context: &Context, cards: &CollExpr, spot: u16, table: &Table, frames: &Frames) -> Member
     requires stands { Stands context.now table.now frames.now.items }
     requires well { IsCollUnder context.now.about.now.sheet context.now.scope.now (coll_seen cards.now) }
     ensures { member_seen result ≡ slice_index_or

@@ -1,4 +1,4 @@
-use Rattle.std.proofs.Common.{◌≡◌, ◌<◌, rules, length, slice_index_or, sym, ap, ◌∙◌}
+use Rattle.std.proofs.Common.{◌≡◌, ◌<◌, rules, length, slice_index_or, ap, ◌∙◌}
 use Rattle.rc_value.specs.Cards.{values_seen}
 use Rattle.rc_effects.proofs.MemberLemmas.{card_there}
 use Rattle.rc_effects.proofs.members.card_at.Goals as goal

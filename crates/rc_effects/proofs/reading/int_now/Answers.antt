@@ -1,6 +1,5 @@
 use Rattle.std.proofs.Common.{◌≡◌, sym, subst, arith, w64, to_z, of_z}
 use Rattle.std.proofs.lemmas.Grind.{common_steps}
-use Rattle.std.specs.Prelude.{All}
 use Rattle.rc_model.specs.Clamp.{IsWithinClamp}
 use Rattle.rc_play_model.specs.Value.{int_value}
 use Rattle.rc_ast.specs.Expressions.{int_seen}
