@@ -21,9 +21,6 @@ use Rattle.rc_plain.proofs.StepCases.{moved, choose_leads}
 use Rattle.rc_plain.proofs.PlayLemmas.{goes_on_behind, past_is_path, one_decision_counts}
 use Rattle.rc_plain.proofs.state.State.choose.Goals as goal
 
-pub do_item-requires-clause-stand_in : goal.do_item-requires-clause-stand_in
-do_item-requires-clause-stand_in g c = ?
-
 pub do_item-requires-clause-well : goal.do_item-requires-clause-well
 do_item-requires-clause-well g c =
     let is = item_outside c.args.about.now.sheet c.args.self.now.path _ outside refl c.sheet.ensures.well.items c.requires.here.1 in
