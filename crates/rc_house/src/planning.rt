@@ -14,12 +14,7 @@ use rc_rules::Plan;
 use std::alloc::Global;
 
 /// The plan behind the sheet in a source with these forms, for so many players; or its first fault.
-pub fn read_plan(
-    alloc: Global,
-    source: &[u8],
-    forms: &Forms,
-    players: u8,
-) -> Result<Plan, PlanFail>
+pub fn read_plan(alloc: Global, source: &[u8], forms: &Forms, players: u8) -> Result<Plan, PlanFail>
     requires small { length source.now ≤ 1048576 }
     requires within { forms.now.rest ≤ length source.now }
     requires placed { All (λ form. IsPlaced (length source.now) (tree_of form)) forms.now.list.items }

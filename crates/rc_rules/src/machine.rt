@@ -19,7 +19,9 @@ use rc_table::Table;
 /// Memory from then on, and nothing may be asked of it.
 pub trait Machine {
     ghost about: { Self → PureAbout };
+
     ghost config: { Self → Config };
+
     ghost spent: { Self → Bool };
 
     /// Goes on to the next stop: a decision at a menu that has an item, below the turn limit; the end, where nothing is left to

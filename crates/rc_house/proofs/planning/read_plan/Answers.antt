@@ -20,8 +20,7 @@ returns-in-None-clause-planned c =
     let item = c.in-Some.ensures.lookup in
     λ form others same.
     let behind = others_are c.deref.result.now forms.list.items c.in-Some.form.now form others c.deref.ensures.value item.3.0 item.1 same in
-    subst (λ others. IsPlanAccepted c.args.source.now c.args.players others forms.rest (plan_seen c.in-Ok.plan)) (sym behind.1)
-    (
+    subst (λ others. IsPlanAccepted c.args.source.now c.args.players others forms.rest (plan_seen c.in-Ok.plan)) (sym behind.1) (
       record {
         faultless = c.in-Ok.ensures.fine;
         stands = c.in-Ok.ensures.stands;
