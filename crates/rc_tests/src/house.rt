@@ -24,9 +24,9 @@ const GAME: &[u8] = b"\
 (plan (seats (script) (script)) (matches (0 0)) (turns 100))
 ";
 
-/// A sheet that is accepted with its plan, and that nothing plays yet.
+/// A sheet that is accepted with its plan, whose playouts nothing plays yet.
 const UNPLAYED: &[u8] =
-    b"(game (setup (create players 1) (create deck (game hloc S) (deck (R (1))))) (do (shuffle (game hloc S))) (scoring max 0)) (plan (seats (script)) (matches (0 0)) (turns 1))";
+    b"(game (setup (create players 1) (create deck (game hloc S) (deck (R (1))))) (do (shuffle (game hloc S))) (scoring max 0)) (plan (seats (rollout 1 0)) (matches (0 0)) (turns 1))";
 
 /// The text of the game's play.
 const TEXT: &[u8] = b"\

@@ -5,6 +5,8 @@
 #[cfg(test)]
 mod deck;
 #[cfg(test)]
+mod draw;
+#[cfg(test)]
 mod form;
 #[cfg(test)]
 mod house;
