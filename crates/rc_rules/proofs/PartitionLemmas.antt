@@ -1,5 +1,5 @@
 -- Teams that part the players: there are no more teams than players, and each team has a player whose team it is.
-use Rattle.std.proofs.Common.{◌≡◌, ℕ, zero, suc, ◌+◌, ◌<◌, ◌≤◌, ◌==◌, Bool, true, false, not, ◌||◌, nat_eq, nat_lt, cond, if◌then◌else◌, List, [], ◌∷◌, ◌++◌, ◌⊎◌, inl, inr, ⊎_elim, length, get_or, map, replicate, flat_map, refl, sym, ap, ◌∙◌, subst, arith, append_assoc, true≢false, eqb-true, ltb-true, ltb-false}
+use Rattle.std.proofs.Common.{◌≡◌, ℕ, zero, suc, ◌+◌, ◌<◌, ◌≤◌, ◌==◌, Bool, true, false, not, ◌||◌, nat_eq, nat_lt, if◌then◌else◌, List, [], ◌∷◌, ◌++◌, ◌⊎◌, inl, inr, ⊎_elim, length, get_or, map, flat_map, refl, sym, ap, ◌∙◌, subst, arith, append_assoc, true≢false, eqb-true, ltb-true, ltb-false}
 use Rattle.std.specs.Prelude.{count_by}
 use Rattle.std.specs.List.{list_any, range_with_len}
 use Rattle.std.proofs.lemmas.Bool.{or_parts}
@@ -12,7 +12,7 @@ use Rattle.rc_model.specs.Numbers.{below}
 use Rattle.rc_sheet_model.specs.Sheet.{Teams}
 use Rattle.rc_sheet_model.specs.WellFormed.{is_among, ArePartition}
 use Rattle.rc_play_model.specs.Shape.{team_among}
-use Rattle.rc_play_model.proofs.Counting.{passing, passing-is, none_passes}
+use Rattle.rc_play_model.proofs.Counting.{passing-is, none_passes}
 
 abbrev pub players_of : Teams → List ℕ
 players_of teams = flat_map (λ team. team) teams

@@ -1,28 +1,89 @@
 -- The shape of a well formed sheet is a shape.
-use Rattle.std.proofs.Common.{◌≡◌, ℕ, zero, suc, ◌+◌, ◌<◌, ◌≤◌, true, not, List, [], ◌∷◌, ◌++◌, length, map, flat_map, Option, Some, None, refl, sym, ap, ap₂, ◌∙◌, arith}
-use Rattle.std.specs.Prelude.{All, sum_by}
-use Rattle.std.specs.List.{AllByRecursion, position_or_len}
-use Rattle.std.proofs.lemmas.List.{length-map}
-use Rattle.std.proofs.lemmas.List.Sums.{sum_by-cons, prefix_len-le-length}
+use Rattle.std.proofs.Common.{◌≡◌, ℕ, zero, suc, ◌+◌, ◌<◌, ◌≤◌, true, not, List, [], ◌∷◌, ◌++◌, length, get_or, take, map, flat_map, replicate, min, Option, Some, None, refl, sym, ap, ap₂, ◌∙◌, arith}
+use Rattle.std.specs.Prelude.{sum_by}
+use Rattle.std.specs.List.{AllByRecursion}
+use Rattle.std.proofs.lemmas.List.{take_more, map-append, append-nil, take_min}
+use Rattle.std.proofs.lemmas.Grind.{flat_map-append}
+use Rattle.std.proofs.lemmas.List.Sums.{sum_by-cons, sum_by_push, sum_by-take-le, prefix_len-le-length}
 use Rattle.std.proofs.lemmas.List.Concat.{length-flat_map}
 use Rattle.std.proofs.lemmas.List.Elements.{All-from_recursion}
-use Rattle.std.proofs.lemmas.List.FromFn.{length-range_with_len, length-map-range_with_len}
+use Rattle.std.proofs.lemmas.List.FromFn.{length-map-range_with_len}
 use Rattle.rc_model.specs.Numbers.{below}
-use Rattle.rc_model.specs.Deck.{face_count}
+use Rattle.rc_model.specs.Deck.{Face, face_count}
 use Rattle.rc_deck.specs.Product.{faces_of_groups}
 use Rattle.rc_deck.proofs.PathLaws.{AreFaces-faces_of_groups, length-AreFaces}
 use Rattle.rc_sheet_model.specs.Sheet.{Teams, Class, game_class, player_class, team_class, LocName, DeckLine, Sheet}
 use Rattle.rc_sheet_model.specs.WellFormed.{is_among, AreTeams, team_count, owner_count, IsWellFormed}
-use Rattle.rc_play_model.specs.Shape.{Place, team_in, team_among, places_of, shape_of}
+use Rattle.rc_play_model.specs.Shape.{Place, team_in, team_among, places_of, first_loc, shape_of}
 use Rattle.rc_play_model.specs.Bound.{HasHomes}
 use Rattle.rc_play_model.proofs.CardLemmas.{append_each, map_each, numbers_below}
-use Rattle.rc_table.specs.Shape.{IsOwnerOf, IsShape}
+use Rattle.rc_ast.specs.declared.sheet.Sheet.{Sheet as SheetRead}
+use Rattle.rc_ast.specs.declared.names.LocName.{LocName as LocRead}
+use Rattle.rc_ast.specs.Names.{loc_name_seen}
+use Rattle.rc_ast.specs.Sheet.{sheet_seen}
+use Rattle.rc_table.specs.Places.{place_seen}
+use Rattle.rc_table.specs.Shape.{IsOwnerOf, IsShape, shape_of_parts}
+use Rattle.rc_table.specs.declared.place.Place.{Place as TablePlace}
 use Rattle.rc_rules.proofs.PartitionLemmas.{teams_few, team_has_player, among_below}
 
 -- sums of what is equal
 pub sums_same : {X : Type 0} (f g : X → ℕ) → ((x : X) → f x ≡ g x) → (xs : List X) → sum_by f xs ≡ sum_by g xs
 sums_same f g same [] = refl
 sums_same f g same (x ∷ xs) = sum_by-cons f x xs ∙ ap₂ ◌+◌ (same x) (sums_same f g same xs) ∙ sym (sum_by-cons g x xs)
+
+-- one item more in a sum
+sum_more : {X Y : Type 0} (f : Y → ℕ) (g : X → Y) (xs : List X) (k : ℕ) (d : X) → k < length xs →
+    sum_by f (map g (take (k + 1) xs)) ≡ sum_by f (map g (take k xs)) + f (g (get_or xs k d))
+sum_more f g xs k d lt =
+    ap (λ ys. sum_by f (map g ys)) (take_more xs k d lt) ∙ ap (sum_by f) (map-append g (take k xs) (get_or xs k d ∷ []))
+    ∙ sum_by_push f (map g (take k xs)) (g (get_or xs k d))
+
+summed_map : {X Y : Type 0} (f : Y → ℕ) (g : X → Y) (xs : List X) → sum_by f (map g xs) ≡ sum_by (λ x. f (g x)) xs
+summed_map f g [] = refl
+summed_map f g (x ∷ xs) =
+    sum_by-cons f (g x) (map g xs) ∙ ap (λ n. f (g x) + n) (summed_map f g xs) ∙ sym (sum_by-cons (λ x. f (g x)) x xs)
+
+taken_within : {X Y : Type 0} (f : Y → ℕ) (g : X → Y) (xs : List X) (k : ℕ) → sum_by f (map g (take k xs)) ≤ sum_by f (map g xs)
+taken_within f g xs k =
+    let part = summed_map f g (take k xs) in
+    let whole = summed_map f g xs in
+    let most = sum_by-take-le (λ x. f (g x)) xs k in
+    omega (arith, part, whole, most)
+
+-- so the items up to one have at most the sum of all
+pub part_at : {X Y : Type 0} (f : Y → ℕ) (g : X → Y) (xs : List X) (k : ℕ) (d : X) → k < length xs →
+    sum_by f (map g (take k xs)) + f (g (get_or xs k d)) ≤ sum_by f (map g xs)
+part_at f g xs k d lt =
+    let more = sum_more f g xs k d lt in
+    let most = taken_within f g xs (k + 1) in
+    omega (arith, more, most)
+
+pub part_within : {X Y : Type 0} (f : Y → ℕ) (g : X → Y) (xs : List X) (k : ℕ) (x : X) → k < length xs → x ≡ get_or xs k x →
+    sum_by f (map g (take k xs)) + f (g x) ≤ sum_by f (map g xs)
+part_within f g xs k x lt is =
+    let most = part_at f g xs k x lt in
+    let same = ap (λ y. f (g y)) is in
+    omega (arith, most, same)
+
+repeated_more : {X : Type 0} (x : X) (n : ℕ) → replicate (suc n) x ≡ replicate n x ++ x ∷ []
+repeated_more x zero = refl
+repeated_more x (suc n) = ap (λ xs. x ∷ xs) (repeated_more x n)
+
+taken_mapped : {X Y : Type 0} (g : X → Y) (xs : List X) (k : ℕ) → map g (take k xs) ≡ take k (map g xs)
+taken_mapped g xs zero = refl
+taken_mapped g [] (suc k) = refl
+taken_mapped g (x ∷ xs) (suc k) = ap (λ ys. g x ∷ ys) (taken_mapped g xs k)
+
+pub repeated_push : {X : Type 0} (x : X) (n : ℕ) → replicate (n + 1) x ≡ replicate n x ++ x ∷ []
+repeated_push x n = ap (λ k. replicate k x) (let e : n + 1 ≡ suc n = omega arith in e) ∙ repeated_more x n
+
+-- one item more in what a list of lists joins
+pub joined_more : {X Y Z : Type 0} (f : Y → List Z) (g : X → Y) (xs : List X) (k : ℕ) (x : X) → k < length xs → x ≡ get_or xs k x →
+    flat_map f (map g (take (k + 1) xs)) ≡ flat_map f (map g (take k xs)) ++ f (g x)
+joined_more f g xs k x lt is =
+    ap (λ ys. flat_map f (map g ys)) (take_more xs k x lt ∙ ap (λ y. take k xs ++ y ∷ []) (sym is))
+    ∙ ap (flat_map f) (map-append g (take k xs) (x ∷ [])) ∙ flat_map-append f (map g (take k xs)) (g x ∷ [])
+    ∙ ap (λ last. flat_map f (map g (take k xs)) ++ last) (append-nil (f (g x)))
 
 flat_each : {X Y : Type 0} (P : Y → Type 0) (f : X → List Y) → ((x : X) → AllByRecursion P (f x)) → (xs : List X) → AllByRecursion P (flat_map f xs)
 flat_each P f each [] = tt
@@ -97,3 +158,37 @@ module _ (sheet : Sheet) (formed : IsWellFormed sheet) where
         omega (arith, count, same, most);
     homes = homes;
   }
+
+-- a shape by its parts
+pub parts_same : (sheet : Sheet) (team_of : List ℕ) (places : List TablePlace) (numbers : ℕ) (faces : List Face) (home : List ℕ) →
+    team_of ≡ (shape_of sheet).team_of → map place_seen places ≡ (shape_of sheet).places → numbers ≡ (shape_of sheet).numbers →
+    faces ≡ (shape_of sheet).faces → home ≡ (shape_of sheet).home →
+    shape_of_parts sheet.players team_of places numbers faces home ≡ shape_of sheet
+parts_same sheet team_of places numbers faces home t p n f h = λ i. record {
+  players = sheet.players;
+  team_of = t i;
+  places = p i;
+  numbers = n i;
+  faces = f i;
+  home = h i;
+}
+
+-- the locations of the first names, which the code reads
+pub first_within : (sheet : SheetRead) → IsWellFormed (sheet_seen sheet) → (k : ℕ) (read : List LocRead) → read ≡ sheet.locs.items →
+    sum_by (λ (name : LocName). owner_count (sheet_seen sheet) name.class) (map loc_name_seen (take k read)) ≤ 256
+first_within sheet formed k read is =
+    let count = λ (name : LocName). owner_count (sheet_seen sheet) name.class in
+    let part = taken_within count loc_name_seen read k in
+    let same = ap (λ locs. sum_by count (map loc_name_seen locs)) is in
+    let most = formed.limits.locations in
+    omega (arith, part, same, most)
+
+pub first_is : (sheet : SheetRead) (name k : ℕ) (read : List LocRead) → read ≡ sheet.locs.items → k ≡ min name (length read) →
+    sum_by (λ (name : LocName). owner_count (sheet_seen sheet) name.class) (map loc_name_seen (take k read))
+    ≡ first_loc (sheet_seen sheet) (sheet_seen sheet).locs name
+first_is sheet name k read is least =
+    let count = λ (name : LocName). owner_count (sheet_seen sheet) name.class in
+    ap (λ n. sum_by count (map loc_name_seen (take n read))) least
+    ∙ ap (λ locs. sum_by count (map loc_name_seen locs)) (take_min name read)
+    ∙ ap (sum_by count) (taken_mapped loc_name_seen read name)
+    ∙ ap (λ locs. sum_by count (take name (map loc_name_seen locs))) is

@@ -1,5 +1,5 @@
 -- Passing the stages of a sheet, and the innermost of the frames.
-use Rattle.std.proofs.Common.{◌≡◌, ℕ, zero, suc, ◌+◌, ◌-◌, arith, ◌<◌, List, [], ◌∷◌, ◌++◌, length, get_or, drop, slice_get, Vec, Global, Bool, true, false, if◌then◌else◌, Option, Some, option_map, unwrap_or, map, filter, append-nil, ControlFlow, Break, Continue, refl, ap, sym, ◌∙◌}
+use Rattle.std.proofs.Common.{◌≡◌, ℕ, zero, suc, ◌+◌, ◌-◌, arith, ◌<◌, List, [], ◌∷◌, ◌++◌, length, get_or, drop, slice_get, Vec, Global, Bool, true, false, if◌then◌else◌, Some, option_map, unwrap_or, filter, append-nil, ControlFlow, Break, Continue, refl, ap, sym, ◌∙◌}
 use Rattle.std.specs.ControlFlow.{break_value}
 use Rattle.rc_sheet_model.specs.Sheet.{Class}
 use Rattle.std.proofs.lemmas.List.{map-append}

@@ -1,14 +1,25 @@
 -- Where a machine stands.
-use Rattle.std.specs.Prelude.{ℕ, List, unwrap_or}
+use Rattle.std.specs.Prelude.{ℕ, ◌<◌, List, length, unwrap_or}
 use Rattle.rc_play_model.specs.About.{About, menu_at}
 use Rattle.rc_play_model.specs.Menu.{Item}
-use Rattle.rc_play_model.specs.Step.{Config}
+use Rattle.rc_play_model.specs.Step.{Config, Stop, decide, is_done, is_limit}
 use Rattle.rc_play_model.specs.Fits.{IsDecision}
-
--- some seat decides at some site
-abbrev pub StandsAtDecision : About → Config → Type 0
-StandsAtDecision about c = (seat : ℕ) × (site : ℕ) × IsDecision about seat site c
 
 -- the menu at the site of the control
 abbrev pub menu_here : About → Config → List Item
 menu_here about c = menu_at about (unwrap_or c.control.site 0) c.table c.control
+
+-- this seat decides at this site, where something is offered
+pub record Decides (about : About) (seat site : ℕ) (c : Config) : Type 0 where
+  pub decision : IsDecision about seat site c
+  pub offered : 0 < length (menu_at about site c.table c.control)
+
+-- some seat decides at some site
+abbrev pub StandsAtDecision : About → Config → Type 0
+StandsAtDecision about c = (seat : ℕ) × (site : ℕ) × Decides about seat site c
+
+-- at a decision, where it stops at one
+abbrev pub StandsWhereItStops : About → Stop → Config → Type 0
+StandsWhereItStops about (decide seat site) c = Decides about seat site c
+StandsWhereItStops about is_done c = Unit {0}
+StandsWhereItStops about is_limit c = Unit {0}

@@ -7,7 +7,7 @@ ghost use Rattle.rc_play_model.specs.Decision.{choose};
 ghost use Rattle.rc_play_model.specs.Scores.{scores_of};
 ghost use Rattle.rc_rules.specs.Control.{control_seen, stop_seen};
 ghost use Rattle.rc_rules.specs.Menu.{menu_seen};
-ghost use Rattle.rc_rules.specs.Machine.{StandsAtDecision, menu_here};
+ghost use Rattle.rc_rules.specs.Machine.{StandsAtDecision, StandsWhereItStops, menu_here};
 
 use crate::control::{Control, Stop};
 use crate::dealer::Dealer;
@@ -30,6 +30,7 @@ pub trait Machine {
         ensures leads { IfOk result
             (λ stop. stop_of (about self.old) (D.dealing dealer.old) (D.state dealer.old) (config self.old)
             ≡ Some (record { stop = stop_seen stop; config = config self.new; dealer = D.state dealer.new })) }
+        ensures stands { IfOk result (λ stop. StandsWhereItStops (about self.old) (stop_seen stop) (config self.new)) }
         ensures fresh { OnOk result (spent self.old ≡ false) }
         ensures spent { spent self.new ≡ is_err result }
         ensures same { about self.new ≡ about self.old }

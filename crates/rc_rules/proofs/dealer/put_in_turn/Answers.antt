@@ -1,4 +1,4 @@
-use Rattle.std.proofs.Common.{◌≡◌, ap, ◌∙◌}
+use Rattle.std.proofs.Common.{ap, ◌∙◌}
 use Rattle.rc_play_model.specs.Draws.{permuted, key32}
 use Rattle.rc_rules.proofs.dealer.put_in_turn.Goals as goal
 

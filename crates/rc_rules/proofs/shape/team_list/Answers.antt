@@ -2,7 +2,7 @@ use Rattle.std.proofs.Common.{◌++◌, ◌∷◌, [], ap₂, sym, ◌∙◌, ar
 use Rattle.rc_play_model.specs.Shape as play
 use Rattle.rc_ast.specs.Sheet.{sheet_seen}
 use Rattle.rc_rules.proofs.PointLemmas.{mapped_push}
-use Rattle.rc_rules.proofs.ShapeLemmas.{team_few, shaped}
+use Rattle.rc_rules.proofs.ShapeLemmas.{team_few}
 use Rattle.rc_rules.proofs.shape.team_list.Goals as goal
 
 pub overflow_cast-team_in : goal.overflow_cast-team_in

@@ -1,4 +1,4 @@
-use Rattle.std.proofs.Common.{◌≡◌, ◌+◌, drop, ap, sym, ◌∙◌}
+use Rattle.std.proofs.Common.{◌+◌, drop, ap, sym, ◌∙◌}
 use Rattle.rc_play_model.specs.Owners.{classes_in}
 use Rattle.rc_ast.specs.Items.{items_seen}
 use Rattle.rc_rules.specs.Stages.{passed}
