@@ -9,6 +9,7 @@ use crate::collection::Collection;
 use crate::leaves::worth_of;
 use crate::scene::Scene;
 use crate::{Card, Cards};
+use rc_names::limits::LARGEST_NUMBER;
 
 /// Which card of a collection.
 #[derive(Clone, Copy)]
@@ -84,7 +85,7 @@ fn sum(scene: &Scene, cards: &Collection, map: u16) -> i64
     for place in 0..cards.len() {
         sum += worth_of(scene, cards.at(place), map);
     }
-    sum.clamp(-1_000_000_000, 1_000_000_000)
+    sum.clamp(-LARGEST_NUMBER, LARGEST_NUMBER)
 }
 
 // The first of the largest, or of the smallest.
