@@ -57,7 +57,7 @@ module _ (fits : Frame → Bool) (change : Frame → Frame) where
   changed_inside false c frame frames frames' is same = absurd (cc)
 
   -- the innermost one that fits changes, and no other
-  pub innermost_changed : (frames : List Frame) (at : ℕ) (d : Frame) → IsInnermost fits frames at →
+  innermost_changed : (frames : List Frame) (at : ℕ) (d : Frame) → IsInnermost fits frames at →
       at_innermost fits change frames ≡ slice_set frames at (change (get_or frames at d))
   innermost_changed [] at d is = absurd (cc)
   innermost_changed (frame ∷ frames) zero d is =
@@ -109,7 +109,7 @@ module _ (fits : Frame → Bool) (change : Frame → Frame) where
     members_kept (frame ∷ frames) = kept_by (list_any fits frames) (fits frame) frame frames (members_kept frames)
 
   -- a change that leaves stages and members leaves who is current
-  pub current_kept : ((frame : Frame) → (change frame).stage ≡ frame.stage) → ((frame : Frame) → (change frame).member ≡ frame.member) →
+  current_kept : ((frame : Frame) → (change frame).stage ≡ frame.stage) → ((frame : Frame) → (change frame).member ≡ frame.member) →
       (sheet : Sheet) (class : Class) (frames : List Frame) → current_in sheet class (at_innermost fits change frames) ≡ current_in sheet class frames
   current_kept stages members sheet class frames =
       last_member (frames_of sheet class (at_innermost fits change frames)) (frames_of sheet class frames)

@@ -1,5 +1,5 @@
 -- What expressions stand for in a sound table: cards of the shape, numbers within the clamp, and locations that are there.
-use Rattle.std.proofs.Common.{◌≡◌, ℕ, List, [], ◌∷◌, map, slice_get, true, false, Option, Some, None, IfSome, sym, ap, ◌∙◌, subst}
+use Rattle.std.proofs.Common.{◌≡◌, ℕ, List, [], ◌∷◌, map, slice_get, Option, Some, None, IfSome, sym, ap, ◌∙◌, subst}
 use Rattle.std.specs.Prelude.{option_map, All}
 use Rattle.std.specs.List.{AllByRecursion}
 use Rattle.std.proofs.lemmas.List.Elements.{recursion_from_All, All-from_recursion}
@@ -11,7 +11,7 @@ use Rattle.rc_play_model.specs.Shape.{Shape, shape_of}
 use Rattle.rc_play_model.specs.Table.{Table, IsSound}
 use Rattle.rc_play_model.specs.Value.{who_value, loc_place, card_value, coll_value}
 use Rattle.rc_play_model.specs.Scene.{CardValue, Vars}
-use Rattle.rc_play_model.specs.Bound.{IsCardOf, IsBindOf, HoldsCards, HoldsReferences}
+use Rattle.rc_play_model.specs.Bound.{IsCardOf, IsBindOf}
 use Rattle.rc_play_model.specs.About.{About, scene_at}
 use Rattle.rc_play_model.proofs.Places.{place_stands}
 use Rattle.rc_play_model.proofs.CardLemmas.{AreCards, MayBeCard, read_cards, card_cards, coll_cards}
@@ -62,9 +62,3 @@ pub loc_there : (about : About) (table : Table) (frames : List Frame) (vars : Va
     o ≡ loc_place (scene_at about table frames).known vars loc → IfSome o (λ n. HoldsAs about.shape (holds_references about.sheet loc.name) n)
 loc_there about table frames vars loc None fits is = tt
 loc_there about table frames vars loc (Some n) fits is = loc_holds about table frames vars loc n fits (sym is)
-
-pub holds_cards : (shape : Shape) (references : _) (n : ℕ) → references ≡ Some false → HoldsAs shape references n → HoldsCards shape n
-holds_cards shape references n is holds = (holds.0, holds.1, (let e : Some (is_mem holds.0.kind) ≡ Some false = sym holds.2 ∙ is in cc))
-
-pub holds_refs : (shape : Shape) (references : _) (n : ℕ) → references ≡ Some true → HoldsAs shape references n → HoldsReferences shape n
-holds_refs shape references n is holds = (holds.0, holds.1, (let e : Some (is_mem holds.0.kind) ≡ Some true = sym holds.2 ∙ is in cc))
