@@ -1,5 +1,5 @@
 -- Machines at the start, at a site, and at a decision.
-use Rattle.std.proofs.Common.{◌≡◌, ℕ, zero, suc, ◌+◌, ◌≤◌, ◌<◌, Bool, true, false, List, [], ◌∷◌, ◌++◌, map, length, drop, slice_get, get_or, replicate, All, ◌⊎◌, inl, inr, Option, Some, None, refl, sym, ap, ◌∙◌, subst, append-nil, arith}
+use Rattle.std.proofs.Common.{◌≡◌, ℕ, zero, suc, ◌≤◌, ◌<◌, Bool, true, false, List, [], ◌∷◌, ◌++◌, map, length, get_or, replicate, ◌⊎◌, inl, inr, Option, Some, None, refl, sym, ap, ◌∙◌, subst, append-nil, arith}
 use Rattle.std.specs.Prelude.{unwrap_or, slice_index_or}
 use Rattle.std.specs.List.{AllByRecursion, AllZip}
 use Rattle.std.proofs.lemmas.List.Elements.{All-from_recursion}
@@ -13,9 +13,9 @@ use Rattle.rc_rules.specs.declared.menu.Item.{Item as RealItem}
 use Rattle.rc_rules.specs.Menu.{item_seen, menu_seen}
 use Rattle.std.proofs.lemmas.List.{length-map, get_or-map}
 use Rattle.rc_sheet_model.specs.WellFormed.{IsWellFormed}
-use Rattle.rc_play_model.specs.Step.{Stage, Part, todo, round, turn, todos, Config, Stop, decide, is_done, is_limit, start}
-use Rattle.rc_play_model.specs.Path.{Path, stage_in, left_of, past}
-use Rattle.rc_play_model.specs.Decision.{left_at, at_site}
+use Rattle.rc_play_model.specs.Step.{Stage, Part, todo, round, turn, todos, Stop, decide, is_done, is_limit, start}
+use Rattle.rc_play_model.specs.Path.{Path}
+use Rattle.rc_play_model.specs.Decision.{left_at}
 use Rattle.rc_play_model.specs.Fits.{around, HasFrames, IsFrameOf, FitsSite, IsDecision, IsAtStop}
 use Rattle.rc_rules.specs.Machine.{StandsWhereItStops}
 use Rattle.rc_play_model.proofs.PathLemmas.{left-item, left-round, turn_left, end_left}
@@ -23,7 +23,7 @@ use Rattle.rc_play_model.proofs.FrameLemmas.{start_frames}
 use Rattle.rc_play_model.proofs.SiteLemmas.{alts_at_found}
 use Rattle.rc_plain.specs.Paths.{ArePlaces, IsPath, item_at}
 use Rattle.rc_plain.specs.Plain.{Plain, config_of, IsInPlay}
-use Rattle.rc_plain.proofs.PathLemmas.{past_end, all_but_last, not_round}
+use Rattle.rc_plain.proofs.PathLemmas.{past_end, all_but_last}
 
 -- AT THE START
 

@@ -1,11 +1,11 @@
 -- Paths of machines: places one more and one less, how many stages are open, and that the item at a path of a well formed
 -- sheet is well formed.
-use Rattle.std.proofs.Common.{◌≡◌, ℕ, zero, suc, ◌+◌, ◌≤◌, ◌<◌, Bool, true, false, List, [], ◌∷◌, ◌++◌, length, drop, slice_get, Option, Some, None, refl, sym, ap, ◌∙◌, subst, length-append, true≢false, arith}
+use Rattle.std.proofs.Common.{◌≡◌, ℕ, zero, suc, ◌+◌, ◌≤◌, Bool, true, false, List, [], ◌∷◌, ◌++◌, length, drop, slice_get, Option, Some, None, refl, sym, ap, ◌∙◌, subst, length-append, arith}
 use Rattle.rc_sheet_model.specs.Sheet.{Class, game_class, player_class, team_class, Test, SheetItem, do_item, stage, choice, SheetItems, no_item, item, Sheet}
 use Rattle.rc_sheet_model.specs.Lists.{item_list}
 use Rattle.rc_sheet_model.specs.WellFormed.{Around, in_stage, IsTest, IsItem, AreItems}
-use Rattle.rc_play_model.specs.Step.{Stage, Part, todo, round, turn, todos}
-use Rattle.rc_play_model.specs.Path.{Path, stage_at, stage_in, body_of, marks_of, round_of, within, left_here, left_of, body_at}
+use Rattle.rc_play_model.specs.Step.{Stage, Part, round, turn, todos}
+use Rattle.rc_play_model.specs.Path.{Path, stage_at, stage_in, body_of, marks_of, within, left_here, left_of, body_at}
 use Rattle.rc_play_model.specs.Fits.{around}
 use Rattle.rc_play_model.proofs.PathLemmas.{body-more}
 use Rattle.rc_plain.specs.Paths.{ArePlaces, IsPath, item_at}

@@ -1,18 +1,18 @@
 -- Machines stay in play.
-use Rattle.std.proofs.Common.{◌≡◌, ℕ, ◌+◌, ◌≤◌, ◌<◌, Bool, true, false, List, [], ◌∷◌, ◌++◌, length, map, All, slice_get, slice_set, slice_index, zero, suc, Option, Some, None, refl, sym, ap, ◌∙◌, subst, true≢false, arith}
+use Rattle.std.proofs.Common.{◌≡◌, ℕ, ◌+◌, ◌≤◌, ◌<◌, true, false, List, [], ◌∷◌, length, All, slice_set, slice_index, zero, suc, Some, sym, ap, subst, true≢false, arith}
 use Rattle.std.specs.List.{AllByRecursion}
 use Rattle.std.proofs.lemmas.List.{length-map}
 use Rattle.std.proofs.lemmas.List.Elements.{All-from_recursion, recursion_from_All}
-use Rattle.rc_sheet_model.specs.Sheet.{SheetItem, Sheet}
+use Rattle.rc_sheet_model.specs.Sheet.{SheetItem}
 use Rattle.rc_sheet_model.specs.Lists.{item_list}
 use Rattle.rc_sheet_model.specs.WellFormed.{IsWellFormed}
 use Rattle.rc_play_model.specs.Control.{Control}
 use Rattle.rc_play_model.specs.Table.{Table}
 use Rattle.rc_play_model.specs.Effects.{Dealing}
-use Rattle.rc_play_model.specs.Step.{Stage, Config, Stop, goes, stops, step}
+use Rattle.rc_play_model.specs.Step.{Stage, goes, step}
 use Rattle.rc_play_model.specs.Decision.{choose}
-use Rattle.rc_play_model.specs.Path.{Path, stage_in, left_of, past, at_mark, into, item_depth}
-use Rattle.rc_play_model.specs.Fits.{around, HasFrames}
+use Rattle.rc_play_model.specs.Path.{Path, stage_in, past, at_mark, into, item_depth}
+use Rattle.rc_play_model.specs.Fits.{around}
 use Rattle.rc_play_model.proofs.FrameLemmas.{step_frames, choice_frames}
 use Rattle.rc_play_model.proofs.DepthLemmas.{shallow_path}
 use Rattle.rc_plain.specs.Paths.{ArePlaces, item_at, IsPath, Leaves}

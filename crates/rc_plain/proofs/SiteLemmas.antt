@@ -1,18 +1,17 @@
 -- A choice that is found among items, and one that isn't there.
-use Rattle.std.proofs.Common.{◌≡◌, ℕ, zero, suc, ◌+◌, ◌≤◌, ◌<◌, ◌==◌, Bool, true, false, if◌then◌else◌, List, [], ◌∷◌, ◌++◌, map, length, drop, get_or, slice_get, slice_index_or, take, ◌-◌, Option, Some, None, is_some, option_map, Vec, Global, refl, sym, ap, ◌∙◌, subst, append_assoc, append-nil, length-append, true≢false, arith}
+use Rattle.std.proofs.Common.{◌≡◌, ℕ, zero, suc, ◌+◌, ◌≤◌, ◌<◌, ◌==◌, true, false, List, [], ◌∷◌, ◌++◌, map, length, drop, get_or, slice_get, take, ◌-◌, Option, Some, None, is_some, option_map, Vec, Global, refl, sym, ap, ◌∙◌, subst, append_assoc, append-nil, length-append, true≢false, arith}
 use Rattle.std.proofs.lemmas.Bool.{cond-false, ne_eqb}
 use Rattle.std.proofs.Math.Seq.{take-append_seam}
 use Rattle.std.proofs.lemmas.List.{drop_more}
 use Rattle.std.proofs.lemmas.Option.{slice_get-map, slice_get-get_or}
-use Rattle.rc_ast.specs.declared.items.SheetItem.{SheetItem, Do, Choice, Stage}
+use Rattle.rc_ast.specs.declared.items.SheetItem.{SheetItem, Choice, Stage}
 use Rattle.rc_ast.specs.declared.items.Alt.{Alt}
-use Rattle.rc_ast.specs.declared.effects.Effect.{Effect}
 use Rattle.rc_ast.specs.declared.expressions.Test.{Test}
 use Rattle.rc_ast.specs.Expressions.{test_seen}
 use Rattle.rc_ast.specs.Items.{item_seen, items_seen, alts_seen}
 use Rattle.rc_ast.proofs.ViewLemmas.{stage_seen}
-use Rattle.rc_sheet_model.specs.Sheet.{Class, SheetItem as PureItem, SheetItems, no_item, item, choice, stage}
-use Rattle.rc_sheet_model.specs.Lists.{items_from, item_list}
+use Rattle.rc_sheet_model.specs.Sheet.{Class, SheetItem as PureItem, SheetItems, no_item, item, choice}
+use Rattle.rc_sheet_model.specs.Lists.{item_list}
 use Rattle.rc_play_model.specs.Menu.{alts_in, alts_in_item}
 use Rattle.rc_play_model.specs.Step.{Stage as PureStage}
 use Rattle.rc_play_model.specs.Path.{stage_at, stage_in, body_at, item_depth, items_depth}

@@ -1,4 +1,4 @@
-use Rattle.std.proofs.Common.{◌≡◌, ap, sym, refl, ◌∙◌, Some}
+use Rattle.std.proofs.Common.{ap, sym, refl, ◌∙◌, Some}
 use Rattle.rc_play_model.specs.Stop.{stop_of}
 use Rattle.rc_play_model.proofs.StopLemmas.{steps_less, step_keeps, stop_here}
 use Rattle.rc_rules.specs.Control.{stop_seen}

@@ -1,4 +1,4 @@
-use Rattle.std.proofs.Common.{◌≡◌, ap, sym, ◌∙◌, ◌<◌, subst, length, map, get_or, Some, List, [], ◌∷◌}
+use Rattle.std.proofs.Common.{ap, sym, ◌∙◌, ◌<◌, subst, length, get_or, Some, List, []}
 use Rattle.std.specs.Prelude.{unwrap_or}
 use Rattle.rc_sheet_model.specs.Sheet.{choice}
 use Rattle.rc_play_model.specs.Menu.{Item, alts_at, menu_from}
