@@ -1,7 +1,6 @@
 //! A path into a sheet: which item is next.
 ghost use Rattle.std.specs.Prelude.{◌≡◌, ◌+◌, ◌<◌, ◌^◌, [], true, false, length, map, option_map, IsSome, Some, slice_get, ℕ, List};
 ghost use Rattle.rc_sheet_model.specs.Sheet.{Alt as PureAlt, choice};
-ghost use Rattle.rc_sheet_model.specs.Lists.{item_list};
 ghost use Rattle.rc_play_model.specs.Step.{Stage};
 ghost use Rattle.rc_play_model.specs.Path.{body_at, body_of, stage_at, stage_in, past, at_mark, into};
 ghost use Rattle.rc_ast.specs.Items.{item_seen, alts_seen};

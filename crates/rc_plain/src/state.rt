@@ -1,5 +1,5 @@
 //! Where a match stands.
-ghost use Rattle.std.specs.Prelude.{◌≡◌, ℕ, ◌+◌, ◌<◌, ◌≤◌, ◌^◌, [], None, All, replicate};
+ghost use Rattle.std.specs.Prelude.{◌≡◌, ◌+◌, ◌<◌, ◌≤◌, ◌^◌, [], None, All, replicate};
 ghost use Rattle.rc_sheet_model.specs.WellFormed.{Around, IsTest, owner_count as pure_owner_count};
 ghost use Rattle.rc_play_model.specs.Value.{test_value};
 ghost use Rattle.rc_play_model.specs.Menu.{alts_at};

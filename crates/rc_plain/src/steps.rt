@@ -1,5 +1,5 @@
 //! The steps of a match.
-ghost use Rattle.std.specs.Prelude.{◌≡◌, ℕ, ◌+◌, ◌<◌, ◌≤◌, ◌^◌, [], length, IsSome, None, Some, true, false};
+ghost use Rattle.std.specs.Prelude.{◌≡◌, ℕ, ◌+◌, ◌<◌, ◌^◌, IsSome, None, Some, true};
 ghost use Rattle.rc_sheet_model.specs.Sheet.{SheetItems, do_item, stage, choice};
 ghost use Rattle.rc_play_model.specs.Step.{goes, step};
 ghost use Rattle.rc_play_model.specs.Stop.{stop_of};
