@@ -1,5 +1,5 @@
 -- The forms of a source, and what is answered to them.
-use Rattle.std.proofs.Common.{Some, None, slice_get, ◌≡◌, ℕ, inl, inr, List, [], ◌∷◌, length, map, arith, refl, sym, ap, subst}
+use Rattle.std.proofs.Common.{Some, None, Result, Ok, Err, IfOk, slice_get, ◌≡◌, ℕ, inl, inr, List, [], ◌∷◌, length, map, arith, refl, sym, ap, subst}
 use Rattle.rc_model.specs.Spelled.{Spelled}
 use Rattle.rc_model.specs.Tree.{Tree}
 use Rattle.rc_form.specs.declared.fault.FormKind.{FormKind}
@@ -8,7 +8,13 @@ use Rattle.rc_form.specs.Form.{tree_of}
 use Rattle.rc_form.specs.FormFault.{IsFormFault}
 use Rattle.rc_sheet_model.specs.Sheet.{Sheet}
 use Rattle.rc_plan_model.specs.declared.fault.PlanKind.{PlanKind}
+use Rattle.rc_plan.specs.declared.fail.PlanFail.{PlanFail}
+use Rattle.rc_plan.specs.declared.fail.PlanFail.TheVariants as fails
+use Rattle.rc_plan.specs.Reads.{IfPlanFault}
+use Rattle.rc_house.specs.declared.answer.Answer.{Answer as Stored}
 use Rattle.rc_house.specs.declared.command.Command.{Command}
+use Rattle.rc_house.specs.declared.command.Command.TheVariants.{Play}
+use Rattle.rc_house.specs.AcceptedPlan.{IsPlanFaulty}
 use Rattle.rc_house.specs.declared.refusal.Refusal.TheVariants as refusal
 use Rattle.rc_house.specs.declared.status.SourceKind.{SourceKind}
 use Rattle.rc_house.specs.declared.status.SourceKind.TheVariants.{Shape}
@@ -16,7 +22,7 @@ use Rattle.rc_house.specs.Status.{source_kind}
 use Rattle.rc_house.specs.Accepted.{IsAccepted, HasFirstFault}
 use Rattle.rc_house.specs.Command.{wanted}
 use Rattle.rc_house.specs.Reading.{Reading, IsAcceptedWith}
-use Rattle.rc_house.specs.Answer.{text, refused, HasText, HasPlanRefusal, IsUnbuilt, HasAnswer}
+use Rattle.rc_house.specs.Answer.{Answer, text, refused, seen, HasText, HasPlanRefusal, IsUnbuilt, HasAnswer, IsPlanRefusal}
 use Rattle.rc_house.proofs.Options.{some_is}
 
 -- the trees of forms of which this is the first, and of none
@@ -86,3 +92,18 @@ pub unbuilt_answer : (command : Command) (source : List ℕ) (lists : List Tree)
     → HasAnswer command source (refused refusal.Unbuilt)
 unbuilt_answer command source lists rest sheet spelled is none =
     (reading source _ lists rest spelled, accepted_then (λ sheet others. IsUnbuilt command source sheet others rest) lists sheet is none)
+
+-- A plan that fails is refused for its first fault.
+failed_answer : (source : List ℕ) (lists : List Tree) (rest : ℕ) (sheet : Sheet) (fail : PlanFail) (answer : Answer)
+    → Spelled source (wanted Play) lists rest → IsAcceptedWith (λ other _. other ≡ sheet) lists
+    → IfPlanFault fail (λ fault. IsPlanFaulty source sheet.players fault.kind fault.at lists rest) → IsPlanRefusal fail answer → HasAnswer Play source answer
+failed_answer source lists rest sheet fails.Memory answer spelled is fault refusal_is = absurd refusal_is
+failed_answer source lists rest sheet (fails.Fault found) answer spelled is fault refusal_is =
+    subst (HasAnswer Play source) (sym refusal_is) (plan_answer Play source lists rest sheet found.kind found.at spelled is fault)
+
+pub failed_answers : (source : List ℕ) (lists : List Tree) (rest : ℕ) (sheet : Sheet) (fail : PlanFail) {E : Type 0} (result : Result Stored E)
+    → Spelled source (wanted Play) lists rest → IsAcceptedWith (λ other _. other ≡ sheet) lists
+    → IfPlanFault fail (λ fault. IsPlanFaulty source sheet.players fault.kind fault.at lists rest)
+    → IfOk result (λ answer. IsPlanRefusal fail (seen answer)) → IfOk result (λ answer. HasAnswer Play source (seen answer))
+failed_answers source lists rest sheet fail (Err error) spelled is fault refusal_is = tt
+failed_answers source lists rest sheet fail (Ok answer) spelled is fault refusal_is = failed_answer source lists rest sheet fail (seen answer) spelled is fault refusal_is

@@ -9,6 +9,8 @@ use Rattle.rc_sheet_model.specs.Sheet as sheet
 use Rattle.rc_sheet_model.specs.Printing.{printed_sheet}
 use Rattle.rc_plan_model.specs.declared.fault.PlanKind.{PlanKind}
 use Rattle.rc_match.specs.Played.{names_rollout}
+use Rattle.rc_plan.specs.declared.fail.PlanFail.{PlanFail}
+use Rattle.rc_plan.specs.declared.fail.PlanFail.TheVariants as fails
 use Rattle.rc_house.specs.declared.command.Command.{Command}
 use Rattle.rc_house.specs.declared.command.Command.TheVariants.{Play, Sheet}
 use Rattle.rc_house.specs.declared.refusal.Refusal.{Refusal}
@@ -69,3 +71,8 @@ HasAnswer command source (refused refusal) = HasRefusal command source refusal
 abbrev pub seen : Stored → Answer
 seen (stored.Text bytes) = text bytes.items
 seen (stored.Refused refusal) = refused refusal
+
+-- the answer where the plan fails so: its first fault, and none where memory ran out
+abbrev pub IsPlanRefusal : PlanFail → Answer → Type 0
+IsPlanRefusal fails.Memory answer = ⊥
+IsPlanRefusal (fails.Fault fault) answer = answer ≡ refused (refusal.Plan fault.kind fault.at)

@@ -13,7 +13,7 @@ ghost use Rattle.rc_house.specs.declared.command.Command.TheVariants as command;
 ghost use Rattle.rc_house.specs.AcceptedPlan.{IsPlanned};
 ghost use Rattle.rc_house.specs.Command.{wanted};
 ghost use Rattle.rc_house.specs.Reading.{IsAcceptedWith};
-ghost use Rattle.rc_house.specs.Answer.{refused, seen, HasAnswer};
+ghost use Rattle.rc_house.specs.Answer.{refused, seen, HasAnswer, IsPlanRefusal};
 
 use crate::accepting::{SourceFail, accept};
 use crate::command::Command;
@@ -24,7 +24,7 @@ use crate::status::SourceKind;
 use rc_flow::Checked;
 use rc_form::{FormFail, FormFault, Forms, read_forms};
 use rc_match::names_rollout;
-use rc_plan::{PlanFail, PlanFault};
+use rc_plan::PlanFail;
 use rc_plays::house_of;
 use rc_rules::Plan;
 use std::alloc::{AllocError, Global};
@@ -134,8 +134,7 @@ fn play_answer(
     let players = checked.sheet().players;
     match read_plan(alloc, source, forms, players) {
         Ok(plan) => planned_answer(alloc, source, forms, checked, &plan),
-        Err(PlanFail::Fault(fault)) => Ok(plan_refused(fault)),
-        Err(PlanFail::Memory) => Err(AllocError),
+        Err(fail) => plan_failed(fail),
     }
 }
 
@@ -163,12 +162,15 @@ fn planned_answer(
     }
 }
 
-/// The answer where the plan has this fault.
-fn plan_refused(fault: PlanFault) -> Answer
-    ensures { seen result ≡ refused (refusal.Plan fault.kind fault.at) }
+/// The answer where the plan fails so.
+fn plan_failed(fail: PlanFail) -> Result<Answer, AllocError>
+    ensures { IfOk result (λ answer. IsPlanRefusal fail (seen answer)) }
 {
-    Answer::Refused(Refusal::Plan {
-        kind: fault.kind,
-        at: fault.at,
-    })
+    match fail {
+        PlanFail::Fault(fault) => Ok(Answer::Refused(Refusal::Plan {
+            kind: fault.kind,
+            at: fault.at,
+        })),
+        PlanFail::Memory => Err(AllocError),
+    }
 }
