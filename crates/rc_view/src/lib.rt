@@ -1,0 +1,8 @@
+//! What a seat sees of a match, and the bytes by which a view is known.
+#![tactic(auto)]
+
+mod sight;
+mod view;
+
+pub use sight::Sight;
+pub use view::{View, view_of};
