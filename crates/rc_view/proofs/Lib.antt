@@ -1,1 +1,2 @@
 pub mod SightLemmas
+pub mod ShortLemmas

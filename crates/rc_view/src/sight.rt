@@ -33,7 +33,12 @@ impl Sight {
 }
 
 /// What a seat sees of each location, in their order.
-pub(crate) fn sights_of(alloc: Global, shape: &Shape, table: &Table, seat: u8) -> Result<Vec<Sight>, Memory>
+pub(crate) fn sights_of(
+    alloc: Global,
+    shape: &Shape,
+    table: &Table,
+    seat: u8,
+) -> Result<Vec<Sight>, Memory>
     requires { table.now.shape ≡ shape.now }
     ensures { IfOk result (λ sights. map sight_seen sights.items ≡ sights_of_lists shape.now seat shape.now.places table.now.table.lists) }
 {
@@ -47,7 +52,13 @@ pub(crate) fn sights_of(alloc: Global, shape: &Shape, table: &Table, seat: u8) -
 }
 
 // What a seat sees of a location.
-fn sight_of(alloc: Global, shape: &Shape, table: &Table, seat: u8, loc: u16) -> Result<Sight, Memory>
+fn sight_of(
+    alloc: Global,
+    shape: &Shape,
+    table: &Table,
+    seat: u8,
+    loc: u16,
+) -> Result<Sight, Memory>
     requires { table.now.shape ≡ shape.now }
     ensures { IfOk result (λ sight. sight_seen sight
         ≡ sight_of_list shape.now (sees_faces shape.now seat loc) (list_at table.now.table loc)) }

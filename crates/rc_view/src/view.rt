@@ -40,7 +40,13 @@ impl View {
 
 /// What a player sees of a table and of where its match stands. Two views of a player are equal exactly where the states are
 /// alike to it: they differ at most in faces that it doesn't see.
-pub fn view_of(alloc: Global, shape: &Shape, table: &Table, control: &Control, seat: u8) -> Result<View, Memory>
+pub fn view_of(
+    alloc: Global,
+    shape: &Shape,
+    table: &Table,
+    control: &Control,
+    seat: u8,
+) -> Result<View, Memory>
     requires laid { table.now.shape ≡ shape.now }
     requires seat { seat < shape.now.players }
     ensures is { IfOk result (λ view. view_seen view ≡ view_of_state shape.now seat table.now.table (control_seen control.now)) }

@@ -1,4 +1,4 @@
-use Rattle.std.proofs.Common.{◌≡◌, ◌∷◌, [], ◌++◌, length, map, ap, ap₂, sym, ◌∙◌, subst, arith}
+use Rattle.std.proofs.Common.{◌∷◌, [], ◌++◌, map, ap, ap₂, sym, ◌∙◌, subst, arith}
 use Rattle.std.proofs.lemmas.List.{map-append}
 use Rattle.rc_play_model.specs.Table.{IsSound}
 use Rattle.rc_view.specs.Seen.{sight_seen}
