@@ -1,2 +1,4 @@
 pub mod SightLemmas
 pub mod ShortLemmas
+pub mod Telling
+pub mod KeyLemmas

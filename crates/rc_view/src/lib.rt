@@ -2,9 +2,11 @@
 #![tactic(auto)]
 
 mod key;
+mod laws;
 mod sight;
 mod view;
 
 pub use key::key_bytes;
+pub use laws::keys_tell_views;
 pub use sight::Sight;
 pub use view::{View, view_of};
