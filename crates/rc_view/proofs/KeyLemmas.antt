@@ -83,7 +83,7 @@ module _ (shape : Shape) (seat : ℕ) where
 abbrev view_with : ℕ → Control → List ℤ → List Sight → View
 view_with seat control numbers sights = record { seat = seat; control = control; numbers = numbers; sights = sights }
 
-views_equal : (a b : View) → a.seat ≡ b.seat → a.control ≡ b.control → a.numbers ≡ b.numbers → a.sights ≡ b.sights → a ≡ b
+pub views_equal : (a b : View) → a.seat ≡ b.seat → a.control ≡ b.control → a.numbers ≡ b.numbers → a.sights ≡ b.sights → a ≡ b
 views_equal a b seat control numbers sights =
     ap₂ (λ s c. view_with s c a.numbers a.sights) seat control ∙ ap₂ (λ n x. view_with b.seat b.control n x) numbers sights
 

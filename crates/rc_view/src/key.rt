@@ -5,7 +5,9 @@ ghost use Rattle.rc_model.specs.Clamp.{IsWithinClamp};
 ghost use Rattle.rc_rules.specs.Control.{control_seen, frame_seen};
 ghost use Rattle.rc_view.specs.Seen.{sight_seen, view_seen};
 ghost use Rattle.rc_view.specs.Key.{HasKey, IsShort, control_key, frame_key, key_of, number_key, or_none, sight_key};
+ghost use Rattle.rc_view.specs.Laws.{KeysTellViews};
 
+use crate::laws::keys_tell_views;
 use crate::sight::Sight;
 use crate::view::View;
 use rc_deck::Memory;
@@ -15,11 +17,14 @@ use std::alloc::Global;
 // What stands for no site and for no named member.
 const NONE: u8 = 255;
 
-/// The bytes by which a view is known. Numbers have their lowest bytes first.
+/// The bytes by which a view is known. Numbers have their lowest bytes first. Two views of one shape have equal bytes exactly
+/// where they are equal.
 pub fn key_bytes(alloc: Global, view: &View) -> Result<Vec<u8>, Memory>
     requires { HasKey (view_seen view.now) }
     ensures is { IfOk result (λ bytes. bytes.items ≡ key_of (view_seen view.now)) }
+    ensures tells { KeysTellViews }
 {
+    keys_tell_views();
     let mut bytes = Vec::new(alloc);
     bytes.push(view.seat)?;
     push_control(&view.control, &mut bytes)?;

@@ -1,9 +1,11 @@
 //! What a seat sees of a match.
-ghost use Rattle.std.specs.Prelude.{◌≡◌, ◌<◌, map, IfOk};
+ghost use Rattle.std.specs.Prelude.{◌≡◌, ◌<◌, length, map, IfOk};
 ghost use Rattle.rc_play_model.specs.View.{view_of as view_of_state};
 ghost use Rattle.rc_play_model.specs.ViewLaws.{EqualViewsAlike};
 ghost use Rattle.rc_rules.specs.Control.{control_seen};
 ghost use Rattle.rc_view.specs.Seen.{sight_seen, view_seen};
+ghost use Rattle.rc_view.specs.Key.{HasKey};
+ghost use Rattle.rc_view.specs.Laws.{HasControlKey, IsViewIn};
 
 use crate::sight::{Sight, sights_of};
 use rc_deck::Memory;
@@ -51,8 +53,14 @@ pub fn view_of(
     requires seat { seat < shape.now.players }
     ensures is { IfOk result (λ view. view_seen view ≡ view_of_state shape.now seat table.now.table (control_seen control.now)) }
     ensures alike { EqualViewsAlike }
+    ensures key { IfOk result (λ view. HasKey (view_seen view)) }
+    ensures within { IfOk result (λ view. HasControlKey (control_seen control.now) → length control.now.made.items ≡ shape.now.players
+        → IsViewIn shape.now (view_seen view)) }
 {
     views_are_equal_where_states_are_alike();
+    // what a shape and a table keep
+    let _players = shape.players();
+    let _shape = table.shape();
     let numbers = numbers_of(alloc, table)?;
     let sights = sights_of(alloc, shape, table, seat)?;
     Ok(View {
