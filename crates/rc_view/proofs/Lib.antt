@@ -1,0 +1,5 @@
+pub mod SightLemmas
+pub mod ShortLemmas
+pub mod Telling
+pub mod KeyLemmas
+pub mod InShape

@@ -1,0 +1,45 @@
+-- The bytes by which a view is known. Numbers have their lowest bytes first. There are as many counts of decisions, numbers and
+-- locations as the shape says, so none of these is preceded by how many there are.
+use Rattle.std.specs.Prelude.{ℕ, Bool, true, false, List, [], ◌∷◌, ◌++◌, length, flat_map, Option, Some, None, ℤ, ◌≤◌, All}
+use Rattle.std.specs.Int.{w16, w32, to_le_bytes, cast_unsigned}
+use Rattle.rc_model.specs.Clamp.{IsWithinClamp}
+use Rattle.rc_play_model.specs.Control.{Control, Frame}
+use Rattle.rc_play_model.specs.View.{Sight, with_faces, with_length, View}
+
+-- 255 stands for none
+abbrev pub or_none : Option ℕ → ℕ
+or_none None = 255
+or_none (Some n) = n
+
+-- 1 is backward
+abbrev pub direction : Bool → ℕ
+direction true = 1
+direction false = 0
+
+abbrev pub frame_key : Frame → List ℕ
+frame_key frame = to_le_bytes w16 frame.stage ++ frame.member ∷ direction frame.back ∷ or_none frame.named ∷ []
+
+abbrev pub control_key : Control → List ℕ
+control_key control =
+    or_none control.site ∷ to_le_bytes w32 control.turn
+    ++ (flat_map (to_le_bytes w32) control.made ++ length control.frames ∷ flat_map frame_key control.frames)
+
+abbrev pub number_key : ℤ → List ℕ
+number_key number = to_le_bytes w32 (cast_unsigned w32 number)
+
+abbrev pub sight_key : Sight → List ℕ
+sight_key (with_faces numbers) = to_le_bytes w16 (length numbers) ++ flat_map (to_le_bytes w16) numbers
+sight_key (with_length length) = to_le_bytes w16 length
+
+abbrev pub key_of : View → List ℕ
+key_of view = view.seat ∷ control_key view.control ++ (flat_map number_key view.numbers ++ flat_map sight_key view.sights)
+
+-- a list of faces is no longer than a location can be
+abbrev pub IsShort : Sight → Type 0
+IsShort (with_faces numbers) = length numbers ≤ 512
+IsShort (with_length length) = length ≤ 512
+
+-- what the bytes have room for: numbers within the clamp, and lists no longer than a location's
+pub record HasKey (view : View) : Type 0 where
+  pub numbers : All IsWithinClamp view.numbers
+  pub sights : All IsShort view.sights

@@ -1,0 +1,49 @@
+-- Statements of laws: which views a shape has, and that their bytes tell them apart.
+use Rattle.std.specs.Prelude.{◌≡◌, ◌↔◌, ℕ, ◌<◌, ◌≤◌, ◌^◌, Bool, true, false, List, [], ◌∷◌, length, All, IfSome, Some}
+use Rattle.rc_model.specs.Clamp.{IsWithinClamp}
+use Rattle.rc_play_model.specs.Control.{Control, Frame}
+use Rattle.rc_play_model.specs.Shape.{Place, Shape}
+use Rattle.rc_play_model.specs.Sees.{sees_place}
+use Rattle.rc_play_model.specs.View.{Sight, with_faces, with_length, View}
+use Rattle.rc_view.specs.Key.{key_of}
+
+-- a frame that its bytes have room for; no named member is 255, which stands for none
+pub record HasFrameKey (frame : Frame) : Type 0 where
+  pub stage : frame.stage < 2 ^ 16
+  pub named : IfSome frame.named (λ n. n < 255)
+
+-- a control that its bytes have room for; no site is 255, which stands for none
+pub record HasControlKey (control : Control) : Type 0 where
+  pub site : IfSome control.site (λ n. n < 255)
+  pub turn : control.turn < 2 ^ 32
+  pub made : All (λ n. n < 2 ^ 32) control.made
+  pub frames : All HasFrameKey control.frames
+
+-- faces where they are seen, and else how many cards there are
+abbrev pub IsSightIn : Bool → Sight → Type 0
+IsSightIn true (with_faces numbers) = (length numbers ≤ 512) × All (λ n. n < 2 ^ 16) numbers
+IsSightIn true (with_length length) = ⊥
+IsSightIn false (with_faces numbers) = ⊥
+IsSightIn false (with_length length) = length ≤ 512
+
+-- one for each location
+abbrev pub AreSightsIn : Shape → ℕ → List Place → List Sight → Type 0
+AreSightsIn shape seat [] [] = Unit {0}
+AreSightsIn shape seat [] (sight ∷ sights) = ⊥
+AreSightsIn shape seat (place ∷ places) [] = ⊥
+AreSightsIn shape seat (place ∷ places) (sight ∷ sights) =
+    IsSightIn (sees_place shape seat (Some place)) sight × AreSightsIn shape seat places sights
+
+-- A view that has a shape: as many counts of decisions, numbers and locations as the shape has, faces where the seat sees them,
+-- and everything within its range.
+pub record IsViewIn (shape : Shape) (view : View) : Type 0 where
+  pub control : HasControlKey view.control
+  pub each_made : length view.control.made ≡ shape.players
+  pub each_number : length view.numbers ≡ shape.numbers
+  pub clamped : All IsWithinClamp view.numbers
+  pub sights : AreSightsIn shape view.seat shape.places view.sights
+
+-- two views of one shape have equal bytes exactly where they are equal
+abbrev pub KeysTellViews : Type 0
+KeysTellViews =
+    (shape : Shape) (view view' : View) → IsViewIn shape view → IsViewIn shape view' → (key_of view ≡ key_of view') ↔ (view ≡ view')

@@ -1,0 +1,12 @@
+//! What a seat sees of a match, and the bytes by which a view is known.
+#![tactic(auto)]
+
+mod key;
+mod laws;
+mod sight;
+mod view;
+
+pub use key::key_bytes;
+pub use laws::keys_tell_views;
+pub use sight::Sight;
+pub use view::{View, view_of};

@@ -1,0 +1,86 @@
+//! What a seat sees of a location.
+ghost use Rattle.std.specs.Prelude.{◌≡◌, ◌<◌, length, map, All, IfOk};
+ghost use Rattle.rc_play_model.specs.Shape.{face_number as face_number_of};
+ghost use Rattle.rc_play_model.specs.Sees.{sees as sees_faces};
+ghost use Rattle.rc_play_model.specs.Table.{list_at};
+ghost use Rattle.rc_play_model.specs.View.{sight_of as sight_of_list, sights_of as sights_of_lists};
+ghost use Rattle.rc_view.specs.Seen.{sight_seen};
+
+use rc_deck::Memory;
+use rc_table::{Shape, Table, face_number, sees};
+use std::alloc::Global;
+
+/// The numbers of the faces of a location's cards from bottom to top where the seat sees them, or how many cards there are.
+#[derive(Debug, Drop)]
+pub enum Sight {
+    Faces(Vec<u16>),
+    Length(u16),
+}
+
+impl Sight {
+    /// The same sight once more.
+    pub fn copy(&self, alloc: Global) -> Result<Sight, Memory>
+        ensures { IfOk result (λ copy. sight_seen copy ≡ sight_seen self.now) }
+    {
+        match self {
+            Sight::Faces(numbers) => {
+                let numbers = Vec::from_slice(alloc, numbers)?;
+                Ok(Sight::Faces(numbers))
+            }
+            Sight::Length(length) => Ok(Sight::Length(*length)),
+        }
+    }
+}
+
+/// What a seat sees of each location, in their order.
+pub(crate) fn sights_of(
+    alloc: Global,
+    shape: &Shape,
+    table: &Table,
+    seat: u8,
+) -> Result<Vec<Sight>, Memory>
+    requires { table.now.shape ≡ shape.now }
+    ensures { IfOk result (λ sights. map sight_seen sights.items ≡ sights_of_lists shape.now seat shape.now.places table.now.table.lists) }
+{
+    // what a table keeps
+    let _shape = table.shape();
+    let mut sights = Vec::new(alloc);
+    for loc in 0..shape.locations() {
+        sights.push(sight_of(alloc, shape, table, seat, loc)?)?;
+    }
+    Ok(sights)
+}
+
+// What a seat sees of a location.
+fn sight_of(
+    alloc: Global,
+    shape: &Shape,
+    table: &Table,
+    seat: u8,
+    loc: u16,
+) -> Result<Sight, Memory>
+    requires { table.now.shape ≡ shape.now }
+    ensures { IfOk result (λ sight. sight_seen sight
+        ≡ sight_of_list shape.now (sees_faces shape.now seat loc) (list_at table.now.table loc)) }
+{
+    // what a table keeps
+    let _shape = table.shape();
+    let ids = table.list(loc);
+    if !sees(shape, seat, loc) {
+        return Ok(Sight::Length(ids.len() as u16));
+    }
+    let numbers = face_numbers(alloc, shape, ids)?;
+    Ok(Sight::Faces(numbers))
+}
+
+// The numbers of the faces of these cards.
+fn face_numbers(alloc: Global, shape: &Shape, ids: &[u16]) -> Result<Vec<u16>, Memory>
+    requires { All (λ id. id < length shape.now.faces) ids.now }
+    ensures { IfOk result (λ numbers. numbers.items ≡ map (face_number_of shape.now) ids.now) }
+{
+    let mut numbers = Vec::new(alloc);
+    for id in ids {
+        numbers.push(face_number(shape, *id))?;
+    }
+    Ok(numbers)
+}

@@ -1,0 +1,94 @@
+//! What a seat sees of a match.
+ghost use Rattle.std.specs.Prelude.{◌≡◌, ◌<◌, length, map, IfOk};
+ghost use Rattle.rc_play_model.specs.View.{view_of as view_of_state};
+ghost use Rattle.rc_play_model.specs.ViewLaws.{EqualViewsAlike};
+ghost use Rattle.rc_rules.specs.Control.{control_seen};
+ghost use Rattle.rc_view.specs.Seen.{sight_seen, view_seen};
+ghost use Rattle.rc_view.specs.Key.{HasKey};
+ghost use Rattle.rc_view.specs.Laws.{HasControlKey, IsViewIn};
+
+use crate::sight::{Sight, sights_of};
+use rc_deck::Memory;
+use rc_play_model::views_are_equal_where_states_are_alike;
+use rc_rules::Control;
+use rc_table::{Shape, Table};
+use std::alloc::Global;
+
+/// What a seat sees of a match: where the match stands beside its table, all numbers, and of each location the faces or else
+/// how many cards there are.
+#[derive(Debug, Drop)]
+pub struct View {
+    pub seat: u8,
+    pub control: Control,
+    pub numbers: Vec<i64>,
+    pub sights: Vec<Sight>,
+}
+
+impl View {
+    /// The same view once more.
+    pub fn copy(&self, alloc: Global) -> Result<View, Memory>
+        ensures { IfOk result (λ copy. view_seen copy ≡ view_seen self.now) }
+    {
+        let numbers = Vec::from_slice(alloc, &self.numbers)?;
+        let sights = copied(alloc, &self.sights)?;
+        Ok(View {
+            seat: self.seat,
+            control: self.control.copy(),
+            numbers,
+            sights,
+        })
+    }
+}
+
+/// What a player sees of a table and of where its match stands. Two views of a player are equal exactly where the states are
+/// alike to it: they differ at most in faces that it doesn't see.
+pub fn view_of(
+    alloc: Global,
+    shape: &Shape,
+    table: &Table,
+    control: &Control,
+    seat: u8,
+) -> Result<View, Memory>
+    requires laid { table.now.shape ≡ shape.now }
+    requires seat { seat < shape.now.players }
+    ensures is { IfOk result (λ view. view_seen view ≡ view_of_state shape.now seat table.now.table (control_seen control.now)) }
+    ensures alike { EqualViewsAlike }
+    ensures key { IfOk result (λ view. HasKey (view_seen view)) }
+    ensures within { IfOk result (λ view. HasControlKey (control_seen control.now) → length control.now.made.items ≡ shape.now.players
+        → IsViewIn shape.now (view_seen view)) }
+{
+    views_are_equal_where_states_are_alike();
+    // what a shape and a table keep
+    let _players = shape.players();
+    let _shape = table.shape();
+    let numbers = numbers_of(alloc, table)?;
+    let sights = sights_of(alloc, shape, table, seat)?;
+    Ok(View {
+        seat,
+        control: control.copy(),
+        numbers,
+        sights,
+    })
+}
+
+// All numbers of a table.
+fn numbers_of(alloc: Global, table: &Table) -> Result<Vec<i64>, Memory>
+    ensures { IfOk result (λ numbers. numbers.items ≡ table.now.table.numbers) }
+{
+    let mut numbers = Vec::new(alloc);
+    for num in 0..table.shape().numbers() {
+        numbers.push(table.number(num))?;
+    }
+    Ok(numbers)
+}
+
+// The same sights once more.
+fn copied(alloc: Global, sights: &[Sight]) -> Result<Vec<Sight>, Memory>
+    ensures { IfOk result (λ copy. map sight_seen copy.items ≡ map sight_seen sights.now) }
+{
+    let mut copy = Vec::new(alloc);
+    for sight in sights {
+        copy.push(sight.copy(alloc)?)?;
+    }
+    Ok(copy)
+}
