@@ -1,22 +1,21 @@
 -- A control that fits a choice site has room in the bytes.
-use Rattle.std.proofs.Common.{◌≡◌, ℕ, zero, suc, ◌+◌, ◌<◌, ◌≤◌, ◌^◌, ◌==◌, Bool, true, false, cond, if◌then◌else◌, List, [], ◌∷◌, ◌++◌, length, All, Option, Some, None, refl, sym, ap, subst, arith}
+use Rattle.std.proofs.Common.{◌≡◌, ℕ, ◌<◌, ◌≤◌, ◌^◌, ◌==◌, Bool, true, false, if◌then◌else◌, List, [], ◌∷◌, ◌++◌, length, Option, Some, None, refl, sym, subst, arith}
 use Rattle.std.specs.Prelude.{IfSome}
 use Rattle.std.specs.List.{AllByRecursion, AllZip}
 use Rattle.std.proofs.lemmas.List.Elements.{All-from_recursion, recursion_from_All}
 use Rattle.rc_model.specs.Numbers.{below}
-use Rattle.rc_sheet_model.specs.Sheet.{Alt, SheetItem, do_item, stage, choice, SheetItems, no_item, item, Sheet}
+use Rattle.rc_sheet_model.specs.Sheet.{SheetItem, do_item, stage, choice, SheetItems, no_item, item, Sheet}
 use Rattle.rc_sheet_model.specs.Lists.{item_list}
 use Rattle.rc_sheet_model.specs.Mentions.{stages_in_item, stages_in}
 use Rattle.rc_sheet_model.specs.WellFormed.{owner_count, IsWellFormed}
-use Rattle.rc_play_model.specs.About.{About}
-use Rattle.rc_play_model.specs.Control.{Control, Frame}
+use Rattle.rc_play_model.specs.Control.{Frame}
 use Rattle.rc_play_model.specs.Step.{Stage, Part, todo, round, turn, todos}
 use Rattle.rc_play_model.specs.Decision.{left_in_item, left_in, left_at}
-use Rattle.rc_play_model.specs.Fits.{around, IsFrameOf, FitsSite}
+use Rattle.rc_play_model.specs.Fits.{around, IsFrameOf}
 use Rattle.rc_play_model.proofs.Parts.{split}
 use Rattle.rc_play_model.proofs.CardLemmas.{numbers_below, get_each, append_each}
 use Rattle.rc_rules.proofs.ShapeLemmas.{owners_few}
-use Rattle.rc_view.specs.Laws.{HasFrameKey, HasControlKey, FittingControlsHaveKeys}
+use Rattle.rc_view.specs.Laws.{HasFrameKey, FittingControlsHaveKeys}
 
 -- the open stages around a site are stages of the sheet
 module _ (P : ℕ → Type 0) where
@@ -87,14 +86,14 @@ counts_below top less [] all = tt
 counts_below top less (n ∷ made) all = (let most = all.0 in omega (arith, most, less), counts_below top less made all.1)
 
 pub fitting_controls_have_keys : FittingControlsHaveKeys
-fitting_controls_have_keys about site control formed fits low less =
-    ( record {
-        site = subst (λ o. IfSome o (λ n. n < 255)) (sym fits.stands) (omega (arith, low));
-        turn = less;
-        made = All-from_recursion (λ n. n < 2 ^ 32) control.made
-            (counts_below control.turn less control.made (recursion_from_All (λ n. n ≤ control.turn) control.made fits.counts));
-        frames = All-from_recursion HasFrameKey control.frames
-            (frame_keys about.sheet formed (around (left_at about.sheet site)) control.frames (around_few about.sheet formed site) fits.frames);
-      }
-    , fits.seats
-    )
+fitting_controls_have_keys about site control formed fits low less = (
+  record {
+    site = subst (λ o. IfSome o (λ n. n < 255)) (sym fits.stands) (omega (arith, low));
+    turn = less;
+    made = All-from_recursion (λ n. n < 2 ^ 32) control.made
+        (counts_below control.turn less control.made (recursion_from_All (λ n. n ≤ control.turn) control.made fits.counts));
+    frames = All-from_recursion HasFrameKey control.frames
+        (frame_keys about.sheet formed (around (left_at about.sheet site)) control.frames (around_few about.sheet formed site) fits.frames);
+  },
+  fits.seats,
+)
