@@ -1,5 +1,5 @@
 -- What is seen of a sound table has the table's shape, and a key.
-use Rattle.std.proofs.Common.{◌≡◌, ℕ, ◌<◌, ◌≤◌, ◌^◌, not, Bool, true, false, List, [], ◌∷◌, length, map, get_or, All, Some, ap, arith}
+use Rattle.std.proofs.Common.{◌≡◌, ℕ, ◌<◌, ◌≤◌, ◌^◌, not, Bool, true, false, List, [], ◌∷◌, length, map, Some, arith}
 use Rattle.std.specs.List.{AllByRecursion}
 use Rattle.std.proofs.lemmas.List.{length-map}
 use Rattle.std.proofs.lemmas.List.Elements.{All-from_recursion, recursion_from_All, All-from_get_or}
@@ -8,7 +8,7 @@ use Rattle.rc_play_model.specs.Control.{Control}
 use Rattle.rc_play_model.specs.Shape.{Place, Shape, face_eq, face_at, face_number}
 use Rattle.rc_play_model.specs.Sees.{sees_place}
 use Rattle.rc_play_model.specs.Table.{Table, IsSound}
-use Rattle.rc_play_model.specs.View.{Sight, with_faces, with_length, sight_of, sights_of, View, view_of}
+use Rattle.rc_play_model.specs.View.{Sight, with_faces, with_length, sight_of, sights_of, view_of}
 use Rattle.rc_table.specs.Shape.{IsShape}
 use Rattle.rc_table.proofs.Held.{few_in_list}
 use Rattle.rc_view.specs.Key.{IsShort, HasKey}
@@ -72,5 +72,5 @@ pub view_has_key : (shape : Shape) (seat : ℕ) (table : Table) (control : Contr
 view_has_key shape seat table control limits sound = record {
   numbers = sound.clamped;
   sights = let sights = sights_of shape seat shape.places table.lists in
-  All-from_recursion IsShort sights (short_sights shape seat shape.places sights (table_sights_in shape limits seat table sound));
+      All-from_recursion IsShort sights (short_sights shape seat shape.places sights (table_sights_in shape limits seat table sound));
 }

@@ -1,6 +1,6 @@
 -- The bytes of views tell them apart.
-use Rattle.std.proofs.Common.{◌≡◌, ◌↔◌, ℕ, ◌+◌, ◌<◌, ◌≤◌, ◌^◌, Bool, true, false, List, [], ◌∷◌, ◌++◌, length, take, drop, get_or, All, Option, Some, None, ℤ, w16, w32, refl, sym, ap, ap₂, ◌∙◌, subst, arith}
-use Rattle.std.specs.Prelude.{flat_map, IfSome}
+use Rattle.std.proofs.Common.{◌≡◌, ℕ, ◌<◌, ◌≤◌, ◌^◌, Bool, true, false, List, [], ◌∷◌, ◌++◌, length, drop, get_or, Option, Some, ℤ, w16, w32, refl, sym, ap, ap₂, ◌∙◌, subst, arith}
+use Rattle.std.specs.Prelude.{flat_map}
 use Rattle.std.specs.Int.{to_le_bytes}
 use Rattle.std.specs.List.{AllByRecursion}
 use Rattle.std.proofs.lemmas.List.{append_assoc, append-nil}
@@ -10,7 +10,7 @@ use Rattle.rc_play_model.specs.Control.{Control, Frame}
 use Rattle.rc_play_model.specs.Shape.{Place, Shape}
 use Rattle.rc_play_model.specs.Sees.{sees_place}
 use Rattle.rc_play_model.specs.View.{Sight, with_faces, with_length, View}
-use Rattle.rc_view.specs.Key.{or_none, direction, number_key, frame_key, control_key, sight_key, key_of}
+use Rattle.rc_view.specs.Key.{number_key, frame_key, control_key, sight_key, key_of}
 use Rattle.rc_view.specs.Laws.{HasFrameKey, HasControlKey, IsSightIn, AreSightsIn, IsViewIn, KeysTellViews}
 use Rattle.rc_view.proofs.Telling.{Tells, two_tell, four_tell, numbers_tell, lists_tell, none_told, direction_told}
 
@@ -23,11 +23,11 @@ frames_equal a b stage member back named =
 
 frames_tell : (a b : Frame) → HasFrameKey a → HasFrameKey b → Tells frame_key a b
 frames_tell a b has has' r s e =
-    let stage = two_tell a.stage b.stage has.stage has'.stage _ _ e in
-    ( frames_equal a b stage.0 (ap (λ bytes. get_or bytes 0 0) stage.1)
-      (direction_told a.back b.back (ap (λ bytes. get_or bytes 1 0) stage.1))
-      (none_told a.named b.named has.named has'.named (ap (λ bytes. get_or bytes 2 0) stage.1))
-    , ap (drop 3) stage.1
+    let stage = two_tell a.stage b.stage has.stage has'.stage _ _ e in (
+      frames_equal a b stage.0 (ap (λ bytes. get_or bytes 0 0) stage.1)
+          (direction_told a.back b.back (ap (λ bytes. get_or bytes 1 0) stage.1))
+          (none_told a.named b.named has.named has'.named (ap (λ bytes. get_or bytes 2 0) stage.1)),
+      ap (drop 3) stage.1,
     )
 
 abbrev control_of : Option ℕ → List Frame → ℕ → List ℕ → Control

@@ -3,3 +3,4 @@ pub mod ShortLemmas
 pub mod Telling
 pub mod KeyLemmas
 pub mod InShape
+pub mod Fitting

@@ -1,5 +1,5 @@
 -- What two keys of one kind tell where more bytes follow each: the items are equal, and so are the bytes behind them.
-use Rattle.std.proofs.Common.{◌≡◌, ℕ, zero, suc, ◌+◌, ◌<◌, ◌≤◌, ◌^◌, Bool, true, false, List, [], ◌∷◌, ◌++◌, length, take, drop, get_or, All, Option, Some, None, ℤ, pos, neg_ℤ, ◌≤ℤ◌, SFits, to_z, of_z, w16, w32, refl, sym, ap, ap₂, ◌∙◌, subst, arith}
+use Rattle.std.proofs.Common.{◌≡◌, ℕ, ◌<◌, ◌^◌, Bool, true, false, List, [], ◌∷◌, ◌++◌, length, take, drop, Option, Some, None, ℤ, SFits, to_z, of_z, w16, w32, refl, sym, ap, ap₂, ◌∙◌, arith}
 use Rattle.std.specs.Prelude.{flat_map, IfSome}
 use Rattle.std.specs.Int.{to_le_bytes, from_le_bytes}
 use Rattle.std.specs.List.{AllByRecursion}
@@ -14,16 +14,16 @@ abbrev pub Tells : {X : Type 0} → (X → List ℕ) → X → X → Type 0
 Tells key x y = (r s : List ℕ) → key x ++ r ≡ key y ++ s → (x ≡ y) × (r ≡ s)
 
 pub two_tell : (m n : ℕ) → m < 2 ^ 16 → n < 2 ^ 16 → Tells (to_le_bytes w16) m n
-two_tell m n less less' r s e =
-    ( sym (from_le_bytes-to_le_bytes_2 m less) ∙ ap (λ bytes. from_le_bytes w16 (take 2 bytes)) e ∙ from_le_bytes-to_le_bytes_2 n less'
-    , ap (drop 2) e
-    )
+two_tell m n less less' r s e = (
+  sym (from_le_bytes-to_le_bytes_2 m less) ∙ ap (λ bytes. from_le_bytes w16 (take 2 bytes)) e ∙ from_le_bytes-to_le_bytes_2 n less',
+  ap (drop 2) e,
+)
 
 pub four_tell : (m n : ℕ) → m < 2 ^ 32 → n < 2 ^ 32 → Tells (to_le_bytes w32) m n
-four_tell m n less less' r s e =
-    ( sym (from_le_bytes-to_le_bytes_4 m less) ∙ ap (λ bytes. from_le_bytes w32 (take 4 bytes)) e ∙ from_le_bytes-to_le_bytes_4 n less'
-    , ap (drop 4) e
-    )
+four_tell m n less less' r s e = (
+  sym (from_le_bytes-to_le_bytes_4 m less) ∙ ap (λ bytes. from_le_bytes w32 (take 4 bytes)) e ∙ from_le_bytes-to_le_bytes_4 n less',
+  ap (drop 4) e,
+)
 
 fits_four : (z : ℤ) → IsWithinClamp z → SFits w32 z
 fits_four z (least, most) = omega (arith, ints, least, most)

@@ -1,6 +1,9 @@
 -- Statements of laws: which views a shape has, and that their bytes tell them apart.
 use Rattle.std.specs.Prelude.{◌≡◌, ◌↔◌, ℕ, ◌<◌, ◌≤◌, ◌^◌, Bool, true, false, List, [], ◌∷◌, length, All, IfSome, Some}
 use Rattle.rc_model.specs.Clamp.{IsWithinClamp}
+use Rattle.rc_sheet_model.specs.WellFormed.{IsWellFormed}
+use Rattle.rc_play_model.specs.About.{About}
+use Rattle.rc_play_model.specs.Fits.{FitsSite}
 use Rattle.rc_play_model.specs.Control.{Control, Frame}
 use Rattle.rc_play_model.specs.Shape.{Place, Shape}
 use Rattle.rc_play_model.specs.Sees.{sees_place}
@@ -47,3 +50,9 @@ pub record IsViewIn (shape : Shape) (view : View) : Type 0 where
 abbrev pub KeysTellViews : Type 0
 KeysTellViews =
     (shape : Shape) (view view' : View) → IsViewIn shape view → IsViewIn shape view' → (key_of view ≡ key_of view') ↔ (view ≡ view')
+
+-- a control that fits a choice site of a well formed sheet has room in the bytes, and one count of decisions for each player
+abbrev pub FittingControlsHaveKeys : Type 0
+FittingControlsHaveKeys =
+    (about : About) (site : ℕ) (control : Control) → IsWellFormed about.sheet → FitsSite about site control → site < 64 → control.turn < 2 ^ 32 →
+    HasControlKey control × (length control.made ≡ about.sheet.players)

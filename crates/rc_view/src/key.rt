@@ -18,7 +18,8 @@ use std::alloc::Global;
 const NONE: u8 = 255;
 
 /// The bytes by which a view is known. Numbers have their lowest bytes first. Two views of one shape have equal bytes exactly
-/// where they are equal.
+/// where they are equal. Its numbers are within -1,000,000,000 .. 1,000,000,000, and each location has at most 512 cards, as in
+/// every view of a table. Memory may run out.
 pub fn key_bytes(alloc: Global, view: &View) -> Result<Vec<u8>, Memory>
     requires { HasKey (view_seen view.now) }
     ensures is { IfOk result (λ bytes. bytes.items ≡ key_of (view_seen view.now)) }

@@ -1,8 +1,14 @@
 //! Laws of views and their bytes. No function here does anything: a crate above gets a law by calling its function.
-ghost use Rattle.rc_view.specs.Laws.{KeysTellViews};
+ghost use Rattle.rc_view.specs.Laws.{FittingControlsHaveKeys, KeysTellViews};
 
 /// Two views of one shape have equal bytes exactly where they are equal.
 #[tactic(auto, using(crate::proofs::KeyLemmas::keys_tell_views))]
 pub fn keys_tell_views()
     ensures { KeysTellViews }
+{}
+
+/// A control that fits a choice site has room in the bytes, so what is seen at each decision of a match has its shape.
+#[tactic(auto, using(crate::proofs::Fitting::fitting_controls_have_keys))]
+pub fn fitting_controls_have_keys()
+    ensures { FittingControlsHaveKeys }
 {}

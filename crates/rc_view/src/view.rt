@@ -41,7 +41,7 @@ impl View {
 }
 
 /// What a player sees of a table and of where its match stands. Two views of a player are equal exactly where the states are
-/// alike to it: they differ at most in faces that it doesn't see.
+/// alike to it: they differ at most in faces that it doesn't see. Memory may run out.
 pub fn view_of(
     alloc: Global,
     shape: &Shape,
