@@ -1,0 +1,6 @@
+pub mod Asking
+pub mod Choosing
+pub mod Counts
+pub mod Entry
+pub mod Need
+pub mod Reply

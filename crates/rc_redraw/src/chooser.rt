@@ -1,0 +1,36 @@
+//! What chooses for the seats.
+ghost use Rattle.std.specs.Prelude.{◌≡◌, ◌≤◌, ◌+◌, Option, IfOk, OnOk};
+ghost use Rattle.rc_play_model.specs.About.{About as PureAbout};
+ghost use Rattle.rc_play_model.specs.Keyed.{choice_of};
+ghost use Rattle.rc_redraw.specs.Counts.{Counts, Serves};
+ghost use Rattle.rc_redraw.specs.Need.{need_seen, IsNeed};
+ghost use Rattle.rc_redraw.specs.Choosing.{Chooses, most_steps};
+
+use crate::need::Need;
+use rc_deck::Memory;
+use rc_steps::Steps;
+use std::alloc::Global;
+use std::sync::ledger::Ledger;
+
+/// Chooses as strategies do. For a rollout it asks a memo once, and what that misses is played out, a step for each playout.
+pub trait Chooser {
+    ghost serves: { Self → Option PureAbout };
+
+    ghost counts: { Self → Counts };
+
+    /// The item that the strategy chooses.
+    fn choose<L: Ledger>(
+        &mut self,
+        alloc: Global,
+        need: &Need,
+        steps: &mut Steps<L>,
+    ) -> Result<u16, Memory>
+        requires served { Serves (serves self.old) (need_seen need.now).about }
+        requires need { IsNeed (need_seen need.now) }
+        ensures is { IfOk result (λ item. item
+            ≡ choice_of (need_seen need.now).about (need_seen need.now).strategy (need_seen need.now).seed (need_seen need.now).view) }
+        ensures counted { OnOk result (Chooses (need_seen need.now) (counts self.old) (counts self.new) steps.old steps.new) }
+        ensures rises { steps.old ≤ steps.new }
+        ensures bounded { steps.new ≤ steps.old + most_steps (need_seen need.now) }
+        ensures same { serves self.new ≡ serves self.old };
+}
