@@ -97,7 +97,8 @@ impl PlainMachine {
         }
     }
 
-    fn at_decision(about: About, table: Table, control: Control) -> PlainMachine
+    /// A match at the decision for which this table and this control stand, in matches of this about. It takes no memory.
+    pub fn at_decision(about: About, table: Table, control: Control) -> PlainMachine
         requires laid { table.shape ≡ about.shape }
         requires decides { CanDecide about table.table (control_seen control) }
         ensures about { result.about ≡ about }
