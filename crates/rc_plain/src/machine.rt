@@ -58,7 +58,15 @@ impl PlainMachine {
         ensures start { IfOk result (λ m. config_of m ≡ start (record { sheet = checked.now.value; shape = shape.now.value; turns = turns })) }
     {
         let about = about_of(checked, shape, turns)?;
-        let table = Table::new(alloc, shape)?;
+        PlainMachine::at_start(alloc, about)
+    }
+
+    /// A match at its start, in matches of this about.
+    pub fn at_start(alloc: Global, about: About) -> Result<PlainMachine, Memory>
+        ensures about { IfOk result (λ m. m.about ≡ about) }
+        ensures start { IfOk result (λ m. config_of m ≡ start about) }
+    {
+        let table = Table::new(alloc, about.shape())?;
         Ok(PlainMachine::with_opening(about, table))
     }
 
