@@ -1,11 +1,17 @@
-//! Redrawn deals, what is asked of them, and the traits of what remembers the answers and of what chooses by them.
+//! Deals that are drawn anew for what a seat sees, what is asked of them, and the traits of what remembers the answers and of what
+//! chooses by them.
 #![tactic(auto)]
 
 mod asking;
 mod chooser;
 mod entry;
+mod filling;
+mod hidden;
+mod laying;
 mod memo;
 mod need;
+mod redrawing;
+mod seen;
 mod tally;
 
 pub use asking::{Ask, Key};
@@ -14,4 +20,5 @@ pub use entry::Entry;
 pub use memo::{Memo, Reply};
 pub use need::Need;
 pub use rc_rules::About;
+pub use redrawing::redraw;
 pub use tally::Tally;

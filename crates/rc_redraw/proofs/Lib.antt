@@ -1,0 +1,7 @@
+mod OnePlace
+mod Standing
+mod Laid
+mod FillSteps
+mod FaceSteps
+mod OtherSteps
+mod NumberSteps

@@ -1,0 +1,75 @@
+//! What each location of a redrawn table holds.
+ghost use Rattle.std.specs.Prelude.{◌≡◌, ◌≤◌, length, map, IfOk};
+ghost use Rattle.rc_play_model.specs.Redraw.{mems_of, faces_at, hidden_at, ids_at, seen_faces, hidden_count, filled as filled_by};
+ghost use Rattle.rc_view.specs.Seen.{sight_seen};
+
+use crate::seen::faces_shown;
+use rc_deck::Memory;
+use rc_table::Shape;
+use rc_view::Sight;
+use std::alloc::Global;
+
+// How many unseen card places a location has.
+fn hidden_places(mem: bool, sight: &Sight) -> usize
+    ensures { result ≡ hidden_at mem (sight_seen sight.now) }
+{
+    match sight {
+        Sight::Length(length) if !mem => *length as usize,
+        _ => 0,
+    }
+}
+
+// What a location holds. A reference is the smallest id of its face, which is the face's number.
+fn list_for(
+    alloc: Global,
+    mem: bool,
+    sight: &Sight,
+    seen: &[u16],
+    hidden: &[u16],
+) -> Result<Vec<u16>, Memory>
+    requires seen { length (faces_at mem (sight_seen sight.now)) ≤ length seen.now }
+    requires hidden { hidden_at mem (sight_seen sight.now) ≤ length hidden.now }
+    ensures { IfOk result (λ list. list.items ≡ ids_at mem (sight_seen sight.now) seen.now hidden.now) }
+{
+    let ids = match sight {
+        Sight::Faces(numbers) if mem => numbers.as_slice(),
+        Sight::Faces(numbers) => &seen[..numbers.len()],
+        Sight::Length(_) if mem => &[],
+        Sight::Length(length) => &hidden[..*length as usize],
+    };
+    Ok(Vec::from_slice(alloc, ids)?)
+}
+
+/// What the locations hold, with these ids for the seen card places in order and these for the unseen ones in order.
+pub(crate) fn filled(
+    alloc: Global,
+    shape: &Shape,
+    sights: &[Sight],
+    seen: &[u16],
+    hidden: &[u16],
+) -> Result<Vec<Vec<u16>>, Memory>
+    requires each { length sights.now ≡ length shape.now.places }
+    requires seen { length (seen_faces (mems_of shape.now.places) (map sight_seen sights.now)) ≡ length seen.now }
+    requires hidden { hidden_count (mems_of shape.now.places) (map sight_seen sights.now) ≡ length hidden.now }
+    ensures { IfOk result (λ lists. map (λ list. list.items) lists.items
+        ≡ filled_by (mems_of shape.now.places) (map sight_seen sights.now) seen.now hidden.now) }
+{
+    let mut lists = Vec::with_capacity(alloc, sights.len())?;
+    let mut seen_from = 0;
+    let mut hidden_from = 0;
+    for loc in 0..shape.locations() {
+        let mem = shape.holds_references(loc);
+        let sight = &sights[loc as usize];
+        let list = list_for(
+            alloc,
+            mem,
+            sight,
+            &seen[seen_from..],
+            &hidden[hidden_from..],
+        )?;
+        lists.push(list)?;
+        seen_from += faces_shown(mem, sight).len();
+        hidden_from += hidden_places(mem, sight);
+    }
+    Ok(lists)
+}

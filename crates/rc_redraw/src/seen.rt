@@ -1,0 +1,63 @@
+//! The ids that seen card places take.
+ghost use Rattle.std.specs.Prelude.{◌≡◌, [], length, map, IfOk};
+ghost use Rattle.rc_play_model.specs.Redraw.{mems_of, faces_at, seen_faces, seen_ids};
+ghost use Rattle.rc_play_model.specs.Smallest.{AreEnough};
+ghost use Rattle.rc_redraw.specs.Taken.{Marks};
+ghost use Rattle.rc_view.specs.Seen.{sight_seen};
+
+use rc_deck::Memory;
+use rc_play_model::seen_places_take_the_smallest;
+use rc_table::{Shape, have_same_face};
+use rc_view::Sight;
+use std::alloc::Global;
+
+/// The ids that are taken, in the order of their places, and for each card whether its id is one of them.
+#[derive(Drop)]
+pub(crate) struct Taken {
+    pub(crate) ids: Vec<u16>,
+    pub(crate) marks: Vec<bool>,
+}
+
+/// The faces at the seen card places of a location. One for references has none.
+pub(crate) fn faces_shown(mem: bool, sight: &Sight) -> &[u16]
+    ensures { result.now ≡ faces_at mem (sight_seen sight.now) }
+{
+    match sight {
+        Sight::Faces(numbers) if !mem => numbers,
+        _ => &[],
+    }
+}
+
+/// The faces at the seen card places, in location order and from bottom to top.
+pub(crate) fn faces_seen(alloc: Global, shape: &Shape, sights: &[Sight]) -> Result<Vec<u16>, Memory>
+    requires { length sights.now ≡ length shape.now.places }
+    ensures { IfOk result (λ faces. faces.items ≡ seen_faces (mems_of shape.now.places) (map sight_seen sights.now)) }
+{
+    let mut faces = Vec::new(alloc);
+    for loc in 0..shape.locations() {
+        let mem = shape.holds_references(loc);
+        faces.extend_from_slice(faces_shown(mem, &sights[loc as usize]))?;
+    }
+    Ok(faces)
+}
+
+/// What places with these faces take, one after another: each the smallest id of its face that no place before it took.
+pub(crate) fn taken_for(alloc: Global, shape: &Shape, faces: &[u16]) -> Result<Taken, Memory>
+    requires { AreEnough shape.now faces.now }
+    ensures ids { IfOk result (λ taken. taken.ids.items ≡ seen_ids shape.now [] faces.now) }
+    ensures marks { IfOk result (λ taken. Marks shape.now taken.ids.items taken.marks.items) }
+{
+    seen_places_take_the_smallest();
+    let mut ids = Vec::with_capacity(alloc, faces.len())?;
+    let mut marks = vec![in alloc; false; shape.cards() as usize]?;
+    for face in faces {
+        // the first card of a face gives it its number
+        let mut id = *face;
+        while marks[id as usize] || !have_same_face(shape, *face, id) {
+            id += 1;
+        }
+        marks[id as usize] = true;
+        ids.push(id)?;
+    }
+    Ok(Taken { ids, marks })
+}
