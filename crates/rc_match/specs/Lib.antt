@@ -1,1 +1,6 @@
-pub mod Played
+pub mod Lane
+pub mod Way
+pub mod Sound
+pub mod Asks
+pub mod AskLaws
+pub mod Chosen

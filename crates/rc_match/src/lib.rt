@@ -1,8 +1,14 @@
-//! Matches: what each seat picks, and the record of the play.
+//! Matches: their steps from stop to stop, and whole plays for every machine and every chooser.
 #![tactic(auto)]
 
-mod choice;
+mod ending;
+mod job;
+mod lane;
+mod laws;
 mod playing;
+mod stepping;
 
-pub use choice::names_rollout;
+pub use job::Job;
+pub use lane::{LaneState, Phase, begin, lane_step};
+pub use laws::asks_add_up;
 pub use playing::play_match;

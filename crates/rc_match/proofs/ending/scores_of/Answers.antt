@@ -4,7 +4,7 @@ use Rattle.rc_model.specs.Numbers.{below}
 use Rattle.rc_play_model.specs.Scores.{rank_points, score_at}
 use Rattle.rc_rules.specs.Record.{score_seen}
 use Rattle.rc_match.proofs.ScoreLemmas.{long_below, told_more}
-use Rattle.rc_match.proofs.playing.scores_of.Goals as goal
+use Rattle.rc_match.proofs.ending.scores_of.Goals as goal
 
 pub score_of-requires-clause-ranked : goal.score_of-requires-clause-ranked
 score_of-requires-clause-ranked c =
