@@ -1,5 +1,5 @@
 -- What a match asks on its way, and how many decisions are left to it.
-use Rattle.std.proofs.Common.{◌≡◌, ℕ, zero, suc, ◌+◌, ◌<◌, ◌≤◌, Bool, false, List, [], ◌∷◌, ◌++◌, length, map, Option, Some, None, refl, sym, ap, ◌∙◌, subst, arith}
+use Rattle.std.proofs.Common.{◌≡◌, ℕ, ◌+◌, ◌<◌, ◌≤◌, Bool, false, List, [], ◌∷◌, ◌++◌, length, Option, Some, None, refl, sym, ap, ◌∙◌, subst, arith}
 use Rattle.std.proofs.lemmas.List.{length-append}
 use Rattle.rc_model.specs.Transcript.{Pick, Record}
 use Rattle.rc_sheet_model.specs.Sight.{IsInSight}
@@ -8,7 +8,6 @@ use Rattle.rc_play_model.specs.Shape.{shape_of}
 use Rattle.rc_play_model.specs.View.{view_of}
 use Rattle.rc_play_model.specs.About.{About}
 use Rattle.rc_play_model.specs.Step.{Config, Stop, decide, is_done, is_limit}
-use Rattle.rc_play_model.specs.Stop.{Stopped}
 use Rattle.rc_play_model.specs.Play.{Played}
 use Rattle.rc_play_model.specs.Plan.{Plan, strategy_at, deal_at}
 use Rattle.rc_play_model.specs.MatchLaws.{first_items}
@@ -20,7 +19,7 @@ use Rattle.rc_redraw.specs.Counts.{Counts, Serves}
 use Rattle.rc_redraw.specs.Choosing.{AsksAll, asked_for, all_costs}
 use Rattle.rc_redraw.specs.Need.{Need}
 use Rattle.rc_match.specs.Lane.{Phase, ready, asks, missed, holds, over, spent, Lane, pick_here, noted, next_stop, need_at, lane_at, stepped}
-use Rattle.rc_match.specs.Way.{items_of, IsOnWay, IsFresh}
+use Rattle.rc_match.specs.Way.{items_of, IsFresh}
 use Rattle.rc_match.specs.Sound.{IsSound}
 use Rattle.rc_match.specs.Asks.{asked_where, asked_first, asked_in, decisions_in, asks_of}
 use Rattle.rc_match.specs.Chosen.{IsChoice, Chosen, asked_at}
@@ -148,7 +147,7 @@ module _ (about : About) (plan : Plan) (m : ℕ) (fits : about.shape ≡ shape_o
   more_left (asks need) c k r item sound is =
       let has = sound.way.waits in
       let chosen : choice_of need.about need.strategy need.seed need.view
-          ≡ choice_of about (strategy_at plan m has.seat) (deal_at plan m).seats (view_of about.shape has.seat c.table c.control) =
+      ≡ choice_of about (strategy_at plan m has.seat) (deal_at plan m).seats (view_of about.shape has.seat c.table c.control) =
       ap (λ (n : Need). choice_of n.about n.strategy n.seed n.view) has.same in
       let less = one_there sound.play.picks (length r.picks) _
       (next_pick about plan m fits formed sight sound.play sound.played r.picks c k has.seat has.site _ sound.front has.there chosen) in

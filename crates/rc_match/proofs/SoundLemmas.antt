@@ -1,5 +1,5 @@
 -- A sound match stays sound.
-use Rattle.std.proofs.Common.{◌≡◌, ℕ, zero, suc, ◌+◌, ◌<◌, ◌≤◌, nat_le, Bool, true, false, List, [], ◌∷◌, ◌++◌, length, map, take, slice_get, Option, Some, None, refl, sym, ap, ◌∙◌, subst, arith}
+use Rattle.std.proofs.Common.{◌≡◌, ℕ, zero, suc, ◌<◌, ◌≤◌, nat_le, Bool, true, false, List, [], ◌∷◌, ◌++◌, length, take, slice_get, Option, Some, None, refl, sym, ap, ◌∙◌, subst, arith}
 use Rattle.std.specs.Prelude.{option_map, unwrap_or}
 use Rattle.std.proofs.lemmas.Bool.{leb-true, leb-false}
 use Rattle.std.proofs.lemmas.List.{take_all}
@@ -11,15 +11,14 @@ use Rattle.rc_play_model.specs.Table.{Table}
 use Rattle.rc_play_model.specs.Owners.{mover}
 use Rattle.rc_play_model.specs.Shape.{shape_of}
 use Rattle.rc_play_model.specs.View.{view_of}
-use Rattle.rc_play_model.specs.About.{About, menu_at}
+use Rattle.rc_play_model.specs.About.{About}
 use Rattle.rc_play_model.specs.Step.{Config, Stop, decide, is_done, is_limit}
 use Rattle.rc_play_model.specs.Stop.{Stopped}
 use Rattle.rc_play_model.specs.Play.{Played, pick_at, stop_for}
 use Rattle.rc_play_model.specs.Scores.{record_of}
-use Rattle.rc_play_model.specs.Fits.{IsDecision, IsEnd}
+use Rattle.rc_play_model.specs.Fits.{IsEnd}
 use Rattle.rc_play_model.specs.Plan.{Plan, strategy_at, deal_at}
 use Rattle.rc_play_model.specs.Strategy.{menu_size}
-use Rattle.rc_play_model.specs.MatchLaws.{first_items}
 use Rattle.rc_play_model.specs.Keyed.{dealing_of, chooser_of, choice_of, reached_in, keyed_play, keyed_match}
 use Rattle.rc_play_model.proofs.ChoiceLemmas.{choice-lt}
 use Rattle.rc_play_model.proofs.FitLemmas.{keyed_leads}
@@ -29,7 +28,7 @@ use Rattle.rc_play_model.proofs.MatchLemmas.{keyed_taken}
 use Rattle.rc_play_model.proofs.PlayLemmas.{play_ends}
 use Rattle.rc_rules.specs.Machine.{menu_here}
 use Rattle.rc_redraw.specs.Need.{Need}
-use Rattle.rc_match.specs.Lane.{Phase, ready, asks, missed, holds, over, spent, Lane, begun, pick_here, noted, next_stop, need_at, completed, lane_at, stepped}
+use Rattle.rc_match.specs.Lane.{Phase, ready, asks, missed, holds, over, spent, Lane, begun, pick_here, noted, next_stop, completed, lane_at, stepped}
 use Rattle.rc_match.specs.Way.{items_of, IsOnWay}
 use Rattle.rc_match.specs.Sound.{IsSound}
 use Rattle.rc_match.specs.Chosen.{Chosen}

@@ -1,6 +1,6 @@
 -- Where a match on its way stands: at the stop to which the items picked so far lead.
-use Rattle.std.specs.Prelude.{◌≡◌, ℕ, ◌<◌, Bool, false, List, [], length, map, Option, Some, None}
-use Rattle.rc_model.specs.Transcript.{Pick, Ending, Record}
+use Rattle.std.specs.Prelude.{◌≡◌, ℕ, ◌<◌, Bool, false, List, [], length, map, Some, None}
+use Rattle.rc_model.specs.Transcript.{Pick, Ending}
 use Rattle.rc_play_model.specs.About.{About, menu_at}
 use Rattle.rc_play_model.specs.Step.{Stop, decide, start}
 use Rattle.rc_play_model.specs.Play.{stop_for}

@@ -142,7 +142,14 @@ fn step_on<M: Machine + Drop>(
 {
     // what an about keeps
     let _sheet = job.about.sheet();
-    match go_on(alloc, job, pick, &mut state.machine, &mut state.dealer, &mut state.notes) {
+    match go_on(
+        alloc,
+        job,
+        pick,
+        &mut state.machine,
+        &mut state.dealer,
+        &mut state.notes,
+    ) {
         Ok(phase) => {
             put(&mut state.phase, phase);
             Ok(())

@@ -9,4 +9,3 @@ pub fn asks_add_up()
     ensures misses { MissesCost }
     ensures bounded { CostsBound }
 {}
-

@@ -20,9 +20,7 @@ use crate::lane::Phase;
 use rc_deck::Memory;
 use rc_names::Class;
 use rc_redraw::Need;
-use rc_rules::{
-    About, Ended, Machine, MatchDealer, MatchRecord, Pick, Stop, current_in,
-};
+use rc_rules::{About, Ended, Machine, MatchDealer, MatchRecord, Pick, Stop, current_in};
 use rc_view::view_of;
 use std::alloc::Global;
 use std::sync::Arc;
@@ -179,7 +177,13 @@ fn need_of<M: Machine>(alloc: Global, job: &Job, seat: u8, machine: &M) -> Resul
 {
     // what an about keeps
     let _sheet = job.about.sheet();
-    let view = match view_of(alloc, job.about.shape(), machine.table(), machine.control(), seat) {
+    let view = match view_of(
+        alloc,
+        job.about.shape(),
+        machine.table(),
+        machine.control(),
+        seat,
+    ) {
         Ok(view) => view,
         Err(Memory) => return Err(Memory),
     };

@@ -1,9 +1,9 @@
-use Rattle.std.proofs.Common.{ℕ, ◌≡◌, ◌<◌, length, Some, sym, subst, ap, ◌∙◌}
+use Rattle.std.proofs.Common.{ℕ, ◌≡◌, ◌<◌, length, sym, subst, ap, ◌∙◌}
 use Rattle.std.specs.Prelude.{IfSome}
 use Rattle.rc_play_model.specs.About.{About}
 use Rattle.rc_play_model.specs.Plan.{deal_at}
 use Rattle.rc_play_model.specs.Stop.{Stopped}
-use Rattle.rc_play_model.specs.Keyed.{dealing_of, reached_in}
+use Rattle.rc_play_model.specs.Keyed.{dealing_of}
 use Rattle.rc_rules.specs.Control.{stop_seen}
 use Rattle.rc_rules.specs.Plan.{plan_seen}
 use Rattle.rc_rules.specs.Record.{record_seen}
