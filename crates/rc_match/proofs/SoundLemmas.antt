@@ -29,9 +29,10 @@ use Rattle.rc_play_model.proofs.PlayLemmas.{play_ends}
 use Rattle.rc_rules.specs.Machine.{menu_here}
 use Rattle.rc_redraw.specs.Need.{Need}
 use Rattle.rc_match.specs.Lane.{Phase, ready, asks, missed, holds, over, spent, Lane, begun, pick_here, noted, next_stop, completed, lane_at, stepped}
-use Rattle.rc_match.specs.Way.{items_of, IsOnWay}
+use Rattle.rc_match.specs.Way.{items_of, HasNeed, IsOnWay}
 use Rattle.rc_match.specs.Sound.{IsSound}
 use Rattle.rc_match.specs.Chosen.{Chosen}
+use Rattle.rc_match.specs.LaneLaws.{ChoicesKeepSound}
 use Rattle.rc_match.proofs.WayLemmas.{lane_on, menu_there, noted_heads, decision_there, leads_next}
 
 -- one pick more of a front
@@ -181,12 +182,11 @@ module _ (about : About) (plan : Plan) (m : ℕ) (fits : about.shape ≡ shape_o
       subst (IsSound about plan m) found.2 (sound_next pick c k r found.0 sound there (subst (IsOnWay about plan m) (sym found.2) way))
 
   -- a choice is an item of the menu, and the next pick
-  pub sound_chosen : (phase : Phase) (c : Config) (k : ℕ) (r : Record) (item : ℕ) → IsSound about plan m (lane_on c k r phase) →
-      Chosen phase (Some item) → IsSound about plan m (lane_on c k r (ready (Some item)))
-  sound_chosen (ready pick) c k r item sound is = absurd is
-  sound_chosen (asks need) c k r item sound is =
+  pub sound_answered : (phase : Phase) (need : Need) (c : Config) (k : ℕ) (r : Record) (item : ℕ) → IsSound about plan m (lane_on c k r phase) →
+      HasNeed about plan m (lane_on c k r phase) need → item ≡ choice_of need.about need.strategy need.seed need.view →
+      IsSound about plan m (lane_on c k r (ready (Some item)))
+  sound_answered phase need c k r item sound has is =
       let way = sound.way in
-      let has = way.waits in
       let at : Stopped ℕ = record { stop = decide has.seat has.site; config = c; dealer = k } in
       let decision = decision_there about plan m fits formed sight (items_of r.picks) at has.seat has.site has.there refl in
       let below = choice-lt need.about need.strategy need.seed need.view has.is.decision.some in
@@ -207,7 +207,16 @@ module _ (about : About) (plan : Plan) (m : ℕ) (fits : about.shape ≡ shape_o
         front = sound.front;
         goes = next_pick sound.play sound.played r.picks c k has.seat has.site item sound.front has.there chosen;
       }
+
+  pub sound_chosen : (phase : Phase) (c : Config) (k : ℕ) (r : Record) (item : ℕ) → IsSound about plan m (lane_on c k r phase) →
+      Chosen phase (Some item) → IsSound about plan m (lane_on c k r (ready (Some item)))
+  sound_chosen (ready pick) c k r item sound is = absurd is
+  sound_chosen (asks need) c k r item sound is = sound_answered (asks need) need c k r item sound sound.way.waits is
   sound_chosen (missed need) c k r item sound is = absurd is
   sound_chosen (holds need key) c k r item sound is = absurd is
   sound_chosen over c k r item sound is = absurd is
   sound_chosen spent c k r item sound is = absurd is
+
+pub choices_keep_sound : ChoicesKeepSound
+choices_keep_sound about plan m lane need item fits formed sight sound has is =
+    sound_answered about plan m fits formed sight lane.phase need lane.config lane.shuffles lane.notes item sound has is
