@@ -1,11 +1,11 @@
 -- The grammar of lines: what is taken stands in a text, and each text is taken.
-use Rattle.std.proofs.Common.{◌≡◌, ◌≢◌, ℕ, zero, suc, ◌+◌, ◌-◌, ◌<◌, ◌≤◌, ◌==◌, Bool, true, false, if◌then◌else◌, List, [], ◌∷◌, ◌++◌, map, flat_map, length, take, Option, Some, None, IfSome, pos, Result, Ok, Err, refl, sym, ap, ◌∙◌, subst, append_assoc, append-nil, arith, rules, eqb-true}
+use Rattle.std.proofs.Common.{◌≡◌, ◌≢◌, ℕ, ◌≤◌, ◌==◌, Bool, true, false, if◌then◌else◌, List, [], ◌∷◌, ◌++◌, map, flat_map, Option, Some, None, IfSome, pos, refl, sym, ap, ◌∙◌, subst, append_assoc, append-nil, arith, rules, eqb-true}
 use Rattle.std.specs.List.{AllByRecursion}
 use Rattle.std.proofs.lemmas.List.{map-append}
 use Rattle.std.proofs.lemmas.List.Concat.{flat_map-append}
-use Rattle.rc_model.specs.Transcript.{Pick, Ending, done, limit, Score, Record, Standing}
+use Rattle.rc_model.specs.Transcript.{Pick, Ending, done, Score, Record, Standing}
 use Rattle.rc_text_model.specs.Fields.{◌>>=◌}
-use Rattle.rc_text_model.specs.Lines.{Line, header, opening, chosen, shuffled, ending, scored, ranked, line_text, IsInRange}
+use Rattle.rc_text_model.specs.Lines.{Line, header, opening, chosen, shuffled, ending, scored, ranked, IsInRange}
 use Rattle.rc_text_model.specs.HouseText.{HouseText, shuffles_told, played_lines, told_lines, ended_lines, record_lines, lines_of, IsHouseText}
 use Rattle.rc_text_model.specs.Grammar.{run}
 use Rattle.rc_text_model.proofs.FieldLemmas.{bind_some, some_is}

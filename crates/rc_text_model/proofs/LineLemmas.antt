@@ -1,11 +1,11 @@
 -- A line is read exactly where its text stands.
-use Rattle.std.proofs.Common.{◌≡◌, ◌≢◌, ℕ, zero, suc, ◌+◌, ◌^◌, ◌<◌, ◌≤◌, List, [], ◌∷◌, ◌++◌, Option, Some, None, ℤ, codes, decimal, refl, sym, ap, ◌∙◌, subst, append_assoc, append-nil, arith, ◌⊎◌, inl, inr}
+use Rattle.std.proofs.Common.{◌≡◌, ℕ, ◌^◌, ◌<◌, ◌≤◌, List, [], ◌++◌, Option, Some, ℤ, codes, decimal, refl, sym, ap, ◌∙◌, subst, append-nil, arith, inl, inr}
 use Rattle.std.specs.Fmt.{signed_decimal}
 use Rattle.rc_model.specs.Clamp.{IsWithinClamp, largest_number}
-use Rattle.rc_model.specs.Transcript.{Pick, Ending, done, limit, Score, Standing}
+use Rattle.rc_model.specs.Transcript.{Pick, done, limit, Score, Standing}
 use Rattle.rc_text_model.specs.Fields.{◌>>=◌, behind, number, counted, integer, last, ◌or_else◌}
 use Rattle.rc_text_model.specs.Lines.{Line, header, opening, chosen, shuffled, ending, scored, ranked, largest_seed, end_text, line_text, IsInRange, header_in, opening_in, chosen_in, shuffled_in, done_in, limit_in, scored_in, ranked_in, line_of}
-use Rattle.rc_text_model.proofs.FieldLemmas.{bind_some, bind_is, behind_only, behind_again, number-only, counted-only, integer-only, number-again, counted-again, integer-again, last-only, either, IsStop}
+use Rattle.rc_text_model.proofs.FieldLemmas.{bind_some, bind_is, behind_only, number-only, counted-only, integer-only, number-again, counted-again, integer-again, last-only, either, IsStop}
 
 abbrev IsRead : List ℕ → Line → Type 0
 IsRead bytes l = IsInRange l × (bytes ≡ line_text l)
