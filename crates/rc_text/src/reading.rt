@@ -44,7 +44,7 @@ impl From<Memory> for TextFail {
 pub fn read_house(alloc: Global, bytes: &[u8]) -> Result<HouseText, TextFail>
     requires short { length bytes.now ≤ 33554432 }
 
-    // What is read is a house text, the bytes are its text, and each of its lines is one of the bytes' lines.
+    // What is read is a house text with the bytes as its text, and it has no more lines than bytes.
     ensures is { IfOk result (λ text. IsHouseText (house_seen text)) }
     ensures spelled { IfOk result (λ text. bytes.now ≡ text_of text) }
     ensures few { IfOk result (λ text. length (lines_of (house_seen text)) ≤ length bytes.now) }
