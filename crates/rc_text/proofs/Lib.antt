@@ -1,1 +1,4 @@
 mod Below
+mod Cuts
+mod Exactly
+mod Words

@@ -1,1 +1,5 @@
 pub mod House
+pub mod Finds
+pub mod LineSeen
+pub mod PlaceSeen
+pub mod Gives
