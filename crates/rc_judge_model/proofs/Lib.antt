@@ -1,0 +1,3 @@
+pub mod GoesOn
+pub mod AlongLemmas
+pub mod Rows
