@@ -40,6 +40,12 @@ abbrev pub scores_along : About → ℕ → Option (Stopped ℕ) → (k : ℕ) �
 scores_along about n at k [] = Ok n
 scores_along about n at k (s ∷ scores) = on_row n (scored_row about at k s) (scores_along about (n + 1) at (k + 1) scores)
 
+-- what a record tells behind its choices, where the play stands at a stop: the line behind it
+abbrev pub end_along : About → ℕ → Option (Stopped ℕ) → Record → Judging ℕ
+end_along about n at r =
+    and_then (told_along n at r.shuffles) (λ n'.
+    on_row n' (ending_row at r.shuffles r.ending r.turn) (scores_along about (n' + 1) at 0 r.scores))
+
 -- the standing lines from the k-th on, and the end behind them
 abbrev pub standings_along : Plan → ℕ → List Record → (k : ℕ) → List Standing → Option Illegal
 standings_along plan n matches k [] = at_line n (end_row plan matches k) None
@@ -74,10 +80,7 @@ module _ (about : About) (dealing : ℕ → Dealing ℕ) (plan : Plan) where
 
   -- match m behind its first line: the line behind it
   abbrev pub body_along : (m n : ℕ) → Option (Stopped ℕ) → Record → Judging ℕ
-  body_along m n at r =
-      and_then (picks_along m n at r.picks) (λ played.
-      and_then (told_along played.0 played.1 r.shuffles) (λ n'.
-      on_row n' (ending_row played.1 r.shuffles r.ending r.turn) (scores_along about (n' + 1) played.1 0 r.scores)))
+  body_along m n at r = and_then (picks_along m n at r.picks) (λ played. end_along about played.0 played.1 r)
 
   -- match m: the line behind it
   abbrev pub record_along : (m n : ℕ) → Record → Judging ℕ

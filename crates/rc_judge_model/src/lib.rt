@@ -3,4 +3,4 @@
 
 mod laws;
 
-pub use laws::{one_pass_judges, plays_go_on};
+pub use laws::{legal_exactly, one_pass_judges, plays_go_on};
