@@ -1,0 +1,208 @@
+//! The judge of whole house texts.
+ghost use Rattle.std.specs.Prelude.{◌≡◌, ◌+◌, ◌<◌, ◌≤◌, ◌^◌, ◌↔◌, List, Option, length, map, None, All, IfOk, OnOk};
+ghost use Rattle.rc_model.specs.Transcript.{Record};
+ghost use Rattle.rc_play_model.specs.Shape.{shape_of};
+ghost use Rattle.rc_play_model.specs.About.{about_of};
+ghost use Rattle.rc_play_model.specs.Keyed.{dealing_of};
+ghost use Rattle.rc_play_model.specs.House as house;
+ghost use Rattle.rc_play_model.specs.Plan.{Plan as PurePlan};
+ghost use Rattle.rc_plan_model.specs.Limits.{IsWithinLimits};
+ghost use Rattle.rc_text_model.specs.HouseText.{IsHouseText, lines_of};
+ghost use Rattle.rc_judge_model.specs.Along as along;
+ghost use Rattle.rc_judge_model.specs.Rows as rows;
+ghost use Rattle.rc_judge_model.specs.Judged.{first_illegal};
+ghost use Rattle.rc_judge_model.specs.Legal.{IsLegal};
+ghost use Rattle.rc_judge_model.specs.Why.{Illegal};
+ghost use Rattle.rc_judge.specs.declared.verdict.Verdict.TheVariants.{Legal};
+ghost use Rattle.rc_rules.specs.Plan.{plan_seen};
+ghost use Rattle.rc_rules.specs.Record.{record_seen, standing_seen};
+ghost use Rattle.rc_judge.specs.Seen.{Finds, Judges, row_seen, text_seen, verdict_seen, lines_in_all};
+
+use crate::playing::record_along;
+use crate::rows::ranked_row;
+use crate::verdict::{Halt, Verdict, Why, on_row};
+use rc_deck::Memory;
+use rc_flow::Checked;
+use rc_judge_model::{legal_exactly, one_pass_judges};
+use rc_rules::{About, MatchRecord, Plan, Standing};
+use rc_table::Shape;
+use rc_text::{HouseText, standings};
+use std::alloc::Global;
+use std::sync::Arc;
+
+/// Judges a house text by a checked sheet with its shape, and a plan: `Legal`, or the first illegal line and why. The plan is within
+/// its limits and has a strategy for each player. Numbers of the text are in their ranges, and it has a match and a standing or more,
+/// and a score or more for each match. It doesn't ask whether an item is the strategy's choice.
+///
+/// # Errors
+///
+/// No memory is left.
+pub fn judge(
+    alloc: Global,
+    checked: &Arc<Checked>,
+    shape: &Arc<Shape>,
+    plan: &Plan,
+    text: &HouseText,
+) -> Result<Verdict, Memory>
+    requires shape { shape.now.value ≡ shape_of checked.now.value }
+    requires within { IsWithinLimits (plan_seen plan.now) }
+    requires seats { length plan.now.strategies.items ≡ checked.now.value.players }
+    requires text { IsHouseText (text_seen text.now) }
+    requires few { length (lines_of (text_seen text.now)) ≤ 33554432 }
+    ensures first { IfOk result (λ v. verdict_seen v ≡ first_illegal (about_of checked.now.value plan.now.turns) dealing_of (plan_seen plan.now) (text_seen text.now)) }
+    ensures legal { IfOk result (λ v. (v ≡ Legal) ↔ IsLegal (about_of checked.now.value plan.now.turns) dealing_of (plan_seen plan.now) (text_seen text.now)) }
+{
+    one_pass_judges();
+    legal_exactly();
+    let about = match about_of(checked, shape, plan.turns) {
+        Ok(about) => about,
+        Err(Memory) => return Err(Memory),
+    };
+    verdict_of(text_along(alloc, checked, shape, &about, plan, text))
+}
+
+// The verdict on a text that was judged.
+fn verdict_of(judged: Result<(), Halt>) -> Result<Verdict, Memory>
+    ensures { (found : Option Illegal) → Finds judged found → IfOk result (λ v. verdict_seen v ≡ found) }
+{
+    match judged {
+        Ok(()) => Ok(Verdict::Legal),
+        Err(Halt::Illegal { line, why }) => Ok(Verdict::Illegal { line, why }),
+        Err(Halt::NoMemory) => Err(Memory),
+    }
+}
+
+// What the matches are played by.
+fn about_of(checked: &Arc<Checked>, shape: &Arc<Shape>, turns: u32) -> Result<About, Memory>
+    requires shape { shape.now.value ≡ shape_of checked.now.value }
+    ensures { IfOk result (λ about. about ≡ about_of checked.now.value turns) }
+{
+    let checked = match Arc::try_clone(checked) {
+        Ok(checked) => checked,
+        Err(_) => return Err(Memory),
+    };
+    let shape = match Arc::try_clone(shape) {
+        Ok(shape) => shape,
+        Err(_) => return Err(Memory),
+    };
+    Ok(About::new(checked, shape, turns))
+}
+
+// Judges a whole text.
+fn text_along(
+    alloc: Global,
+    checked: &Arc<Checked>,
+    shape: &Arc<Shape>,
+    about: &About,
+    plan: &Plan,
+    text: &HouseText,
+) -> Result<(), Halt>
+    requires shape { shape.now.value ≡ shape_of checked.now.value }
+    requires about { about.now ≡ record { sheet = checked.now.value; shape = shape.now.value; turns = plan.now.turns } }
+    requires within { IsWithinLimits (plan_seen plan.now) }
+    requires seats { length plan.now.strategies.items ≡ checked.now.value.players }
+    requires text { IsHouseText (text_seen text.now) }
+    requires few { length (lines_of (text_seen text.now)) ≤ 33554432 }
+    ensures { Finds result (along.judged about.now dealing_of (plan_seen plan.now) (text_seen text.now)) }
+{
+    let line = match matches_along(alloc, checked, shape, about, plan, &text.matches) {
+        Ok(line) => line,
+        Err(halt) => return Err(halt),
+    };
+    match on_row(line, further_row(plan, &text.matches)) {
+        Ok(()) => {}
+        Err(halt) => return Err(halt),
+    }
+    let standings = match standings(alloc, plan, &text.matches) {
+        Ok(standings) => standings,
+        Err(Memory) => return Err(Halt::NoMemory),
+    };
+    standings_along(line, &standings, &text.standings)
+}
+
+// Judges the matches of a text, which begin in line 2. Answers the line behind them.
+fn matches_along(
+    alloc: Global,
+    checked: &Arc<Checked>,
+    shape: &Arc<Shape>,
+    about: &About,
+    plan: &Plan,
+    matches: &[MatchRecord],
+) -> Result<u32, Halt>
+    requires shape { shape.now.value ≡ shape_of checked.now.value }
+    requires about { about.now ≡ record { sheet = checked.now.value; shape = shape.now.value; turns = plan.now.turns } }
+    requires within { length plan.now.matches.items ≤ 4096 }
+    requires room { 2 + lines_in_all matches.now < 2 ^ 32 }
+    ensures is { Judges (λ n. n) result (along.matches_along about.now dealing_of (plan_seen plan.now) 0 2 (map record_seen matches.now)) }
+    ensures far { IfOk result (λ n. n ≡ 2 + lines_in_all matches.now) }
+    ensures each { OnOk result (All (λ r. length r.scores.items ≡ about.now.sheet.players) matches.now) }
+    ensures few { OnOk result (length matches.now ≤ length plan.now.matches.items) }
+{
+    let mut line = 2;
+    let mut number = 0;
+    for played in matches {
+        line = match record_along(alloc, checked, shape, about, plan, number, line, played) {
+            Ok(line) => line,
+            Err(halt) => return Err(halt),
+        };
+        match on_row(line, lacking_row(about, played)) {
+            Ok(()) => {}
+            Err(halt) => return Err(halt),
+        }
+        number += 1;
+    }
+    Ok(line)
+}
+
+// The row that applies behind a match that lacks score lines.
+fn lacking_row(about: &About, played: &MatchRecord) -> Option<Why>
+    ensures is { row_seen result ≡ rows.lacking_row about.now (record_seen played.now) }
+    ensures each { result ≡ None → about.now.sheet.players ≤ length played.now.scores.items }
+{
+    if played.scores.len() < usize::from(about.sheet().players) {
+        Some(Why::Score)
+    } else {
+        None
+    }
+}
+
+// The row that applies to the first standing where the plan has a further match.
+fn further_row(plan: &Plan, matches: &[MatchRecord]) -> Option<Why>
+    ensures { row_seen result ≡ rows.further_row (plan_seen plan.now) (map record_seen matches.now) }
+{
+    if matches.len() < plan.matches.len() {
+        Some(Why::Match)
+    } else {
+        None
+    }
+}
+
+// Judges the standing lines, and the end behind them, by the plan's standings.
+fn standings_along(from: u32, standings: &[Standing], told: &[Standing]) -> Result<(), Halt>
+    requires room { from + length told.now < 2 ^ 32 }
+    ensures { (plan : PurePlan) (matches : List Record) → rows.further_row plan matches ≡ None
+        → map standing_seen standings.now ≡ house.standings_of plan matches
+        → Finds result (along.standings_along plan from matches 0 (map standing_seen told.now)) }
+{
+    let mut line = from;
+    for (index, standing) in told.iter().enumerate() {
+        match on_row(line, ranked_row(standings, index, standing)) {
+            Ok(()) => {}
+            Err(halt) => return Err(halt),
+        }
+        line += 1;
+    }
+    on_row(line, missing_row(standings, told))
+}
+
+// The row that applies to the end of the text where standings are missing.
+fn missing_row(standings: &[Standing], told: &[Standing]) -> Option<Why>
+    ensures { (plan : PurePlan) (matches : List Record) → map standing_seen standings.now ≡ house.standings_of plan matches
+        → row_seen result ≡ rows.end_row plan matches (length told.now) }
+{
+    if told.len() < standings.len() {
+        Some(Why::Standing)
+    } else {
+        None
+    }
+}

@@ -1,0 +1,220 @@
+//! The play of a match, as its record tells it.
+ghost use Rattle.std.specs.Prelude.{◌≡◌, ℕ, ◌+◌, ◌<◌, ◌≤◌, ◌^◌, [], false, length, map, Some, None, IfOk, OnOk};
+ghost use Rattle.rc_play_model.specs.Step.{start, Config};
+ghost use Rattle.rc_play_model.specs.Shape.{shape_of};
+ghost use Rattle.rc_play_model.specs.Play.{stop_behind};
+ghost use Rattle.rc_play_model.specs.Decision.{choose};
+ghost use Rattle.rc_play_model.specs.Plan.{Plan as PurePlan, deal_at};
+ghost use Rattle.rc_text_model.specs.HouseText.{shuffles_told};
+ghost use Rattle.rc_play_model.specs.Keyed.{dealing_of};
+ghost use Rattle.rc_judge_model.specs.Along as along;
+ghost use Rattle.rc_judge_model.specs.Judged.{play_after};
+ghost use Rattle.rc_rules.specs.Control.{stop_seen};
+ghost use Rattle.rc_rules.specs.Plan.{plan_seen};
+ghost use Rattle.rc_rules.specs.Record.{pick_seen, score_seen, record_seen};
+ghost use Rattle.rc_rules.specs.Machine.{StandsAtDecision, StandsWhereItStops, menu_here};
+ghost use Rattle.rc_judge.specs.Seen.{Judges, stands_at, lines_in};
+
+use crate::rows::{chosen_row, ending_row, opening_row, scored_row, shuffled_row};
+use crate::verdict::{Halt, on_row};
+use rc_deck::Memory;
+use rc_flow::Checked;
+use rc_plain::PlainMachine;
+use rc_play_model::configurations_come_to_stops;
+use rc_rules::{About, Machine, MatchDealer, MatchRecord, Pick, Plan, Score, Stop, rank_points};
+use rc_table::Shape;
+use std::alloc::Global;
+use std::sync::Arc;
+
+/// Judges the lines of match `number` of a plan, from its match line on. Answers the line behind them.
+pub(crate) fn record_along(
+    alloc: Global,
+    checked: &Arc<Checked>,
+    shape: &Arc<Shape>,
+    about: &About,
+    plan: &Plan,
+    number: u32,
+    line: u32,
+    played: &MatchRecord,
+) -> Result<u32, Halt>
+    requires shape { shape.now.value ≡ shape_of checked.now.value }
+    requires about { about.now ≡ record { sheet = checked.now.value; shape = shape.now.value; turns = plan.now.turns } }
+    requires room { line + lines_in played.now < 2 ^ 32 }
+    ensures is { Judges (λ n. n) result (along.record_along about.now dealing_of (plan_seen plan.now) number line (record_seen played.now)) }
+    ensures far { IfOk result (λ n. n ≡ line + lines_in played.now) }
+    ensures few { OnOk result (length played.now.scores.items ≤ about.now.sheet.players) }
+    ensures there { OnOk result (number < length plan.now.matches.items) }
+{
+    match on_row(line, opening_row(plan, number, played)) {
+        Ok(()) => {}
+        Err(halt) => return Err(halt),
+    }
+    let machine = match PlainMachine::start(alloc, checked, shape, plan.turns) {
+        Ok(machine) => machine,
+        Err(Memory) => return Err(Halt::NoMemory),
+    };
+    body_along(about, plan, number, line + 1, machine, played)
+}
+
+// Judges the lines of a match behind its first one, on a machine that stands at its start.
+fn body_along<M: Machine + Drop>(
+    about: &About,
+    plan: &Plan,
+    number: u32,
+    line: u32,
+    machine: M,
+    played: &MatchRecord,
+) -> Result<u32, Halt>
+    requires about { M.about machine ≡ about.now }
+    requires start { M.config machine ≡ start about.now }
+    requires fresh { M.spent machine ≡ false }
+    requires number { number < length plan.now.matches.items }
+    requires room { line + lines_in played.now ≤ 2 ^ 32 }
+    ensures is { Judges (λ n. n) result (along.body_along about.now dealing_of (plan_seen plan.now) number line
+        (play_after about.now dealing_of (plan_seen plan.now) number []) (record_seen played.now)) }
+    ensures far { IfOk result (λ n. n + 1 ≡ line + lines_in played.now) }
+    ensures few { OnOk result (length played.now.scores.items ≤ about.now.sheet.players) }
+{
+    let mut machine = machine;
+    let mut dealer = MatchDealer::new(plan.matches[number as usize].deal);
+    let stop = match machine.advance(&mut dealer) {
+        Ok(stop) => stop,
+        Err(Memory) => return Err(Halt::NoMemory),
+    };
+    let (line, stop) = match picks_along(&mut machine, &mut dealer, stop, line, &played.picks) {
+        Ok(played) => played,
+        Err(halt) => return Err(halt),
+    };
+    end_along(about, &machine, stop, dealer.count(), line, played)
+}
+
+// Judges the choices of a match, where it stands at this stop. Answers the line behind them, and the stop to which they lead.
+fn picks_along<M: Machine>(
+    machine: &mut M,
+    dealer: &mut MatchDealer,
+    start: Stop,
+    from: u32,
+    picks: &[Pick],
+) -> Result<(u32, Stop), Halt>
+    requires fresh { M.spent machine.old ≡ false }
+    requires stands { StandsWhereItStops (M.about machine.old) (stop_seen start) (M.config machine.old) }
+    requires room { from + length picks.now < 2 ^ 32 }
+    ensures is { (plan : PurePlan) (m : ℕ) → dealing_of (deal_at plan m).deal ≡ dealing_of dealer.old.deal →
+        Judges (λ x. (x.0, Some (stands_at x.1 (M.config machine.new) dealer.new.count))) result
+        (along.picks_along (M.about machine.old) dealing_of plan m from (Some (stands_at start (M.config machine.old) dealer.old.count)) (map pick_seen picks.now)) }
+    ensures far { IfOk result (λ x. x.0 ≡ from + length picks.now) }
+    ensures fresh { OnOk result (M.spent machine.new ≡ false) }
+    ensures same { M.about machine.new ≡ M.about machine.old }
+{
+    let mut line = from;
+    let mut stop = start;
+    for pick in picks {
+        match on_row(line, chosen_row(machine, stop, pick)) {
+            Ok(()) => {}
+            Err(halt) => return Err(halt),
+        }
+        stop = match go_on(machine, dealer, pick.item) {
+            Ok(stop) => stop,
+            Err(Memory) => return Err(Halt::NoMemory),
+        };
+        line += 1;
+    }
+    Ok((line, stop))
+}
+
+// Takes an item at a decision, and goes on to the stop behind it.
+fn go_on<M: Machine>(machine: &mut M, dealer: &mut MatchDealer, item: u16) -> Result<Stop, Memory>
+    requires fresh { M.spent machine.old ≡ false }
+    requires decision { StandsAtDecision (M.about machine.old) (M.config machine.old) }
+    requires offered { item < length (menu_here (M.about machine.old) (M.config machine.old)) }
+    ensures leads { IfOk result (λ stop.
+        stop_behind (M.about machine.old) (dealing_of dealer.old.deal) (choose (M.about machine.old) (dealing_of dealer.old.deal) dealer.old.count item (M.config machine.old))
+        ≡ Some (stands_at stop (M.config machine.new) dealer.new.count)) }
+    ensures stands { IfOk result (λ stop. StandsWhereItStops (M.about machine.new) (stop_seen stop) (M.config machine.new)) }
+    ensures fresh { OnOk result (M.spent machine.new ≡ false) }
+    ensures same { M.about machine.new ≡ M.about machine.old }
+    ensures dealing { dealing_of dealer.new.deal ≡ dealing_of dealer.old.deal }
+{
+    match machine.apply(item, dealer) {
+        Ok(()) => {}
+        Err(Memory) => return Err(Memory),
+    }
+    machine.advance(dealer)
+}
+
+// Judges what a record tells behind its choices, where the play stands at this stop and so many lists were shuffled. Answers the line
+// behind it.
+fn end_along<M: Machine>(
+    about: &About,
+    machine: &M,
+    stop: Stop,
+    count: u32,
+    line: u32,
+    played: &MatchRecord,
+) -> Result<u32, Halt>
+    requires about { M.about machine.now ≡ about.now }
+    requires fresh { M.spent machine.now ≡ false }
+    requires room { line + length (shuffles_told played.now.shuffles) + 1 + length played.now.scores.items < 2 ^ 32 }
+    ensures is { Judges (λ n. n) result
+        (along.end_along about.now line (Some (stands_at stop (M.config machine.now) count)) (record_seen played.now)) }
+    ensures far { IfOk result (λ n. n ≡ line + length (shuffles_told played.now.shuffles) + 1 + length played.now.scores.items) }
+    ensures few { OnOk result (length played.now.scores.items ≤ about.now.sheet.players) }
+{
+    let line = match told_along(stop, count, line, played.shuffles) {
+        Ok(line) => line,
+        Err(halt) => return Err(halt),
+    };
+    match on_row(
+        line,
+        ending_row(stop, count, machine.control().turn, played),
+    ) {
+        Ok(()) => {}
+        Err(halt) => return Err(halt),
+    }
+    scores_along(about, machine, line + 1, &played.scores)
+}
+
+// Judges the shuffles line, which is left out where its number is 0. Answers the line behind it.
+fn told_along(stop: Stop, count: u32, line: u32, told: u32) -> Result<u32, Halt>
+    requires room { line + 1 < 2 ^ 32 }
+    ensures is { (c : Config) → Judges (λ n. n) result (along.told_along line (Some (stands_at stop c count)) told) }
+    ensures far { IfOk result (λ n. n ≡ line + length (shuffles_told told)) }
+{
+    if told == 0 {
+        return Ok(line);
+    }
+    match on_row(line, shuffled_row(stop, count, told)) {
+        Ok(()) => Ok(line + 1),
+        Err(halt) => Err(halt),
+    }
+}
+
+// Judges the score lines of a match that stands at its end. Answers the line behind them.
+fn scores_along<M: Machine>(
+    about: &About,
+    machine: &M,
+    from: u32,
+    told: &[Score],
+) -> Result<u32, Halt>
+    requires about { M.about machine.now ≡ about.now }
+    requires fresh { M.spent machine.now ≡ false }
+    requires room { from + length told.now < 2 ^ 32 }
+    ensures is { (stop : Stop) (count : ℕ) → Judges (λ n. n) result
+        (along.scores_along about.now from (Some (stands_at stop (M.config machine.now) count)) 0 (map score_seen told.now)) }
+    ensures far { IfOk result (λ n. n ≡ from + length told.now) }
+    ensures few { OnOk result (length told.now ≤ about.now.sheet.players) }
+{
+    let scores = machine.scores();
+    let points = rank_points(about.sheet(), &scores);
+    let mut line = from;
+    let mut index = 0;
+    for score in told {
+        match on_row(line, scored_row(&scores, &points, index, score)) {
+            Ok(()) => {}
+            Err(halt) => return Err(halt),
+        }
+        line += 1;
+        index += 1;
+    }
+    Ok(line)
+}
