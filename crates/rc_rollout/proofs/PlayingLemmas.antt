@@ -6,6 +6,7 @@ use Rattle.rc_model.specs.Transcript.{Pick}
 use Rattle.rc_play_model.specs.About.{About, menu_at}
 use Rattle.rc_play_model.specs.Control.{Control}
 use Rattle.rc_play_model.specs.Table.{Table}
+use Rattle.rc_play_model.specs.Effects.{Dealing}
 use Rattle.rc_play_model.specs.Step.{Config, goes, Stop, decide, is_done, is_limit}
 use Rattle.rc_play_model.specs.Stop.{Stopped, stop_of}
 use Rattle.rc_play_model.specs.Decision.{choose}
@@ -17,6 +18,9 @@ use Rattle.rc_rules.specs.declared.menu.Item.{Item}
 use Rattle.rc_rules.specs.Menu.{item_seen, menu_seen}
 use Rattle.rc_rules.specs.Machine.{menu_here}
 use Rattle.rc_rollout.specs.Playing.{end_of, on_from, GoesOn}
+
+not_some : {A : Type 0} (a : A) → None ≡ Some a → ⊥
+not_some a is = cc
 
 -- a pick is no matter for the end
 same_end : (pick : Pick) (found : Option (Played ℕ)) → end_of (option_map (with_pick pick) found) ≡ end_of found
@@ -32,10 +36,19 @@ gain_at_end about seat (Some p) table control is =
     ap (λ both. rank_points about.sheet (scores_of about both.0 both.1) seat) parts
 
 module _ (about : About) (ask : Ask) (round x : ℕ) where
-  abbrev dealing = playout_dealing ask round x
+  abbrev dealing : Dealing ℕ
+  dealing = playout_dealing ask round x
 
   abbrev on : ℕ → Option (Stopped ℕ) → Option (Played ℕ)
   on left = from_stop (played_on about dealing (playout_chooser about ask round x) left)
+
+  -- the stop, in the playout's own words
+  pub stops_so : (about' : About) (dealing' : Dealing ℕ) (stop stop' : Stop) (k k' : ℕ) (c c' : Config) → about' ≡ about → dealing' ≡ dealing →
+      stop_of about' dealing' k c ≡ Some (record { stop = stop; config = c'; dealer = k' }) → stop ≡ stop' →
+      stop_of about dealing k c ≡ Some (record { stop = stop'; config = c'; dealer = k' })
+  stops_so about' dealing' stop stop' k k' c c' same deals stops is =
+      sym (ap (λ a. stop_of a dealing' k c) same ∙ ap (λ d. stop_of about d k c) deals) ∙ stops
+      ∙ ap (λ s. Some (record { stop = s; config = c'; dealer = k' })) is
 
   -- behind the first item
   pub goes_on_from_item : (k : ℕ) (c : Config) → choose about dealing 0 x (redrawn_at about ask round) ≡ goes k c →
@@ -58,8 +71,7 @@ module _ (about : About) (ask : Ask) (round x : ℕ) where
       end_of (played_on about dealing (playout_chooser about ask round x) left (decide seat site) c k) ≡ end_of (playout about ask round x) → 0 < left
   some_left zero seat site k c ends is =
       let end = ends about ask round x in
-      let clash = is ∙ ap end_of end.1 in
-      absurd cc
+      absurd (not_some (end.0.table, end.0.control) (is ∙ ap end_of end.1))
   some_left (suc left) seat site k c ends is = omega arith
 
   pub more_left : (left seat site k k' : ℕ) (c c' : Config) → EveryPlayoutEnds → GoesOn about ask round x left k c →

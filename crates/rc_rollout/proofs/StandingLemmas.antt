@@ -1,5 +1,5 @@
 -- A table and a control at a decision are where a seat decides.
-use Rattle.std.proofs.Common.{◌≡◌, ℕ, zero, suc, ◌<◌, ◌==◌, Bool, true, false, List, [], ◌∷◌, ◌++◌, length, if◌then◌else◌, unwrap_or, slice_index_or, Some, refl, sym, ap, ◌∙◌, subst, arith}
+use Rattle.std.proofs.Common.{◌≡◌, ℕ, zero, suc, ◌<◌, ◌≤◌, ◌==◌, Bool, true, false, List, [], ◌∷◌, ◌++◌, length, if◌then◌else◌, unwrap_or, slice_index_or, Some, refl, sym, ap, ◌∙◌, subst, arith}
 use Rattle.std.proofs.lemmas.Bool.{eqb-true}
 use Rattle.rc_sheet_model.specs.Sheet.{SheetItem, do_item, stage, choice, SheetItems, no_item, item, Alt, Sheet}
 use Rattle.rc_sheet_model.specs.Lists.{item_list}
@@ -12,6 +12,9 @@ use Rattle.rc_play_model.specs.Step.{Stage, Part, todo, round, turn, todos, Conf
 use Rattle.rc_play_model.specs.Decision.{left_in, left_in_item, left_at, at_site}
 use Rattle.rc_play_model.proofs.SiteLemmas.{alts_at_left, first_alts}
 use Rattle.rc_play_model.specs.Draws.{key32}
+use Rattle.rc_play_model.specs.Redraw.{redraw}
+use Rattle.rc_play_model.specs.View.{View}
+use Rattle.rc_play_model.specs.ViewLaws.{MenusAreShort}
 use Rattle.rc_play_model.specs.Shape.{shape_of}
 use Rattle.rc_play_model.specs.Strategy.{menu_size}
 use Rattle.rc_play_model.specs.Tally.{Ask, use_of, redrawn_at}
@@ -102,6 +105,14 @@ stands_there about table control can =
         offered = can.some;
       },
     )
+
+-- a menu at a decision is short
+pub short_menu : (about : About) (view : View) → SizeRedrawn → MenusAreShort → about.shape ≡ shape_of about.sheet → IsInSight about.sheet →
+    IsAtDecision about view → menu_size about view ≤ 256
+short_menu about view law short shape sight at =
+    let size = law about at.site view [] shape sight at.of_sound at.moves at.fits.stands in
+    let few = short (scene_at about (redraw about.shape view []) view.control.frames) at.site in
+    omega (arith, size, few)
 
 -- and a redrawn table is one at the decision
 module _ (about about' : About) (ask : Ask) (r : ℕ) (laid : Laid) (control : Control) where

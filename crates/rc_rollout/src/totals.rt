@@ -12,7 +12,9 @@ use crate::playing::gain_of;
 use rc_deck::Memory;
 use rc_draw::key32;
 use rc_plain::PlainMachine;
-use rc_play_model::{menu_sizes_are_functions_of_views, tallies_are_bounded};
+use rc_play_model::{
+    menu_sizes_are_functions_of_views, menus_list_what_is_offered, tallies_are_bounded,
+};
 use rc_redraw::{Ask, Entry, Key, Tally, redraw};
 use rc_rules::{About, Machine};
 use rc_steps::Steps;
@@ -119,17 +121,42 @@ fn add_round<L: Ledger>(
     ensures rises { steps.old ≤ steps.new }
     ensures bounded { steps.new ≤ steps.old + menu_size about.now (ask_seen ask.now).view }
 {
+    match redrawn(alloc, about, ask, round) {
+        Ok(table) => add_gains(alloc, about, ask, round, &table, totals, steps),
+        Err(Memory) => Err(Memory),
+    }
+}
+
+// Adds what each item gains in a round with this table.
+fn add_gains<L: Ledger>(
+    alloc: Global,
+    about: &About,
+    ask: &Ask,
+    round: u16,
+    table: &Table,
+    totals: &mut [u32],
+    steps: &mut Steps<L>,
+) -> Result<(), Memory>
+    requires at { IsAtDecision about.now (ask_seen ask.now).view }
+    requires table { table.now ≡ redrawn_for about.now (ask_seen ask.now) round }
+    requires before { totals.old ≡ tally.tally about.now (in_rounds round (ask_seen ask.now)) }
+    ensures after { OnOk result (totals.new ≡ tally.tally about.now (in_rounds (round + 1) (ask_seen ask.now))) }
+    ensures counted { OnOk result (steps.new ≡ steps.old + menu_size about.now (ask_seen ask.now).view) }
+    ensures rises { steps.old ≤ steps.new }
+    ensures bounded { steps.new ≤ steps.old + menu_size about.now (ask_seen ask.now).view }
+{
     tallies_are_bounded();
-    let table = match redrawn(alloc, about, ask, round) {
-        Ok(table) => table,
-        Err(Memory) => return Err(Memory),
-    };
+    menu_sizes_are_functions_of_views();
+    menus_list_what_is_offered();
+    // what an about keeps
+    let _sheet = about.sheet();
     for item in 0..totals.len() {
-        let gain = match gain_from(alloc, about, ask, round, item as u16, &table) {
+        let gain = match gain_from(alloc, about, ask, round, item as u16, table) {
             Ok(gain) => gain,
             Err(Memory) => return Err(Memory),
         };
-        totals[item] += gain as u32;
+        let total = totals[item];
+        totals[item] = total + gain as u32;
         steps.add(1);
     }
     Ok(())

@@ -7,8 +7,42 @@ use Rattle.rc_rules.specs.Control.{stop_seen}
 use Rattle.rc_plain.specs.Plain.{config_of}
 use Rattle.rc_redraw.specs.Asking.{ask_seen}
 use Rattle.rc_rollout.specs.Drawn.{dealing_at}
-use Rattle.rc_rollout.proofs.PlayingLemmas.{more_left, goes_on_behind}
+use Rattle.rc_rollout.proofs.PlayingLemmas.{stops_so, more_left, goes_on_behind}
 use Rattle.rc_rollout.proofs.playing.play_on.Goals as goal
+
+pub overflow_sub-left : goal.overflow_sub-left
+overflow_sub-left c =
+    let about = c.args.about.now in
+    let ask = ask_seen c.args.ask.now in
+    let round = c.args.round in
+    let item = c.args.item in
+    let k = c.loop-stop.dealer.count in
+    let here = config_of c.loop-stop.machine in
+    let there = config_of c.advance.new.self in
+    let draws = c.advance.new.dealer.count in
+    let seat = c.in-Decide.seat in
+    let site = c.in-Decide.site in
+    let stops = stops_so about ask round item c.loop-stop.machine.about (dealing_at c.loop-stop.dealer) (stop_seen c.in-Ok.stop) (decide seat site) k draws here there
+    c.loop-stop.invariant.about c.loop-stop.invariant.dealing c.in-Ok.ensures.leads (ap stop_seen c.in-Decide.is) in
+    let some = more_left about ask round item c.loop-stop.left seat site k draws here there c.every_playout_ends.ensures c.loop-stop.invariant.on stops in
+    omega (arith, some)
+
+pub loop-stop-smaller : goal.loop-stop-smaller
+loop-stop-smaller c =
+    let about = c.args.about.now in
+    let ask = ask_seen c.args.ask.now in
+    let round = c.args.round in
+    let item = c.args.item in
+    let k = c.loop-stop.dealer.count in
+    let here = config_of c.loop-stop.machine in
+    let there = config_of c.advance.new.self in
+    let draws = c.advance.new.dealer.count in
+    let seat = c.in-Decide.seat in
+    let site = c.in-Decide.site in
+    let stops = stops_so about ask round item c.loop-stop.machine.about (dealing_at c.loop-stop.dealer) (stop_seen c.in-Ok.stop) (decide seat site) k draws here there
+    c.loop-stop.invariant.about c.loop-stop.invariant.dealing c.in-Ok.ensures.leads (ap stop_seen c.in-Decide.is) in
+    let some = more_left about ask round item c.loop-stop.left seat site k draws here there c.every_playout_ends.ensures c.loop-stop.invariant.on stops in
+    omega (arith, some)
 
 pub loop-stop-preserved : goal.loop-stop-preserved
 loop-stop-preserved c =
@@ -26,10 +60,8 @@ loop-stop-preserved c =
     let pick = c.pick_of-pick.result in
     let seat = c.in-Decide.seat in
     let site = c.in-Decide.site in
-    let stops : stop_of about dealing k here ≡ Some (record { stop = decide seat site; config = there; dealer = draws }) =
-    sym (ap (λ a. stop_of a (dealing_at c.loop-stop.dealer) k here) c.loop-stop.invariant.about ∙ ap (λ d. stop_of about d k here) c.loop-stop.invariant.dealing)
-    ∙ c.in-Ok.ensures.leads
-    ∙ ap (λ s. Some (record { stop = stop_seen s; config = there; dealer = draws })) c.in-Decide.is in
+    let stops = stops_so about ask round item c.loop-stop.machine.about (dealing_at c.loop-stop.dealer) (stop_seen c.in-Ok.stop) (decide seat site) k draws here there
+    c.loop-stop.invariant.about c.loop-stop.invariant.dealing c.in-Ok.ensures.leads (ap stop_seen c.in-Decide.is) in
     let same = c.in-Ok.ensures.same ∙ c.loop-stop.invariant.about in
     let deals = c.count_pick-draw.ensures.same ∙ c.in-Ok.ensures.dealing ∙ c.loop-stop.invariant.dealing in
     let number = c.count_pick-draw.ensures.number in

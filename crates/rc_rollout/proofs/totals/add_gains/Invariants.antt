@@ -2,7 +2,7 @@ use Rattle.std.proofs.Common.{◌≡◌, ◌+◌}
 use Rattle.rc_play_model.specs.Strategy.{menu_size}
 use Rattle.rc_redraw.specs.Asking.{ask_seen}
 use Rattle.rc_rollout.specs.Rounds.{totals_within}
-use Rattle.rc_rollout.proofs.totals.add_round.Given as goal
+use Rattle.rc_rollout.proofs.totals.add_gains.Given as goal
 
 abbrev pub invariant-loop-item : goal.invariant-loop-item
 invariant-loop-item l = record {
