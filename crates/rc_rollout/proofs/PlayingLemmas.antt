@@ -109,3 +109,8 @@ pub counted : (about about' : About) (c : Config) (site size : ℕ) (items : Lis
     menu_seen items ≡ menu_here about' c → size ≡ length items → size ≡ length (menu_at about site c.table c.control)
 counted about about' c site size items same stands seen count =
     count ∙ sym (length-map items item_seen) ∙ ap length seen ∙ ap (λ other. length (menu_here other c)) same ∙ ap length (there about c site stands)
+
+pub counted_here : (about about' : About) (c : Config) (size : ℕ) (items : List Item) → about' ≡ about →
+    menu_seen items ≡ menu_here about' c → size ≡ length items → size ≡ length (menu_here about c)
+counted_here about about' c size items same seen count =
+    count ∙ sym (length-map items item_seen) ∙ ap length seen ∙ ap (λ other. length (menu_here other c)) same

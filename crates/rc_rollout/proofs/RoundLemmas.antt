@@ -1,5 +1,5 @@
 -- Totals, a round more and an item more.
-use Rattle.std.proofs.Common.{◌≡◌, ℕ, zero, suc, ◌+◌, ◌-◌, ◌*◌, ◌≤◌, ◌<◌, List, [], ◌∷◌, ◌++◌, length, map, set, get_or, All, refl, sym, ap, ◌∙◌, arith}
+use Rattle.std.proofs.Common.{◌≡◌, ℕ, zero, suc, ◌+◌, ◌-◌, ◌*◌, ◌≤◌, ◌<◌, List, [], ◌∷◌, ◌++◌, length, map, set, get_or, replicate, All, refl, sym, ap, ◌∙◌, arith}
 use Rattle.std.specs.List.{range_with_len}
 use Rattle.std.proofs.lemmas.List.{append_assoc, append-nil, length-append, length-map}
 use Rattle.std.proofs.lemmas.List.FromFn.{length-map-range_with_len, get_or-map-range_with_len}
@@ -89,3 +89,8 @@ within_all round rounds size lt =
     let most = mul-le (round + 1) size rounds size (omega arith) (omega arith) in
     let more = one_more_time round size in
     omega (arith, most, more)
+
+-- in no round nothing is gained
+pub no_rounds : (about : About) (ask : Ask) (a n : ℕ) → map (total about (in_rounds 0 ask)) (range_with_len a n) ≡ replicate n 0
+no_rounds about ask a zero = refl
+no_rounds about ask a (suc n) = ap (λ zeros. 0 ∷ zeros) (no_rounds about ask (a + 1) n)

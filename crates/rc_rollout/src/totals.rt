@@ -1,5 +1,5 @@
 //! Totals of playouts.
-ghost use Rattle.std.specs.Prelude.{◌≡◌, ◌≤◌, ◌<◌, ◌+◌, ◌*◌, length, IfOk, OnOk};
+ghost use Rattle.std.specs.Prelude.{◌≡◌, ◌≤◌, ◌<◌, ◌+◌, ◌*◌, length, replicate, IfOk, OnOk};
 ghost use Rattle.rc_play_model.specs.Strategy.{menu_size};
 ghost use Rattle.rc_play_model.specs.Tally as tally;
 ghost use Rattle.rc_rules.specs.Machine.{StandsAtDecision, menu_here};
@@ -95,12 +95,19 @@ fn zeros(alloc: Global, about: &About, ask: &Ask) -> Result<Vec<u32>, Memory>
         Ok(table) => table,
         Err(Memory) => return Err(Memory),
     };
-    let size = match machine_at(about, ask, 0, table) {
-        Ok(machine) => machine.menu().len(),
+    let machine = match machine_at(about, ask, 0, table) {
+        Ok(machine) => machine,
         Err(Memory) => return Err(Memory),
     };
+    so_many_zeros(alloc, machine.menu().len())
+}
+
+// So many zeros.
+fn so_many_zeros(alloc: Global, size: usize) -> Result<Vec<u32>, Memory>
+    ensures { IfOk result (λ zeros. zeros.items ≡ replicate size 0) }
+{
     match vec![in alloc; 0u32; size] {
-        Ok(totals) => Ok(totals),
+        Ok(zeros) => Ok(zeros),
         Err(_) => Err(Memory),
     }
 }

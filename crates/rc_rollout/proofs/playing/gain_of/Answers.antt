@@ -1,7 +1,8 @@
-use Rattle.std.proofs.Common.{◌≡◌, Some, sym, ap, ◌∙◌}
+use Rattle.std.proofs.Common.{◌≡◌, ◌<◌, length, Some, sym, ap, subst, ◌∙◌}
 use Rattle.rc_play_model.specs.Step.{goes}
 use Rattle.rc_play_model.specs.Decision.{choose}
 use Rattle.rc_play_model.specs.Tally.{playout_dealing, redrawn_at, playout}
+use Rattle.rc_rules.specs.Machine.{menu_here}
 use Rattle.rc_plain.specs.Plain.{config_of}
 use Rattle.rc_redraw.specs.Asking.{ask_seen}
 use Rattle.rc_rollout.specs.Drawn.{dealing_at}
@@ -29,8 +30,12 @@ play_on-requires c =
       on = goes_on_from_item about ask round item k there first;
     }
 
-pub returns : goal.returns
-returns c =
+pub apply-requires-clause-offered : goal.apply-requires-clause-offered
+apply-requires-clause-offered c =
+    subst (λ a. c.args.item < length (menu_here a (config_of c.args.machine))) (sym c.requires.about) c.requires.offered
+
+pub returns-in-Ok-play_on : goal.returns-in-Ok-play_on
+returns-in-Ok-play_on c =
     let about = c.args.about.now in
     let ask = ask_seen c.args.ask.now in
     let there = config_of c.play_on.new.machine in

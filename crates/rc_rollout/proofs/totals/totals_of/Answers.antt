@@ -5,7 +5,7 @@ use Rattle.rc_rollout.proofs.RoundLemmas.{one_more_time, within_all}
 use Rattle.rc_rollout.proofs.totals.totals_of.Goals as goal
 
 pub loop-round-preserved : goal.loop-round-preserved
-loop-round-preserved c =
+loop-round-preserved g c =
     let size = menu_size c.args.about.now (ask_seen c.args.ask.now).view in
     let more = one_more_time c.loop-round.round size in
     record {
