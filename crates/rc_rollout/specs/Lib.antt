@@ -1,0 +1,4 @@
+pub mod Blank
+pub mod Drawn
+pub mod Playing
+pub mod Rounds

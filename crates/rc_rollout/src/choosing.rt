@@ -1,0 +1,170 @@
+//! What strategies choose.
+ghost use Rattle.std.specs.Prelude.{◌≡◌, ◌==◌, ◌≤◌, ◌<◌, ◌+◌, max, fold, length, IfOk, OnOk};
+ghost use Rattle.std.specs.List.{position_or_len};
+ghost use Rattle.rc_play_model.specs.Keyed.{choice_of};
+ghost use Rattle.rc_play_model.specs.Strategy as strategy;
+ghost use Rattle.rc_play_model.specs.Tally.{tally as tally_of};
+ghost use Rattle.rc_redraw.specs.Asking.{cost_of, key_seen};
+ghost use Rattle.rc_redraw.specs.Choosing.{Asks, Chooses, most_steps};
+ghost use Rattle.rc_redraw.specs.Counts.{Serves, kept_once};
+ghost use Rattle.rc_redraw.specs.Need.{need_seen, IsAtDecision, IsNeed};
+
+use crate::offhand::{made_by, picked, scripted};
+use crate::totals::tally;
+use rc_deck::Memory;
+use rc_play_model::tallies_are_bounded;
+use rc_redraw::{Ask, Key, Memo, Need, Reply};
+use rc_rules::Strategy;
+use rc_steps::Steps;
+use std::alloc::Global;
+use std::sync::Arc;
+use std::sync::ledger::Ledger;
+
+/// The item that the strategy of a need chooses. For a rollout it asks the memo once. Where the memo has no totals they are played
+/// out, a step for each playout, and given to the memo to keep. Memory may run out.
+pub fn choose<M: Memo, L: Ledger>(
+    alloc: Global,
+    need: &Need,
+    memo: &mut M,
+    steps: &mut Steps<L>,
+) -> Result<u16, Memory>
+    requires served { Serves (M.serves memo.old) (need_seen need.now).about }
+    requires need { IsNeed (need_seen need.now) }
+    ensures is { IfOk result (λ item. item
+        ≡ choice_of (need_seen need.now).about (need_seen need.now).strategy (need_seen need.now).seed (need_seen need.now).view) }
+    ensures counted { OnOk result (Chooses (need_seen need.now) (M.counts memo.old) (M.counts memo.new) steps.old steps.new) }
+    ensures rises { steps.old ≤ steps.new }
+    ensures bounded { steps.new ≤ steps.old + most_steps (need_seen need.now) }
+    ensures same { M.serves memo.new ≡ M.serves memo.old }
+{
+    let view = &need.view;
+    match &need.strategy {
+        Strategy::Script(numbers) => Ok(scripted(
+            numbers,
+            made_by(&view.control, view.seat),
+            need.menu,
+        )),
+        Strategy::Random { key } => Ok(picked(
+            *key,
+            need.seed,
+            view.seat,
+            view.control.turn,
+            need.menu,
+        )),
+        Strategy::Rollout { rounds, key } => match key_of(alloc, need, *rounds, *key) {
+            Ok(key) => best_of(alloc, &key, memo, steps),
+            Err(Memory) => Err(Memory),
+        },
+    }
+}
+
+// The key of a rollout of so many rounds by this number.
+fn key_of(alloc: Global, need: &Need, rounds: u16, number: u64) -> Result<Key, Memory>
+    ensures { IfOk result (λ key. key_seen key ≡ record {
+      about = (need_seen need.now).about;
+      ask = record { rounds = rounds; key = number; seed = (need_seen need.now).seed; view = (need_seen need.now).view };
+    }) }
+{
+    let view = match need.view.copy(alloc) {
+        Ok(view) => view,
+        Err(Memory) => return Err(Memory),
+    };
+    let ask = Ask {
+        rounds,
+        key: number,
+        seed: need.seed,
+        view,
+    };
+    let ask = match Arc::new(alloc, ask) {
+        Ok(ask) => ask,
+        Err(_) => return Err(Memory),
+    };
+    match Arc::try_clone(&need.about) {
+        Ok(about) => Ok(Key { about, ask }),
+        Err(_) => Err(Memory),
+    }
+}
+
+// The first item of those with the largest total, as the memo has the totals or playouts give them.
+fn best_of<M: Memo, L: Ledger>(
+    alloc: Global,
+    key: &Key,
+    memo: &mut M,
+    steps: &mut Steps<L>,
+) -> Result<u16, Memory>
+    requires served { Serves (M.serves memo.old) (key_seen key.now).about }
+    requires at { IsAtDecision (key_seen key.now).about (key_seen key.now).ask.view }
+    requires few { strategy.menu_size (key_seen key.now).about (key_seen key.now).ask.view ≤ 65535 }
+    ensures is { IfOk result (λ item. item ≡ strategy.first_largest (tally_of (key_seen key.now).about (key_seen key.now).ask)) }
+    ensures counted { OnOk result (Asks (key_seen key.now) (M.counts memo.old) (M.counts memo.new) steps.old steps.new) }
+    ensures rises { steps.old ≤ steps.new }
+    ensures bounded { steps.new ≤ steps.old + cost_of (key_seen key.now) }
+    ensures same { M.serves memo.new ≡ M.serves memo.old }
+{
+    tallies_are_bounded();
+    let reply = match memo.look(alloc, key) {
+        Ok(reply) => reply,
+        Err(Memory) => return Err(Memory),
+    };
+    match reply {
+        Reply::Hit(tally) => Ok(first_largest(&tally.totals) as u16),
+        Reply::Miss => best_played(alloc, key, memo, steps),
+    }
+}
+
+// That item as playouts give the totals. The memo is to keep them.
+fn best_played<M: Memo, L: Ledger>(
+    alloc: Global,
+    key: &Key,
+    memo: &mut M,
+    steps: &mut Steps<L>,
+) -> Result<u16, Memory>
+    requires served { Serves (M.serves memo.old) (key_seen key.now).about }
+    requires at { IsAtDecision (key_seen key.now).about (key_seen key.now).ask.view }
+    requires few { strategy.menu_size (key_seen key.now).about (key_seen key.now).ask.view ≤ 65535 }
+    ensures is { IfOk result (λ item. item ≡ strategy.first_largest (tally_of (key_seen key.now).about (key_seen key.now).ask)) }
+    ensures kept { OnOk result (M.counts memo.new ≡ kept_once (key_seen key.now) (M.counts memo.old)) }
+    ensures counted { OnOk result (steps.new ≡ steps.old + cost_of (key_seen key.now)) }
+    ensures rises { steps.old ≤ steps.new }
+    ensures bounded { steps.new ≤ steps.old + cost_of (key_seen key.now) }
+    ensures same { M.serves memo.new ≡ M.serves memo.old }
+{
+    tallies_are_bounded();
+    let entry = match tally(alloc, key, steps) {
+        Ok(entry) => entry,
+        Err(Memory) => return Err(Memory),
+    };
+    let item = first_largest(&entry.tally().totals) as u16;
+    match memo.keep(alloc, entry) {
+        Ok(()) => Ok(item),
+        Err(Memory) => Err(Memory),
+    }
+}
+
+// The place of the first of the largest totals.
+fn first_largest(totals: &[u32]) -> usize
+    ensures is { result ≡ strategy.first_largest totals.now }
+    ensures within { result ≤ length totals.now }
+{
+    first_of(totals, largest(totals))
+}
+
+// The place of the first total of this size, or how many there are.
+fn first_of(totals: &[u32], size: u32) -> usize
+    ensures is { result ≡ position_or_len (λ total. total == size) totals.now }
+    ensures within { result ≤ length totals.now }
+{
+    for place in 0..totals.len() {
+        if totals[place] == size {
+            return place;
+        }
+    }
+    totals.len()
+}
+
+// The largest total, 0 where there is none.
+fn largest(totals: &[u32]) -> u32
+    ensures { result ≡ fold max 0 totals.now }
+{
+    totals.iter().fold(0, |most, total| most.max(*total))
+}
