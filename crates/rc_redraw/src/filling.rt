@@ -1,6 +1,5 @@
 //! What each location of a redrawn table holds.
-ghost use Rattle.std.specs.Prelude.{◌≡◌, ◌≤◌, length, map, slice_get, IfOk};
-ghost use Rattle.rc_play_model.specs.Shape.{holds_references};
+ghost use Rattle.std.specs.Prelude.{◌≡◌, ◌≤◌, length, map, IfOk};
 ghost use Rattle.rc_play_model.specs.Redraw.{mems_of, faces_at, hidden_at, ids_at, seen_faces, hidden_count, filled as filled_by};
 ghost use Rattle.rc_view.specs.Seen.{sight_seen};
 

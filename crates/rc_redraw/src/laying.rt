@@ -1,5 +1,5 @@
 //! A table of given lists and numbers, laid card by card.
-ghost use Rattle.std.specs.Prelude.{◌≡◌, ◌<◌, ◌≤◌, length, map, All, IfOk};
+ghost use Rattle.std.specs.Prelude.{◌≡◌, ◌<◌, length, map, All, IfOk};
 ghost use Rattle.rc_model.specs.Clamp.{IsWithinClamp};
 ghost use Rattle.rc_play_model.specs.Bound.{HoldsCards, HoldsReferences};
 ghost use Rattle.rc_play_model.specs.Table.{IsSound};
@@ -7,7 +7,6 @@ ghost use Rattle.rc_redraw.specs.Laying.{put_each, remember_each, lay_at, lay_fr
 ghost use Rattle.rc_table.specs.Laid.{relaid};
 
 use rc_deck::Memory;
-use rc_play_model::edits_keep_tables_sound;
 use rc_table::{Shape, Table};
 use std::alloc::Global;
 use std::sync::Arc;

@@ -1,5 +1,5 @@
 //! The ids that seen card places take.
-ghost use Rattle.std.specs.Prelude.{◌≡◌, ◌≤◌, [], length, map, IfOk};
+ghost use Rattle.std.specs.Prelude.{◌≡◌, [], length, map, IfOk};
 ghost use Rattle.rc_play_model.specs.Redraw.{mems_of, faces_at, seen_faces, seen_ids};
 ghost use Rattle.rc_play_model.specs.Smallest.{AreEnough};
 ghost use Rattle.rc_redraw.specs.Taken.{Marks};
