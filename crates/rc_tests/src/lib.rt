@@ -14,3 +14,5 @@ mod house;
 mod names;
 #[cfg(test)]
 mod outside;
+#[cfg(test)]
+mod view;

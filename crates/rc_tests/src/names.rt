@@ -1,9 +1,11 @@
 //! The names of sheets, numbered by hand in the order in which the printed sheet mentions them first. No text that the program
 //! writes shows these numbers.
-ghost use Rattle.std.specs.Prelude.{ℕ};
+ghost use Rattle.std.specs.Prelude.{ℕ, IfOk};
 ghost use Rattle.rc_model.specs.Placed.{IsPlaced};
 ghost use Rattle.rc_form.specs.Form.{tree_of, IsPrintable};
 ghost use Rattle.rc_form.specs.SameForm.{IsOfAtoms};
+ghost use Rattle.rc_ast.specs.Sheet.{sheet_seen};
+ghost use Rattle.rc_sheet_model.specs.WellFormed.{IsWellFormed};
 
 use rc_ast::{LocName, NumName, Sheet, Word};
 use rc_form::{Form, read_forms};
@@ -71,10 +73,11 @@ vars 'A 'B 'D 'E",
 ];
 
 /// The sheet of a form that was read.
-fn made(alloc: Global, form: &Form) -> Result<Sheet, SheetFail>
+pub fn made(alloc: Global, form: &Form) -> Result<Sheet, SheetFail>
     requires placed { (size : ℕ) × IsPlaced size (tree_of form.now) }
     requires printable { IsPrintable (tree_of form.now) }
     requires of_atoms { IsOfAtoms (tree_of form.now) }
+    ensures { IfOk result (λ sheet. IsWellFormed (sheet_seen sheet)) }
 {
     sheet_of(alloc, form)
 }

@@ -1,0 +1,261 @@
+//! What a seat sees of a match, and the bytes by which a view is known.
+ghost use Rattle.std.specs.Prelude.{◌≡◌, IfOk};
+ghost use Rattle.rc_plain.specs.Plain.{config_of};
+ghost use Rattle.rc_rules.specs.Machine.{StandsAtDecision};
+ghost use Rattle.rc_view.specs.Key.{HasKey};
+ghost use Rattle.rc_view.specs.Seen.{view_seen};
+
+use crate::names::made;
+use rc_flow::{Checked, check_sight};
+use rc_form::read_forms;
+use rc_plain::PlainMachine;
+use rc_rules::{Control, Machine, MatchDealer, Menu, Stop, shape_of};
+use rc_view::{Sight, View, key_bytes, view_of};
+use std::process::Abort;
+use std::sync::Arc;
+use std::test::Fail;
+
+/// The trick game of `bench/tricks.sheet`: 35 cards, of which each of four seats is dealt six from the top.
+const TRICKS: &str = "\
+(game
+(setup (create players 4)
+(create deck (game hloc STOCK) (deck (RANK (3 4 5 6 7 8 9 10)) (SUIT (C D H S))))
+(create deck (game hloc STOCK) (deck (RANK (A)) (SUIT (C D H))))
+(put points POWER ((RANK (3) 3) (RANK (4) 4) (RANK (5) 5) (RANK (6) 6) (RANK (7) 7)
+(RANK (8) 8) (RANK (9) 9) (RANK (10) 10) (RANK (A) 11))))
+(do (shuffle (game hloc STOCK))
+(all player 'P (repeat 6 (move (top (game hloc STOCK)) (top ('P iloc HAND))))))
+(stage player (end (all player 'P (= (size ('P iloc HAND)) 0)))
+(stage player (end (all player 'P (= (size ('P vloc TRICK)) 1)))
+(choice (any ((current player) iloc HAND) 'C
+(if (or (= (size (game mem LEAD)) 0)
+(= (attr 'C SUIT) (attr (top (game mem LEAD)) SUIT))
+(not (any ((current player) iloc HAND) 'D
+(= (attr 'D SUIT) (attr (top (game mem LEAD)) SUIT)))))
+(if (= (size (game mem LEAD)) 0) (remember 'C (top (game mem LEAD))))
+(move 'C (top ((current player) vloc TRICK)))))))
+(do (set (game sto BEST) 0)
+(all player 'P
+(if (and (= (attr (top ('P vloc TRICK)) SUIT) (attr (top (game mem LEAD)) SUIT))
+(> (points (top ('P vloc TRICK)) using POWER) (game sto BEST)))
+(set (game sto BEST) (points (top ('P vloc TRICK)) using POWER))
+(all player 'Q (set ('Q sto LAST) 0))
+(set ('P sto LAST) 1)
+(cycle next 'P)))
+(all player 'P (move all ('P vloc TRICK) (top (game vloc USED))))
+(forget (top (game mem LEAD)))))
+(scoring max ('SELF sto LAST)))";
+
+/// The checked sheet of a text.
+pub fn checked_in(rt: &(impl AllocGlobal + Abort), text: &str) -> Result<Checked, Fail> {
+    assert!(rt; text.len() <= 100_000);
+    let forms = read_forms(rt.alloc(), text.as_bytes(), 1)?;
+    let form = forms.list.first().ok_or("the text has a list")?;
+    let Ok(sheet) = made(rt.alloc(), form) else {
+        return Err("the text is a sheet".into());
+    };
+    let Ok(checked) = check_sight(sheet) else {
+        return Err("the sheet is in sight".into());
+    };
+    Ok(checked)
+}
+
+/// A match of the sheet in a text, at its start.
+fn start_of(rt: &(impl AllocGlobal + Abort), text: &str) -> Result<PlainMachine, Fail> {
+    let checked = Arc::new(rt.alloc(), checked_in(rt, text)?)?;
+    let shape = Arc::new(rt.alloc(), shape_of(rt.alloc(), checked.sheet())?)?;
+    Ok(PlainMachine::start(rt.alloc(), &checked, &shape, 64)?)
+}
+
+/// The match at its next decision.
+pub fn go_on(machine: &mut PlainMachine, dealer: &mut MatchDealer) -> Result<(), Fail>
+    ensures decision { IfOk result (λ _. StandsAtDecision machine.new.about (config_of machine.new)) }
+    ensures same { machine.new.about ≡ machine.old.about }
+{
+    match machine.advance(dealer) {
+        Ok(Stop::Decide { .. }) => Ok(()),
+        _ => Err("somebody decides".into()),
+    }
+}
+
+/// What a seat sees of a match.
+fn seen_by(rt: &(impl AllocGlobal + Abort), machine: &PlainMachine, seat: u8) -> Result<View, Fail>
+    ensures { IfOk result (λ view. HasKey (view_seen view)) }
+{
+    let table = machine.table();
+    assert!(rt; seat < table.shape().players());
+    Ok(view_of(rt.alloc(), table.shape(), table, machine.control(), seat)?)
+}
+
+/// What a seat may choose from, what it sees, and the bytes by which that is known.
+#[derive(Drop)]
+struct Decision {
+    menu: Menu,
+    view: View,
+    key: Vec<u8>,
+}
+
+/// The first decision of a match of the trick game, where the first two seats hold these cards, from bottom to top.
+fn dealt(
+    rt: &(impl AllocGlobal + Abort),
+    deal: u64,
+    first: [u16; 6],
+    second: [u16; 6],
+) -> Result<Decision, Fail> {
+    let mut machine = start_of(rt, TRICKS)?;
+    go_on(&mut machine, &mut MatchDealer::new(deal))?;
+    assert_eq!(rt; machine.table().list(1), first.as_slice());
+    assert_eq!(rt; machine.table().list(2), second.as_slice());
+    let view = seen_by(rt, &machine, 0)?;
+    let key = key_bytes(rt.alloc(), &view)?;
+    let menu = machine.menu();
+    Ok(Decision { menu, view, key })
+}
+
+fn are_same_controls(one: &Control, other: &Control) -> bool {
+    one.site == other.site
+        && one.frames.as_slice() == other.frames.as_slice()
+        && one.turn == other.turn
+        && one.made.as_slice() == other.made.as_slice()
+}
+
+fn are_same_sights(one: &[Sight], other: &[Sight]) -> bool {
+    for pair in one.iter().zip(other) {
+        let same = match pair {
+            (Sight::Faces(one), Sight::Faces(other)) => one.as_slice() == other.as_slice(),
+            (Sight::Length(one), Sight::Length(other)) => one == other,
+            _ => false,
+        };
+        if !same {
+            return false;
+        }
+    }
+    one.len() == other.len()
+}
+
+fn are_same_views(one: &View, other: &View) -> bool {
+    one.seat == other.seat
+        && are_same_controls(&one.control, &other.control)
+        && one.numbers.as_slice() == other.numbers.as_slice()
+        && are_same_sights(&one.sights, &other.sights)
+}
+
+fn are_same_menus(one: &Menu, other: &Menu) -> bool {
+    for (one, other) in one.as_slice().iter().zip(other.as_slice()) {
+        if one.alt != other.alt || one.spots.as_slice() != other.spots.as_slice() {
+            return false;
+        }
+    }
+    one.len() == other.len()
+}
+
+/// The hands were made by a ChaCha8 written apart from this program. In the second deal only cards that the first seat doesn't
+/// see differ, in the third one of its own too.
+#[test]
+fn a_seat_sees_its_own_cards_alone(rt: HostRuntime) -> Result<(), Fail> {
+    let one = dealt(
+        &rt,
+        37_085,
+        [23, 20, 25, 12, 34, 32],
+        [8, 16, 22, 31, 14, 13],
+    )?;
+    let alike = dealt(
+        &rt,
+        904_383,
+        [23, 20, 25, 12, 34, 32],
+        [10, 27, 9, 22, 16, 33],
+    )?;
+    let other = dealt(&rt, 17_525, [23, 20, 25, 12, 2, 32], [28, 3, 13, 10, 5, 6])?;
+    assert_eq!(rt; one.menu.len(), 6);
+    assert!(rt; are_same_menus(&one.menu, &alike.menu));
+    assert!(rt; are_same_views(&one.view, &alike.view));
+    assert_eq!(rt; one.key.as_slice(), alike.key.as_slice());
+    assert!(rt; !are_same_views(&one.view, &other.view));
+    assert!(rt; one.key.as_slice() != other.key.as_slice());
+    Ok(())
+}
+
+/// Three seats with a card each, of which the last one's has the face of the open card. At the second choice of a turn the inner
+/// stage goes backward, and its member to come is named.
+const OPEN_CARD: &str = "\
+(game
+(setup (create players 3)
+(create deck (game hloc STOCK) (deck (RANK (1 2 2 3 4)))))
+(do (dec (game sto DEBT) 300)
+(all player 'P (move (top (game hloc STOCK)) (top ('P iloc HAND))))
+(move (top (game hloc STOCK)) (top (game vloc OPEN)))
+(remember (top (game vloc OPEN)) (top (game mem MARK))))
+(stage player (end (= 0 1))
+(stage player (end (= 0 1))
+(do (cycle reverse) (all player 'P (cycle next 'P)))
+(choice (do (inc (game sto DEBT) 1)))
+(choice (do (dec (game sto DEBT) 1)))))
+(scoring max 0))";
+
+/// What the last seat sees before the match begins.
+const KEY_AT_START: &[u8] = &[
+    2, // seat
+    255, // no site
+    0, 0, 0, 0, // turn count
+    0, 0, 0, 0, // decisions of seat 0
+    0, 0, 0, 0, // of seat 1
+    0, 0, 0, 0, // of seat 2
+    0, // open stages
+    0, 0, 0, 0, // DEBT
+    5, 0, // cards in STOCK
+    0, 0, // in the HAND of seat 0
+    0, 0, // of seat 1
+    0, 0, // of seat 2
+    0, 0, // in OPEN
+    0, 0, // in MARK
+];
+
+/// What it sees at the second decision.
+const KEY_AT_DECISION: &[u8] = &[
+    2, // seat
+    1, // site
+    3, 0, 0, 0, // turn count: two rounds and a decision
+    1, 0, 0, 0, // decisions of seat 0
+    0, 0, 0, 0, // of seat 1
+    0, 0, 0, 0, // of seat 2
+    2, // open stages
+    0, 0, // the outer one
+    0, // its member
+    0, // forward
+    255, // no member is named
+    1, 0, // the inner one
+    0, // its member
+    1, // backward
+    2, // the member that is named
+    213, 254, 255, 255, // DEBT is -299, which is 4,294,966,997 modulo 2^32
+    1, 0, // cards in STOCK
+    1, 0, // in the HAND of seat 0
+    1, 0, // of seat 1
+    1, 0, // of seat 2
+    1, 0, // the face of its card, by the smallest of the two ids that have it
+    1, 0, // cards in OPEN
+    1, 0, // the face
+    1, 0, // references in MARK
+    1, 0, // the face
+];
+
+/// The bytes of what the last seat sees of a match.
+fn key_of_last(rt: &(impl AllocGlobal + Abort), machine: &PlainMachine) -> Result<Vec<u8>, Fail> {
+    let view = seen_by(rt, machine, 2)?;
+    let copy = view.copy(rt.alloc())?;
+    Ok(key_bytes(rt.alloc(), &copy)?)
+}
+
+#[test]
+fn the_bytes_of_a_view_tell_each_part_in_turn(rt: HostRuntime) -> Result<(), Fail> {
+    let mut machine = start_of(&rt, OPEN_CARD)?;
+    let mut dealer = MatchDealer::new(0);
+    let key = key_of_last(&rt, &machine)?;
+    assert_eq!(rt; key.as_slice(), KEY_AT_START);
+    go_on(&mut machine, &mut dealer)?;
+    machine.apply(0, &mut dealer)?;
+    go_on(&mut machine, &mut dealer)?;
+    let key = key_of_last(&rt, &machine)?;
+    assert_eq!(rt; key.as_slice(), KEY_AT_DECISION);
+    Ok(())
+}
