@@ -15,4 +15,6 @@ mod names;
 #[cfg(test)]
 mod outside;
 #[cfg(test)]
+mod redraw;
+#[cfg(test)]
 mod view;

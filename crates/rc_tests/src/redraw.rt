@@ -1,0 +1,83 @@
+//! A redrawn table, worked out by hand.
+ghost use Rattle.std.specs.Prelude.{◌≡◌, IfOk};
+ghost use Rattle.rc_play_model.specs.RedrawLaws.{IsViewOfSound};
+ghost use Rattle.rc_view.specs.Seen.{view_seen};
+
+use crate::view::{checked_in, go_on};
+use rc_draw::key32;
+use rc_plain::PlainMachine;
+use rc_redraw::redraw;
+use rc_rules::{Machine, MatchDealer, shape_of};
+use rc_table::{Shape, Table};
+use rc_view::{View, view_of};
+use std::process::Abort;
+use std::sync::Arc;
+use std::test::Fail;
+
+/// Two seats with two cards each, two open cards that are remembered, and two of the four others laid on a pile. The ten cards are
+/// numbered in the order of the deck, so the numbers of their faces are 0, 1, 1, 3, 1, 3, 6, 0, 6 and 3.
+const PILES: &str = "\
+(game
+(setup (create players 2)
+(create deck (game hloc STOCK) (deck (RANK (1 2 2 3 2 3 4 1 4 3)))))
+(do (repeat 2 (all player 'P (move (top (game hloc STOCK)) (top ('P iloc HAND)))))
+(repeat 2 (move (top (game hloc STOCK)) (top (game vloc OPEN)))
+(remember (top (game vloc OPEN)) (top (game mem MARKS))))
+(repeat 2 (move (top (game hloc STOCK)) (top (game hloc PILE))))
+(dec (game sto DEBT) 3))
+(stage player (end (= 0 1))
+(choice (do (inc (game sto DEBT) 1))))
+(scoring max 0))";
+
+/// What the locations hold at the first decision: STOCK, the two hands, OPEN, MARKS and PILE, from bottom to top.
+const DEALT: [[u16; 2]; 6] = [[0, 1], [9, 7], [8, 6], [5, 4], [5, 4], [3, 2]];
+
+/// And in the table that is redrawn for the first seat, which sees the faces 3 and 0 in its hand and 3 and 1 in OPEN and in MARKS.
+///
+/// The cards in its hand are then 3 and 0. Those in OPEN are 5, since 3 is taken, and 1. A reference is the smallest card of its
+/// face, taken or not. The other cards are 2, 4, 6, 7, 8 and 9. By a ChaCha8 written apart from this program, the first words of
+/// the key are 1,920,058,440, 964,124,046, 3,400,814,795, 630,099,665 and 3,488,503,945. A word w chooses place w * n / 2^32 of the
+/// first n, with n from 6 down to 2, and the card there changes places with the last of the n:
+///
+/// - place 2 of 6: 2 4 9 7 8 6
+/// - place 1 of 5: 2 8 9 7 4 6
+/// - place 3 of 4: the same
+/// - place 0 of 3: 9 8 2 7 4 6
+/// - place 1 of 2: the same
+const REDRAWN: [[u16; 2]; 6] = [[9, 8], [3, 0], [2, 7], [5, 1], [3, 1], [4, 6]];
+
+fn expect_lists(rt: &(impl AllocGlobal + Abort), table: &Table, lists: [[u16; 2]; 6]) {
+    for (loc, list) in (0u16..6).zip(lists) {
+        assert_eq!(rt; table.list(loc), list.as_slice());
+    }
+}
+
+/// What the first seat sees of a match.
+fn seen_by_first(
+    rt: &(impl AllocGlobal + Abort),
+    shape: &Shape,
+    machine: &PlainMachine,
+) -> Result<View, Fail>
+    requires { machine.now.about.shape ≡ shape.now }
+    ensures { IfOk result (λ view. IsViewOfSound shape.now (view_seen view)) }
+{
+    assert!(rt; 0 < shape.players());
+    let table = machine.table();
+    // what a table keeps
+    let _shape = table.shape();
+    Ok(view_of(rt.alloc(), shape, table, machine.control(), 0)?)
+}
+
+#[test]
+fn a_table_is_redrawn_by_what_is_seen_and_a_key(rt: HostRuntime) -> Result<(), Fail> {
+    let checked = Arc::new(rt.alloc(), checked_in(&rt, PILES)?)?;
+    let shape = Arc::new(rt.alloc(), shape_of(rt.alloc(), checked.sheet())?)?;
+    let mut machine = PlainMachine::start(rt.alloc(), &checked, &shape, 64)?;
+    go_on(&mut machine, &mut MatchDealer::new(0))?;
+    expect_lists(&rt, machine.table(), DEALT);
+    let view = seen_by_first(&rt, &shape, &machine)?;
+    let table = redraw(rt.alloc(), &shape, &view, &key32(7, 3, 0, 0))?;
+    expect_lists(&rt, &table, REDRAWN);
+    assert_eq!(rt; table.number(0), -3);
+    Ok(())
+}
