@@ -88,11 +88,7 @@ match_judged about plan m n n' r matches is row =
     and_on (record_along about dealing_of plan m n r) (λ n'. on_row n' (lacking_row about r) (matches_along about dealing_of plan (m + 1) n' matches)) n' is
     ∙ on_row_none n' (lacking_row about r) (matches_along about dealing_of plan (m + 1) n' matches) row
 
--- one pass finds the first illegal line, and a text is legal where there is none
-pub first_is : (about about' : About) (plan : Plan) (t : PureText) → about ≡ about' → OnePassJudges → IsHouseText t →
-    judged about dealing_of plan t ≡ first_illegal about' dealing_of plan t
-first_is about about' plan t same one is = ap (λ a. judged a dealing_of plan t) same ∙ one about' dealing_of plan t is
-
+-- a text is legal where no line is illegal
 is_legal : (v : Verdict) (found : Option PureIllegal) (P : Type 0) → verdict_seen v ≡ found → ((found ≡ None) ↔ P) → ((v ≡ Legal) ↔ P)
 is_legal Legal found P e iff = ((λ _. iff.0 (sym e)), (λ _. refl))
 is_legal (IllegalAt line why) found P e iff = ((λ l. absurd cc), (λ p. let none = e ∙ iff.1 p in absurd cc))

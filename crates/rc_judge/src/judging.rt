@@ -1,8 +1,6 @@
 //! The judge of whole house texts.
 ghost use Rattle.std.specs.Prelude.{◌≡◌, ◌+◌, ◌<◌, ◌≤◌, ◌^◌, ◌↔◌, List, Option, length, map, None, All, IfOk, OnOk};
 ghost use Rattle.rc_model.specs.Transcript.{Record};
-ghost use Rattle.rc_play_model.specs.Shape.{shape_of};
-ghost use Rattle.rc_play_model.specs.About.{about_of};
 ghost use Rattle.rc_play_model.specs.Keyed.{dealing_of};
 ghost use Rattle.rc_play_model.specs.House as house;
 ghost use Rattle.rc_play_model.specs.Plan.{Plan as PurePlan};
@@ -22,15 +20,12 @@ use crate::playing::record_along;
 use crate::rows::ranked_row;
 use crate::verdict::{Halt, Verdict, Why, on_row};
 use rc_deck::Memory;
-use rc_flow::Checked;
 use rc_judge_model::{legal_exactly, one_pass_judges};
 use rc_rules::{About, MatchRecord, Plan, Standing};
-use rc_table::Shape;
 use rc_text::{HouseText, standings};
 use std::alloc::Global;
-use std::sync::Arc;
 
-/// Judges a house text by a checked sheet with its shape, and a plan: `Legal`, or the first illegal line and why. The plan is within
+/// Judges a house text by what its matches are played by and a plan: `Legal`, or the first illegal line and why. The plan is within
 /// its limits and has a strategy for each player. Numbers of the text are in their ranges, and it has a match and a standing or more,
 /// and a score or more for each match. It doesn't ask whether an item is the strategy's choice.
 ///
@@ -39,26 +34,20 @@ use std::sync::Arc;
 /// No memory is left.
 pub fn judge(
     alloc: Global,
-    checked: &Arc<Checked>,
-    shape: &Arc<Shape>,
+    about: &About,
     plan: &Plan,
     text: &HouseText,
 ) -> Result<Verdict, Memory>
-    requires shape { shape.now.value ≡ shape_of checked.now.value }
     requires within { IsWithinLimits (plan_seen plan.now) }
-    requires seats { length plan.now.strategies.items ≡ checked.now.value.players }
+    requires seats { length plan.now.strategies.items ≡ about.now.sheet.players }
     requires text { IsHouseText (text_seen text.now) }
     requires few { length (lines_of (text_seen text.now)) ≤ 33554432 }
-    ensures first { IfOk result (λ v. verdict_seen v ≡ first_illegal (about_of checked.now.value plan.now.turns) dealing_of (plan_seen plan.now) (text_seen text.now)) }
-    ensures legal { IfOk result (λ v. (v ≡ Legal) ↔ IsLegal (about_of checked.now.value plan.now.turns) dealing_of (plan_seen plan.now) (text_seen text.now)) }
+    ensures first { IfOk result (λ v. verdict_seen v ≡ first_illegal about.now dealing_of (plan_seen plan.now) (text_seen text.now)) }
+    ensures legal { IfOk result (λ v. (v ≡ Legal) ↔ IsLegal about.now dealing_of (plan_seen plan.now) (text_seen text.now)) }
 {
     one_pass_judges();
     legal_exactly();
-    let about = match about_of(checked, shape, plan.turns) {
-        Ok(about) => about,
-        Err(Memory) => return Err(Memory),
-    };
-    verdict_of(text_along(alloc, checked, shape, &about, plan, text))
+    verdict_of(text_along(alloc, about, plan, text))
 }
 
 // The verdict on a text that was judged.
@@ -72,40 +61,20 @@ fn verdict_of(judged: Result<(), Halt>) -> Result<Verdict, Memory>
     }
 }
 
-// What the matches are played by.
-fn about_of(checked: &Arc<Checked>, shape: &Arc<Shape>, turns: u32) -> Result<About, Memory>
-    requires shape { shape.now.value ≡ shape_of checked.now.value }
-    ensures { IfOk result (λ about. about ≡ about_of checked.now.value turns) }
-{
-    let checked = match Arc::try_clone(checked) {
-        Ok(checked) => checked,
-        Err(_) => return Err(Memory),
-    };
-    let shape = match Arc::try_clone(shape) {
-        Ok(shape) => shape,
-        Err(_) => return Err(Memory),
-    };
-    Ok(About::new(checked, shape, turns))
-}
-
 // Judges a whole text.
 fn text_along(
     alloc: Global,
-    checked: &Arc<Checked>,
-    shape: &Arc<Shape>,
     about: &About,
     plan: &Plan,
     text: &HouseText,
 ) -> Result<(), Halt>
-    requires shape { shape.now.value ≡ shape_of checked.now.value }
-    requires about { about.now ≡ record { sheet = checked.now.value; shape = shape.now.value; turns = plan.now.turns } }
     requires within { IsWithinLimits (plan_seen plan.now) }
-    requires seats { length plan.now.strategies.items ≡ checked.now.value.players }
+    requires seats { length plan.now.strategies.items ≡ about.now.sheet.players }
     requires text { IsHouseText (text_seen text.now) }
     requires few { length (lines_of (text_seen text.now)) ≤ 33554432 }
     ensures { Finds result (along.judged about.now dealing_of (plan_seen plan.now) (text_seen text.now)) }
 {
-    let line = match matches_along(alloc, checked, shape, about, plan, &text.matches) {
+    let line = match matches_along(alloc, about, plan, &text.matches) {
         Ok(line) => line,
         Err(halt) => return Err(halt),
     };
@@ -123,14 +92,10 @@ fn text_along(
 // Judges the matches of a text, which begin in line 2. Answers the line behind them.
 fn matches_along(
     alloc: Global,
-    checked: &Arc<Checked>,
-    shape: &Arc<Shape>,
     about: &About,
     plan: &Plan,
     matches: &[MatchRecord],
 ) -> Result<u32, Halt>
-    requires shape { shape.now.value ≡ shape_of checked.now.value }
-    requires about { about.now ≡ record { sheet = checked.now.value; shape = shape.now.value; turns = plan.now.turns } }
     requires within { length plan.now.matches.items ≤ 4096 }
     requires room { 2 + lines_in_all matches.now < 2 ^ 32 }
     ensures is { Judges (λ n. n) result (along.matches_along about.now dealing_of (plan_seen plan.now) 0 2 (map record_seen matches.now)) }
@@ -141,7 +106,7 @@ fn matches_along(
     let mut line = 2;
     let mut number = 0;
     for played in matches {
-        line = match record_along(alloc, checked, shape, about, plan, number, line, played) {
+        line = match record_along(alloc, about, plan, number, line, played) {
             Ok(line) => line,
             Err(halt) => return Err(halt),
         };

@@ -1,7 +1,6 @@
 //! The play of a match, as its record tells it.
 ghost use Rattle.std.specs.Prelude.{◌≡◌, ℕ, ◌+◌, ◌<◌, ◌≤◌, ◌^◌, [], false, length, map, Some, None, IfOk, OnOk};
 ghost use Rattle.rc_play_model.specs.Step.{start, Config};
-ghost use Rattle.rc_play_model.specs.Shape.{shape_of};
 ghost use Rattle.rc_play_model.specs.Play.{stop_behind};
 ghost use Rattle.rc_play_model.specs.Decision.{choose};
 ghost use Rattle.rc_play_model.specs.Plan.{Plan as PurePlan, deal_at};
@@ -13,32 +12,26 @@ ghost use Rattle.rc_rules.specs.Control.{stop_seen};
 ghost use Rattle.rc_rules.specs.Plan.{plan_seen};
 ghost use Rattle.rc_rules.specs.Record.{pick_seen, score_seen, record_seen};
 ghost use Rattle.rc_rules.specs.Machine.{StandsAtDecision, StandsWhereItStops, menu_here};
+ghost use Rattle.rc_plain.specs.Plain.{config_of};
 ghost use Rattle.rc_judge.specs.Seen.{Judges, stands_at, lines_in};
 
 use crate::rows::{chosen_row, ending_row, opening_row, scored_row, shuffled_row};
 use crate::verdict::{Halt, on_row};
 use rc_deck::Memory;
-use rc_flow::Checked;
 use rc_plain::PlainMachine;
 use rc_play_model::configurations_come_to_stops;
 use rc_rules::{About, Machine, MatchDealer, MatchRecord, Pick, Plan, Score, Stop, rank_points};
-use rc_table::Shape;
 use std::alloc::Global;
-use std::sync::Arc;
 
 /// Judges the lines of match `number` of a plan, from its match line on. Answers the line behind them.
 pub(crate) fn record_along(
     alloc: Global,
-    checked: &Arc<Checked>,
-    shape: &Arc<Shape>,
     about: &About,
     plan: &Plan,
     number: u32,
     line: u32,
     played: &MatchRecord,
 ) -> Result<u32, Halt>
-    requires shape { shape.now.value ≡ shape_of checked.now.value }
-    requires about { about.now ≡ record { sheet = checked.now.value; shape = shape.now.value; turns = plan.now.turns } }
     requires room { line + lines_in played.now < 2 ^ 32 }
     ensures is { Judges (λ n. n) result (along.record_along about.now dealing_of (plan_seen plan.now) number line (record_seen played.now)) }
     ensures far { IfOk result (λ n. n ≡ line + lines_in played.now) }
@@ -49,11 +42,22 @@ pub(crate) fn record_along(
         Ok(()) => {}
         Err(halt) => return Err(halt),
     }
-    let machine = match PlainMachine::start(alloc, checked, shape, plan.turns) {
+    let machine = match machine_of(alloc, about) {
         Ok(machine) => machine,
         Err(Memory) => return Err(Halt::NoMemory),
     };
     body_along(about, plan, number, line + 1, machine, played)
+}
+
+// A machine at the start of a match.
+fn machine_of(alloc: Global, about: &About) -> Result<PlainMachine, Memory>
+    ensures about { IfOk result (λ m. m.about ≡ about.now) }
+    ensures start { IfOk result (λ m. config_of m ≡ start about.now) }
+{
+    match about.copy() {
+        Ok(about) => PlainMachine::at_start(alloc, about),
+        Err(Memory) => Err(Memory),
+    }
 }
 
 // Judges the lines of a match behind its first one, on a machine that stands at its start.
