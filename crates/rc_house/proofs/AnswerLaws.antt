@@ -1,20 +1,24 @@
 -- The forms of a source, and what is answered to them.
-use Rattle.std.proofs.Common.{Some, None, Result, Ok, Err, IfOk, slice_get, ◌≡◌, ℕ, inl, inr, List, [], ◌∷◌, length, map, arith, refl, sym, ap, subst}
+use Rattle.std.proofs.Common.{Some, None, Result, Ok, Err, IfOk, slice_get, ◌≡◌, ◌≤◌, ◌+◌, ℕ, List, [], ◌∷◌, length, map, arith, refl, sym, ap, ◌∙◌, subst}
 use Rattle.rc_model.specs.Spelled.{Spelled}
 use Rattle.rc_model.specs.Tree.{Tree}
+use Rattle.rc_model.specs.Transcript.{line}
 use Rattle.rc_form.specs.declared.fault.FormKind.{FormKind}
 use Rattle.rc_form.specs.declared.form.Form.{Form}
 use Rattle.rc_form.specs.Form.{tree_of}
 use Rattle.rc_form.specs.FormFault.{IsFormFault}
 use Rattle.rc_sheet_model.specs.Sheet.{Sheet}
+use Rattle.rc_sheet_model.specs.Printing.{printed_sheet}
 use Rattle.rc_plan_model.specs.declared.fault.PlanKind.{PlanKind}
 use Rattle.rc_plan.specs.declared.fail.PlanFail.{PlanFail}
 use Rattle.rc_plan.specs.declared.fail.PlanFail.TheVariants as fails
 use Rattle.rc_plan.specs.Reads.{IfPlanFault}
 use Rattle.rc_house.specs.declared.answer.Answer.{Answer as Stored}
+use Rattle.rc_house.specs.declared.answer.Answer.TheVariants.{Text, Refused}
 use Rattle.rc_house.specs.declared.command.Command.{Command}
-use Rattle.rc_house.specs.declared.command.Command.TheVariants.{Play}
+use Rattle.rc_house.specs.declared.command.Command.TheVariants.{Play, Sheet as PrintsSheet}
 use Rattle.rc_house.specs.AcceptedPlan.{IsPlanFaulty}
+use Rattle.rc_house.specs.declared.refusal.Refusal.{Refusal}
 use Rattle.rc_house.specs.declared.refusal.Refusal.TheVariants as refusal
 use Rattle.rc_house.specs.declared.status.SourceKind.{SourceKind}
 use Rattle.rc_house.specs.declared.status.SourceKind.TheVariants.{Shape}
@@ -22,7 +26,9 @@ use Rattle.rc_house.specs.Status.{source_kind}
 use Rattle.rc_house.specs.Accepted.{IsAccepted, HasFirstFault}
 use Rattle.rc_house.specs.Command.{wanted}
 use Rattle.rc_house.specs.Reading.{Reading, IsAcceptedWith}
-use Rattle.rc_house.specs.Answer.{Answer, text, refused, seen, HasText, HasPlanRefusal, IsUnbuilt, HasAnswer, IsPlanRefusal}
+use Rattle.rc_house.specs.Note.{note_line}
+use Rattle.rc_house.specs.Answer.{Answer, text, refused, seen, playouts_of, IsAnswered, HasPlanRefusal, HasAnswer, form_faulty, sheet_faulty, plan_faulty, accepted, IsAnswerTo, IsPlanRefusal, IsSheetText}
+use Rattle.rc_house.proofs.OneAnswer.{only_answer}
 use Rattle.rc_house.proofs.Options.{some_is}
 
 -- the trees of forms of which this is the first, and of none
@@ -42,12 +48,13 @@ reading source want lists rest spelled = record { lists = lists; rest = rest; sp
 -- The first fault of the source's forms refuses it, where as many lists are wanted as the command wants.
 pub fault_answered : (command : Command) (want : ℕ) (source : List ℕ) (kind : FormKind) (at : ℕ) → want ≡ wanted command
     → IsFormFault source want kind at → HasAnswer command source (refused (refusal.Sheet (source_kind kind) at))
-fault_answered command want source kind at same is = inl (kind, subst (λ want. IsFormFault source want kind at) same is, refl)
+fault_answered command want source kind at same is =
+    form_faulty (source_kind kind) at (kind, subst (λ want. IsFormFault source want kind at) same is, refl) refl
 
 -- A source without a sheet is refused where its rest begins.
 pub missing_answer : (command : Command) (source : List ℕ) (lists : List Tree) (rest : ℕ) → lists ≡ []
     → Spelled source (wanted command) lists rest → HasAnswer command source (refused (refusal.Sheet Shape rest))
-missing_answer command source [] rest none spelled = inr (reading source _ [] rest spelled, (refl, refl))
+missing_answer command source [] rest none spelled = sheet_faulty (reading source _ [] rest spelled) Shape rest (refl, refl) refl
 missing_answer command source (form ∷ others) rest none spelled = absurd (omega (arith, ap length none))
 
 -- The first fault of the first list refuses the source.
@@ -55,7 +62,7 @@ pub refused_answer : (command : Command) (source : List ℕ) (lists : List Tree)
     (kind : SourceKind) (at : ℕ) → lists ≡ form ∷ others → Spelled source (wanted command) lists rest → HasFirstFault kind at form
     → HasAnswer command source (refused (refusal.Sheet kind at))
 refused_answer command source lists form others rest kind at same spelled is =
-    inr (reading source _ (form ∷ others) rest (subst (λ lists. Spelled source (wanted command) lists rest) same spelled), is)
+    sheet_faulty (reading source _ (form ∷ others) rest (subst (λ lists. Spelled source (wanted command) lists rest) same spelled)) kind at is refl
 
 -- the first list is accepted as this sheet
 pub first_accepted : (lists : List Tree) (form : Tree) (others : List Tree) (sheet : Sheet) → lists ≡ form ∷ others
@@ -69,13 +76,14 @@ accepted_then : (Q : Sheet → List Tree → Type 0) (lists : List Tree) (sheet 
 accepted_then Q [] sheet is follows = absurd is
 accepted_then Q (form ∷ others) sheet is follows = (is.0, is.1, subst (λ sheet. Q sheet others) (sym is.2) (follows form others refl))
 
--- The text for the accepted sheet is the answer.
-pub text_answer : (command : Command) (source : List ℕ) (lists : List Tree) (rest : ℕ) (sheet : Sheet) (bytes : List ℕ)
+-- What is answered for the accepted sheet is the answer.
+pub accepted_answer : (command : Command) (source : List ℕ) (lists : List Tree) (rest : ℕ) (sheet : Sheet) (answer : Answer)
     → Spelled source (wanted command) lists rest → IsAcceptedWith (λ other _. other ≡ sheet) lists
-    → ((form : Tree) (others : List Tree) → lists ≡ form ∷ others → HasText command source sheet others rest bytes)
-    → HasAnswer command source (text bytes)
-text_answer command source lists rest sheet bytes spelled is has =
-    (reading source _ lists rest spelled, accepted_then (λ sheet others. HasText command source sheet others rest bytes) lists sheet is has)
+    → ((form : Tree) (others : List Tree) → lists ≡ form ∷ others → IsAnswered command source sheet others rest answer)
+    → HasAnswer command source answer
+accepted_answer command source lists rest sheet answer spelled is has =
+    accepted (reading source _ lists rest spelled)
+    (accepted_then (λ sheet others. IsAnswered command source sheet others rest answer) lists sheet is has)
 
 -- The first fault of the plan behind the accepted sheet refuses the source.
 pub plan_answer : (command : Command) (source : List ℕ) (lists : List Tree) (rest : ℕ) (sheet : Sheet) (kind : PlanKind) (at : ℕ)
@@ -83,27 +91,51 @@ pub plan_answer : (command : Command) (source : List ℕ) (lists : List Tree) (r
     → ((form : Tree) (others : List Tree) → lists ≡ form ∷ others → HasPlanRefusal command source sheet others rest kind at)
     → HasAnswer command source (refused (refusal.Plan kind at))
 plan_answer command source lists rest sheet kind at spelled is has =
-    (reading source _ lists rest spelled, accepted_then (λ sheet others. HasPlanRefusal command source sheet others rest kind at) lists sheet is has)
+    plan_faulty (reading source _ lists rest spelled) kind at
+    (accepted_then (λ sheet others. HasPlanRefusal command source sheet others rest kind at) lists sheet is has) refl
 
--- An accepted sheet and plan with which the command isn't built.
-pub unbuilt_answer : (command : Command) (source : List ℕ) (lists : List Tree) (rest : ℕ) (sheet : Sheet)
-    → Spelled source (wanted command) lists rest → IsAcceptedWith (λ other _. other ≡ sheet) lists
-    → ((form : Tree) (others : List Tree) → lists ≡ form ∷ others → IsUnbuilt command source sheet others rest)
-    → HasAnswer command source (refused refusal.Unbuilt)
-unbuilt_answer command source lists rest sheet spelled is none =
-    (reading source _ lists rest spelled, accepted_then (λ sheet others. IsUnbuilt command source sheet others rest) lists sheet is none)
+-- a refusal takes no playout
+pub refusal_is : (command : Command) (source : List ℕ) (refusal : Refusal) (steps : ℕ) (answer : Stored) → answer ≡ Refused refusal
+    → HasAnswer command source (refused refusal) → IsAnswerTo command source steps steps answer
+refusal_is command source refusal steps answer is has =
+    subst (IsAnswerTo command source steps steps) (sym is) (0, has, omega arith)
+
+-- an accepted sheet as it is printed
+sheet_answer : (source : List ℕ) (lists : List Tree) (rest : ℕ) (sheet : Sheet) (steps : ℕ) (answer : Stored)
+    → Spelled source 1 lists rest → IsAcceptedWith (λ other _. other ≡ sheet) lists → IsSheetText sheet answer
+    → IsAnswerTo PrintsSheet source steps steps answer
+sheet_answer source lists rest sheet steps (Text bytes note) spelled is printed =
+    let same : seen (Text bytes note) 0 ≡ text (line (printed_sheet sheet)) [] 0 =
+    ap (λ bytes. text bytes (note_line note) 0) printed.0 ∙ ap (λ note. text (line (printed_sheet sheet)) (note_line note) 0) printed.1 in
+    (0, accepted_answer PrintsSheet source lists rest sheet (seen (Text bytes note) 0) spelled is (λ form others first. same), omega arith)
+sheet_answer source lists rest sheet steps (Refused refusal) spelled is printed = absurd printed
+
+pub sheet_answers : (source : List ℕ) (lists : List Tree) (rest : ℕ) (sheet : Sheet) (steps : ℕ) {E : Type 0} (result : Result Stored E)
+    → Spelled source 1 lists rest → IsAcceptedWith (λ other _. other ≡ sheet) lists → IfOk result (IsSheetText sheet)
+    → IfOk result (IsAnswerTo PrintsSheet source steps steps)
+sheet_answers source lists rest sheet steps (Err error) spelled is printed = tt
+sheet_answers source lists rest sheet steps (Ok answer) spelled is printed = sheet_answer source lists rest sheet steps answer spelled is printed
 
 -- A plan that fails is refused for its first fault.
-failed_answer : (source : List ℕ) (lists : List Tree) (rest : ℕ) (sheet : Sheet) (fail : PlanFail) (answer : Answer)
+failed_answer : (source : List ℕ) (lists : List Tree) (rest : ℕ) (sheet : Sheet) (steps : ℕ) (fail : PlanFail) (answer : Stored)
     → Spelled source (wanted Play) lists rest → IsAcceptedWith (λ other _. other ≡ sheet) lists
-    → IfPlanFault fail (λ fault. IsPlanFaulty source sheet.players fault.kind fault.at lists rest) → IsPlanRefusal fail answer → HasAnswer Play source answer
-failed_answer source lists rest sheet fails.Memory answer spelled is fault refusal_is = absurd refusal_is
-failed_answer source lists rest sheet (fails.Fault found) answer spelled is fault refusal_is =
-    subst (HasAnswer Play source) (sym refusal_is) (plan_answer Play source lists rest sheet found.kind found.at spelled is fault)
+    → IfPlanFault fail (λ fault. IsPlanFaulty source sheet.players fault.kind fault.at lists rest) → IsPlanRefusal fail answer
+    → IsAnswerTo Play source steps steps answer
+failed_answer source lists rest sheet steps fails.Memory answer spelled is fault refusal_so = absurd refusal_so
+failed_answer source lists rest sheet steps (fails.Fault found) answer spelled is fault refusal_so =
+    refusal_is Play source (refusal.Plan found.kind found.at) steps answer refusal_so
+    (plan_answer Play source lists rest sheet found.kind found.at spelled is fault)
 
-pub failed_answers : (source : List ℕ) (lists : List Tree) (rest : ℕ) (sheet : Sheet) (fail : PlanFail) {E : Type 0} (result : Result Stored E)
+pub failed_answers : (source : List ℕ) (lists : List Tree) (rest : ℕ) (sheet : Sheet) (steps : ℕ) (fail : PlanFail) {E : Type 0} (result : Result Stored E)
     → Spelled source (wanted Play) lists rest → IsAcceptedWith (λ other _. other ≡ sheet) lists
     → IfPlanFault fail (λ fault. IsPlanFaulty source sheet.players fault.kind fault.at lists rest)
-    → IfOk result (λ answer. IsPlanRefusal fail (seen answer)) → IfOk result (λ answer. HasAnswer Play source (seen answer))
-failed_answers source lists rest sheet fail (Err error) spelled is fault refusal_is = tt
-failed_answers source lists rest sheet fail (Ok answer) spelled is fault refusal_is = failed_answer source lists rest sheet fail (seen answer) spelled is fault refusal_is
+    → IfOk result (IsPlanRefusal fail) → IfOk result (IsAnswerTo Play source steps steps)
+failed_answers source lists rest sheet steps fail (Err error) spelled is fault refusal_so = tt
+failed_answers source lists rest sheet steps fail (Ok answer) spelled is fault refusal_so =
+    failed_answer source lists rest sheet steps fail answer spelled is fault refusal_so
+
+-- where no more steps were counted than one answer takes playouts, that is so of any answer to the source
+pub counted_few : (command : Command) (source : List ℕ) (answer : Answer) (steps steps' : ℕ) → HasAnswer command source answer
+    → steps' ≤ steps + playouts_of answer → (other : Answer) → HasAnswer command source other → steps' ≤ steps + playouts_of other
+counted_few command source answer steps steps' has few other has' =
+    subst (λ answer. steps' ≤ steps + playouts_of answer) (sym (only_answer command source answer other has has')) few

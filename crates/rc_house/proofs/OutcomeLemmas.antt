@@ -1,6 +1,10 @@
 -- How the outcome of a command follows from what its parts did.
-use Rattle.std.proofs.Common.{◌≡◌, ◌<◌, ◌≤◌, ◌⊎◌, ℕ, List, [], ◌++◌, length, length-append, Option, Some, None, inl, inr, refl, sym, ◌∙◌, ap, subst, arith}
+use Rattle.std.proofs.Common.{◌≡◌, ◌<◌, ◌≤◌, ◌+◌, ◌⊎◌, ℕ, List, [], ◌++◌, length, length-append, Option, Some, None, inl, inr, refl, sym, ◌∙◌, ap, subst, arith}
 use Rattle.std.proofs.lemmas.List.{append-nil}
+use Rattle.rc_model.specs.Tree.{Tree}
+use Rattle.rc_sheet_model.specs.Sheet.{Sheet}
+use Rattle.rc_play_model.specs.About.{about_of}
+use Rattle.rc_plays.specs.Series.{looks_of}
 use Rattle.rc_outside.specs.Source.{Gave, IsAtEnd}
 use Rattle.rc_outside.specs.declared.errors.ReadFail.{ReadFail}
 use Rattle.rc_outside.specs.declared.errors.ReadFail.TheVariants as read
@@ -10,12 +14,16 @@ use Rattle.rc_house.specs.declared.command.Command.TheVariants.{Play}
 use Rattle.rc_house.specs.declared.refusal.Refusal.{Refusal}
 use Rattle.rc_house.specs.declared.status.Status.{Status}
 use Rattle.rc_house.specs.declared.status.Status.TheVariants.{Memory, TooLong}
-use Rattle.rc_house.specs.Command.{IsCommand, note_of}
-use Rattle.rc_house.specs.Answer.{Answer, text, refused, HasAnswer}
+use Rattle.rc_house.specs.declared.answer.Answer.{Answer as Stored}
+use Rattle.rc_house.specs.declared.answer.Answer.TheVariants.{Text, Refused}
+use Rattle.rc_house.specs.Command.{IsCommand, IsNoteOf}
+use Rattle.rc_house.specs.Note.{note_line}
+use Rattle.rc_house.specs.Answer.{Answer, text, refused, seen, played, playouts_of, IsAnswered, HasAnswer, form_faulty, sheet_faulty, plan_faulty, accepted, IsAnswerTo}
 use Rattle.rc_house.specs.Status.{line_of, refusal_status, read_status}
 use Rattle.rc_house.specs.Port.{Port, Ports, port, HasFailed, Took, NoCountFell}
-use Rattle.rc_house.specs.Outcome.{GaveTooMuch, Answers, Outcome, written, refusing, no_memory, read_failed, too_long, text_failed, note_failed, NoPortFailed, Succeeds, Ends, status_of}
-use Rattle.rc_house.specs.Running.{ReadsNone, Delivers}
+use Rattle.rc_house.specs.Outcome.{GaveTooMuch, Answers, CountedFew, Outcome, written, refusing, no_memory, read_failed, too_long, text_failed, note_failed, NoPortFailed, Succeeds, Ends, status_of}
+use Rattle.rc_house.specs.Reading.{IsAcceptedWith}
+use Rattle.rc_house.specs.Running.{HasNoteOf, ReadsAnswer, ReadsNone, Delivers}
 use Rattle.rc_house.proofs.OneAnswer.{only_answer}
 
 -- what a source gave to its end is all that it told
@@ -45,35 +53,85 @@ answers_with before after command answer P answers here = by before.told answers
     by None answers = tt
     by (Some source) answers = (answers.0, answers.1, answers.2, answers.3, subst P (sym answers.4) here)
 
+-- what is answered for an accepted sheet is noted as the command notes
+note_of_sheet : (command : Command) (source : List ℕ) (sheet : Sheet) (others : List Tree) (rest : ℕ) (bytes note : List ℕ) (playouts : ℕ)
+    → IsAnswered command source sheet others rest (text bytes note playouts) → IsNoteOf command note
+note_of_sheet Play source sheet others rest bytes note playouts has = (length (looks_of (about_of sheet has.0.turns) has.0), cc)
+note_of_sheet named.Sheet source sheet others rest bytes note playouts has = cc
+
+-- and so is what is answered to a source
+note_of_text : (command : Command) (source bytes note : List ℕ) (playouts : ℕ) → HasAnswer command source (text bytes note playouts) → IsNoteOf command note
+note_of_text command source bytes note playouts (form_faulty kind at has is) = absurd cc
+note_of_text command source bytes note playouts (sheet_faulty read kind at has is) = absurd cc
+note_of_text command source bytes note playouts (plan_faulty read kind at has is) = absurd cc
+note_of_text command source bytes note playouts (accepted read has) = by read.lists has
+  where
+    by : (lists : List Tree) → IsAcceptedWith (λ sheet others. IsAnswered command source sheet others read.rest (text bytes note playouts)) lists
+        → IsNoteOf command note
+    by [] is = absurd is
+    by (form ∷ others) is = note_of_sheet command source is.0 others read.rest bytes note playouts is.2
+
+note_answered : (command : Command) (source : List ℕ) (answer : Stored) (playouts : ℕ) → HasAnswer command source (seen answer playouts) → HasNoteOf command answer
+note_answered command source (Text bytes note) playouts has = note_of_text command source bytes.items (note_line note) playouts has
+note_answered command source (Refused refusal) playouts has = tt
+
+-- an answer to the bytes that a source gave to its end
+pub reads_answer : (told after : Option (List ℕ)) (faults faults' steps steps' : ℕ) (command : Command) (bytes : List ℕ) (answer : Stored)
+    → Gave told after bytes → IsAtEnd after → length bytes ≤ 1048576 → IsAnswerTo command bytes steps steps' answer
+    → ReadsAnswer command (port told faults) (port after faults') steps steps' answer
+reads_answer told after faults faults' steps steps' command bytes answer given end few is =
+    (is.0, answers_given told after faults faults' command bytes (seen answer is.0) given end few is.1, is.2, note_answered command bytes answer is.0 is.1)
+
+-- no more steps than the answer to those bytes takes
+pub counted_given : (told after : Option (List ℕ)) (faults steps steps' : ℕ) (command : Command) (bytes : List ℕ)
+    → Gave told after bytes → IsAtEnd after → ((answer : Answer) → HasAnswer command bytes answer → steps' ≤ steps + playouts_of answer)
+    → CountedFew (port told faults) command steps steps'
+counted_given None after faults steps steps' command bytes given end few = tt
+counted_given (Some whole) after faults steps steps' command bytes given end few =
+    let all = gave_all whole given.0 bytes after given.1 given.2 end in
+    subst (λ source. (answer : Answer) → HasAnswer command source answer → steps' ≤ steps + playouts_of answer) all.0 few
+
+-- no step
+pub counted_none : (before : Port) (steps : ℕ) (command : Command) → CountedFew before command steps steps
+counted_none before steps command = by before.told
+  where
+    by : (told : Option (List ℕ)) → CountedFew (port told before.faults) command steps steps
+    by None = tt
+    by (Some source) = λ answer has. omega arith
+
 -- a text that was handed on
-pub delivered : (command : Command) (before after : Ports) (bytes : List ℕ) (status : Status)
-    → Answers before.source after.source command (λ other. other ≡ text bytes)
-    → Delivers bytes (note_of command) before.out after.out before.notes after.notes status
-    → Outcome command before after status
-delivered command before after bytes status answers (inl done) =
-    written done.0 (answers_with before.source after.source command (text bytes) _ answers (bytes, refl, done.1)) done.2
-delivered command before after bytes status answers (inr (inl failed)) =
-    text_failed failed.0 failed.1 (answers_with before.source after.source command (text bytes) _ answers (bytes, refl, failed.2)) failed.3
-delivered command before after bytes status answers (inr (inr failed)) =
-    note_failed failed.0 failed.1 (answers_with before.source after.source command (text bytes) _ answers (bytes, refl, failed.2)) failed.3
+pub delivered : (command : Command) (before after : Ports) (steps steps' playouts : ℕ) (bytes note : List ℕ) (status : Status)
+    → IsNoteOf command note
+    → Answers before.source after.source command (λ other. other ≡ text bytes note playouts) → steps' ≡ steps + playouts
+    → Delivers bytes note before.out after.out before.notes after.notes status
+    → Outcome command before after steps steps' status
+delivered command before after steps steps' playouts bytes note status noted answers counted (inl done) =
+    written done.0 note noted
+    (answers_with before.source after.source command (text bytes note playouts) _ answers (bytes, playouts, refl, counted, done.1)) done.2
+delivered command before after steps steps' playouts bytes note status noted answers counted (inr (inl failed)) =
+    text_failed failed.0 failed.1 note noted
+    (answers_with before.source after.source command (text bytes note playouts) _ answers (bytes, playouts, refl, counted, failed.2)) failed.3
+delivered command before after steps steps' playouts bytes note status noted answers counted (inr (inr failed)) =
+    note_failed failed.0 failed.1 note noted
+    (answers_with before.source after.source command (text bytes note playouts) _ answers (bytes, playouts, refl, counted, failed.2)) failed.3
 
 -- a refusal
-pub refused_so : (command : Command) (before after : Ports) (refusal : Refusal) (status : Status) → status ≡ refusal_status refusal
-    → Answers before.source after.source command (λ other. other ≡ refused refusal) → after.out ≡ before.out
-    → Took before.notes after.notes (line_of status) → Outcome command before after status
-refused_so command before after refusal status is answers untouched noted =
-    refusing refusal is answers (record { untouched = untouched; noted = noted })
+pub refused_so : (command : Command) (before after : Ports) (steps steps' : ℕ) (refusal : Refusal) (status : Status) → status ≡ refusal_status refusal
+    → Answers before.source after.source command (λ other. other ≡ refused refusal) → steps' ≡ steps → after.out ≡ before.out
+    → Took before.notes after.notes (line_of status) → Outcome command before after steps steps' status
+refused_so command before after steps steps' refusal status is answers counted untouched noted =
+    refusing refusal is answers (record { untouched = untouched; noted = noted }) counted
 
 -- a source that wasn't read to its end, or for whose answer there was no memory
-pub unread_so : (command : Command) (before after : Ports) (fail : ReadFail) (status : Status) → status ≡ read_status fail
-    → ReadsNone before.source after.source fail → after.out ≡ before.out
-    → Took before.notes after.notes (line_of status) → Outcome command before after status
-unread_so command before after read.ReadFault status is none untouched noted =
-    read_failed is none.0 none.1 (record { untouched = untouched; noted = noted })
-unread_so command before after read.TooLong status is none untouched noted =
-    too_long is none (record { untouched = untouched; noted = noted })
-unread_so command before after read.Memory status is none untouched noted =
-    no_memory is none (record { untouched = untouched; noted = noted })
+pub unread_so : (command : Command) (before after : Ports) (steps steps' : ℕ) (fail : ReadFail) (status : Status) → status ≡ read_status fail
+    → ReadsNone command before.source after.source steps steps' fail → after.out ≡ before.out
+    → Took before.notes after.notes (line_of status) → Outcome command before after steps steps' status
+unread_so command before after steps steps' read.ReadFault status is none untouched noted =
+    read_failed is none.0 none.1 (record { untouched = untouched; noted = noted }) none.2
+unread_so command before after steps steps' read.TooLong status is none untouched noted =
+    too_long is none.0 (record { untouched = untouched; noted = noted }) none.1
+unread_so command before after steps steps' read.Memory status is none untouched noted =
+    no_memory is none.0 (record { untouched = untouched; noted = noted }) none.1
 
 -- the answers that two readings of one source give are one
 same_answer : (before after : Port) (command : Command) (P : Answer → Type 0) (source : List ℕ) (other : Answer)
@@ -109,52 +167,52 @@ not_answered before after command P source answers told long = by before.told to
         let same : whole ≡ source = cc in omega (arith, ap length same, answers.0)
 
 -- a refusal is no text
-refusal_is_no_text : (refusal : Refusal) (bytes : List ℕ) (other : Answer) → refused refusal ≡ other → other ≡ text bytes → ⊥
-refusal_is_no_text refusal bytes other same is = let both : refused refusal ≡ text bytes = same ∙ is in absurd cc
+refusal_is_no_text : (refusal : Refusal) (bytes note : List ℕ) (playouts : ℕ) (other : Answer) → refused refusal ≡ other → other ≡ text bytes note playouts → ⊥
+refusal_is_no_text refusal bytes note playouts other same is = let both : refused refusal ≡ text bytes note playouts = same ∙ is in absurd cc
 
-answers_due : (command : Command) (before after : Ports) (status : Status) → Outcome command before after status
+answers_due : (command : Command) (before after : Ports) (steps steps' : ℕ) (status : Status) → Outcome command before after steps steps' status
     → (source : List ℕ) (answer : Answer) → before.source.told ≡ Some source → length source ≤ 1048576
     → HasAnswer command source answer → NoPortFailed answer before after → (status ≡ status_of answer) ⊎ (status ≡ Memory)
-answers_due command before after status (written is answers noted) source answer told few has well =
+answers_due command before after steps steps' status (written is note noted answers took) source answer told few has well =
     let same = same_answer before.source after.source command _ source answer answers told has in
-    inl (is ∙ ap status_of (sym (same.2 ∙ same.1.1)))
-answers_due command before after status (refusing refusal is answers refuses) source answer told few has well =
+    inl (is ∙ ap status_of (sym (same.2 ∙ same.1.2)))
+answers_due command before after steps steps' status (refusing refusal is answers refuses counted) source answer told few has well =
     let same = same_answer before.source after.source command _ source answer answers told has in
     inl (is ∙ ap status_of (sym (same.2 ∙ same.1)))
-answers_due command before after status (no_memory is gave refuses) source answer told few has well = inr is
-answers_due command before after status (read_failed is failed gave refuses) source (text bytes) told few has well = absurd (well.0 failed)
-answers_due command before after status (read_failed is failed gave refuses) source (refused refusal) told few has well = absurd (well failed)
-answers_due command before after status (too_long is gave refuses) source answer told few has well =
+answers_due command before after steps steps' status (no_memory is gave refuses counted) source answer told few has well = inr is
+answers_due command before after steps steps' status (read_failed is failed gave refuses counted) source (text bytes note' playouts) told few has well = absurd (well.0 failed)
+answers_due command before after steps steps' status (read_failed is failed gave refuses counted) source (refused refusal) told few has well = absurd (well failed)
+answers_due command before after steps steps' status (too_long is gave refuses counted) source answer told few has well =
     absurd (not_too_much before.source after.source source gave told few)
-answers_due command before after status (text_failed is failed answers noted) source (text bytes) told few has well = absurd (well.1 failed)
-answers_due command before after status (text_failed is failed answers noted) source (refused refusal) told few has well =
+answers_due command before after steps steps' status (text_failed is failed note noted answers took) source (text bytes note' playouts) told few has well = absurd (well.1 failed)
+answers_due command before after steps steps' status (text_failed is failed note noted answers took) source (refused refusal) told few has well =
     let same = same_answer before.source after.source command _ source (refused refusal) answers told has in
-    absurd (refusal_is_no_text refusal same.1.0 same.0 same.2 same.1.1)
-answers_due command before after status (note_failed is failed answers noted) source (text bytes) told few has well = absurd (well.2 failed)
-answers_due command before after status (note_failed is failed answers noted) source (refused refusal) told few has well =
+    absurd (refusal_is_no_text refusal same.1.0 note same.1.1 same.0 same.2 same.1.2)
+answers_due command before after steps steps' status (note_failed is failed note noted answers took) source (text bytes note' playouts) told few has well = absurd (well.2 failed)
+answers_due command before after steps steps' status (note_failed is failed note noted answers took) source (refused refusal) told few has well =
     let same = same_answer before.source after.source command _ source (refused refusal) answers told has in
-    absurd (refusal_is_no_text refusal same.1.0 same.0 same.2 same.1.1)
+    absurd (refusal_is_no_text refusal same.1.0 note same.1.1 same.0 same.2 same.1.2)
 
-too_long_due : (command : Command) (before after : Ports) (status : Status) → Outcome command before after status
+too_long_due : (command : Command) (before after : Ports) (steps steps' : ℕ) (status : Status) → Outcome command before after steps steps' status
     → (source : List ℕ) → before.source.told ≡ Some source → 1048576 < length source
     → (HasFailed before.source after.source → ⊥) → (status ≡ TooLong) ⊎ (status ≡ Memory)
-too_long_due command before after status (written is answers noted) source told long well =
+too_long_due command before after steps steps' status (written is note noted answers took) source told long well =
     absurd (not_answered before.source after.source command _ source answers told long)
-too_long_due command before after status (refusing refusal is answers refuses) source told long well =
+too_long_due command before after steps steps' status (refusing refusal is answers refuses counted) source told long well =
     absurd (not_answered before.source after.source command _ source answers told long)
-too_long_due command before after status (no_memory is gave refuses) source told long well = inr is
-too_long_due command before after status (read_failed is failed gave refuses) source told long well = absurd (well failed)
-too_long_due command before after status (too_long is gave refuses) source told long well = inl is
-too_long_due command before after status (text_failed is failed answers noted) source told long well =
+too_long_due command before after steps steps' status (no_memory is gave refuses counted) source told long well = inr is
+too_long_due command before after steps steps' status (read_failed is failed gave refuses counted) source told long well = absurd (well failed)
+too_long_due command before after steps steps' status (too_long is gave refuses counted) source told long well = inl is
+too_long_due command before after steps steps' status (text_failed is failed note noted answers took) source told long well =
     absurd (not_answered before.source after.source command _ source answers told long)
-too_long_due command before after status (note_failed is failed answers noted) source told long well =
+too_long_due command before after steps steps' status (note_failed is failed note noted answers took) source told long well =
     absurd (not_answered before.source after.source command _ source answers told long)
 
 -- only want of memory keeps a command whose ports don't fail from the status of its answer
-pub succeeds : (command : Command) (before after : Ports) (status : Status) → Outcome command before after status
+pub succeeds : (command : Command) (before after : Ports) (steps steps' : ℕ) (status : Status) → Outcome command before after steps steps' status
     → Succeeds command before after status
-succeeds command before after status ends =
-    record { answers = answers_due command before after status ends; too_long = too_long_due command before after status ends }
+succeeds command before after steps steps' status ends =
+    record { answers = answers_due command before after steps steps' status ends; too_long = too_long_due command before after steps steps' status ends }
 
 -- words are one command at most
 same_command : (words : List (List ℕ)) (command other : Command) → IsCommand words command → IsCommand words other → other ≡ command
@@ -164,11 +222,11 @@ same_command words named.Sheet Play is is_other = absurd (cc)
 same_command words named.Sheet named.Sheet is is_other = refl
 
 -- how a command ended that words named
-pub ends_as_command : (words : List (List ℕ)) (command : Command) (before after : Ports) (status : Status) → IsCommand words command
-    → Outcome command before after status → NoCountFell before after → Ends words before after status
-ends_as_command words command before after status is ends counted =
+pub ends_as_command : (words : List (List ℕ)) (command : Command) (before after : Ports) (steps steps' : ℕ) (status : Status) → IsCommand words command
+    → Outcome command before after steps steps' status → NoCountFell before after → Ends words before after steps steps' status
+ends_as_command words command before after steps steps' status is ends counted =
     record {
       outcome = inl (command, is, ends);
-      succeeds = λ other is_other. subst (λ command. Succeeds command before after status) (sym (same_command words command other is is_other)) (succeeds command before after status ends);
+      succeeds = λ other is_other. subst (λ command. Succeeds command before after status) (sym (same_command words command other is is_other)) (succeeds command before after steps steps' status ends);
       no_count_fell = counted;
     }

@@ -1,5 +1,5 @@
 -- A command has an answer to each source.
-use Rattle.std.proofs.Common.{◌≡◌, ℕ, Bool, true, false, List, [], ◌∷◌, Option, Some, None, ◌⊎◌, inl, inr, refl, subst}
+use Rattle.std.proofs.Common.{◌≡◌, ℕ, List, [], ◌∷◌, Option, Some, None, ◌⊎◌, inl, inr, refl, subst}
 use Rattle.rc_model.specs.Spelled.{Spelled}
 use Rattle.rc_model.specs.Tree.{Tree}
 use Rattle.rc_model.specs.Transcript.{line}
@@ -14,9 +14,6 @@ use Rattle.rc_form.proofs.AtomsAreRead.{of_atoms-first}
 use Rattle.rc_form.proofs.TopLists.{fits-first}
 use Rattle.rc_sheet.proofs.Accepted.{has_sheet}
 use Rattle.rc_play_model.specs.About.{about_of}
-use Rattle.rc_play_model.specs.Plan.{Plan}
-use Rattle.rc_play_model.specs.Keyed.{keyed_house}
-use Rattle.rc_match.specs.Played.{names_rollout}
 use Rattle.rc_house.specs.declared.command.Command.{Command}
 use Rattle.rc_house.specs.declared.command.Command.TheVariants.{Play, Sheet}
 use Rattle.rc_house.specs.declared.refusal.Refusal.TheVariants as refusal
@@ -26,23 +23,24 @@ use Rattle.rc_house.specs.Accepted.{IsSheetOf, IsAccepted}
 use Rattle.rc_house.specs.AcceptedPlan.{HasPlanFault, IsPlanAccepted}
 use Rattle.rc_house.specs.Command.{wanted}
 use Rattle.rc_house.specs.Reading.{IsAcceptedWith}
-use Rattle.rc_house.specs.Answer.{Answer, text, refused, HasAnswer}
+use Rattle.rc_house.specs.Answer.{Answer, text, refused, played, HasAnswer, form_faulty}
 use Rattle.rc_house.proofs.AcceptedLaws.{in_sight_or_not}
-use Rattle.rc_house.proofs.AnswerLaws.{missing_answer, refused_answer, first_accepted, text_answer, plan_answer, unbuilt_answer}
+use Rattle.rc_house.proofs.AnswerLaws.{missing_answer, refused_answer, first_accepted, accepted_answer, plan_answer}
 use Rattle.rc_house.proofs.PlanLaws.{IsPlanOrFault, plan_or_fault}
 
 -- the command has an answer to this source
-abbrev IsAnswered : Command → List ℕ → Type 0
-IsAnswered command source = (answer : Answer) × HasAnswer command source answer
+abbrev SomeAnswer : Command → List ℕ → Type 0
+SomeAnswer command source = (answer : Answer) × HasAnswer command source answer
 
 -- a source that is read, with a sheet that is accepted
 accepted : (command : Command) (source : List ℕ) (form : Tree) (others : List Tree) (rest : ℕ) (sheet : sheets.Sheet)
-    → Spelled source (wanted command) (form ∷ others) rest → IsAccepted form sheet → IsAnswered command source
-accepted Sheet source form others rest sheet spelled is = (
-  text (line (printed_sheet sheet)),
-  text_answer Sheet source (form ∷ others) rest sheet (line (printed_sheet sheet)) spelled
-      (first_accepted (form ∷ others) form others sheet refl is) (λ form others same. refl),
-)
+    → Spelled source (wanted command) (form ∷ others) rest → IsAccepted form sheet → SomeAnswer command source
+accepted Sheet source form others rest sheet spelled is =
+    let answer = text (line (printed_sheet sheet)) [] 0 in (
+      answer,
+      accepted_answer Sheet source (form ∷ others) rest sheet answer spelled
+          (first_accepted (form ∷ others) form others sheet refl is) (λ form others same. refl),
+    )
 accepted Play source form others rest sheet spelled is =
     by_plan (plan_or_fault source sheet.players others rest is.of_form.well.limits.some_players is.of_form.well.limits.players)
   where
@@ -52,20 +50,12 @@ accepted Play source form others rest sheet spelled is =
     sheet_is : IsAcceptedWith (λ other _. other ≡ sheet) (form ∷ others)
     sheet_is = first_accepted (form ∷ others) form others sheet refl is
 
-    by_seats : (plan : Plan) → IsPlanAccepted source sheet.players others rest plan → (needs : Bool) → names_rollout plan ≡ needs → IsAnswered Play source
-    by_seats plan planned false none = (
-      text (keyed_house (about_of sheet plan.turns) plan),
-      text_answer Play source (form ∷ others) rest sheet (keyed_house (about_of sheet plan.turns) plan) spelled sheet_is
-          (λ first more same. (plan, subst (λ others. IsPlanAccepted source sheet.players others rest plan) (behind first more same) planned, none, refl)),
+    by_plan : IsPlanOrFault source sheet.players others rest → SomeAnswer Play source
+    by_plan (inl plan) = (
+      played (about_of sheet plan.0.turns) plan.0,
+      accepted_answer Play source (form ∷ others) rest sheet (played (about_of sheet plan.0.turns) plan.0) spelled sheet_is
+          (λ first more same. (plan.0, subst (λ others. IsPlanAccepted source sheet.players others rest plan.0) (behind first more same) plan.1, refl)),
     )
-    by_seats plan planned true named = (
-      refused refusal.Unbuilt,
-      unbuilt_answer Play source (form ∷ others) rest sheet spelled sheet_is
-          (λ first more same. (plan, subst (λ others. IsPlanAccepted source sheet.players others rest plan) (behind first more same) planned, named)),
-    )
-
-    by_plan : IsPlanOrFault source sheet.players others rest → IsAnswered Play source
-    by_plan (inl plan) = by_seats plan.0 plan.1 (names_rollout plan.0) refl
     by_plan (inr fault) = (
       refused (refusal.Plan fault.0 fault.1),
       plan_answer Play source (form ∷ others) rest sheet fault.0 fault.1 spelled sheet_is
@@ -75,7 +65,7 @@ accepted Play source form others rest sheet spelled is =
 -- one whose first list has no fault of its parts
 faultless : (command : Command) (source : List ℕ) (form : Tree) (others : List Tree) (rest : ℕ) (sheet : sheets.Sheet)
     → Spelled source (wanted command) (form ∷ others) rest → IsSheetOf form sheet → IsInSight sheet ⊎ ((at : ℕ) × IsUnseen sheet at)
-    → IsAnswered command source
+    → SomeAnswer command source
 faultless command source form others rest sheet spelled is (inl sight) =
     accepted command source form others rest sheet spelled (record { of_form = is; sight = sight })
 faultless command source form others rest sheet spelled is (inr unseen) = (
@@ -85,11 +75,11 @@ faultless command source form others rest sheet spelled is (inr unseen) = (
 
 -- one that is read
 read : (command : Command) (source : List ℕ) (lists : List Tree) (rest : ℕ) → Spelled source (wanted command) lists rest
-    → IsAnswered command source
+    → SomeAnswer command source
 read command source [] rest spelled = (refused (refusal.Sheet Shape rest), missing_answer command source [] rest refl spelled)
 read command source (form ∷ others) rest spelled = by (sheet_fault form) refl
   where
-    by : (found : Option SheetFault) → sheet_fault form ≡ found → IsAnswered command source
+    by : (found : Option SheetFault) → sheet_fault form ≡ found → SomeAnswer command source
     by (Some found) is = (
       refused (refusal.Sheet (sheet_kind found.kind) found.at),
       refused_answer command source (form ∷ others) form others rest (sheet_kind found.kind) found.at refl spelled
@@ -100,9 +90,9 @@ read command source (form ∷ others) rest spelled = by (sheet_fault form) refl
         let is : IsSheetOf form made.0 = record { faultless = none; stands = made.1; well = made.2 } in
         faultless command source form others rest made.0 spelled is (in_sight_or_not made.0)
 
-pub answered : (command : Command) (source : List ℕ) → IsAnswered command source
+pub answered : (command : Command) (source : List ℕ) → SomeAnswer command source
 answered command source = by (spelled_or_faulty source (wanted command))
   where
-    by : IsSpelledOrFaulty source (wanted command) → IsAnswered command source
+    by : IsSpelledOrFaulty source (wanted command) → SomeAnswer command source
     by (inl spelled) = read command source spelled.0 spelled.1 spelled.2
-    by (inr fault) = (refused (refusal.Sheet (source_kind fault.0) fault.1), inl (fault.0, fault.2, refl))
+    by (inr fault) = (refused (refusal.Sheet (source_kind fault.0) fault.1), form_faulty (source_kind fault.0) fault.1 (fault.0, fault.2, refl) refl)

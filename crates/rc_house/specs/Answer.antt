@@ -1,78 +1,93 @@
 -- What a command answers to its source.
-use Rattle.std.specs.Prelude.{◌≡◌, ℕ, true, false, ◌⊎◌, List}
+use Rattle.std.specs.Prelude.{◌≡◌, ℕ, ◌+◌, List, [], length}
 use Rattle.rc_model.specs.Transcript.{line}
 use Rattle.rc_model.specs.Tree.{Tree}
-use Rattle.rc_play_model.specs.About.{about_of}
+use Rattle.rc_play_model.specs.About.{About, about_of}
 use Rattle.rc_play_model.specs.Plan.{Plan}
 use Rattle.rc_play_model.specs.Keyed.{keyed_house}
+use Rattle.rc_redraw.specs.Choosing.{all_costs}
+use Rattle.rc_plays.specs.Series.{looks_of}
 use Rattle.rc_sheet_model.specs.Sheet as sheet
 use Rattle.rc_sheet_model.specs.Printing.{printed_sheet}
 use Rattle.rc_plan_model.specs.declared.fault.PlanKind.{PlanKind}
-use Rattle.rc_match.specs.Played.{names_rollout}
 use Rattle.rc_plan.specs.declared.fail.PlanFail.{PlanFail}
 use Rattle.rc_plan.specs.declared.fail.PlanFail.TheVariants as fails
 use Rattle.rc_house.specs.declared.command.Command.{Command}
 use Rattle.rc_house.specs.declared.command.Command.TheVariants.{Play, Sheet}
 use Rattle.rc_house.specs.declared.refusal.Refusal.{Refusal}
 use Rattle.rc_house.specs.declared.refusal.Refusal.TheVariants as refusal
+use Rattle.rc_house.specs.declared.status.SourceKind.{SourceKind}
 use Rattle.rc_house.specs.declared.answer.Answer.{Answer as Stored}
 use Rattle.rc_house.specs.declared.answer.Answer.TheVariants as stored
 use Rattle.rc_house.specs.Command.{wanted}
+use Rattle.rc_house.specs.declared.note.Note.TheVariants.{Nothing}
+use Rattle.rc_house.specs.Note.{looks_line, note_line}
 use Rattle.rc_house.specs.AcceptedPlan.{HasPlanFault, IsPlanAccepted}
 use Rattle.rc_house.specs.Reading.{Reading, HasFormFault, HasSheetFault, IsAcceptedWith}
 
--- a text, or a refusal
+-- a text, with what is noted behind it and how many playouts it takes; or a refusal
 pub data Answer : Type 0 where
-  text : (bytes : List ℕ) → Answer
+  text : (bytes note : List ℕ) (playouts : ℕ) → Answer
   refused : (refusal : Refusal) → Answer
 
--- The text that a command writes where the sheet is accepted, with these lists behind it and the rest that begins here. Of `play`
--- it is the house text of the accepted plan: the plays of all matches in order, and the standings.
-abbrev pub HasText : Command → List ℕ → sheet.Sheet → List Tree → ℕ → List ℕ → Type 0
-HasText Play source sheet others rest bytes =
-    (plan : Plan) × IsPlanAccepted source sheet.players others rest plan × (names_rollout plan ≡ false)
-    × (bytes ≡ keyed_house (about_of sheet plan.turns) plan)
-HasText Sheet source sheet others rest bytes = bytes ≡ line (printed_sheet sheet)
+-- The house text of a plan: the plays of all matches in order, and the standings. What rollouts ask is played out each time.
+abbrev pub played : About → Plan → Answer
+played about plan =
+    text (keyed_house about plan) (looks_line (length (looks_of about plan)) 0) (all_costs (looks_of about plan))
+
+-- What a command answers where the sheet is accepted, with these lists behind it and the rest that begins here, and where the plan is
+-- accepted too, if the command reads one.
+abbrev pub IsAnswered : Command → List ℕ → sheet.Sheet → List Tree → ℕ → Answer → Type 0
+IsAnswered Play source sheet others rest answer =
+    (plan : Plan) × IsPlanAccepted source sheet.players others rest plan × (answer ≡ played (about_of sheet plan.turns) plan)
+IsAnswered Sheet source sheet others rest answer = answer ≡ text (line (printed_sheet sheet)) [] 0
 
 -- The plan's first fault, where the command reads a plan.
 abbrev pub HasPlanRefusal : Command → List ℕ → sheet.Sheet → List Tree → ℕ → PlanKind → ℕ → Type 0
 HasPlanRefusal Play source sheet others rest kind at = HasPlanFault source sheet.players kind at others rest
 HasPlanRefusal Sheet source sheet others rest kind at = ⊥
 
--- What the command is to do with the source isn't built: the plan is accepted too, and one of its strategies needs playouts.
-abbrev pub IsUnbuilt : Command → List ℕ → sheet.Sheet → List Tree → ℕ → Type 0
-IsUnbuilt Play source sheet others rest =
-    (plan : Plan) × IsPlanAccepted source sheet.players others rest plan × (names_rollout plan ≡ true)
-IsUnbuilt Sheet source sheet others rest = ⊥
-
--- Why a command refuses its source.
-abbrev pub HasRefusal : Command → List ℕ → Refusal → Type 0
--- the first fault of the source's forms, or else of its sheet
-HasRefusal command source (refusal.Sheet kind at) =
-    HasFormFault source (wanted command) kind at
-    ⊎ ((read : Reading source (wanted command)) × HasSheetFault kind at read.lists read.rest)
--- the sheet is accepted, and this is the plan's first fault
-HasRefusal command source (refusal.Plan kind at) =
-    (read : Reading source (wanted command))
-    × IsAcceptedWith (λ sheet others. HasPlanRefusal command source sheet others read.rest kind at) read.lists
--- sheet and plan are accepted, and the command isn't built for the source
-HasRefusal command source refusal.Unbuilt =
-    (read : Reading source (wanted command))
-    × IsAcceptedWith (λ sheet others. IsUnbuilt command source sheet others read.rest) read.lists
-
 -- The command has this answer to its source. To each source it has exactly one.
-abbrev pub HasAnswer : Command → List ℕ → Answer → Type 0
-HasAnswer command source (text bytes) =
-    (read : Reading source (wanted command))
-    × IsAcceptedWith (λ sheet others. HasText command source sheet others read.rest bytes) read.lists
-HasAnswer command source (refused refusal) = HasRefusal command source refusal
+pub data HasAnswer (command : Command) (source : List ℕ) (answer : Answer) : Type 0 where
+  -- the first fault of the source's forms
+  form_faulty : (kind : SourceKind) (at : ℕ) → HasFormFault source (wanted command) kind at
+      → answer ≡ refused (refusal.Sheet kind at)
+      → HasAnswer command source answer
+  -- the forms are read, and this is the sheet's first fault
+  sheet_faulty : (read : Reading source (wanted command)) (kind : SourceKind) (at : ℕ) → HasSheetFault kind at read.lists read.rest
+      → answer ≡ refused (refusal.Sheet kind at)
+      → HasAnswer command source answer
+  -- the sheet is accepted, and this is the plan's first fault
+  plan_faulty : (read : Reading source (wanted command)) (kind : PlanKind) (at : ℕ)
+      → IsAcceptedWith (λ sheet others. HasPlanRefusal command source sheet others read.rest kind at) read.lists
+      → answer ≡ refused (refusal.Plan kind at)
+      → HasAnswer command source answer
+  -- all that the command reads is accepted
+  accepted : (read : Reading source (wanted command))
+      → IsAcceptedWith (λ sheet others. IsAnswered command source sheet others read.rest answer) read.lists
+      → HasAnswer command source answer
 
--- the answer that a value of the program stands for
-abbrev pub seen : Stored → Answer
-seen (stored.Text bytes) = text bytes.items
-seen (stored.Refused refusal) = refused refusal
+-- how many playouts an answer takes
+abbrev pub playouts_of : Answer → ℕ
+playouts_of (text bytes note playouts) = playouts
+playouts_of (refused refusal) = 0
 
--- the answer where the plan fails so: its first fault, and none where memory ran out
-abbrev pub IsPlanRefusal : PlanFail → Answer → Type 0
+-- the answer that a value of the program stands for, where it took so many playouts
+abbrev pub seen : Stored → ℕ → Answer
+seen (stored.Text bytes note) playouts = text bytes.items (note_line note) playouts
+seen (stored.Refused refusal) playouts = refused refusal
+
+-- The command's answer to its source, and so many steps were counted for it as it takes playouts.
+abbrev pub IsAnswerTo : Command → List ℕ → ℕ → ℕ → Stored → Type 0
+IsAnswerTo command source steps steps' answer =
+    (playouts : ℕ) × HasAnswer command source (seen answer playouts) × (steps' ≡ steps + playouts_of (seen answer playouts))
+
+-- the text of a sheet as it is printed, behind which nothing is noted
+abbrev pub IsSheetText : sheet.Sheet → Stored → Type 0
+IsSheetText sheet (stored.Text bytes note) = (bytes.items ≡ line (printed_sheet sheet)) × (note ≡ Nothing)
+IsSheetText sheet (stored.Refused refusal) = ⊥
+
+-- the refusal where the plan fails so: its first fault, and none where memory ran out
+abbrev pub IsPlanRefusal : PlanFail → Stored → Type 0
 IsPlanRefusal fails.Memory answer = ⊥
-IsPlanRefusal (fails.Fault fault) answer = answer ≡ refused (refusal.Plan fault.kind fault.at)
+IsPlanRefusal (fails.Fault fault) answer = answer ≡ stored.Refused (refusal.Plan fault.kind fault.at)

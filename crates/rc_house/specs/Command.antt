@@ -1,18 +1,18 @@
 -- The commands.
 use Rattle.std.specs.Prelude.{◌≡◌, ℕ, List, [], ◌∷◌, codes}
-use Rattle.rc_model.specs.Transcript.{line}
 use Rattle.rc_house.specs.declared.command.Command.{Command}
 use Rattle.rc_house.specs.declared.command.Command.TheVariants.{Play, Sheet}
+use Rattle.rc_house.specs.Note.{looks_line}
 
 -- how many lists a command reads from the front of its source
 abbrev pub wanted : Command → ℕ
 wanted Play = 2
 wanted Sheet = 1
 
--- the line that a command notes where all went well
-abbrev pub note_of : Command → List ℕ
-note_of Play = line (codes "cache looks 0 hits 0")
-note_of Sheet = []
+-- what a command may note where all went well
+abbrev pub IsNoteOf : Command → List ℕ → Type 0
+IsNoteOf Play note = (looks : ℕ) × (note ≡ looks_line looks 0)
+IsNoteOf Sheet note = note ≡ []
 
 -- these words are the command
 abbrev pub IsCommand : List (List ℕ) → Command → Type 0

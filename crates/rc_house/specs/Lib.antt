@@ -2,6 +2,7 @@ pub mod Accepted
 pub mod AcceptedPlan
 pub mod Answer
 pub mod Command
+pub mod Note
 pub mod Outcome
 pub mod Port
 pub mod Reading

@@ -1,11 +1,11 @@
 -- How a command may end, and what its ports have received then.
-use Rattle.std.specs.Prelude.{◌≡◌, ℕ, ◌<◌, ◌≤◌, ◌⊎◌, List, [], length, Some, IfSome}
+use Rattle.std.specs.Prelude.{◌≡◌, ℕ, ◌+◌, ◌<◌, ◌≤◌, ◌⊎◌, List, [], length, Some, IfSome}
 use Rattle.rc_house.specs.declared.command.Command.{Command}
 use Rattle.rc_house.specs.declared.refusal.Refusal.{Refusal}
 use Rattle.rc_house.specs.declared.status.Status.{Status}
 use Rattle.rc_house.specs.declared.status.Status.TheVariants as ending
-use Rattle.rc_house.specs.Command.{IsCommand, note_of}
-use Rattle.rc_house.specs.Answer.{Answer, text, refused, HasAnswer}
+use Rattle.rc_house.specs.Command.{IsCommand, IsNoteOf}
+use Rattle.rc_house.specs.Answer.{Answer, text, refused, HasAnswer, playouts_of}
 use Rattle.rc_house.specs.Status.{line_of, refusal_status}
 use Rattle.rc_house.specs.Port.{Port, Ports, HasFailed, Supplied, Received, ReceivedFront, Took, Noted, NotedFront, NoCountFell}
 
@@ -27,9 +27,10 @@ Answers before after command P =
     IfSome before.told (λ source.
     (length source ≤ source_limit) × (after.told ≡ Some []) × (answer : Answer) × HasAnswer command source answer × P answer)
 
--- the answer is a text, and Q holds of it
-abbrev pub IsTextWith : (List ℕ → Type 0) → Answer → Type 0
-IsTextWith Q answer = (bytes : List ℕ) × (answer ≡ text bytes) × Q bytes
+-- The answer is a text with this note, Q holds of it, and so many steps were counted as it takes playouts.
+abbrev pub IsTextWith : List ℕ → ℕ → ℕ → (List ℕ → Type 0) → Answer → Type 0
+IsTextWith note steps steps' Q answer =
+    (bytes : List ℕ) × (playouts : ℕ) × (answer ≡ text bytes note playouts) × (steps' ≡ steps + playouts) × Q bytes
 
 -- nothing was done to where the text goes, and the status's line was noted
 pub record Refuses (status : Status) (before after : Ports) : Type 0 where
@@ -41,47 +42,53 @@ pub record IsNoCommand (words : List (List ℕ)) (before after : Ports) : Type 0
   pub none : (command : Command) → IsCommand words command → ⊥
   pub unread : after.source ≡ before.source
 
--- A command that was named by words may end so.
-pub data Outcome (command : Command) (before after : Ports) (status : Status) : Type 0 where
+-- No more steps were counted than the command's answer takes playouts, where the source tells its bytes.
+abbrev pub CountedFew : Port → Command → ℕ → ℕ → Type 0
+CountedFew before command steps steps' =
+    IfSome before.told (λ source. (answer : Answer) → HasAnswer command source answer → steps' ≤ steps + playouts_of answer)
+
+-- A command that was named by words may end so. Each playout is a step.
+pub data Outcome (command : Command) (before after : Ports) (steps steps' : ℕ) (status : Status) : Type 0 where
   -- the text was written, and what the command notes then
-  written : status ≡ ending.Done
-      → Answers before.source after.source command (IsTextWith (Received before.out after.out))
-      → Noted before.notes after.notes (note_of command)
-      → Outcome command before after status
+  written : status ≡ ending.Done → (note : List ℕ) → IsNoteOf command note
+      → Answers before.source after.source command (IsTextWith note steps steps' (Received before.out after.out))
+      → Noted before.notes after.notes note
+      → Outcome command before after steps steps' status
   -- the source is refused
   refusing : (refusal : Refusal) → status ≡ refusal_status refusal
       → Answers before.source after.source command (λ answer. answer ≡ refused refusal)
-      → Refuses status before after
-      → Outcome command before after status
+      → Refuses status before after → steps' ≡ steps
+      → Outcome command before after steps steps' status
   -- want of memory may come at any time before the text is written
   no_memory : status ≡ ending.Memory → GaveFew before.source after.source → Refuses status before after
-      → Outcome command before after status
+      → CountedFew before.source command steps steps'
+      → Outcome command before after steps steps' status
   -- a read failed
   read_failed : status ≡ ending.ReadFault → HasFailed before.source after.source
-      → GaveFew before.source after.source → Refuses status before after
-      → Outcome command before after status
+      → GaveFew before.source after.source → Refuses status before after → steps' ≡ steps
+      → Outcome command before after steps steps' status
   -- the source gave too much
-  too_long : status ≡ ending.TooLong → GaveTooMuch before.source after.source → Refuses status before after
-      → Outcome command before after status
+  too_long : status ≡ ending.TooLong → GaveTooMuch before.source after.source → Refuses status before after → steps' ≡ steps
+      → Outcome command before after steps steps' status
   -- a write of the text failed
-  text_failed : status ≡ ending.WriteFault → HasFailed before.out after.out
-      → Answers before.source after.source command (IsTextWith (ReceivedFront before.out after.out))
+  text_failed : status ≡ ending.WriteFault → HasFailed before.out after.out → (note : List ℕ) → IsNoteOf command note
+      → Answers before.source after.source command (IsTextWith note steps steps' (ReceivedFront before.out after.out))
       → Took before.notes after.notes (line_of status)
-      → Outcome command before after status
+      → Outcome command before after steps steps' status
   -- the text was written, and the write of the note failed
-  note_failed : status ≡ ending.WriteFault → HasFailed before.notes after.notes
-      → Answers before.source after.source command (IsTextWith (Received before.out after.out))
-      → NotedFront before.notes after.notes (note_of command)
-      → Outcome command before after status
+  note_failed : status ≡ ending.WriteFault → HasFailed before.notes after.notes → (note : List ℕ) → IsNoteOf command note
+      → Answers before.source after.source command (IsTextWith note steps steps' (Received before.out after.out))
+      → NotedFront before.notes after.notes note
+      → Outcome command before after steps steps' status
 
 -- a command's status where it has this answer to its source, memory is found and no port fails
 abbrev pub status_of : Answer → Status
-status_of (text bytes) = ending.Done
+status_of (text bytes note playouts) = ending.Done
 status_of (refused refusal) = refusal_status refusal
 
 -- No port failed that this answer needs: a refusal needs no more than that the source is read.
 abbrev pub NoPortFailed : Answer → Ports → Ports → Type 0
-NoPortFailed (text bytes) before after =
+NoPortFailed (text bytes note playouts) before after =
     (HasFailed before.source after.source → ⊥)
     × (HasFailed before.out after.out → ⊥)
     × (HasFailed before.notes after.notes → ⊥)
@@ -95,9 +102,9 @@ pub record Succeeds (command : Command) (before after : Ports) (status : Status)
   pub too_long : (source : List ℕ) → before.source.told ≡ Some source → source_limit < length source
       → (HasFailed before.source after.source → ⊥) → (status ≡ ending.TooLong) ⊎ (status ≡ ending.Memory)
 
--- How words that began with these ports ended.
-pub record Ends (words : List (List ℕ)) (before after : Ports) (status : Status) : Type 0 where
-  pub outcome : ((command : Command) × IsCommand words command × Outcome command before after status)
-      ⊎ (IsNoCommand words before after × (status ≡ ending.Unbuilt) × Refuses status before after)
+-- How words that began with these ports and so many steps ended.
+pub record Ends (words : List (List ℕ)) (before after : Ports) (steps steps' : ℕ) (status : Status) : Type 0 where
+  pub outcome : ((command : Command) × IsCommand words command × Outcome command before after steps steps' status)
+      ⊎ (IsNoCommand words before after × (status ≡ ending.Unbuilt) × Refuses status before after × (steps' ≡ steps))
   pub succeeds : (command : Command) → IsCommand words command → Succeeds command before after status
   pub no_count_fell : NoCountFell before after

@@ -64,7 +64,6 @@ sheet_kind part.NoCards = NoCards
 abbrev pub refusal_status : Refusal → Status
 refusal_status (refusal.Sheet kind at) = Sheet kind at
 refusal_status (refusal.Plan kind at) = Plan kind at
-refusal_status refusal.Unbuilt = Unbuilt
 
 -- the status of a source that wasn't read to its end
 abbrev pub read_status : ReadFail → Status

@@ -1,5 +1,5 @@
 //! What a command answers to the bytes of its source.
-ghost use Rattle.std.specs.Prelude.{◌≡◌, ◌≤◌, length, IfOk, All};
+ghost use Rattle.std.specs.Prelude.{◌≡◌, ◌≤◌, ◌+◌, length, IfOk, OnErr, All};
 ghost use Rattle.rc_model.specs.Placed.{IsPlaced};
 ghost use Rattle.rc_model.specs.Spelled.{Spelled};
 ghost use Rattle.rc_form.specs.Form.{tree_of, trees_of, IsPrintable};
@@ -13,38 +13,47 @@ ghost use Rattle.rc_house.specs.declared.command.Command.TheVariants as command;
 ghost use Rattle.rc_house.specs.AcceptedPlan.{IsPlanned};
 ghost use Rattle.rc_house.specs.Command.{wanted};
 ghost use Rattle.rc_house.specs.Reading.{IsAcceptedWith};
-ghost use Rattle.rc_house.specs.Answer.{refused, seen, HasAnswer, IsPlanRefusal};
+ghost use Rattle.rc_house.specs.declared.answer.Answer.TheVariants as stored;
+ghost use Rattle.rc_house.specs.Answer.{Answer as PureAnswer, HasAnswer, IsAnswerTo, IsPlanRefusal, IsSheetText, playouts_of};
 
 use crate::accepting::{SourceFail, accept};
 use crate::command::Command;
+use crate::note::Note;
 use crate::planning::read_plan;
 use crate::printing::print_line;
 use crate::refusal::Refusal;
 use crate::status::SourceKind;
 use rc_flow::Checked;
 use rc_form::{FormFail, FormFault, Forms, read_forms};
-use rc_match::names_rollout;
 use rc_plan::PlanFail;
 use rc_plays::house_of;
 use rc_rules::Plan;
+use rc_steps::Steps;
 use std::alloc::{AllocError, Global};
+use std::sync::ledger::Ledger;
 
 /// What a command answers to its source.
 #[derive(Drop)]
 pub enum Answer {
-    /// The text that it writes.
-    Text(Vec<u8>),
+    /// The text that it writes, and what it notes then.
+    Text(Vec<u8>, Note),
     /// Why it writes none.
     Refused(Refusal),
 }
 
 /// The answer of a command to its source. `Err` is want of memory alone.
-pub fn answer_to(alloc: Global, command: Command, source: &[u8]) -> Result<Answer, AllocError>
+pub fn answer_to<L: Ledger>(
+    alloc: Global,
+    command: Command,
+    source: &[u8],
+    steps: &mut Steps<L>,
+) -> Result<Answer, AllocError>
     requires { length source.now ≤ 1048576 }
-    ensures { IfOk result (λ answer. HasAnswer command source.now (seen answer)) }
+    ensures answered { IfOk result (IsAnswerTo command source.now steps.old steps.new) }
+    ensures few { OnErr result ((answer : PureAnswer) → HasAnswer command source.now answer → steps.new ≤ steps.old + playouts_of answer) }
 {
     match read_forms(alloc, source, command.wanted()) {
-        Ok(forms) => answer_of_forms(alloc, command, source, &forms),
+        Ok(forms) => answer_of_forms(alloc, command, source, &forms, steps),
         Err(FormFail::Fault(form_fault)) => Ok(fault_of(form_fault)),
         Err(FormFail::Memory) => Err(AllocError),
     }
@@ -52,7 +61,7 @@ pub fn answer_to(alloc: Global, command: Command, source: &[u8]) -> Result<Answe
 
 /// The answer to a source whose forms have this fault.
 fn fault_of(form_fault: FormFault) -> Answer
-    ensures { seen result ≡ refused (refusal.Sheet (source_kind form_fault.kind) form_fault.at) }
+    ensures { result ≡ stored.Refused (refusal.Sheet (source_kind form_fault.kind) form_fault.at) }
 {
     Answer::Refused(Refusal::Sheet {
         kind: SourceKind::from(form_fault.kind),
@@ -61,11 +70,12 @@ fn fault_of(form_fault: FormFault) -> Answer
 }
 
 /// The answer of a command to a source with these forms.
-fn answer_of_forms(
+fn answer_of_forms<L: Ledger>(
     alloc: Global,
     command: Command,
     source: &[u8],
     forms: &Forms,
+    steps: &mut Steps<L>,
 ) -> Result<Answer, AllocError>
     requires small { length source.now ≤ 1048576 }
     requires within { forms.now.rest ≤ length source.now }
@@ -73,13 +83,14 @@ fn answer_of_forms(
     requires printable { All (λ form. IsPrintable (tree_of form)) forms.now.list.items }
     requires of_atoms { All (λ form. IsOfAtoms (tree_of form)) forms.now.list.items }
     requires placed { All (λ form. IsPlaced (length source.now) (tree_of form)) forms.now.list.items }
-    ensures { IfOk result (λ answer. HasAnswer command source.now (seen answer)) }
+    ensures answered { IfOk result (IsAnswerTo command source.now steps.old steps.new) }
+    ensures few { OnErr result ((answer : PureAnswer) → HasAnswer command source.now answer → steps.new ≤ steps.old + playouts_of answer) }
 {
     let Some(form) = forms.list.first() else {
         return Ok(missing(forms));
     };
     match accept(alloc, form) {
-        Ok(checked) => accepted_answer(alloc, command, source, forms, checked),
+        Ok(checked) => accepted_answer(alloc, command, source, forms, checked, steps),
         Err(SourceFail::Fault { kind, at }) => Ok(Answer::Refused(Refusal::Sheet { kind, at })),
         Err(SourceFail::Memory) => Err(AllocError),
     }
@@ -88,7 +99,7 @@ fn answer_of_forms(
 /// The answer where the sheet is missing.
 fn missing(forms: &Forms) -> Answer
     requires { forms.now.rest ≤ 1048576 }
-    ensures { seen result ≡ refused (refusal.Sheet Shape forms.now.rest) }
+    ensures { result ≡ stored.Refused (refusal.Sheet Shape forms.now.rest) }
 {
     Answer::Refused(Refusal::Sheet {
         kind: SourceKind::Shape,
@@ -97,74 +108,91 @@ fn missing(forms: &Forms) -> Answer
 }
 
 /// The answer of a command to a source with these forms, of which the first is accepted as this sheet.
-fn accepted_answer(
+fn accepted_answer<L: Ledger>(
     alloc: Global,
     command: Command,
     source: &[u8],
     forms: &Forms,
     checked: Checked,
+    steps: &mut Steps<L>,
 ) -> Result<Answer, AllocError>
     requires small { length source.now ≤ 1048576 }
     requires within { forms.now.rest ≤ length source.now }
     requires read { Spelled source.now (wanted command) (trees_of forms.now.list.items) forms.now.rest }
     requires placed { All (λ form. IsPlaced (length source.now) (tree_of form)) forms.now.list.items }
     requires accepted { IsAcceptedWith (λ sheet _. sheet ≡ checked) (trees_of forms.now.list.items) }
-    ensures { IfOk result (λ answer. HasAnswer command source.now (seen answer)) }
+    ensures answered { IfOk result (IsAnswerTo command source.now steps.old steps.new) }
+    ensures few { OnErr result ((answer : PureAnswer) → HasAnswer command source.now answer → steps.new ≤ steps.old + playouts_of answer) }
 {
     match command {
-        Command::Play => play_answer(alloc, source, forms, checked),
-        Command::Sheet => Ok(Answer::Text(print_line(alloc, checked.sheet())?)),
+        Command::Play => play_answer(alloc, source, forms, checked, steps),
+        Command::Sheet => sheet_answer(alloc, &checked),
     }
 }
 
 /// The answer of `play` to a source with these forms, of which the first is accepted as this sheet.
-fn play_answer(
+fn play_answer<L: Ledger>(
     alloc: Global,
     source: &[u8],
     forms: &Forms,
     checked: Checked,
+    steps: &mut Steps<L>,
 ) -> Result<Answer, AllocError>
     requires small { length source.now ≤ 1048576 }
     requires within { forms.now.rest ≤ length source.now }
     requires read { Spelled source.now 2 (trees_of forms.now.list.items) forms.now.rest }
     requires placed { All (λ form. IsPlaced (length source.now) (tree_of form)) forms.now.list.items }
     requires accepted { IsAcceptedWith (λ sheet _. sheet ≡ checked) (trees_of forms.now.list.items) }
-    ensures { IfOk result (λ answer. HasAnswer command.Play source.now (seen answer)) }
+    ensures answered { IfOk result (IsAnswerTo command.Play source.now steps.old steps.new) }
+    ensures few { OnErr result ((answer : PureAnswer) → HasAnswer command.Play source.now answer → steps.new ≤ steps.old + playouts_of answer) }
 {
     let players = checked.sheet().players;
     match read_plan(alloc, source, forms, players) {
-        Ok(plan) => planned_answer(alloc, source, forms, checked, &plan),
+        Ok(plan) => planned_answer(alloc, source, forms, checked, plan, steps),
         Err(fail) => plan_failed(fail),
     }
 }
 
 /// The answer of `play` to a source with these forms, of which the first is accepted as this sheet and the second as this plan.
-fn planned_answer(
+fn planned_answer<L: Ledger>(
     alloc: Global,
     source: &[u8],
     forms: &Forms,
     checked: Checked,
-    plan: &Plan,
+    plan: Plan,
+    steps: &mut Steps<L>,
 ) -> Result<Answer, AllocError>
     requires read { Spelled source.now 2 (trees_of forms.now.list.items) forms.now.rest }
     requires accepted { IsAcceptedWith (λ sheet _. sheet ≡ checked) (trees_of forms.now.list.items) }
-    requires planned { IsPlanned source.now checked.players (trees_of forms.now.list.items) forms.now.rest (plan_seen plan.now) }
-    requires within { IsWithinLimits (plan_seen plan.now) }
-    requires seats { length (plan_seen plan.now).strategies ≡ checked.players }
-    ensures { IfOk result (λ answer. HasAnswer command.Play source.now (seen answer)) }
+    requires planned { IsPlanned source.now checked.players (trees_of forms.now.list.items) forms.now.rest (plan_seen plan) }
+    requires within { IsWithinLimits (plan_seen plan) }
+    requires seats { length (plan_seen plan).strategies ≡ checked.players }
+    ensures answered { IfOk result (IsAnswerTo command.Play source.now steps.old steps.new) }
+    ensures few { OnErr result ((answer : PureAnswer) → HasAnswer command.Play source.now answer → steps.new ≤ steps.old + playouts_of answer) }
 {
-    if names_rollout(plan) {
-        return Ok(Answer::Refused(Refusal::Unbuilt));
-    }
-    match house_of(alloc, checked, plan) {
-        Ok(text) => Ok(Answer::Text(text)),
+    match house_of(alloc, checked, plan, steps) {
+        Ok(house) => Ok(Answer::Text(
+            house.text,
+            Note::Looks {
+                looks: house.looks,
+                hits: 0,
+            },
+        )),
         Err(_) => Err(AllocError),
     }
 }
 
+/// The answer of `sheet` where this sheet is accepted.
+fn sheet_answer(alloc: Global, checked: &Checked) -> Result<Answer, AllocError>
+    ensures { IfOk result (IsSheetText checked.now) }
+{
+    let line = print_line(alloc, checked.sheet())?;
+    Ok(Answer::Text(line, Note::Nothing))
+}
+
 /// The answer where the plan fails so.
 fn plan_failed(fail: PlanFail) -> Result<Answer, AllocError>
-    ensures { IfOk result (λ answer. IsPlanRefusal fail (seen answer)) }
+    ensures { IfOk result (IsPlanRefusal fail) }
 {
     match fail {
         PlanFail::Fault(fault) => Ok(Answer::Refused(Refusal::Plan {

@@ -1,7 +1,7 @@
 //! The commands that words name.
 ghost use Rattle.std.specs.Prelude.{◌≡◌, [], ◌∷◌, map, string_bytes, IfSome, IfNone};
 ghost use Rattle.rc_house.specs.declared.command.Command.{Command};
-ghost use Rattle.rc_house.specs.Command.{wanted, note_of, IsCommand};
+ghost use Rattle.rc_house.specs.Command.{wanted, IsCommand};
 
 /// A command.
 #[derive(Clone, Copy, Debug, PartialEq, Eq, Hash)]
@@ -20,16 +20,6 @@ impl Command {
         match self {
             Command::Play => 2,
             Command::Sheet => 1,
-        }
-    }
-
-    /// The line that goes to the notes where all went well.
-    pub fn note(self) -> &'static [u8]
-        ensures { result.now ≡ note_of self }
-    {
-        match self {
-            Command::Play => b"cache looks 0 hits 0\n",
-            Command::Sheet => b"",
         }
     }
 }

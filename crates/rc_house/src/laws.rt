@@ -1,5 +1,5 @@
 //! Laws of what commands answer. No function here does anything: its contract is the law.
-ghost use Rattle.std.specs.Prelude.{◌≡◌, ℕ, List};
+ghost use Rattle.std.specs.Prelude.{◌≡◌, ℕ, List, []};
 ghost use Rattle.rc_house.specs.declared.command.Command.{Command};
 ghost use Rattle.rc_house.specs.declared.command.Command.TheVariants.{Sheet};
 ghost use Rattle.rc_house.specs.Answer.{Answer, text, HasAnswer};
@@ -17,5 +17,5 @@ pub fn some_answer()
 
 /// What `sheet` answers to a source, it answers to that text too: what it writes is in canonical form.
 pub fn a_printed_sheet_is_printed_again()
-    ensures { (source bytes : List ℕ) → HasAnswer Sheet source (text bytes) → HasAnswer Sheet bytes (text bytes) }
+    ensures { (source bytes : List ℕ) → HasAnswer Sheet source (text bytes [] 0) → HasAnswer Sheet bytes (text bytes [] 0) }
 {}

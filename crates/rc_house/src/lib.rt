@@ -5,6 +5,7 @@ mod accepting;
 mod answer;
 mod command;
 mod laws;
+mod note;
 mod planning;
 mod printing;
 mod refusal;

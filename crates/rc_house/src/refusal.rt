@@ -9,8 +9,6 @@ pub enum Refusal {
     Sheet { kind: SourceKind, at: u32 },
     /// The plan's first fault, with the offset where it stands.
     Plan { kind: PlanKind, at: u32 },
-    /// What the source asks for isn't built yet.
-    Unbuilt,
 }
 
 impl From<Refusal> for Status {
@@ -23,7 +21,6 @@ impl From<Refusal> for Status {
         match refusal {
             Refusal::Sheet { kind, at } => Status::Sheet { kind, at },
             Refusal::Plan { kind, at } => Status::Plan { kind, at },
-            Refusal::Unbuilt => Status::Unbuilt,
         }
     }
 }

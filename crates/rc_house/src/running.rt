@@ -1,5 +1,5 @@
 //! The calls that a program makes: they run a command from its words to its end.
-ghost use Rattle.std.specs.Prelude.{◌≡◌, ◌<◌, ◌≤◌, map, string_bytes, IfOk, IfErr};
+ghost use Rattle.std.specs.Prelude.{◌≡◌, ◌<◌, ◌≤◌, ℕ, map, string_bytes, IfOk, IfErr};
 ghost use Rattle.rc_house.specs.Status.{line_of};
 ghost use Rattle.rc_house.specs.Port.{NoCountFell, Took, port, ports};
 ghost use Rattle.rc_house.specs.Outcome.{Outcome, Ends};
@@ -30,20 +30,21 @@ pub fn refuse<N: Sink>(notes: &mut N, status: Status) -> Status
 }
 
 /// A command's answer to its source, or why there is none.
-fn read_answer<S: Source>(
+fn read_answer<S: Source, L: Ledger>(
     alloc: Global,
     command: Command,
     source: &mut S,
+    steps: &mut Steps<L>,
 ) -> Result<Answer, ReadFail>
-    ensures answer { IfOk result (ReadsAnswer command (port (S.left source.old) (S.faults source.old)) (port (S.left source.new) (S.faults source.new))) }
-    ensures none { IfErr result (ReadsNone (port (S.left source.old) (S.faults source.old)) (port (S.left source.new) (S.faults source.new))) }
+    ensures answer { IfOk result (ReadsAnswer command (port (S.left source.old) (S.faults source.old)) (port (S.left source.new) (S.faults source.new)) steps.old steps.new) }
+    ensures none { IfErr result (ReadsNone command (port (S.left source.old) (S.faults source.old)) (port (S.left source.new) (S.faults source.new)) steps.old steps.new) }
     ensures counted { S.faults source.old ≤ S.faults source.new }
 {
     let bytes = match read_all(alloc, source, SOURCE_LIMIT) {
         Ok(bytes) => bytes,
         Err(fail) => return Err(fail),
     };
-    match answer_to(alloc, command, &bytes) {
+    match answer_to(alloc, command, &bytes, steps) {
         Ok(answer) => Ok(answer),
         Err(_) => Err(ReadFail::Memory),
     }
@@ -65,12 +66,13 @@ fn deliver<O: Sink, N: Sink>(out: &mut O, notes: &mut N, text: &[u8], note: &[u8
 }
 
 /// Runs a command.
-fn run_command<S: Source, O: Sink, N: Sink>(
+fn run_command<S: Source, O: Sink, N: Sink, L: Ledger>(
     alloc: Global,
     command: Command,
     source: &mut S,
     out: &mut O,
     notes: &mut N,
+    steps: &mut Steps<L>,
 ) -> Status
     ensures outcome { Outcome command
         (ports
@@ -81,7 +83,7 @@ fn run_command<S: Source, O: Sink, N: Sink>(
         (port (S.left source.new) (S.faults source.new))
         (port (O.written out.new) (O.faults out.new))
         (port (N.written notes.new) (N.faults notes.new)))
-        result }
+        steps.old steps.new result }
     ensures no_count_fell { NoCountFell
         (ports
         (port (S.left source.old) (S.faults source.old))
@@ -92,8 +94,8 @@ fn run_command<S: Source, O: Sink, N: Sink>(
         (port (O.written out.new) (O.faults out.new))
         (port (N.written notes.new) (N.faults notes.new))) }
 {
-    match read_answer(alloc, command, source) {
-        Ok(Answer::Text(text)) => deliver(out, notes, &text, command.note()),
+    match read_answer(alloc, command, source, steps) {
+        Ok(Answer::Text(text, note)) => deliver(out, notes, &text, note.line().as_str().as_bytes()),
         Ok(Answer::Refused(refusal)) => refuse(notes, Status::from(refusal)),
         Err(fail) => refuse(notes, Status::from(fail)),
     }
@@ -117,11 +119,10 @@ pub fn run_alone<S: Source, O: Sink, N: Sink, L: Ledger>(
         (port (S.left source.new) (S.faults source.new))
         (port (O.written out.new) (O.faults out.new))
         (port (N.written notes.new) (N.faults notes.new)))
-        result }
-    ensures steps { steps.new ≡ steps.old }
+        steps.old steps.new result }
 {
     match command_of(words) {
-        Some(command) => run_command(alloc, command, source, out, notes),
+        Some(command) => run_command(alloc, command, source, out, notes, steps),
         None => refuse(notes, Status::Unbuilt),
     }
 }
@@ -138,7 +139,7 @@ fn run_from<S: Source, O: Sink, N: Sink, L: Ledger>(
     requires name { blank.name ≡ L.name }
     requires parts { blank.parts ≡ L.parts }
     requires some { 0 < blank.parts }
-    ensures ends { Ends (map string_bytes words.now)
+    ensures ends { (playouts : ℕ) × Ends (map string_bytes words.now)
         (ports
         (port (S.left source.old) (S.faults source.old))
         (port (O.written out.old) (O.faults out.old))
@@ -147,7 +148,7 @@ fn run_from<S: Source, O: Sink, N: Sink, L: Ledger>(
         (port (S.left source.new) (S.faults source.new))
         (port (O.written out.new) (O.faults out.new))
         (port (N.written notes.new) (N.faults notes.new)))
-        result }
+        0 playouts result }
 {
     let mut steps = Steps::<L>::new(blank);
     run_alone(alloc, words, source, out, notes, &mut steps)
@@ -163,7 +164,7 @@ pub fn run<R: Threads + Wait + Sync, S: Source, O: Sink, N: Sink, G: Gate>(
     notes: &mut N,
     gate: &G,
 ) -> Status
-    ensures ends { Ends (map string_bytes words.now)
+    ensures ends { (playouts : ℕ) × Ends (map string_bytes words.now)
         (ports
         (port (S.left source.old) (S.faults source.old))
         (port (O.written out.old) (O.faults out.old))
@@ -172,7 +173,7 @@ pub fn run<R: Threads + Wait + Sync, S: Source, O: Sink, N: Sink, G: Gate>(
         (port (S.left source.new) (S.faults source.new))
         (port (O.written out.new) (O.faults out.new))
         (port (N.written notes.new) (N.faults notes.new)))
-        result }
+        0 playouts result }
 {
     run_from::<S, O, N, Brand>(alloc, words, source, out, notes, Blank::new(1))
 }

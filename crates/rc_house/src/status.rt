@@ -8,8 +8,8 @@ use rc_grammar::SheetKind;
 use rc_outside::ReadFail;
 use rc_plan::PlanKind;
 
-/// The most bytes of a status's line.
-const LINE: usize = 64;
+/// The most bytes of a line that is noted.
+pub(crate) const LINE: usize = 64;
 
 /// What is wrong with a sheet: first the kinds of its forms, and then those of its parts.
 #[derive(Clone, Copy, Debug, PartialEq, Eq, Hash)]
@@ -135,7 +135,7 @@ pub enum Status {
     WriteFault,
     /// The source gave more bytes than the command may read.
     TooLong,
-    /// The words or the source ask for what isn't built yet.
+    /// The words ask for what isn't built yet.
     Unbuilt,
 }
 

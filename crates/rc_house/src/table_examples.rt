@@ -5,7 +5,9 @@ ghost use Rattle.rc_house.specs.declared.command.Command.TheVariants as command;
 ghost use Rattle.rc_house.specs.declared.status.SourceKind.TheVariants.{Unseen, NoCards};
 ghost use Rattle.rc_plan_model.specs.declared.fault.PlanKind.TheVariants.{TooLarge};
 ghost use Rattle.rc_house.specs.declared.status.Status.TheVariants as ending;
-ghost use Rattle.rc_house.specs.Command.{IsCommand, note_of, wanted};
+ghost use Rattle.rc_house.specs.declared.note.Note.TheVariants.{Nothing, Looks};
+ghost use Rattle.rc_house.specs.Command.{IsCommand, wanted};
+ghost use Rattle.rc_house.specs.Note.{note_line};
 ghost use Rattle.rc_house.specs.Status.{code_of, line_of};
 
 /// The exit codes.
@@ -43,6 +45,6 @@ pub fn words_of_commands()
     ensures other { IsCommand (codes "sheet" ∷ []) command.Play → ⊥ }
     ensures play_reads { wanted command.Play ≡ 2 }
     ensures sheet_reads { wanted command.Sheet ≡ 1 }
-    ensures note { note_of command.Play ≡ codes "cache looks 0 hits 0\n" }
-    ensures no_note { note_of command.Sheet ≡ [] }
+    ensures note { note_line (Looks 600 0) ≡ codes "cache looks 600 hits 0\n" }
+    ensures no_note { note_line Nothing ≡ [] }
 {}

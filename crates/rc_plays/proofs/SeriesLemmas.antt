@@ -1,17 +1,23 @@
--- The records of a plan's matches, one by one.
-use Rattle.std.proofs.Common.{◌≡◌, ℕ, ◌+◌, List, [], ◌∷◌, ◌++◌, map, Some, refl, sym, ap, ◌∙◌}
-use Rattle.std.specs.Prelude.{filter_map}
-use Rattle.std.proofs.lemmas.List.{map-append}
+-- The records of a plan's matches and what they ask, match by match.
+use Rattle.std.proofs.Common.{◌≡◌, ℕ, zero, suc, ◌+◌, ◌-◌, ◌≤◌, List, [], ◌∷◌, ◌++◌, append-nil, map, length, Some, refl, sym, ap, ◌∙◌, subst, arith}
+use Rattle.std.specs.Prelude.{filter_map, flat_map}
+use Rattle.std.proofs.lemmas.List.{length-map, map-append}
+use Rattle.std.proofs.lemmas.List.Concat.{flat_map-append}
 use Rattle.std.proofs.lemmas.List.Elements.{filter_map-append}
 use Rattle.rc_model.specs.Numbers.{below}
 use Rattle.rc_model.specs.Transcript.{Record}
 use Rattle.rc_play_model.specs.About.{About}
 use Rattle.rc_play_model.specs.Plan.{Plan}
 use Rattle.rc_play_model.specs.Keyed.{keyed_match}
+use Rattle.rc_redraw.specs.Choosing.{all_costs}
 use Rattle.rc_rules.specs.declared.record.MatchRecord.{MatchRecord}
+use Rattle.rc_rules.specs.declared.plan.Plan.{Plan as StoredPlan}
+use Rattle.rc_rules.specs.Plan.{deal_seen, plan_seen}
 use Rattle.rc_rules.specs.Record.{record_seen}
 use Rattle.rc_rules.proofs.PointLemmas.{below_push}
-use Rattle.rc_plays.specs.Series.{records_below}
+use Rattle.rc_match.specs.Asks.{asks_of}
+use Rattle.rc_match.proofs.AskLemmas.{costs-append}
+use Rattle.rc_plays.specs.Series.{looks_below, looks_of, records_below}
 
 -- one match more
 one_more : (about : About) (plan : Plan) (n : ℕ) (r : Record) → keyed_match about plan n ≡ Some r → records_below about plan (n + 1) ≡ records_below about plan n ++ r ∷ []
@@ -28,3 +34,47 @@ pub told_more : (about : About) (plan : Plan) (n : ℕ) (records : List MatchRec
 told_more about plan n records record' is so_far =
     map-append record_seen records (record' ∷ []) ∙ ap (λ front. front ++ record_seen record' ∷ []) so_far
     ∙ sym (one_more about plan n (record_seen record') is)
+
+-- what one match more asks
+pub looks_more : (about : About) (plan : Plan) (n : ℕ) → looks_below about plan n ++ asks_of about plan n ≡ looks_below about plan (n + 1)
+looks_more about plan n =
+    sym (ap (λ ns. flat_map (asks_of about plan) ns) (below_push n) ∙ flat_map-append (asks_of about plan) (below n) (n ∷ [])
+    ∙ ap (λ keys. looks_below about plan n ++ keys) (append-nil (asks_of about plan n)))
+
+-- and costs
+pub costs_more : (about : About) (plan : Plan) (n : ℕ) →
+    all_costs (looks_below about plan (n + 1)) ≡ all_costs (looks_below about plan n) + all_costs (asks_of about plan n)
+costs_more about plan n =
+    sym (ap all_costs (looks_more about plan n)) ∙ costs-append (looks_below about plan n) (asks_of about plan n)
+
+costs_within : (about : About) (plan : Plan) (n d : ℕ) → all_costs (looks_below about plan n) ≤ all_costs (looks_below about plan (n + d))
+costs_within about plan n zero =
+    let same : n ≡ n + 0 = omega arith in
+    subst (λ k. all_costs (looks_below about plan n) ≤ all_costs (looks_below about plan k)) same (omega arith)
+costs_within about plan n (suc d) =
+    let same : (n + d) + 1 ≡ n + suc d = omega arith in
+    let rest = costs_within about plan n d in
+    let sum = costs_more about plan (n + d) in
+    subst (λ k. all_costs (looks_below about plan n) ≤ all_costs (looks_below about plan k)) same (omega (arith, rest, sum))
+
+-- fewer matches cost no more
+pub fewer_cost : (about : About) (plan : Plan) (n k : ℕ) → n ≤ k → all_costs (looks_below about plan n) ≤ all_costs (looks_below about plan k)
+fewer_cost about plan n k few =
+    let same : n + (k - n) ≡ k = omega (arith, few) in
+    subst (λ j. all_costs (looks_below about plan n) ≤ all_costs (looks_below about plan j)) same (costs_within about plan n (k - n))
+
+-- the record of one match of these
+pub match_alike : (about about' : About) (plan plan' : Plan) (m m' : ℕ) → about ≡ about' → plan ≡ plan' → m ≡ m' →
+    keyed_match about plan m ≡ keyed_match about' plan' m'
+match_alike about about' plan plan' m m' same same_plan same_match =
+    ap (λ a. keyed_match a plan m) same ∙ ap (λ p. keyed_match about' p m) same_plan ∙ ap (keyed_match about' plan') same_match
+
+-- what one match of these asks
+pub asked_alike : (about about' : About) (plan plan' : Plan) (m m' : ℕ) → about ≡ about' → plan ≡ plan' → m ≡ m' →
+    asks_of about plan m ≡ asks_of about' plan' m'
+asked_alike about about' plan plan' m m' same same_plan same_match =
+    ap (λ a. asks_of a plan m) same ∙ ap (λ p. asks_of about' p m) same_plan ∙ ap (asks_of about' plan') same_match
+
+-- what all matches ask
+pub all_looks : (about : About) (plan : StoredPlan) → looks_below about (plan_seen plan) (length plan.matches.items) ≡ looks_of about (plan_seen plan)
+all_looks about plan = ap (looks_below about (plan_seen plan)) (sym (length-map plan.matches.items deal_seen))

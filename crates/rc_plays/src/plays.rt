@@ -1,31 +1,106 @@
 //! Plays of all matches, one after the other.
-ghost use Rattle.std.specs.Prelude.{◌≡◌, ◌<◌, ◌≤◌, false, map, length, Some, All, IfOk};
-ghost use Rattle.rc_play_model.specs.Shape.{shape_of};
+ghost use Rattle.std.specs.Prelude.{◌≡◌, ◌<◌, ◌≤◌, ◌+◌, map, length, Some, All, IfOk, OnOk};
+ghost use Rattle.rc_play_model.specs.Step.{start};
 ghost use Rattle.rc_play_model.specs.About.{about_of};
+ghost use Rattle.rc_play_model.specs.House.{standings_of};
 ghost use Rattle.rc_play_model.specs.Keyed.{keyed_match, keyed_house};
 ghost use Rattle.rc_plan_model.specs.Limits.{IsWithinLimits};
+ghost use Rattle.rc_plain.specs.Plain.{config_of};
+ghost use Rattle.rc_redraw.specs.Choosing.{AsksAll, all_costs};
+ghost use Rattle.rc_redraw.specs.Counts.{Serves};
 ghost use Rattle.rc_rules.specs.Plan.{plan_seen};
-ghost use Rattle.rc_rules.specs.Record.{record_seen};
-ghost use Rattle.rc_match.specs.Played.{names_rollout};
-ghost use Rattle.rc_plays.specs.Series.{records_below};
+ghost use Rattle.rc_rules.specs.Record.{record_seen, standing_seen};
+ghost use Rattle.rc_match.specs.Asks.{asks_of};
+ghost use Rattle.rc_plays.specs.Series.{looks_below, looks_of, matches_of, records_below};
 
 use rc_deck::Memory;
 use rc_flow::Checked;
-use rc_match::play_match;
+use rc_match::{Job, play_match};
 use rc_plain::PlainMachine;
+use rc_redraw::Chooser;
+use rc_rollout::{Blank, Choices};
 use rc_rules::{About, MatchRecord, Plan, shape_of};
-use rc_table::Shape;
+use rc_steps::Steps;
 use rc_text::{HouseText, standings, write_house};
 use std::alloc::Global;
 use std::sync::Arc;
+use std::sync::ledger::Ledger;
 
-/// The house text of a plan for a checked sheet: its matches, played one after the other, and the standings. The plan is within the
-/// limits, has a strategy for each player, and none that needs playouts.
-pub fn house_of(alloc: Global, checked: Checked, plan: &Plan) -> Result<Vec<u8>, Memory>
-    requires within { IsWithinLimits (plan_seen plan.now) }
-    requires seats { length (plan_seen plan.now).strategies ≡ checked.players }
-    requires offhand { names_rollout (plan_seen plan.now) ≡ false }
-    ensures { IfOk result (λ text. text.items ≡ keyed_house (about_of checked plan.now.turns) (plan_seen plan.now)) }
+/// The matches of a plan as they were played, with the standings, and how many of their decisions asked for playouts.
+#[derive(Drop)]
+pub struct Series {
+    pub text: HouseText,
+    pub looks: u64,
+}
+
+/// The house text of a plan, and how many of its decisions asked for playouts.
+#[derive(Drop)]
+pub struct House {
+    pub text: Vec<u8>,
+    pub looks: u64,
+}
+
+/// Plays the matches of a plan for a checked sheet one after the other, and writes their house text. The plan is within the limits,
+/// and has a strategy for each player. Each playout is a step. Memory may run out.
+pub fn house_of<L: Ledger>(
+    alloc: Global,
+    checked: Checked,
+    plan: Plan,
+    steps: &mut Steps<L>,
+) -> Result<House, Memory>
+    requires within { IsWithinLimits (plan_seen plan) }
+    requires seats { length (plan_seen plan).strategies ≡ checked.players }
+    ensures text { IfOk result (λ house. house.text.items ≡ keyed_house (about_of checked plan.turns) (plan_seen plan)) }
+    ensures looks { IfOk result (λ house. house.looks ≡ length (looks_of (about_of checked plan.turns) (plan_seen plan))) }
+    ensures counted { OnOk result (steps.new ≡ steps.old + all_costs (looks_of (about_of checked plan.turns) (plan_seen plan))) }
+    ensures rises { steps.old ≤ steps.new }
+    ensures bounded { steps.new ≤ steps.old + all_costs (looks_of (about_of checked plan.turns) (plan_seen plan)) }
+{
+    let series = match series_of(alloc, checked, plan, steps) {
+        Ok(series) => series,
+        Err(Memory) => return Err(Memory),
+    };
+    match write_house(alloc, &series.text) {
+        Ok(text) => Ok(House {
+            text,
+            looks: series.looks,
+        }),
+        Err(Memory) => Err(Memory),
+    }
+}
+
+/// Plays the matches of a plan for a checked sheet one after the other. The plan is within the limits, and has a strategy for each
+/// player. Each playout is a step. Memory may run out.
+pub fn series_of<L: Ledger>(
+    alloc: Global,
+    checked: Checked,
+    plan: Plan,
+    steps: &mut Steps<L>,
+) -> Result<Series, Memory>
+    requires within { IsWithinLimits (plan_seen plan) }
+    requires seats { length (plan_seen plan).strategies ≡ checked.players }
+    ensures matches { IfOk result (λ series. map record_seen series.text.matches.items ≡ matches_of (about_of checked plan.turns) (plan_seen plan)) }
+    ensures standings { IfOk result (λ series. map standing_seen series.text.standings.items
+        ≡ standings_of (plan_seen plan) (matches_of (about_of checked plan.turns) (plan_seen plan))) }
+    ensures looks { IfOk result (λ series. series.looks ≡ length (looks_of (about_of checked plan.turns) (plan_seen plan))) }
+    ensures counted { OnOk result (steps.new ≡ steps.old + all_costs (looks_of (about_of checked plan.turns) (plan_seen plan))) }
+    ensures rises { steps.old ≤ steps.new }
+    ensures bounded { steps.new ≤ steps.old + all_costs (looks_of (about_of checked plan.turns) (plan_seen plan)) }
+{
+    let about = match shared_about(alloc, checked, plan.turns) {
+        Ok(about) => about,
+        Err(Memory) => return Err(Memory),
+    };
+    let plan = match Arc::new(alloc, plan) {
+        Ok(plan) => plan,
+        Err(_) => return Err(Memory),
+    };
+    played(alloc, &about, &plan, steps)
+}
+
+// What the matches of a checked sheet are played by.
+fn shared_about(alloc: Global, checked: Checked, turns: u32) -> Result<Arc<About>, Memory>
+    ensures { IfOk result (λ about. about.value ≡ about_of checked turns) }
 {
     let shape = match shape_of(alloc, checked.sheet()) {
         Ok(shape) => shape,
@@ -39,23 +114,31 @@ pub fn house_of(alloc: Global, checked: Checked, plan: &Plan) -> Result<Vec<u8>,
         Ok(checked) => checked,
         Err(_) => return Err(Memory),
     };
-    text_of(alloc, &checked, &shape, plan)
+    match Arc::new(alloc, About::new(checked, shape, turns)) {
+        Ok(about) => Ok(about),
+        Err(_) => Err(Memory),
+    }
 }
 
-// The house text of a plan for a sheet with its shape.
-fn text_of(
+// The matches of a plan, with no memo of playouts, and the standings.
+fn played<L: Ledger>(
     alloc: Global,
-    checked: &Arc<Checked>,
-    shape: &Arc<Shape>,
-    plan: &Plan,
-) -> Result<Vec<u8>, Memory>
-    requires shape { shape.now.value ≡ shape_of checked.now.value }
-    requires within { IsWithinLimits (plan_seen plan.now) }
-    requires seats { length (plan_seen plan.now).strategies ≡ checked.now.value.players }
-    requires offhand { names_rollout (plan_seen plan.now) ≡ false }
-    ensures { IfOk result (λ text. text.items ≡ keyed_house (about_of checked.now.value plan.now.turns) (plan_seen plan.now)) }
+    about: &Arc<About>,
+    plan: &Arc<Plan>,
+    steps: &mut Steps<L>,
+) -> Result<Series, Memory>
+    requires within { IsWithinLimits (plan_seen plan.now.value) }
+    requires seats { length plan.now.value.strategies.items ≡ about.now.value.sheet.players }
+    ensures matches { IfOk result (λ series. map record_seen series.text.matches.items ≡ matches_of about.now.value (plan_seen plan.now.value)) }
+    ensures standings { IfOk result (λ series. map standing_seen series.text.standings.items
+        ≡ standings_of (plan_seen plan.now.value) (matches_of about.now.value (plan_seen plan.now.value))) }
+    ensures looks { IfOk result (λ series. series.looks ≡ length (looks_of about.now.value (plan_seen plan.now.value))) }
+    ensures counted { OnOk result (steps.new ≡ steps.old + all_costs (looks_of about.now.value (plan_seen plan.now.value))) }
+    ensures rises { steps.old ≤ steps.new }
+    ensures bounded { steps.new ≤ steps.old + all_costs (looks_of about.now.value (plan_seen plan.now.value)) }
 {
-    let matches = match records_of(alloc, checked, shape, plan) {
+    let mut choices = Choices::new(Blank::new());
+    let matches = match records_of(alloc, about, plan, &mut choices, steps) {
         Ok(matches) => matches,
         Err(Memory) => return Err(Memory),
     };
@@ -63,28 +146,36 @@ fn text_of(
         Ok(standings) => standings,
         Err(Memory) => return Err(Memory),
     };
-    write_house(alloc, &HouseText { matches, standings })
+    Ok(Series {
+        text: HouseText { matches, standings },
+        looks: choices.into_memo().looks(),
+    })
 }
 
 // The records of a plan's matches, in order.
-fn records_of(
+fn records_of<C: Chooser, L: Ledger>(
     alloc: Global,
-    checked: &Arc<Checked>,
-    shape: &Arc<Shape>,
-    plan: &Plan,
+    about: &Arc<About>,
+    plan: &Arc<Plan>,
+    chooser: &mut C,
+    steps: &mut Steps<L>,
 ) -> Result<Vec<MatchRecord>, Memory>
-    requires shape { shape.now.value ≡ shape_of checked.now.value }
-    requires matches { length plan.now.matches.items ≤ 4096 }
-    requires seats { length plan.now.strategies.items ≡ checked.now.value.players }
-    requires offhand { names_rollout (plan_seen plan.now) ≡ false }
+    requires served { Serves (C.serves chooser.old) about.now.value }
+    requires matches { length plan.now.value.matches.items ≤ 4096 }
+    requires seats { length plan.now.value.strategies.items ≡ about.now.value.sheet.players }
     ensures are { IfOk result (λ records. map record_seen records.items
-        ≡ records_below (about_of checked.now.value plan.now.turns) (plan_seen plan.now) (length plan.now.matches.items)) }
-    ensures count { IfOk result (λ records. length records.items ≡ length plan.now.matches.items) }
-    ensures each { IfOk result (λ records. All (λ r. length r.scores.items ≡ checked.now.value.players) records.items) }
+        ≡ records_below about.now.value (plan_seen plan.now.value) (length plan.now.value.matches.items)) }
+    ensures count { IfOk result (λ records. length records.items ≡ length plan.now.value.matches.items) }
+    ensures each { IfOk result (λ records. All (λ r. length r.scores.items ≡ about.now.value.sheet.players) records.items) }
+    ensures asked { OnOk result (AsksAll (looks_below about.now.value (plan_seen plan.now.value) (length plan.now.value.matches.items))
+        (C.counts chooser.old) (C.counts chooser.new) steps.old steps.new) }
+    ensures rises { steps.old ≤ steps.new }
+    ensures bounded { steps.new ≤ steps.old
+        + all_costs (looks_below about.now.value (plan_seen plan.now.value) (length plan.now.value.matches.items)) }
 {
     let mut records = Vec::new(alloc);
     for number in 0..plan.matches.len() as u32 {
-        let played = match record_of(alloc, checked, shape, plan, number) {
+        let played = match record_of(alloc, about, plan, number, chooser, steps) {
             Ok(played) => played,
             Err(Memory) => return Err(Memory),
         };
@@ -97,43 +188,64 @@ fn records_of(
 }
 
 // The record of one match.
-fn record_of(
+fn record_of<C: Chooser, L: Ledger>(
     alloc: Global,
-    checked: &Arc<Checked>,
-    shape: &Arc<Shape>,
-    plan: &Plan,
+    about: &Arc<About>,
+    plan: &Arc<Plan>,
     number: u32,
+    chooser: &mut C,
+    steps: &mut Steps<L>,
 ) -> Result<MatchRecord, Memory>
-    requires shape { shape.now.value ≡ shape_of checked.now.value }
-    requires number { number < length plan.now.matches.items }
-    requires seats { length plan.now.strategies.items ≡ checked.now.value.players }
-    requires offhand { names_rollout (plan_seen plan.now) ≡ false }
-    ensures is { IfOk result (λ r. keyed_match (about_of checked.now.value plan.now.turns) (plan_seen plan.now) number ≡ Some (record_seen r)) }
-    ensures each { IfOk result (λ r. length r.scores.items ≡ checked.now.value.players) }
+    requires served { Serves (C.serves chooser.old) about.now.value }
+    requires number { number < length plan.now.value.matches.items }
+    requires seats { length plan.now.value.strategies.items ≡ about.now.value.sheet.players }
+    ensures is { IfOk result (λ r. keyed_match about.now.value (plan_seen plan.now.value) number ≡ Some (record_seen r)) }
+    ensures each { IfOk result (λ r. length r.scores.items ≡ about.now.value.sheet.players) }
+    ensures asked { OnOk result (AsksAll (asks_of about.now.value (plan_seen plan.now.value) number)
+        (C.counts chooser.old) (C.counts chooser.new) steps.old steps.new) }
+    ensures same { C.serves chooser.new ≡ C.serves chooser.old }
+    ensures rises { steps.old ≤ steps.new }
+    ensures bounded { steps.new ≤ steps.old + all_costs (asks_of about.now.value (plan_seen plan.now.value) number) }
 {
-    let machine = match PlainMachine::start(alloc, checked, shape, plan.turns) {
+    let machine = match machine_of(alloc, about) {
         Ok(machine) => machine,
         Err(Memory) => return Err(Memory),
     };
-    let about = match about_of(checked, shape, plan.turns) {
-        Ok(about) => about,
+    let job = match job_of(about, plan, number) {
+        Ok(job) => job,
         Err(Memory) => return Err(Memory),
     };
-    play_match(alloc, &about, plan, number, machine)
+    play_match(alloc, &job, machine, chooser, steps)
 }
 
-// What the matches are played by.
-fn about_of(checked: &Arc<Checked>, shape: &Arc<Shape>, turns: u32) -> Result<About, Memory>
-    requires shape { shape.now.value ≡ shape_of checked.now.value }
-    ensures { IfOk result (λ about. about ≡ about_of checked.now.value turns) }
+// A machine at the start of a match.
+fn machine_of(alloc: Global, about: &About) -> Result<PlainMachine, Memory>
+    ensures about { IfOk result (λ m. m.about ≡ about.now) }
+    ensures start { IfOk result (λ m. config_of m ≡ start about.now) }
 {
-    let checked = match Arc::try_clone(checked) {
-        Ok(checked) => checked,
+    match about.copy() {
+        Ok(about) => PlainMachine::at_start(alloc, about),
+        Err(Memory) => Err(Memory),
+    }
+}
+
+// The match with this number.
+fn job_of(about: &Arc<About>, plan: &Arc<Plan>, number: u32) -> Result<Job, Memory>
+    ensures about { IfOk result (λ job. job.about.value ≡ about.now.value) }
+    ensures plan { IfOk result (λ job. job.plan.value ≡ plan.now.value) }
+    ensures number { IfOk result (λ job. job.number ≡ number) }
+{
+    let about = match Arc::try_clone(about) {
+        Ok(about) => about,
         Err(_) => return Err(Memory),
     };
-    let shape = match Arc::try_clone(shape) {
-        Ok(shape) => shape,
+    let plan = match Arc::try_clone(plan) {
+        Ok(plan) => plan,
         Err(_) => return Err(Memory),
     };
-    Ok(About::new(checked, shape, turns))
+    Ok(Job {
+        about,
+        plan,
+        number,
+    })
 }

@@ -87,9 +87,8 @@ stands_there about table control can =
     let site = can.site in
     let some = some_alts about table control.frames (alts_at about.sheet site) can.some in
     let head = head_is site (left_in site about.sheet.items []) (first_in_items site about.sheet.items [])
-        (subst (λ alts. 0 < length alts) (alts_at_left about.sheet site) some) in
-    let there : left_at about.sheet (unwrap_or control.site 0) ≡ left_at about.sheet site = ap (λ o. left_at about.sheet (unwrap_or o 0)) can.fits.stands in
-    (
+    (subst (λ alts. 0 < length alts) (alts_at_left about.sheet site) some) in
+    let there : left_at about.sheet (unwrap_or control.site 0) ≡ left_at about.sheet site = ap (λ o. left_at about.sheet (unwrap_or o 0)) can.fits.stands in (
       mover about.sheet control.frames,
       site,
       record {

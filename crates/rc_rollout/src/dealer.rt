@@ -69,7 +69,13 @@ impl Dealer for PlayoutDealer {
 
     fn shuffle(&mut self, list: &mut [u16]) {
         let number = draw_number(self.round, self.item, self.count);
-        put_in_order(self.key, 256 * self.seat as u64 + 5, self.seed, number, list);
+        put_in_order(
+            self.key,
+            256 * self.seat as u64 + 5,
+            self.seed,
+            number,
+            list,
+        );
         self.count = self.count.wrapping_add(1);
     }
 }

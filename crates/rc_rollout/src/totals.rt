@@ -25,11 +25,7 @@ use std::sync::ledger::Ledger;
 
 /// The totals of a key: what each item of the menu gains over all rounds, each from a table redrawn for the round. It counts a
 /// step for each playout. Memory may run out; then no more steps are counted than for the whole.
-pub fn tally<L: Ledger>(
-    alloc: Global,
-    key: &Key,
-    steps: &mut Steps<L>,
-) -> Result<Entry, Memory>
+pub fn tally<L: Ledger>(alloc: Global, key: &Key, steps: &mut Steps<L>) -> Result<Entry, Memory>
     requires { IsAtDecision (key_seen key.now).about (key_seen key.now).ask.view }
     ensures is { IfOk result (λ entry. entry ≡ key_seen key.now) }
     ensures counted { OnOk result (steps.new ≡ steps.old + cost_of (key_seen key.now)) }
@@ -199,17 +195,17 @@ fn redrawn(alloc: Global, about: &About, ask: &Ask, round: u16) -> Result<Table,
     requires { IsAtDecision about.now (ask_seen ask.now).view }
     ensures { IfOk result (λ table. table ≡ redrawn_for about.now (ask_seen ask.now) round) }
 {
-    let key = key32(ask.key, 256 * ask.view.seat as u64 + 3, ask.seed, round as u64);
+    let key = key32(
+        ask.key,
+        256 * ask.view.seat as u64 + 3,
+        ask.seed,
+        round as u64,
+    );
     redraw(alloc, about.shape(), &ask.view, &key)
 }
 
 // A machine at the decision, with the table of a round.
-fn machine_at(
-    about: &About,
-    ask: &Ask,
-    round: u16,
-    table: Table,
-) -> Result<PlainMachine, Memory>
+fn machine_at(about: &About, ask: &Ask, round: u16, table: Table) -> Result<PlainMachine, Memory>
     requires at { IsAtDecision about.now (ask_seen ask.now).view }
     requires table { table ≡ redrawn_for about.now (ask_seen ask.now) round }
     ensures about { IfOk result (λ machine. machine.about ≡ about.now) }

@@ -1,7 +1,7 @@
 use Rattle.std.proofs.Common.{subst}
 use Rattle.rc_model.specs.Spelled.{Spelled}
 use Rattle.rc_form.specs.Form.{trees_of}
-use Rattle.rc_house.proofs.AnswerLaws.{fault_answered}
+use Rattle.rc_house.proofs.AnswerLaws.{fault_answered, refusal_is}
 use Rattle.rc_house.proofs.answer.answer_to.Goals as goal
 
 pub answer_of_forms-requires-clause-read : goal.answer_of_forms-requires-clause-read
@@ -9,8 +9,8 @@ answer_of_forms-requires-clause-read c =
     let forms = c.in-Ok.forms in
     subst (λ want. Spelled c.args.source.now want (trees_of forms.list.items) forms.rest) c.wanted.ensures c.in-Ok.ensures.spelled
 
-pub returns-in-Err-Fault : goal.returns-in-Err-Fault
-returns-in-Err-Fault c =
+pub returns-in-Err-Fault-clause-answered : goal.returns-in-Err-Fault-clause-answered
+returns-in-Err-Fault-clause-answered c =
     let e = rw c.in-Err-Fault.field-0-is at c.in-Err-Fault.ensures in
-    rw (c.fault_of.ensures, c.in-Err-Fault.form_fault-is)
+    refusal_is c.args.command c.args.source.now _ c.args.steps.now c.fault_of.result c.fault_of.ensures
     (fault_answered c.args.command c.wanted.result c.args.source.now _ _ c.wanted.ensures e.fault)

@@ -1,18 +1,37 @@
-use Rattle.std.proofs.Common.{sym, ◌∙◌}
+use Rattle.std.proofs.Common.{◌≡◌, length, refl, ap, ◌∙◌, subst}
 use Rattle.rc_form.specs.Form.{trees_of}
+use Rattle.rc_play_model.specs.About.{about_of}
+use Rattle.rc_play_model.specs.Keyed.{keyed_house}
 use Rattle.rc_rules.specs.Plan.{plan_seen}
+use Rattle.rc_redraw.specs.Choosing.{all_costs}
+use Rattle.rc_plays.specs.Series.{looks_of}
 use Rattle.rc_house.specs.declared.command.Command.TheVariants as command
-use Rattle.rc_house.proofs.AnswerLaws.{text_answer, unbuilt_answer}
+use Rattle.rc_house.specs.Note.{looks_line}
+use Rattle.rc_house.specs.Answer.{text, played, HasAnswer}
+use Rattle.rc_house.proofs.AnswerLaws.{accepted_answer, counted_few}
 use Rattle.rc_house.proofs.answer.planned_answer.Goals as goal
 
-pub returns-then-names_rollout : goal.returns-then-names_rollout
-returns-then-names_rollout c =
+pub returns-in-Ok-clause-answered : goal.returns-in-Ok-clause-answered
+returns-in-Ok-clause-answered c =
     let forms = c.args.forms.now in
-    unbuilt_answer command.Play c.args.source.now (trees_of forms.list.items) forms.rest c.args.checked c.requires.read c.requires.accepted
-    (λ form others same. (plan_seen c.args.plan.now, c.requires.planned form others same, sym c.names_rollout.ensures ∙ c.if-names_rollout.true))
+    let about = about_of c.args.checked c.args.plan.turns in
+    let plan = plan_seen c.args.plan in
+    let playouts = all_costs (looks_of about plan) in
+    let is : text c.in-Ok.house.text.items (looks_line c.in-Ok.house.looks 0) playouts ≡ played about plan =
+    ap (λ bytes. text bytes (looks_line c.in-Ok.house.looks 0) playouts) c.in-Ok.ensures.text
+    ∙ ap (λ looks. text (keyed_house about plan) (looks_line looks 0) playouts) c.in-Ok.ensures.looks in (
+      playouts,
+      accepted_answer command.Play c.args.source.now (trees_of forms.list.items) forms.rest c.args.checked _ c.requires.read c.requires.accepted
+          (λ form others same. (plan, c.requires.planned form others same, is)),
+      c.in-Ok.ensures.counted,
+    )
 
-pub returns-in-Ok : goal.returns-in-Ok
-returns-in-Ok c =
+pub returns-in-Err-clause-few : goal.returns-in-Err-clause-few
+returns-in-Err-clause-few c =
     let forms = c.args.forms.now in
-    text_answer command.Play c.args.source.now (trees_of forms.list.items) forms.rest c.args.checked c.in-Ok.text.items c.requires.read c.requires.accepted
-    (λ form others same. (plan_seen c.args.plan.now, c.requires.planned form others same, sym c.names_rollout.ensures ∙ c.if-names_rollout.false, c.in-Ok.ensures))
+    let about = about_of c.args.checked c.args.plan.turns in
+    let plan = plan_seen c.args.plan in
+    let has : HasAnswer command.Play c.args.source.now (played about plan) =
+    accepted_answer command.Play c.args.source.now (trees_of forms.list.items) forms.rest c.args.checked _ c.requires.read c.requires.accepted
+    (λ form others same. (plan, c.requires.planned form others same, refl)) in
+    counted_few command.Play c.args.source.now (played about plan) c.args.steps.now c.house_of.new.steps has c.house_of.ensures.bounded

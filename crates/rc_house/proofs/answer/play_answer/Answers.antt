@@ -14,11 +14,11 @@ planned_answer-requires-clause-planned c =
 pub planned_answer-requires-clause-seats : goal.planned_answer-requires-clause-seats
 planned_answer-requires-clause-seats c = c.in-Ok.ensures.seats ∙ ap (λ sheet. sheet.players) c.sheet.ensures.same
 
-pub returns-in-Err : goal.returns-in-Err
-returns-in-Err c =
+pub returns-in-Err-clause-answered : goal.returns-in-Err-clause-answered
+returns-in-Err-clause-answered c =
     let forms = c.args.forms.now in
     let source = c.args.source.now in
     let faulty =
     subst (λ sheet. IfPlanFault c.in-Err.fail (λ fault. IsPlanFaulty source sheet.players fault.kind fault.at (trees_of forms.list.items) forms.rest))
     c.sheet.ensures.same c.in-Err.ensures.fault in
-    failed_answers source (trees_of forms.list.items) forms.rest c.args.checked c.in-Err.fail c.plan_failed.result c.requires.read c.requires.accepted faulty c.plan_failed.ensures
+    failed_answers source (trees_of forms.list.items) forms.rest c.args.checked c.args.steps.now c.in-Err.fail c.plan_failed.result c.requires.read c.requires.accepted faulty c.plan_failed.ensures

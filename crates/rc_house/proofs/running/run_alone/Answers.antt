@@ -11,4 +11,4 @@ returns-in-Some-clause-ends g c =
     ends_as_command (map string_bytes c.args.words.now) c.in-Some.command
     (ports (at_source c.args.source.now) (at_out c.args.out.now) (at_notes c.args.notes.now))
     (ports (at_source c.run_command.new.source) (at_out c.run_command.new.out) (at_notes c.run_command.new.notes))
-    c.run_command.result (search rules) c.run_command.ensures.outcome c.run_command.ensures.no_count_fell
+    c.args.steps.now c.run_command.new.steps c.run_command.result (search rules) c.run_command.ensures.outcome c.run_command.ensures.no_count_fell

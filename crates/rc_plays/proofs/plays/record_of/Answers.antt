@@ -1,10 +1,30 @@
-use Rattle.std.proofs.Common.{◌≡◌, Some, IfOk, subst}
-use Rattle.rc_play_model.specs.Keyed.{keyed_match}
+use Rattle.std.proofs.Common.{◌≡◌, ◌≤◌, ◌+◌, Some, IfOk, OnOk, ap, subst}
+use Rattle.rc_redraw.specs.Choosing.{AsksAll, all_costs}
 use Rattle.rc_rules.specs.Plan.{plan_seen}
 use Rattle.rc_rules.specs.Record.{record_seen}
+use Rattle.rc_plays.proofs.SeriesLemmas.{asked_alike, match_alike}
 use Rattle.rc_plays.proofs.plays.record_of.Goals as goal
 
 pub returns-clause-is : goal.returns-clause-is
-returns-clause-is c =
-    subst (λ about. IfOk c.play_match.result (λ r. keyed_match about (plan_seen c.args.plan.now) c.args.number ≡ Some (record_seen r)))
-    c.in-Ok-about_of.ensures c.play_match.ensures.is
+returns-clause-is g c =
+    let job = c.in-Ok-job_of.job in
+    subst (λ match. IfOk c.play_match.result (λ r. match ≡ Some (record_seen r)))
+    (match_alike job.about.value c.args.about.now.value (plan_seen job.plan.value) (plan_seen c.args.plan.now.value) job.number c.args.number
+    c.in-Ok-job_of.ensures.about (ap plan_seen c.in-Ok-job_of.ensures.plan) c.in-Ok-job_of.ensures.number)
+    c.play_match.ensures.is
+
+pub returns-clause-asked : goal.returns-clause-asked
+returns-clause-asked g c =
+    let job = c.in-Ok-job_of.job in
+    subst (λ keys. OnOk c.play_match.result (AsksAll keys (g.C.Chooser.counts c.args.chooser.now) (g.C.Chooser.counts c.play_match.new.chooser) c.args.steps.now c.play_match.new.steps))
+    (asked_alike job.about.value c.args.about.now.value (plan_seen job.plan.value) (plan_seen c.args.plan.now.value) job.number c.args.number
+    c.in-Ok-job_of.ensures.about (ap plan_seen c.in-Ok-job_of.ensures.plan) c.in-Ok-job_of.ensures.number)
+    c.play_match.ensures.asked
+
+pub returns-clause-bounded : goal.returns-clause-bounded
+returns-clause-bounded g c =
+    let job = c.in-Ok-job_of.job in
+    subst (λ keys. c.play_match.new.steps ≤ c.args.steps.now + all_costs keys)
+    (asked_alike job.about.value c.args.about.now.value (plan_seen job.plan.value) (plan_seen c.args.plan.now.value) job.number c.args.number
+    c.in-Ok-job_of.ensures.about (ap plan_seen c.in-Ok-job_of.ensures.plan) c.in-Ok-job_of.ensures.number)
+    c.play_match.ensures.bounded

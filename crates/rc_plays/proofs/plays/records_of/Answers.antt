@@ -1,22 +1,98 @@
-use Rattle.std.proofs.Common.{◌≡◌, ◌∷◌, [], map, length, All, arith, sym, ap, subst, ◌∙◌}
+use Rattle.std.proofs.Common.{◌≡◌, ◌≤◌, ◌+◌, ◌∷◌, [], map, length, All, arith, rules, refl, sym, ap, subst, ◌∙◌}
 use Rattle.std.proofs.lemmas.List.{length-append}
-use Rattle.std.proofs.lemmas.List.Elements.{All-push}
-use Rattle.rc_play_model.specs.About.{about_of}
+use Rattle.std.proofs.lemmas.List.Elements.{All-push, All-nil}
+use Rattle.rc_redraw.specs.Choosing.{AsksAll, all_costs}
+use Rattle.rc_redraw.specs.Counts.{Serves}
 use Rattle.rc_rules.specs.Plan.{plan_seen}
 use Rattle.rc_rules.specs.Record.{record_seen}
-use Rattle.rc_plays.proofs.SeriesLemmas.{told_more}
+use Rattle.rc_match.specs.Asks.{asks_of}
+use Rattle.rc_match.proofs.AskLemmas.{asks_then, costs_bound}
+use Rattle.rc_plays.specs.Series.{looks_below}
+use Rattle.rc_plays.proofs.SeriesLemmas.{told_more, looks_more, costs_more, fewer_cost}
 use Rattle.rc_plays.proofs.plays.records_of.Goals as goal
 
+pub loop-number-init : goal.loop-number-init
+loop-number-init g c = record {
+  are = ap (map record_seen) c.new-records.ensures.items;
+  count = ap length c.new-records.ensures.items;
+  each =
+      let each : All (λ r. length r.scores.items ≡ c.args.about.now.value.sheet.players) [] = All-nil _ in
+      subst (All (λ r. length r.scores.items ≡ c.args.about.now.value.sheet.players)) (sym c.new-records.ensures.items) each;
+  served = c.requires.served;
+  asked = (refl, refl);
+}
+
+pub record_of-requires-clause-served : goal.record_of-requires-clause-served
+record_of-requires-clause-served g c = c.loop-number.invariant.served
+
 pub loop-number-preserved : goal.loop-number-preserved
-loop-number-preserved c =
+loop-number-preserved g c =
+    let about = c.args.about.now.value in
+    let plan = plan_seen c.args.plan.now.value in
     let told = c.loop-number.records.items in
     let more = ap length c.in-Ok-push.ensures.items ∙ length-append told (c.in-Ok.played ∷ []) in
     record {
       are =
           ap (map record_seen) c.in-Ok-push.ensures.items
-          ∙ told_more (about_of c.args.checked.now.value c.args.plan.now.turns) (plan_seen c.args.plan.now) c.loop-number.number told c.in-Ok.played c.in-Ok.ensures.is c.loop-number.invariant.are;
+          ∙ told_more about plan c.loop-number.number told c.in-Ok.played c.in-Ok.ensures.is c.loop-number.invariant.are;
       count = omega (arith, c.loop-number.invariant.count, more);
       each =
-          subst (All (λ r. length r.scores.items ≡ c.args.checked.now.value.players)) (sym c.in-Ok-push.ensures.items)
-          (All-push (λ r. length r.scores.items ≡ c.args.checked.now.value.players) told c.in-Ok.played c.loop-number.invariant.each c.in-Ok.ensures.each);
+          subst (All (λ r. length r.scores.items ≡ c.args.about.now.value.sheet.players)) (sym c.in-Ok-push.ensures.items)
+          (All-push (λ r. length r.scores.items ≡ c.args.about.now.value.sheet.players) told c.in-Ok.played c.loop-number.invariant.each c.in-Ok.ensures.each);
+      served = subst (λ served. Serves served about) (sym c.in-Ok.ensures.same) c.loop-number.invariant.served;
+      asked =
+          subst (λ keys. AsksAll keys (g.C.Chooser.counts c.args.chooser.now) (g.C.Chooser.counts c.record_of.new.chooser) c.args.steps.now c.record_of.new.steps)
+          (looks_more about plan c.loop-number.number)
+          (asks_then (looks_below about plan c.loop-number.number) (asks_of about plan c.loop-number.number)
+          (g.C.Chooser.counts c.args.chooser.now) (g.C.Chooser.counts c.loop-number.chooser) (g.C.Chooser.counts c.record_of.new.chooser)
+          c.args.steps.now c.loop-number.steps c.record_of.new.steps c.loop-number.invariant.asked c.in-Ok.ensures.asked);
     }
+
+pub returns-in-Err-clause-rises : goal.returns-in-Err-clause-rises
+returns-in-Err-clause-rises g c =
+    let so_far = costs_bound (looks_below c.args.about.now.value (plan_seen c.args.plan.now.value) c.loop-number.number) _ _ _ _ c.loop-number.invariant.asked in
+    omega (arith, so_far.0, c.record_of.ensures.rises)
+
+pub returns-in-Err-clause-bounded : goal.returns-in-Err-clause-bounded
+returns-in-Err-clause-bounded g c =
+    let about = c.args.about.now.value in
+    let plan = plan_seen c.args.plan.now.value in
+    let n = c.loop-number.number in
+    let so_far = costs_bound (looks_below about plan n) _ _ _ _ c.loop-number.invariant.asked in
+    let len : c.len-number-end.result ≡ length c.args.plan.now.value.matches.items = search rules in
+    let few : n + 1 ≤ length c.args.plan.now.value.matches.items = omega (arith, len, c.loop-number-test.true) in
+    omega (arith, so_far.1, c.record_of.ensures.bounded, costs_more about plan n, fewer_cost about plan (n + 1) (length c.args.plan.now.value.matches.items) few)
+
+pub returns-in-Err-push-clause-rises : goal.returns-in-Err-push-clause-rises
+returns-in-Err-push-clause-rises g c =
+    let so_far = costs_bound (looks_below c.args.about.now.value (plan_seen c.args.plan.now.value) c.loop-number.number) _ _ _ _ c.loop-number.invariant.asked in
+    omega (arith, so_far.0, c.record_of.ensures.rises)
+
+pub returns-in-Err-push-clause-bounded : goal.returns-in-Err-push-clause-bounded
+returns-in-Err-push-clause-bounded g c =
+    let about = c.args.about.now.value in
+    let plan = plan_seen c.args.plan.now.value in
+    let n = c.loop-number.number in
+    let so_far = costs_bound (looks_below about plan n) _ _ _ _ c.loop-number.invariant.asked in
+    let len : c.len-number-end.result ≡ length c.args.plan.now.value.matches.items = search rules in
+    let few : n + 1 ≤ length c.args.plan.now.value.matches.items = omega (arith, len, c.loop-number-test.true) in
+    omega (arith, so_far.1, c.record_of.ensures.bounded, costs_more about plan n, fewer_cost about plan (n + 1) (length c.args.plan.now.value.matches.items) few)
+
+pub returns-clause-asked : goal.returns-clause-asked
+returns-clause-asked g c =
+    let ends : c.loop-number.number ≡ length c.args.plan.now.value.matches.items = search rules in
+    subst (λ n. AsksAll (looks_below c.args.about.now.value (plan_seen c.args.plan.now.value) n) (g.C.Chooser.counts c.args.chooser.now) (g.C.Chooser.counts c.loop-number.chooser) c.args.steps.now c.loop-number.steps)
+    ends c.loop-number.invariant.asked
+
+pub returns-clause-rises : goal.returns-clause-rises
+returns-clause-rises g c =
+    let so_far = costs_bound (looks_below c.args.about.now.value (plan_seen c.args.plan.now.value) c.loop-number.number) _ _ _ _ c.loop-number.invariant.asked in so_far.0
+
+pub returns-clause-bounded : goal.returns-clause-bounded
+returns-clause-bounded g c =
+    let about = c.args.about.now.value in
+    let plan = plan_seen c.args.plan.now.value in
+    let ends : c.loop-number.number ≡ length c.args.plan.now.value.matches.items = search rules in
+    let so_far = costs_bound (looks_below about plan c.loop-number.number) _ _ _ _ c.loop-number.invariant.asked in
+    let same = ap (λ n. all_costs (looks_below about plan n)) ends in
+    omega (arith, so_far.1, same)

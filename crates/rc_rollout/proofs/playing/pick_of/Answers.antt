@@ -18,8 +18,8 @@ returns-clause-is c =
     c.requires.about c.requires.decides.decision.stands c.menu.ensures c.len-size.ensures.value in
     let ask = ask_seen c.args.ask.now in
     let pick = c.picked.ensures.is
-        ∙ ap (λ number. keyed.pick ask.key (use_of ask 4) ask.seed number c.len-size.result) c.draw_number.ensures
-        ∙ ap (λ size. keyed.pick ask.key (use_of ask 4) ask.seed (draw_number c.args.round c.args.item c.args.draw) size) count in
+    ∙ ap (λ number. keyed.pick ask.key (use_of ask 4) ask.seed number c.len-size.result) c.draw_number.ensures
+    ∙ ap (λ size. keyed.pick ask.key (use_of ask 4) ask.seed (draw_number c.args.round c.args.item c.args.draw) size) count in
     ap (λ n. (n, one_draw_more c.args.draw)) pick
 
 pub returns-clause-offered : goal.returns-clause-offered

@@ -19,7 +19,7 @@ rank_points-points-requires-clause-each c =
 pub point_of-requires : goal.point_of-requires
 point_of-requires c =
     let long = ap length c.rank_points-points.ensures
-        ∙ length-map-range_with_len (rank_points (sheet_seen c.sheet-sheet.result.now) c.scores.result.items) 0 c.sheet-sheet.result.now.players in
+    ∙ length-map-range_with_len (rank_points (sheet_seen c.sheet-sheet.result.now) c.scores.result.items) 0 c.sheet-sheet.result.now.players in
     let players = ap (λ s. s.players) c.sheet-sheet.ensures.same in
     omega (arith, long, players, c.requires.player)
 
