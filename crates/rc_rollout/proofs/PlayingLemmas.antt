@@ -1,5 +1,5 @@
 -- How a playout goes on from stop to stop.
-use Rattle.std.proofs.Common.{◌≡◌, ℕ, zero, suc, ◌-◌, ◌+◌, ◌<◌, length, Option, Some, None, option_map, unwrap_or, arith, refl, sym, ap, ◌∙◌}
+use Rattle.std.proofs.Common.{◌≡◌, ℕ, zero, suc, ◌<◌, length, Option, Some, None, option_map, unwrap_or, arith, refl, sym, ap, ◌∙◌}
 use Rattle.std.proofs.lemmas.List.{length-map}
 use Rattle.std.specs.Prelude.{List}
 use Rattle.rc_model.specs.Transcript.{Pick}
@@ -17,7 +17,7 @@ use Rattle.rc_play_model.specs.ChoiceLaws.{EveryPlayoutEnds}
 use Rattle.rc_rules.specs.declared.menu.Item.{Item}
 use Rattle.rc_rules.specs.Menu.{item_seen, menu_seen}
 use Rattle.rc_rules.specs.Machine.{menu_here}
-use Rattle.rc_rollout.specs.Playing.{end_of, on_from, GoesOn}
+use Rattle.rc_rollout.specs.Playing.{end_of, GoesOn}
 
 not_some : {A : Type 0} (a : A) → None ≡ Some a → ⊥
 not_some a is = cc

@@ -1,13 +1,13 @@
 -- Totals, a round more and an item more.
-use Rattle.std.proofs.Common.{◌≡◌, ℕ, zero, suc, ◌+◌, ◌-◌, ◌*◌, ◌≤◌, ◌<◌, List, [], ◌∷◌, ◌++◌, length, map, set, get_or, replicate, All, refl, sym, ap, ◌∙◌, arith}
+use Rattle.std.proofs.Common.{◌≡◌, ℕ, zero, suc, ◌+◌, ◌-◌, ◌*◌, ◌≤◌, ◌<◌, List, [], ◌∷◌, ◌++◌, length, map, set, get_or, replicate, refl, sym, ap, ◌∙◌, arith}
 use Rattle.std.specs.List.{range_with_len}
-use Rattle.std.proofs.lemmas.List.{append_assoc, append-nil, length-append, length-map}
+use Rattle.std.proofs.lemmas.List.{append_assoc, append-nil, length-append}
 use Rattle.std.proofs.lemmas.List.FromFn.{length-map-range_with_len, get_or-map-range_with_len}
 use Rattle.std.proofs.lemmas.Nat.{mul-le}
 use Rattle.rc_model.specs.Numbers.{below}
 use Rattle.rc_play_model.specs.About.{About}
 use Rattle.rc_play_model.specs.Strategy.{menu_size}
-use Rattle.rc_play_model.specs.Tally.{Ask, gain_of, playout, total, tally}
+use Rattle.rc_play_model.specs.Tally.{Ask, gain_of, playout, total}
 use Rattle.rc_play_model.specs.ChoiceLaws.{TotalsBounded}
 use Rattle.rc_rules.proofs.PointLemmas.{mapped_push, summed_push}
 use Rattle.rc_rollout.specs.Rounds.{in_rounds, totals_within}

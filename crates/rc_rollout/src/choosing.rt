@@ -52,7 +52,7 @@ pub fn choose<M: Memo, L: Ledger>(
             need.menu,
         )),
         Strategy::Rollout { rounds, key } => match key_of(alloc, need, *rounds, *key) {
-            Ok(key) => best_of(alloc, &key, memo, steps),
+            Ok(key) => best_of(alloc, &key, need.menu, memo, steps),
             Err(Memory) => Err(Memory),
         },
     }
@@ -85,16 +85,17 @@ fn key_of(alloc: Global, need: &Need, rounds: u16, number: u64) -> Result<Key, M
     }
 }
 
-// The first item of those with the largest total, as the memo has the totals or playouts give them.
+// The first item of those with the largest total, out of a menu of so many, as the memo has the totals or playouts give them.
 fn best_of<M: Memo, L: Ledger>(
     alloc: Global,
     key: &Key,
+    menu: u16,
     memo: &mut M,
     steps: &mut Steps<L>,
 ) -> Result<u16, Memory>
     requires served { Serves (M.serves memo.old) (key_seen key.now).about }
     requires at { IsAtDecision (key_seen key.now).about (key_seen key.now).ask.view }
-    requires few { strategy.menu_size (key_seen key.now).about (key_seen key.now).ask.view ≤ 65535 }
+    requires menu { menu ≡ strategy.menu_size (key_seen key.now).about (key_seen key.now).ask.view }
     ensures is { IfOk result (λ item. item ≡ strategy.first_largest (tally_of (key_seen key.now).about (key_seen key.now).ask)) }
     ensures counted { OnOk result (Asks (key_seen key.now) (M.counts memo.old) (M.counts memo.new) steps.old steps.new) }
     ensures rises { steps.old ≤ steps.new }
@@ -108,7 +109,7 @@ fn best_of<M: Memo, L: Ledger>(
     };
     match reply {
         Reply::Hit(tally) => Ok(first_largest(&tally.totals) as u16),
-        Reply::Miss => best_played(alloc, key, memo, steps),
+        Reply::Miss => best_played(alloc, key, menu, memo, steps),
     }
 }
 
@@ -116,12 +117,13 @@ fn best_of<M: Memo, L: Ledger>(
 fn best_played<M: Memo, L: Ledger>(
     alloc: Global,
     key: &Key,
+    menu: u16,
     memo: &mut M,
     steps: &mut Steps<L>,
 ) -> Result<u16, Memory>
     requires served { Serves (M.serves memo.old) (key_seen key.now).about }
     requires at { IsAtDecision (key_seen key.now).about (key_seen key.now).ask.view }
-    requires few { strategy.menu_size (key_seen key.now).about (key_seen key.now).ask.view ≤ 65535 }
+    requires menu { menu ≡ strategy.menu_size (key_seen key.now).about (key_seen key.now).ask.view }
     ensures is { IfOk result (λ item. item ≡ strategy.first_largest (tally_of (key_seen key.now).about (key_seen key.now).ask)) }
     ensures kept { OnOk result (M.counts memo.new ≡ kept_once (key_seen key.now) (M.counts memo.old)) }
     ensures counted { OnOk result (steps.new ≡ steps.old + cost_of (key_seen key.now)) }

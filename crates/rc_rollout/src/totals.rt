@@ -1,5 +1,5 @@
 //! Totals of playouts.
-ghost use Rattle.std.specs.Prelude.{◌≡◌, ◌≤◌, ◌<◌, ◌+◌, ◌*◌, length, replicate, IfOk, OnOk};
+ghost use Rattle.std.specs.Prelude.{◌≡◌, ◌≤◌, ◌<◌, ◌+◌, ◌*◌, ◌^◌, length, replicate, slice_index, slice_set, IfOk, OnOk};
 ghost use Rattle.rc_play_model.specs.Strategy.{menu_size};
 ghost use Rattle.rc_play_model.specs.Tally as tally;
 ghost use Rattle.rc_rules.specs.Machine.{StandsAtDecision, menu_here};
@@ -114,12 +114,12 @@ fn add_round<L: Ledger>(
     about: &About,
     ask: &Ask,
     round: u16,
-    totals: &mut [u32],
+    totals: &mut Vec<u32>,
     steps: &mut Steps<L>,
 ) -> Result<(), Memory>
     requires at { IsAtDecision about.now (ask_seen ask.now).view }
-    requires before { totals.old ≡ tally.tally about.now (in_rounds round (ask_seen ask.now)) }
-    ensures after { OnOk result (totals.new ≡ tally.tally about.now (in_rounds (round + 1) (ask_seen ask.now))) }
+    requires before { totals.old.items ≡ tally.tally about.now (in_rounds round (ask_seen ask.now)) }
+    ensures after { OnOk result (totals.new.items ≡ tally.tally about.now (in_rounds (round + 1) (ask_seen ask.now))) }
     ensures counted { OnOk result (steps.new ≡ steps.old + menu_size about.now (ask_seen ask.now).view) }
     ensures rises { steps.old ≤ steps.new }
     ensures bounded { steps.new ≤ steps.old + menu_size about.now (ask_seen ask.now).view }
@@ -137,13 +137,13 @@ fn add_gains<L: Ledger>(
     ask: &Ask,
     round: u16,
     table: &Table,
-    totals: &mut [u32],
+    totals: &mut Vec<u32>,
     steps: &mut Steps<L>,
 ) -> Result<(), Memory>
     requires at { IsAtDecision about.now (ask_seen ask.now).view }
     requires table { table.now ≡ redrawn_for about.now (ask_seen ask.now) round }
-    requires before { totals.old ≡ tally.tally about.now (in_rounds round (ask_seen ask.now)) }
-    ensures after { OnOk result (totals.new ≡ tally.tally about.now (in_rounds (round + 1) (ask_seen ask.now))) }
+    requires before { totals.old.items ≡ tally.tally about.now (in_rounds round (ask_seen ask.now)) }
+    ensures after { OnOk result (totals.new.items ≡ tally.tally about.now (in_rounds (round + 1) (ask_seen ask.now))) }
     ensures counted { OnOk result (steps.new ≡ steps.old + menu_size about.now (ask_seen ask.now).view) }
     ensures rises { steps.old ≤ steps.new }
     ensures bounded { steps.new ≤ steps.old + menu_size about.now (ask_seen ask.now).view }
@@ -158,11 +158,20 @@ fn add_gains<L: Ledger>(
             Ok(gain) => gain,
             Err(Memory) => return Err(Memory),
         };
-        let total = totals[item];
-        totals[item] = total + gain as u32;
+        add_to(totals, item, gain);
         steps.add(1);
     }
     Ok(())
+}
+
+// Adds a gain to the total of an item.
+fn add_to(totals: &mut Vec<u32>, item: usize, gain: u8)
+    requires there { item < length totals.old.items }
+    requires room { slice_index totals.old.items item + gain < 2 ^ 32 }
+    ensures { totals.new.items ≡ slice_set totals.old.items item (slice_index totals.old.items item + gain) }
+{
+    let total = totals[item];
+    totals[item] = total + gain as u32;
 }
 
 // What an item gains in a playout from a copy of a round's table.

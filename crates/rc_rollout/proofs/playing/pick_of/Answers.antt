@@ -1,4 +1,4 @@
-use Rattle.std.proofs.Common.{◌≡◌, arith, ap, sym, length, ◌∙◌}
+use Rattle.std.proofs.Common.{arith, ap, length, ◌∙◌}
 use Rattle.rc_play_model.specs.Draws.{keyed}
 use Rattle.rc_play_model.specs.Tally.{use_of, draw_number, one_draw_more}
 use Rattle.rc_plain.specs.Plain.{config_of}

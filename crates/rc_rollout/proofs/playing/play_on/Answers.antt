@@ -1,6 +1,5 @@
-use Rattle.std.proofs.Common.{◌≡◌, ◌-◌, ◌<◌, suc, Some, arith, sym, ap, ◌∙◌}
+use Rattle.std.proofs.Common.{◌≡◌, ◌-◌, suc, arith, sym, ap, ◌∙◌}
 use Rattle.rc_play_model.specs.Step.{decide, goes}
-use Rattle.rc_play_model.specs.Stop.{stop_of}
 use Rattle.rc_play_model.specs.Decision.{choose}
 use Rattle.rc_play_model.specs.Tally.{one_draw_more, playout_dealing, playout_chooser}
 use Rattle.rc_rules.specs.Control.{stop_seen}

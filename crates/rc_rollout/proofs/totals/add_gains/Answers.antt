@@ -1,5 +1,4 @@
-use Rattle.std.proofs.Common.{◌≡◌, ◌≤◌, ◌<◌, ◌+◌, length, arith, ap, sym, ◌∙◌}
-use Rattle.std.proofs.lemmas.List.{get_or_read}
+use Rattle.std.proofs.Common.{◌≡◌, ◌<◌, ◌+◌, length, get_or, arith, ap, ◌∙◌}
 use Rattle.rc_play_model.specs.Strategy.{menu_size}
 use Rattle.rc_play_model.specs.Tally.{total}
 use Rattle.rc_redraw.specs.Asking.{ask_seen}
@@ -13,7 +12,7 @@ loop-item-init g c =
     let about = c.args.about.now in
     let ask = ask_seen c.args.ask.now in
     record {
-      totals = none_yet about ask c.args.round (menu_size about ask.view) c.args.totals.now c.requires.before;
+      totals = none_yet about ask c.args.round (menu_size about ask.view) c.args.totals.now.items c.requires.before;
       within = omega arith;
       steps = omega arith;
     }
@@ -38,21 +37,30 @@ gain_from-requires-clause-offered g c =
     let long = ap length c.requires.before ∙ c.tallies_are_bounded.ensures.items about (in_rounds round ask) in
     omega (arith, c.loop-item-test.true, long)
 
-pub overflow_add-totals : goal.overflow_add-totals
-overflow_add-totals g c =
+pub add_to-requires-clause-there : goal.add_to-requires-clause-there
+add_to-requires-clause-there g c =
+    let about = c.args.about.now in
+    let ask = ask_seen c.args.ask.now in
+    let round = c.args.round in
+    let size = menu_size about ask.view in
+    let long = ap length c.requires.before ∙ c.tallies_are_bounded.ensures.items about (in_rounds round ask) in
+    let lt : c.loop-item.item < size = omega (arith, c.loop-item-test.true, long) in
+    let same = long_within about ask round size c.loop-item.item c.loop-item.totals.items (omega (arith, lt)) c.loop-item.invariant.totals in
+    omega (arith, lt, same)
+
+pub add_to-requires-clause-room : goal.add_to-requires-clause-room
+add_to-requires-clause-room g c =
     let about = c.args.about.now in
     let ask = ask_seen c.args.ask.now in
     let round = c.args.round in
     let size = menu_size about ask.view in
     let long = ap length c.requires.before ∙ c.tallies_are_bounded.ensures.items about (in_rounds round ask) in
     let item = c.loop-item.item in
-    let totals = c.loop-item.totals in
+    let totals = c.loop-item.totals.items in
     let lt : item < size = omega (arith, c.loop-item-test.true, long) in
-    let same = long_within about ask round size item totals (omega (arith, lt)) c.loop-item.invariant.totals in
-    let read = get_or_read totals item c.index-total.result (omega (arith, lt, same)) c.index-total.ensures 0 in
     let there = total_there about ask round size item totals lt c.loop-item.invariant.totals in
     let room = few about ask round item c.tallies_are_bounded.ensures.bounded (omega arith) c.sheet-sheet.ensures.well.limits.players c.requires.at.player lt in
-    omega (arith, read, there, room)
+    omega (arith, there, room)
 
 pub loop-item-preserved : goal.loop-item-preserved
 loop-item-preserved g c =
@@ -61,16 +69,14 @@ loop-item-preserved g c =
     let round = c.args.round in
     let size = menu_size about ask.view in
     let item = c.loop-item.item in
-    let totals = c.loop-item.totals in
+    let totals = c.loop-item.totals.items in
     let long = ap length c.requires.before ∙ c.tallies_are_bounded.ensures.items about (in_rounds round ask) in
     let lt : item < size = omega (arith, c.loop-item-test.true, long) in
-    let same = long_within about ask round size item totals (omega (arith, lt)) c.loop-item.invariant.totals in
-    let read = get_or_read totals item c.index-total.result (omega (arith, lt, same)) c.index-total.ensures 0 in
     let there = total_there about ask round size item totals lt c.loop-item.invariant.totals in
     let more = total_more about ask round item in
-    let sum : c.index-total.result + c.in-Ok.gain ≡ total about (in_rounds (round + 1) ask) item = omega (arith, read, there, more, c.in-Ok.ensures) in
+    let sum : get_or totals item 0 + c.in-Ok.gain ≡ total about (in_rounds (round + 1) ask) item = omega (arith, there, more, c.in-Ok.ensures) in
     record {
-      totals = one_item_more about ask round size item (c.index-total.result + c.in-Ok.gain) totals lt c.loop-item.invariant.totals sum;
+      totals = c.add_to.ensures ∙ one_item_more about ask round size item (get_or totals item 0 + c.in-Ok.gain) totals lt c.loop-item.invariant.totals sum;
       within = omega (arith, lt);
       steps = omega (arith, c.add.ensures, c.loop-item.invariant.steps);
     }
@@ -82,7 +88,7 @@ returns-clause-after g c =
     let round = c.args.round in
     let size = menu_size about ask.view in
     let long = ap length c.requires.before ∙ c.tallies_are_bounded.ensures.items about (in_rounds round ask) in
-    all_of_them about ask round size c.loop-item.item c.loop-item.totals (omega (arith, c.loop-item-test.false, long)) c.loop-item.invariant.within c.loop-item.invariant.totals
+    all_of_them about ask round size c.loop-item.item c.loop-item.totals.items (omega (arith, c.loop-item-test.false, long)) c.loop-item.invariant.within c.loop-item.invariant.totals
 
 pub returns-clause-counted : goal.returns-clause-counted
 returns-clause-counted g c =

@@ -6,7 +6,7 @@ use Rattle.rc_rollout.proofs.totals.add_gains.Given as goal
 
 abbrev pub invariant-loop-item : goal.invariant-loop-item
 invariant-loop-item g l = record {
-  totals : l.totals ≡ totals_within l.about (ask_seen l.ask) l.round l.item (menu_size l.about (ask_seen l.ask).view);
+  totals : l.totals.items ≡ totals_within l.about (ask_seen l.ask) l.round l.item (menu_size l.about (ask_seen l.ask).view);
   within : l.item ≤ menu_size l.about (ask_seen l.ask).view;
   steps : l.steps ≡ l.initial.steps + l.item;
 }
