@@ -1,8 +1,7 @@
 -- How many lines records and texts have.
-use Rattle.std.proofs.Common.{◌≡◌, ℕ, ◌+◌, ◌<◌, List, [], ◌∷◌, ◌++◌, map, flat_map, drop, get_or, length, arith, refl, sym, ap, ◌∙◌}
+use Rattle.std.proofs.Common.{◌≡◌, ℕ, ◌+◌, ◌<◌, List, [], ◌∷◌, map, flat_map, drop, get_or, length, arith, sym, ap, ◌∙◌}
 use Rattle.std.proofs.lemmas.List.{length-map, length-append}
-use Rattle.rc_model.specs.Transcript.{Record, Standing}
-use Rattle.rc_text_model.specs.Lines.{Line, opening, chosen, ending, scored, ranked}
+use Rattle.rc_text_model.specs.Lines.{chosen, ending, scored, ranked}
 use Rattle.rc_text_model.specs.HouseText.{HouseText as PureText, shuffles_told, played_lines, told_lines, ended_lines, record_lines, lines_of}
 use Rattle.rc_rules.specs.declared.record.MatchRecord.{MatchRecord}
 use Rattle.rc_rules.specs.Record.{pick_seen, score_seen, record_seen}

@@ -2,7 +2,6 @@
 use Rattle.std.proofs.Common.{◌≡◌, ◌≢◌, ◌↔◌, ℕ, ◌+◌, ◌<◌, ◌==◌, Bool, true, false, if◌then◌else◌, List, [], ◌∷◌, map, drop, get_or, length, Option, Some, None, Result, Ok, Err, IfOk, refl, sym, ap, ◌∙◌, eqb-true}
 use Rattle.std.proofs.lemmas.List.{at_drop_more}
 use Rattle.rc_model.specs.Transcript.{Pick, Record, Standing}
-use Rattle.rc_text_model.specs.HouseText.{HouseText as PureText, IsHouseText}
 use Rattle.rc_play_model.specs.About.{About}
 use Rattle.rc_play_model.specs.Effects.{Dealing}
 use Rattle.rc_play_model.specs.Stop.{Stopped}
@@ -12,9 +11,8 @@ use Rattle.rc_play_model.specs.Plan.{Plan, deal_at}
 use Rattle.rc_play_model.specs.Keyed.{dealing_of}
 use Rattle.rc_judge_model.specs.Why.{Why as PureWhy, Illegal as PureIllegal}
 use Rattle.rc_judge_model.specs.Rows.{◌or◌, lacking_row, decision_row, chosen_row, shuffled_row, further_row, further_row}
-use Rattle.rc_judge_model.specs.Judged.{at_line, first_illegal}
-use Rattle.rc_judge_model.specs.Laws.{OnePassJudges}
-use Rattle.rc_judge_model.specs.Along.{Judging, on_row, and_then, told_along, standings_along, next_stop, picks_along, record_along, matches_along, judged}
+use Rattle.rc_judge_model.specs.Judged.{at_line}
+use Rattle.rc_judge_model.specs.Along.{Judging, on_row, and_then, told_along, standings_along, next_stop, picks_along, record_along, matches_along}
 use Rattle.rc_judge_model.proofs.LegalLemmas.{on_row_none, and_on, made_forth, made_goes_on, some_is}
 use Rattle.rc_rules.specs.declared.record.Pick.{Pick as Pick'}
 use Rattle.rc_rules.specs.Record.{pick_seen}

@@ -1,6 +1,6 @@
 -- What the judge finds as the definitions have it, and where a play stands.
 use Rattle.std.specs.Prelude.{◌≡◌, ℕ, List, length, map, flat_map, Option, Some, None, Result, Ok, Err}
-use Rattle.rc_play_model.specs.Step.{Config, Stop as PureStop}
+use Rattle.rc_play_model.specs.Step.{Config}
 use Rattle.rc_play_model.specs.Stop.{Stopped}
 use Rattle.rc_rules.specs.declared.control.Stop.{Stop}
 use Rattle.rc_rules.specs.declared.record.MatchRecord.{MatchRecord}

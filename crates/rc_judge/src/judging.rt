@@ -32,12 +32,7 @@ use std::alloc::Global;
 /// # Errors
 ///
 /// No memory is left.
-pub fn judge(
-    alloc: Global,
-    about: &About,
-    plan: &Plan,
-    text: &HouseText,
-) -> Result<Verdict, Memory>
+pub fn judge(alloc: Global, about: &About, plan: &Plan, text: &HouseText) -> Result<Verdict, Memory>
     requires within { IsWithinLimits (plan_seen plan.now) }
     requires seats { length plan.now.strategies.items ≡ about.now.sheet.players }
     requires text { IsHouseText (text_seen text.now) }
@@ -62,12 +57,7 @@ fn verdict_of(judged: Result<(), Halt>) -> Result<Verdict, Memory>
 }
 
 // Judges a whole text.
-fn text_along(
-    alloc: Global,
-    about: &About,
-    plan: &Plan,
-    text: &HouseText,
-) -> Result<(), Halt>
+fn text_along(alloc: Global, about: &About, plan: &Plan, text: &HouseText) -> Result<(), Halt>
     requires within { IsWithinLimits (plan_seen plan.now) }
     requires seats { length plan.now.strategies.items ≡ about.now.sheet.players }
     requires text { IsHouseText (text_seen text.now) }

@@ -1,4 +1,4 @@
-use Rattle.std.proofs.Common.{◌≡◌, ℕ, ◌+◌, map, Some, sym, ap, subst, ◌∙◌}
+use Rattle.std.proofs.Common.{ℕ, ◌+◌, map, Some, sym, ap, subst, ◌∙◌}
 use Rattle.rc_judge_model.specs.Rows.{ending_row}
 use Rattle.rc_judge_model.specs.Along as along
 use Rattle.rc_judge_model.proofs.LegalLemmas.{on_row_none, and_on}

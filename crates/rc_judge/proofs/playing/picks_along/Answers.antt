@@ -1,4 +1,4 @@
-use Rattle.std.proofs.Common.{◌+◌, arith, sym, ap, ◌∙◌}
+use Rattle.std.proofs.Common.{arith, sym, ap, ◌∙◌}
 use Rattle.rc_judge.specs.Seen.{row_seen, stands_at}
 use Rattle.rc_judge.proofs.Steps.{pick_halts, pick_leads}
 use Rattle.rc_judge.proofs.playing.picks_along.Goals as goal

@@ -1,4 +1,4 @@
-use Rattle.std.proofs.Common.{◌≡◌, ℕ, ◌+◌, map, drop, length, Some, false}
+use Rattle.std.proofs.Common.{◌≡◌, ℕ, ◌+◌, map, drop, Some, false}
 use Rattle.rc_play_model.specs.Plan.{Plan, deal_at}
 use Rattle.rc_play_model.specs.Keyed.{dealing_of}
 use Rattle.rc_judge_model.specs.Along as along
