@@ -1,5 +1,6 @@
 //! The calls that a program makes: they run a command from its words to its end.
 ghost use Rattle.std.specs.Prelude.{◌≡◌, ◌<◌, ◌≤◌, ℕ, map, string_bytes, IfOk, IfErr};
+ghost use Rattle.rc_play_model.specs.MatchLaws.{AlikeSamePicks};
 ghost use Rattle.rc_house.specs.Status.{line_of};
 ghost use Rattle.rc_house.specs.Port.{NoCountFell, Took, port, ports};
 ghost use Rattle.rc_house.specs.Outcome.{Outcome, Ends};
@@ -9,6 +10,7 @@ use crate::answer::{Answer, answer_to};
 use crate::command::{Command, command_of};
 use crate::status::Status;
 use rc_outside::{Gate, ReadFail, Sink, Source, read_all, write_all};
+use rc_play_model::alike_decisions_have_one_item;
 use rc_steps::Steps;
 use std::alloc::Global;
 use std::marker::Brand;
@@ -101,7 +103,9 @@ fn run_command<S: Source, O: Sink, N: Sink, L: Ledger>(
     }
 }
 
-/// Runs a command with one worker. It waits for nobody and always returns.
+/// Runs a command with one worker. It waits for nobody and always returns. Each playout is a step. In what `play` writes, two
+/// decisions of one seat with one strategy and one seed of the seats, at states that are alike to that seat, have the same item, in
+/// whatever matches they stand.
 pub fn run_alone<S: Source, O: Sink, N: Sink, L: Ledger>(
     alloc: Global,
     words: &[String],
@@ -120,7 +124,9 @@ pub fn run_alone<S: Source, O: Sink, N: Sink, L: Ledger>(
         (port (O.written out.new) (O.faults out.new))
         (port (N.written notes.new) (N.faults notes.new)))
         steps.old steps.new result }
+    ensures alike { AlikeSamePicks }
 {
+    alike_decisions_have_one_item();
     match command_of(words) {
         Some(command) => run_command(alloc, command, source, out, notes, steps),
         None => refuse(notes, Status::Unbuilt),
@@ -149,6 +155,7 @@ fn run_from<S: Source, O: Sink, N: Sink, L: Ledger>(
         (port (O.written out.new) (O.faults out.new))
         (port (N.written notes.new) (N.faults notes.new)))
         0 playouts result }
+    ensures alike { AlikeSamePicks }
 {
     let mut steps = Steps::<L>::new(blank);
     run_alone(alloc, words, source, out, notes, &mut steps)
@@ -174,6 +181,7 @@ pub fn run<R: Threads + Wait + Sync, S: Source, O: Sink, N: Sink, G: Gate>(
         (port (O.written out.new) (O.faults out.new))
         (port (N.written notes.new) (N.faults notes.new)))
         0 playouts result }
+    ensures alike { AlikeSamePicks }
 {
     run_from::<S, O, N, Brand>(alloc, words, source, out, notes, Blank::new(1))
 }

@@ -4,7 +4,7 @@ use Rattle.rc_house.proofs.AnswerLaws.{first_tree, no_tree, first_accepted, miss
 use Rattle.rc_house.proofs.answer.answer_of_forms.Goals as goal
 
 pub returns-in_default-clause-answered : goal.returns-in_default-clause-answered
-returns-in_default-clause-answered c =
+returns-in_default-clause-answered g c =
     let forms = c.args.forms.now in
     let none : None ≡ slice_get forms.list.items 0 = search rules in
     refusal_is c.args.command c.args.source.now _ c.args.steps.now c.missing.result c.missing.ensures
@@ -12,14 +12,14 @@ returns-in_default-clause-answered c =
     c.requires.read)
 
 pub accepted_answer-requires-clause-accepted : goal.accepted_answer-requires-clause-accepted
-accepted_answer-requires-clause-accepted c =
+accepted_answer-requires-clause-accepted g c =
     let forms = c.args.forms.now in
     let item : Some c.in-Some.form.now ≡ slice_get forms.list.items 0 = search rules in
     let listed = first_tree forms.list.items c.in-Some.form.now item in
     first_accepted (trees_of forms.list.items) (tree_of c.in-Some.form.now) listed.0 c.in-Ok.checked listed.1 c.in-Ok.ensures.accepted
 
 pub returns-in-Err-Fault-clause-answered : goal.returns-in-Err-Fault-clause-answered
-returns-in-Err-Fault-clause-answered c =
+returns-in-Err-Fault-clause-answered g c =
     let forms = c.args.forms.now in
     let item : Some c.in-Some.form.now ≡ slice_get forms.list.items 0 = search rules in
     let listed = first_tree forms.list.items c.in-Some.form.now item in

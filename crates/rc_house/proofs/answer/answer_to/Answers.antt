@@ -5,12 +5,12 @@ use Rattle.rc_house.proofs.AnswerLaws.{fault_answered, refusal_is}
 use Rattle.rc_house.proofs.answer.answer_to.Goals as goal
 
 pub answer_of_forms-requires-clause-read : goal.answer_of_forms-requires-clause-read
-answer_of_forms-requires-clause-read c =
+answer_of_forms-requires-clause-read g c =
     let forms = c.in-Ok.forms in
     subst (λ want. Spelled c.args.source.now want (trees_of forms.list.items) forms.rest) c.wanted.ensures c.in-Ok.ensures.spelled
 
 pub returns-in-Err-Fault-clause-answered : goal.returns-in-Err-Fault-clause-answered
-returns-in-Err-Fault-clause-answered c =
+returns-in-Err-Fault-clause-answered g c =
     let e = rw c.in-Err-Fault.field-0-is at c.in-Err-Fault.ensures in
     refusal_is c.args.command c.args.source.now _ c.args.steps.now c.fault_of.result c.fault_of.ensures
     (fault_answered c.args.command c.wanted.result c.args.source.now _ _ c.wanted.ensures e.fault)

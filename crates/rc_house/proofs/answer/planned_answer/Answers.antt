@@ -12,7 +12,7 @@ use Rattle.rc_house.proofs.AnswerLaws.{accepted_answer, counted_few}
 use Rattle.rc_house.proofs.answer.planned_answer.Goals as goal
 
 pub returns-in-Ok-clause-answered : goal.returns-in-Ok-clause-answered
-returns-in-Ok-clause-answered c =
+returns-in-Ok-clause-answered g c =
     let forms = c.args.forms.now in
     let about = about_of c.args.checked c.args.plan.turns in
     let plan = plan_seen c.args.plan in
@@ -27,7 +27,7 @@ returns-in-Ok-clause-answered c =
     )
 
 pub returns-in-Err-clause-few : goal.returns-in-Err-clause-few
-returns-in-Err-clause-few c =
+returns-in-Err-clause-few g c =
     let forms = c.args.forms.now in
     let about = about_of c.args.checked c.args.plan.turns in
     let plan = plan_seen c.args.plan in

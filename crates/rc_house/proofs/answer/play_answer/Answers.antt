@@ -7,15 +7,15 @@ use Rattle.rc_house.proofs.AnswerLaws.{failed_answers}
 use Rattle.rc_house.proofs.answer.play_answer.Goals as goal
 
 pub planned_answer-requires-clause-planned : goal.planned_answer-requires-clause-planned
-planned_answer-requires-clause-planned c =
+planned_answer-requires-clause-planned g c =
     let forms = c.args.forms.now in
     subst (λ sheet. IsPlanned c.args.source.now sheet.players (trees_of forms.list.items) forms.rest (plan_seen c.in-Ok.plan)) c.sheet.ensures.same c.in-Ok.ensures.planned
 
 pub planned_answer-requires-clause-seats : goal.planned_answer-requires-clause-seats
-planned_answer-requires-clause-seats c = c.in-Ok.ensures.seats ∙ ap (λ sheet. sheet.players) c.sheet.ensures.same
+planned_answer-requires-clause-seats g c = c.in-Ok.ensures.seats ∙ ap (λ sheet. sheet.players) c.sheet.ensures.same
 
 pub returns-in-Err-clause-answered : goal.returns-in-Err-clause-answered
-returns-in-Err-clause-answered c =
+returns-in-Err-clause-answered g c =
     let forms = c.args.forms.now in
     let source = c.args.source.now in
     let faulty =
