@@ -1,7 +1,7 @@
 //! Whole commands over sources and sinks that fail: how they end, and what is written and noted then.
 ghost use Rattle.std.specs.Prelude.{◌≡◌, ◌<◌};
 
-use rc_house::{Status, run_alone};
+use rc_house::{SourceKind, Status, run_alone};
 use rc_outside::{Bytes, NoRoom, Room, Sink, Source};
 use rc_steps::Steps;
 use std::alloc::{AllocError, Global};
@@ -24,9 +24,8 @@ const GAME: &[u8] = b"\
 (plan (seats (script) (script)) (matches (0 0)) (turns 100))
 ";
 
-/// A sheet that is accepted with its plan, whose playouts nothing plays yet.
-const UNPLAYED: &[u8] =
-    b"(game (setup (create players 1) (create deck (game hloc S) (deck (R (1))))) (do (shuffle (game hloc S))) (scoring max 0)) (plan (seats (rollout 1 0)) (matches (0 0)) (turns 1))";
+/// A text that no sheet stands in.
+const STRAY: &[u8] = b")";
 
 /// The text of the game's play.
 const TEXT: &[u8] = b"\
@@ -61,6 +60,15 @@ const UNBUILT: End = End {
     status: Status::Unbuilt,
     written: b"",
     noted: b"unbuilt\n",
+};
+
+const REFUSED: End = End {
+    status: Status::Sheet {
+        kind: SourceKind::Stray,
+        at: 0,
+    },
+    written: b"",
+    noted: b"sheet Stray 0\n",
 };
 
 const READ_FAULT: End = End {
@@ -267,19 +275,19 @@ const UNNOTED: [(&[u8], u64, End); 4] = [
         },
     ),
     (
-        UNPLAYED,
+        STRAY,
         0,
         End {
             noted: b"",
-            ..UNBUILT
+            ..REFUSED
         },
     ),
     (
-        UNPLAYED,
+        STRAY,
         1,
         End {
-            noted: b"unbu",
-            ..UNBUILT
+            noted: b"shee",
+            ..REFUSED
         },
     ),
 ];
