@@ -1,5 +1,5 @@
 -- How the outcome of a command follows from what its parts did.
-use Rattle.std.proofs.Common.{◌≡◌, ◌<◌, ◌≤◌, ◌+◌, ◌⊎◌, ℕ, List, [], ◌++◌, length, length-append, Option, Some, None, inl, inr, refl, sym, ◌∙◌, ap, subst, arith}
+use Rattle.std.proofs.Common.{◌≡◌, ◌<◌, ◌≤◌, ◌+◌, ◌⊎◌, ℕ, List, [], ◌∷◌, ◌++◌, length, length-append, Option, Some, None, inl, inr, refl, sym, ◌∙◌, ap, subst, arith}
 use Rattle.std.proofs.lemmas.List.{append-nil}
 use Rattle.rc_model.specs.Tree.{Tree}
 use Rattle.rc_sheet_model.specs.Sheet.{Sheet}
@@ -18,7 +18,7 @@ use Rattle.rc_house.specs.declared.answer.Answer.{Answer as Stored}
 use Rattle.rc_house.specs.declared.answer.Answer.TheVariants.{Text, Refused}
 use Rattle.rc_house.specs.Command.{IsCommand, IsNoteOf}
 use Rattle.rc_house.specs.Note.{note_line}
-use Rattle.rc_house.specs.Answer.{Answer, text, refused, seen, played, playouts_of, IsAnswered, HasAnswer, form_faulty, sheet_faulty, plan_faulty, accepted, IsAnswerTo}
+use Rattle.rc_house.specs.Answer.{Answer, text, refused, seen, playouts_of, IsAnswered, HasAnswer, form_faulty, sheet_faulty, plan_faulty, accepted, IsAnswerTo}
 use Rattle.rc_house.specs.Status.{line_of, refusal_status, read_status}
 use Rattle.rc_house.specs.Port.{Port, Ports, port, HasFailed, Took, NoCountFell}
 use Rattle.rc_house.specs.Outcome.{GaveTooMuch, Answers, CountedFew, Outcome, written, refusing, no_memory, read_failed, too_long, text_failed, note_failed, NoPortFailed, Succeeds, Ends, status_of}

@@ -9,3 +9,6 @@ returns-in-Sheet-clause-answered g c =
     rw c.in-Sheet.is
     (sheet_answers c.args.source.now (trees_of forms.list.items) forms.rest c.args.checked c.args.steps.now c.sheet_answer.result
     read c.requires.accepted c.sheet_answer.ensures)
+
+pub returns-in-Play-clause-few : goal.returns-in-Play-clause-few
+returns-in-Play-clause-few g c = rw c.in-Play.is c.play_answer.ensures.few

@@ -24,6 +24,7 @@ returns-in-Err-Fault-clause-answered g c =
     let item : Some c.in-Some.form.now ≡ slice_get forms.list.items 0 = search rules in
     let listed = first_tree forms.list.items c.in-Some.form.now item in
     let refused = rw c.in-Err-Fault.field-0-is at c.in-Err-Fault.ensures.refused in
-    refusal_is c.args.command c.args.source.now _ c.args.steps.now _ refl
+    rw (c.in-Err-Fault.kind-is, c.in-Err-Fault.at-is)
+    (refusal_is c.args.command c.args.source.now _ c.args.steps.now _ refl
     (refused_answer c.args.command c.args.source.now (trees_of forms.list.items) (tree_of c.in-Some.form.now) listed.0
-    forms.rest _ _ listed.1 c.requires.read refused)
+    forms.rest _ _ listed.1 c.requires.read refused))

@@ -13,4 +13,4 @@ pub returns-in-Err-Fault-clause-answered : goal.returns-in-Err-Fault-clause-answ
 returns-in-Err-Fault-clause-answered g c =
     let e = rw c.in-Err-Fault.field-0-is at c.in-Err-Fault.ensures in
     refusal_is c.args.command c.args.source.now _ c.args.steps.now c.fault_of.result c.fault_of.ensures
-    (fault_answered c.args.command c.wanted.result c.args.source.now _ _ c.wanted.ensures e.fault)
+    (rw c.in-Err-Fault.form_fault-is (fault_answered c.args.command c.wanted.result c.args.source.now _ _ c.wanted.ensures e.fault))

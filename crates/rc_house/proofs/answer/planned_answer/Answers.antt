@@ -1,4 +1,4 @@
-use Rattle.std.proofs.Common.{◌≡◌, length, refl, ap, ◌∙◌, subst}
+use Rattle.std.proofs.Common.{◌≡◌, refl, ap, ◌∙◌}
 use Rattle.rc_form.specs.Form.{trees_of}
 use Rattle.rc_play_model.specs.About.{about_of}
 use Rattle.rc_play_model.specs.Keyed.{keyed_house}

@@ -1,7 +1,6 @@
 use Rattle.std.proofs.Common.{◌≡◌, refl, sym, ◌∙◌, subst, rules, arith}
 use Rattle.rc_house.specs.declared.answer.Answer.TheVariants.{Text, Refused}
 use Rattle.rc_house.specs.Note.{note_line}
-use Rattle.rc_house.specs.Answer.{text, refused}
 use Rattle.rc_house.specs.Status.{line_of}
 use Rattle.rc_house.specs.Port.{port, ports, Took}
 use Rattle.rc_house.specs.Running.{ReadsAnswer, Delivers}
