@@ -1,5 +1,5 @@
 -- The forms of a source, and what is answered to them.
-use Rattle.std.proofs.Common.{Some, None, Result, Ok, Err, IfOk, slice_get, ◌≡◌, ◌≤◌, ◌+◌, ℕ, List, [], ◌∷◌, length, map, arith, refl, sym, ap, ◌∙◌, subst}
+use Rattle.std.proofs.Common.{Some, None, Result, Ok, Err, IfOk, slice_get, ◌≡◌, ◌≤◌, ◌+◌, ℕ, List, [], ◌∷◌, length, drop, map, arith, refl, sym, ap, ◌∙◌, subst}
 use Rattle.rc_model.specs.Spelled.{Spelled}
 use Rattle.rc_model.specs.Tree.{Tree}
 use Rattle.rc_model.specs.Transcript.{line}
@@ -9,6 +9,8 @@ use Rattle.rc_form.specs.Form.{tree_of}
 use Rattle.rc_form.specs.FormFault.{IsFormFault}
 use Rattle.rc_sheet_model.specs.Sheet.{Sheet}
 use Rattle.rc_sheet_model.specs.Printing.{printed_sheet}
+use Rattle.rc_play_model.specs.About.{about_of}
+use Rattle.rc_play_model.specs.Plan.{Plan}
 use Rattle.rc_plan_model.specs.declared.fault.PlanKind.{PlanKind}
 use Rattle.rc_plan.specs.declared.fail.PlanFail.{PlanFail}
 use Rattle.rc_plan.specs.declared.fail.PlanFail.TheVariants as fails
@@ -16,8 +18,8 @@ use Rattle.rc_plan.specs.Reads.{IfPlanFault}
 use Rattle.rc_house.specs.declared.answer.Answer.{Answer as Stored}
 use Rattle.rc_house.specs.declared.answer.Answer.TheVariants.{Text, Refused}
 use Rattle.rc_house.specs.declared.command.Command.{Command}
-use Rattle.rc_house.specs.declared.command.Command.TheVariants.{Play, Sheet as PrintsSheet}
-use Rattle.rc_house.specs.AcceptedPlan.{IsPlanFaulty}
+use Rattle.rc_house.specs.declared.command.Command.TheVariants.{Play, Check, Sheet as PrintsSheet}
+use Rattle.rc_house.specs.AcceptedPlan.{IsBehind, IsFaultyBehind, IsPlanFaulty}
 use Rattle.rc_house.specs.declared.refusal.Refusal.{Refusal}
 use Rattle.rc_house.specs.declared.refusal.Refusal.TheVariants as refusal
 use Rattle.rc_house.specs.declared.status.SourceKind.{SourceKind}
@@ -27,7 +29,7 @@ use Rattle.rc_house.specs.Accepted.{IsAccepted, HasFirstFault}
 use Rattle.rc_house.specs.Command.{wanted}
 use Rattle.rc_house.specs.Reading.{Reading, IsAcceptedWith}
 use Rattle.rc_house.specs.Note.{note_line}
-use Rattle.rc_house.specs.Answer.{Answer, text, refused, seen, playouts_of, IsAnswered, HasPlanRefusal, HasAnswer, form_faulty, sheet_faulty, plan_faulty, accepted, IsAnswerTo, IsPlanRefusal, IsSheetText}
+use Rattle.rc_house.specs.Answer.{Answer, text, refused, seen, playouts_of, IsAnswered, HasPlanRefusal, HasAnswer, form_faulty, sheet_faulty, plan_faulty, accepted, IsAnswerTo, IsJudged, IsPlanRefusal, IsSheetText}
 use Rattle.rc_house.proofs.OneAnswer.{only_answer}
 use Rattle.rc_house.proofs.Options.{some_is}
 
@@ -115,6 +117,41 @@ pub sheet_answers : (source : List ℕ) (lists : List Tree) (rest : ℕ) (sheet 
     → IfOk result (IsAnswerTo PrintsSheet source steps steps)
 sheet_answers source lists rest sheet steps (Err error) spelled is printed = tt
 sheet_answers source lists rest sheet steps (Ok answer) spelled is printed = sheet_answer source lists rest sheet steps answer spelled is printed
+
+-- a transcript that is judged
+judged_so : (source : List ℕ) (lists : List Tree) (rest : ℕ) (sheet : Sheet) (plan : Plan) (steps : ℕ) (answer : Stored)
+    → Spelled source (wanted Check) lists rest → IsAcceptedWith (λ other _. other ≡ sheet) lists → IsBehind sheet.players lists plan
+    → IsJudged (about_of sheet plan.turns) plan (drop rest source) answer → IsAnswerTo Check source steps steps answer
+judged_so source lists rest sheet plan steps answer spelled is behind judged =
+    (0, accepted_answer Check source lists rest sheet (seen answer 0) spelled is (λ form others same. (plan, behind form others same, judged)), no_playouts answer steps)
+  where
+    no_playouts : (answer : Stored) (steps : ℕ) → steps ≡ steps + playouts_of (seen answer 0)
+    no_playouts (Text bytes note) steps = omega arith
+    no_playouts (Refused refusal) steps = omega arith
+
+pub judged_answers : (source : List ℕ) (lists : List Tree) (rest : ℕ) (sheet : Sheet) (plan : Plan) (steps : ℕ) {E : Type 0} (result : Result Stored E)
+    → Spelled source (wanted Check) lists rest → IsAcceptedWith (λ other _. other ≡ sheet) lists → IsBehind sheet.players lists plan
+    → IfOk result (IsJudged (about_of sheet plan.turns) plan (drop rest source)) → IfOk result (IsAnswerTo Check source steps steps)
+judged_answers source lists rest sheet plan steps (Err error) spelled is behind judged = tt
+judged_answers source lists rest sheet plan steps (Ok answer) spelled is behind judged = judged_so source lists rest sheet plan steps answer spelled is behind judged
+
+-- A plan that fails as it is read is refused for its first fault.
+unread_answer : (source : List ℕ) (lists : List Tree) (rest : ℕ) (sheet : Sheet) (steps : ℕ) (fail : PlanFail) (answer : Stored)
+    → Spelled source (wanted Check) lists rest → IsAcceptedWith (λ other _. other ≡ sheet) lists
+    → IfPlanFault fail (λ fault. IsFaultyBehind sheet.players fault.kind fault.at lists rest) → IsPlanRefusal fail answer
+    → IsAnswerTo Check source steps steps answer
+unread_answer source lists rest sheet steps fails.Memory answer spelled is fault refusal_so = absurd refusal_so
+unread_answer source lists rest sheet steps (fails.Fault found) answer spelled is fault refusal_so =
+    refusal_is Check source (refusal.Plan found.kind found.at) steps answer refusal_so
+    (plan_answer Check source lists rest sheet found.kind found.at spelled is fault)
+
+pub unread_answers : (source : List ℕ) (lists : List Tree) (rest : ℕ) (sheet : Sheet) (steps : ℕ) (fail : PlanFail) {E : Type 0} (result : Result Stored E)
+    → Spelled source (wanted Check) lists rest → IsAcceptedWith (λ other _. other ≡ sheet) lists
+    → IfPlanFault fail (λ fault. IsFaultyBehind sheet.players fault.kind fault.at lists rest)
+    → IfOk result (IsPlanRefusal fail) → IfOk result (IsAnswerTo Check source steps steps)
+unread_answers source lists rest sheet steps fail (Err error) spelled is fault refusal_so = tt
+unread_answers source lists rest sheet steps fail (Ok answer) spelled is fault refusal_so =
+    unread_answer source lists rest sheet steps fail answer spelled is fault refusal_so
 
 -- A plan that fails is refused for its first fault.
 failed_answer : (source : List ℕ) (lists : List Tree) (rest : ℕ) (sheet : Sheet) (steps : ℕ) (fail : PlanFail) (answer : Stored)

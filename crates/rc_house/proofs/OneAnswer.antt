@@ -1,17 +1,18 @@
 -- A command has one answer to a source.
-use Rattle.std.proofs.Common.{◌≡◌, ℕ, List, sym, ◌∙◌, ap, subst}
+use Rattle.std.proofs.Common.{◌≡◌, ℕ, List, drop, sym, ◌∙◌, ap, subst}
 use Rattle.rc_model.specs.Tree.{Tree}
 use Rattle.rc_sheet_model.specs.Sheet as sheets
 use Rattle.rc_play_model.specs.About.{about_of}
+use Rattle.rc_text_model.specs.Reading.{read_text}
 use Rattle.rc_house.specs.declared.command.Command.{Command}
-use Rattle.rc_house.specs.declared.command.Command.TheVariants.{Play, Sheet}
+use Rattle.rc_house.specs.declared.command.Command.TheVariants.{Play, Check, Sheet}
 use Rattle.rc_house.specs.declared.refusal.Refusal.TheVariants as refusal
 use Rattle.rc_house.specs.Command.{wanted}
 use Rattle.rc_house.specs.Reading.{Reading, HasSheetFault, IsAcceptedWith}
-use Rattle.rc_house.specs.Answer.{Answer, refused, played, IsAnswered, HasPlanRefusal, HasAnswer, form_faulty, sheet_faulty, plan_faulty, accepted}
+use Rattle.rc_house.specs.Answer.{Answer, refused, played, judged, IsAnswered, HasPlanRefusal, HasAnswer, form_faulty, sheet_faulty, plan_faulty, accepted}
 use Rattle.rc_house.proofs.AcceptedLaws.{one_sheet_fault, accepted_no_fault, both_accepted}
 use Rattle.rc_house.proofs.OneReading.{one_reading, read_has_no_fault, one_form_fault}
-use Rattle.rc_house.proofs.PlanLaws.{accepted_no_plan_fault, one_plan_fault, one_accepted_plan}
+use Rattle.rc_house.proofs.PlanLaws.{accepted_no_plan_fault, one_plan_fault, one_accepted_plan, read_no_fault, one_read_fault, one_read_plan}
 
 -- what is accepted of one reading is accepted of any
 accepted_of : (P : sheets.Sheet → List Tree → ℕ → Type 0) (source : List ℕ) (want : ℕ) (read other : Reading source want)
@@ -35,6 +36,9 @@ one_accepted : (command : Command) (source : List ℕ) (sheet : sheets.Sheet) (o
 one_accepted Play source sheet others rest answer other has has' =
     let same = one_accepted_plan source sheet.players others rest has.0 has'.0 has.1 has'.1 in
     has'.2 ∙ ap (λ plan. played (about_of sheet plan.turns) plan) same ∙ sym has.2
+one_accepted Check source sheet others rest answer other has has' =
+    let same = one_read_plan sheet.players others has.0 has'.0 has.1 has'.1 in
+    has'.2 ∙ ap (λ plan. judged (about_of sheet plan.turns) plan (read_text (drop rest source))) same ∙ sym has.2
 one_accepted Sheet source sheet others rest answer other has has' = has' ∙ sym has
 
 -- a plan with a fault isn't accepted
@@ -42,6 +46,7 @@ no_plan_fault : (command : Command) (source : List ℕ) (sheet : sheets.Sheet) (
     → IsAnswered command source sheet others rest answer → HasPlanRefusal command source sheet others rest kind at → ⊥
 no_plan_fault Play source sheet others rest answer kind at has fault =
     accepted_no_plan_fault source sheet.players others rest has.0 kind at has.1 fault
+no_plan_fault Check source sheet others rest answer kind at has fault = read_no_fault sheet.players others rest has.0 kind at has.1 fault
 no_plan_fault Sheet source sheet others rest answer kind at has fault = fault
 
 -- a plan has one first fault
@@ -50,6 +55,8 @@ one_plan_refusal : (command : Command) (source : List ℕ) (sheet : sheets.Sheet
     → refusal.Plan other offset ≡ refusal.Plan kind at
 one_plan_refusal Play source sheet others rest kind other at offset has has' =
     one_plan_fault source sheet.players others rest kind other at offset has has'
+one_plan_refusal Check source sheet others rest kind other at offset has has' =
+    one_read_fault sheet.players others rest kind other at offset has has'
 one_plan_refusal Sheet source sheet others rest kind other at offset has has' = absurd has
 
 -- a sheet that is accepted has no fault

@@ -1,9 +1,15 @@
 -- How the outcome of a command follows from what its parts did.
-use Rattle.std.proofs.Common.{◌≡◌, ◌<◌, ◌≤◌, ◌+◌, ◌⊎◌, ℕ, List, [], ◌∷◌, ◌++◌, length, length-append, Option, Some, None, inl, inr, refl, sym, ◌∙◌, ap, subst, arith}
+use Rattle.std.proofs.Common.{◌≡◌, ◌<◌, ◌≤◌, ◌+◌, ◌⊎◌, ℕ, List, [], ◌∷◌, ◌++◌, length, drop, get_or, length-append, Option, Some, None, Result, Ok, Err, inl, inr, refl, sym, ◌∙◌, ap, subst, arith}
 use Rattle.std.proofs.lemmas.List.{append-nil}
 use Rattle.rc_model.specs.Tree.{Tree}
 use Rattle.rc_sheet_model.specs.Sheet.{Sheet}
-use Rattle.rc_play_model.specs.About.{about_of}
+use Rattle.rc_play_model.specs.About.{About, about_of}
+use Rattle.rc_play_model.specs.Plan.{Plan}
+use Rattle.rc_play_model.specs.Keyed.{dealing_of}
+use Rattle.rc_text_model.specs.HouseText.{HouseText}
+use Rattle.rc_text_model.specs.Reading.{read_text}
+use Rattle.rc_judge_model.specs.Why.{Illegal}
+use Rattle.rc_judge_model.specs.Judged.{first_illegal}
 use Rattle.rc_plays.specs.Series.{looks_of}
 use Rattle.rc_outside.specs.Source.{Gave, IsAtEnd}
 use Rattle.rc_outside.specs.declared.errors.ReadFail.{ReadFail}
@@ -16,9 +22,9 @@ use Rattle.rc_house.specs.declared.status.Status.{Status}
 use Rattle.rc_house.specs.declared.status.Status.TheVariants.{Memory, TooLong}
 use Rattle.rc_house.specs.declared.answer.Answer.{Answer as Stored}
 use Rattle.rc_house.specs.declared.answer.Answer.TheVariants.{Text, Refused}
-use Rattle.rc_house.specs.Command.{IsCommand, IsNoteOf}
+use Rattle.rc_house.specs.Command.{IsCommand, IsNoteOf, limit_of}
 use Rattle.rc_house.specs.Note.{note_line}
-use Rattle.rc_house.specs.Answer.{Answer, text, refused, seen, playouts_of, IsAnswered, HasAnswer, form_faulty, sheet_faulty, plan_faulty, accepted, IsAnswerTo}
+use Rattle.rc_house.specs.Answer.{Answer, text, refused, seen, judged, verdict, playouts_of, IsAnswered, HasAnswer, form_faulty, sheet_faulty, plan_faulty, accepted, IsAnswerTo}
 use Rattle.rc_house.specs.Status.{line_of, refusal_status, read_status}
 use Rattle.rc_house.specs.Port.{Port, Ports, port, HasFailed, Took, NoCountFell}
 use Rattle.rc_house.specs.Outcome.{GaveTooMuch, Answers, CountedFew, Outcome, written, refusing, no_memory, read_failed, too_long, text_failed, note_failed, NoPortFailed, Succeeds, Ends, status_of}
@@ -36,12 +42,12 @@ gave_all whole rest bytes (Some left) some given end =
 
 -- the answer to the bytes that a source gave to its end is the answer to what it told
 pub answers_given : (told after : Option (List ℕ)) (faults faults' : ℕ) (command : Command) (bytes : List ℕ) (answer : Answer)
-    → Gave told after bytes → IsAtEnd after → length bytes ≤ 1048576 → HasAnswer command bytes answer
+    → Gave told after bytes → IsAtEnd after → length bytes ≤ limit_of command → HasAnswer command bytes answer
     → Answers (port told faults) (port after faults') command (λ other. other ≡ answer)
 answers_given None after faults faults' command bytes answer given end few is = tt
 answers_given (Some whole) after faults faults' command bytes answer given end few is =
     let all = gave_all whole given.0 bytes after given.1 given.2 end in
-    (subst (λ source. length source ≤ 1048576) all.0 few, all.1, answer, subst (λ source. HasAnswer command source answer) all.0 is, refl)
+    (subst (λ source. length source ≤ limit_of command) all.0 few, all.1, answer, subst (λ source. HasAnswer command source answer) all.0 is, refl)
 
 -- what holds of the answer holds where the source is answered so
 answers_with : (before after : Port) (command : Command) (answer : Answer) (P : Answer → Type 0)
@@ -53,10 +59,20 @@ answers_with before after command answer P answers here = by before.told answers
     by None answers = tt
     by (Some source) answers = (answers.0, answers.1, answers.2, answers.3, subst P (sym answers.4) here)
 
+-- nothing is noted where a transcript is legal
+verdict_note : (found : Option Illegal) (bytes note : List ℕ) (playouts : ℕ) → verdict found ≡ text bytes note playouts → note ≡ []
+verdict_note None bytes note playouts same = cc
+verdict_note (Some illegal) bytes note playouts same = absurd cc
+
+judged_note : (about : About) (plan : Plan) (read : Result HouseText ℕ) (bytes note : List ℕ) (playouts : ℕ) → judged about plan read ≡ text bytes note playouts → note ≡ []
+judged_note about plan (Err line) bytes note playouts same = absurd cc
+judged_note about plan (Ok told) bytes note playouts same = verdict_note (first_illegal about dealing_of plan told) bytes note playouts same
+
 -- what is answered for an accepted sheet is noted as the command notes
 note_of_sheet : (command : Command) (source : List ℕ) (sheet : Sheet) (others : List Tree) (rest : ℕ) (bytes note : List ℕ) (playouts : ℕ)
     → IsAnswered command source sheet others rest (text bytes note playouts) → IsNoteOf command note
 note_of_sheet Play source sheet others rest bytes note playouts has = (length (looks_of (about_of sheet has.0.turns) has.0), cc)
+note_of_sheet named.Check source sheet others rest bytes note playouts has = judged_note (about_of sheet has.0.turns) has.0 (read_text (drop rest source)) bytes note playouts (sym has.2)
 note_of_sheet named.Sheet source sheet others rest bytes note playouts has = cc
 
 -- and so is what is answered to a source
@@ -77,7 +93,7 @@ note_answered command source (Refused refusal) playouts has = tt
 
 -- an answer to the bytes that a source gave to its end
 pub reads_answer : (told after : Option (List ℕ)) (faults faults' steps steps' : ℕ) (command : Command) (bytes : List ℕ) (answer : Stored)
-    → Gave told after bytes → IsAtEnd after → length bytes ≤ 1048576 → IsAnswerTo command bytes steps steps' answer
+    → Gave told after bytes → IsAtEnd after → length bytes ≤ limit_of command → IsAnswerTo command bytes steps steps' answer
     → ReadsAnswer command (port told faults) (port after faults') steps steps' answer
 reads_answer told after faults faults' steps steps' command bytes answer given end few is =
     (is.0, answers_given told after faults faults' command bytes (seen answer is.0) given end few is.1, is.2, note_answered command bytes answer is.0 is.1)
@@ -147,10 +163,10 @@ same_answer before after command P source other answers told has = by before.tol
         (answers.2, answers.4, only_answer command whole answers.2 other answers.3 (subst (λ bytes. HasAnswer command bytes other) same has))
 
 -- a source that has few bytes doesn't give too many
-not_too_much : (before after : Port) (source : List ℕ) → GaveTooMuch before after → before.told ≡ Some source → length source ≤ 1048576 → ⊥
-not_too_much before after source gave told few = by before.told told gave
+not_too_much : (command : Command) (before after : Port) (source : List ℕ) → GaveTooMuch command before after → before.told ≡ Some source → length source ≤ limit_of command → ⊥
+not_too_much command before after source gave told few = by before.told told gave
   where
-    by : (mine : Option (List ℕ)) → mine ≡ Some source → GaveTooMuch (port mine before.faults) after → ⊥
+    by : (mine : Option (List ℕ)) → mine ≡ Some source → GaveTooMuch command (port mine before.faults) after → ⊥
     by None told gave = absurd (cc)
     by (Some whole) told gave =
         let same : whole ≡ source = cc in
@@ -158,7 +174,7 @@ not_too_much before after source gave told few = by before.told told gave
 
 -- a source past the limit has no answer
 not_answered : (before after : Port) (command : Command) (P : Answer → Type 0) (source : List ℕ)
-    → Answers before after command P → before.told ≡ Some source → 1048576 < length source → ⊥
+    → Answers before after command P → before.told ≡ Some source → limit_of command < length source → ⊥
 not_answered before after command P source answers told long = by before.told told answers
   where
     by : (mine : Option (List ℕ)) → mine ≡ Some source → Answers (port mine before.faults) after command P → ⊥
@@ -171,7 +187,7 @@ refusal_is_no_text : (refusal : Refusal) (bytes note : List ℕ) (playouts : ℕ
 refusal_is_no_text refusal bytes note playouts other same is = let both : refused refusal ≡ text bytes note playouts = same ∙ is in absurd cc
 
 answers_due : (command : Command) (before after : Ports) (steps steps' : ℕ) (status : Status) → Outcome command before after steps steps' status
-    → (source : List ℕ) (answer : Answer) → before.source.told ≡ Some source → length source ≤ 1048576
+    → (source : List ℕ) (answer : Answer) → before.source.told ≡ Some source → length source ≤ limit_of command
     → HasAnswer command source answer → NoPortFailed answer before after → (status ≡ status_of answer) ⊎ (status ≡ Memory)
 answers_due command before after steps steps' status (written is note noted answers took) source answer told few has well =
     let same = same_answer before.source after.source command _ source answer answers told has in
@@ -183,7 +199,7 @@ answers_due command before after steps steps' status (no_memory is gave refuses 
 answers_due command before after steps steps' status (read_failed is failed gave refuses counted) source (text bytes note' playouts) told few has well = absurd (well.0 failed)
 answers_due command before after steps steps' status (read_failed is failed gave refuses counted) source (refused refusal) told few has well = absurd (well failed)
 answers_due command before after steps steps' status (too_long is gave refuses counted) source answer told few has well =
-    absurd (not_too_much before.source after.source source gave told few)
+    absurd (not_too_much command before.source after.source source gave told few)
 answers_due command before after steps steps' status (text_failed is failed note noted answers took) source (text bytes note' playouts) told few has well = absurd (well.1 failed)
 answers_due command before after steps steps' status (text_failed is failed note noted answers took) source (refused refusal) told few has well =
     let same = same_answer before.source after.source command _ source (refused refusal) answers told has in
@@ -194,7 +210,7 @@ answers_due command before after steps steps' status (note_failed is failed note
     absurd (refusal_is_no_text refusal same.1.0 note same.1.1 same.0 same.2 same.1.2)
 
 too_long_due : (command : Command) (before after : Ports) (steps steps' : ℕ) (status : Status) → Outcome command before after steps steps' status
-    → (source : List ℕ) → before.source.told ≡ Some source → 1048576 < length source
+    → (source : List ℕ) → before.source.told ≡ Some source → limit_of command < length source
     → (HasFailed before.source after.source → ⊥) → (status ≡ TooLong) ⊎ (status ≡ Memory)
 too_long_due command before after steps steps' status (written is note noted answers took) source told long well =
     absurd (not_answered before.source after.source command _ source answers told long)
@@ -214,11 +230,20 @@ pub succeeds : (command : Command) (before after : Ports) (steps steps' : ℕ) (
 succeeds command before after steps steps' status ends =
     record { answers = answers_due command before after steps steps' status ends; too_long = too_long_due command before after steps steps' status ends }
 
+-- no word is two commands
+first_letter : (words : List (List ℕ)) (one other : List ℕ) → words ≡ one ∷ [] → words ≡ other ∷ [] → get_or one 0 0 ≡ get_or other 0 0
+first_letter words one other is is_other = ap (λ (all : List (List ℕ)). get_or (get_or all 0 []) 0 0) (sym is ∙ is_other)
+
 -- words are one command at most
 same_command : (words : List (List ℕ)) (command other : Command) → IsCommand words command → IsCommand words other → other ≡ command
 same_command words Play Play is is_other = refl
-same_command words Play named.Sheet is is_other = absurd (cc)
-same_command words named.Sheet Play is is_other = absurd (cc)
+same_command words Play named.Check is is_other = let letters : 112 ≡ 99 = first_letter words _ _ is is_other in absurd (omega (arith, letters))
+same_command words Play named.Sheet is is_other = let letters : 112 ≡ 115 = first_letter words _ _ is is_other in absurd (omega (arith, letters))
+same_command words named.Check Play is is_other = let letters : 99 ≡ 112 = first_letter words _ _ is is_other in absurd (omega (arith, letters))
+same_command words named.Check named.Check is is_other = refl
+same_command words named.Check named.Sheet is is_other = let letters : 99 ≡ 115 = first_letter words _ _ is is_other in absurd (omega (arith, letters))
+same_command words named.Sheet Play is is_other = let letters : 115 ≡ 112 = first_letter words _ _ is is_other in absurd (omega (arith, letters))
+same_command words named.Sheet named.Check is is_other = let letters : 115 ≡ 99 = first_letter words _ _ is is_other in absurd (omega (arith, letters))
 same_command words named.Sheet named.Sheet is is_other = refl
 
 -- how a command ended that words named

@@ -1,5 +1,5 @@
 -- A command has an answer to each source.
-use Rattle.std.proofs.Common.{◌≡◌, ℕ, List, [], ◌∷◌, Option, Some, None, ◌⊎◌, inl, inr, refl, subst}
+use Rattle.std.proofs.Common.{◌≡◌, ℕ, List, [], ◌∷◌, drop, Option, Some, None, ◌⊎◌, inl, inr, refl, subst}
 use Rattle.rc_model.specs.Spelled.{Spelled}
 use Rattle.rc_model.specs.Tree.{Tree}
 use Rattle.rc_model.specs.Transcript.{line}
@@ -14,19 +14,20 @@ use Rattle.rc_form.proofs.AtomsAreRead.{of_atoms-first}
 use Rattle.rc_form.proofs.TopLists.{fits-first}
 use Rattle.rc_sheet.proofs.Accepted.{has_sheet}
 use Rattle.rc_play_model.specs.About.{about_of}
+use Rattle.rc_text_model.specs.Reading.{read_text}
 use Rattle.rc_house.specs.declared.command.Command.{Command}
-use Rattle.rc_house.specs.declared.command.Command.TheVariants.{Play, Sheet}
+use Rattle.rc_house.specs.declared.command.Command.TheVariants.{Play, Check, Sheet}
 use Rattle.rc_house.specs.declared.refusal.Refusal.TheVariants as refusal
 use Rattle.rc_house.specs.declared.status.SourceKind.TheVariants.{Shape, Unseen}
 use Rattle.rc_house.specs.Status.{source_kind, sheet_kind}
 use Rattle.rc_house.specs.Accepted.{IsSheetOf, IsAccepted}
-use Rattle.rc_house.specs.AcceptedPlan.{HasPlanFault, IsPlanAccepted}
+use Rattle.rc_house.specs.AcceptedPlan.{HasPlanFault, HasReadFault, IsPlanAccepted, IsPlanRead}
 use Rattle.rc_house.specs.Command.{wanted}
 use Rattle.rc_house.specs.Reading.{IsAcceptedWith}
-use Rattle.rc_house.specs.Answer.{Answer, text, refused, played, HasAnswer, form_faulty}
+use Rattle.rc_house.specs.Answer.{Answer, text, refused, played, judged, HasAnswer, form_faulty}
 use Rattle.rc_house.proofs.AcceptedLaws.{in_sight_or_not}
 use Rattle.rc_house.proofs.AnswerLaws.{missing_answer, refused_answer, first_accepted, accepted_answer, plan_answer}
-use Rattle.rc_house.proofs.PlanLaws.{IsPlanOrFault, plan_or_fault}
+use Rattle.rc_house.proofs.PlanLaws.{IsPlanOrFault, plan_or_fault, IsReadOrFault, read_or_fault}
 
 -- the command has an answer to this source
 abbrev SomeAnswer : Command → List ℕ → Type 0
@@ -40,6 +41,27 @@ accepted Sheet source form others rest sheet spelled is =
       answer,
       accepted_answer Sheet source (form ∷ others) rest sheet answer spelled
           (first_accepted (form ∷ others) form others sheet refl is) (λ form others same. refl),
+    )
+accepted Check source form others rest sheet spelled is =
+    by_plan (read_or_fault sheet.players others rest is.of_form.well.limits.some_players is.of_form.well.limits.players)
+  where
+    behind : (first : Tree) (more : List Tree) → form ∷ others ≡ first ∷ more → others ≡ more
+    behind first more same = cc
+
+    sheet_is : IsAcceptedWith (λ other _. other ≡ sheet) (form ∷ others)
+    sheet_is = first_accepted (form ∷ others) form others sheet refl is
+
+    by_plan : IsReadOrFault sheet.players others rest → SomeAnswer Check source
+    by_plan (inl plan) =
+        let answer = judged (about_of sheet plan.0.turns) plan.0 (read_text (drop rest source)) in (
+          answer,
+          accepted_answer Check source (form ∷ others) rest sheet answer spelled sheet_is
+              (λ first more same. (plan.0, subst (λ others. IsPlanRead sheet.players others plan.0) (behind first more same) plan.1, refl)),
+        )
+    by_plan (inr fault) = (
+      refused (refusal.Plan fault.0 fault.1),
+      plan_answer Check source (form ∷ others) rest sheet fault.0 fault.1 spelled sheet_is
+          (λ first more same. subst (λ others. HasReadFault sheet.players fault.0 fault.1 others rest) (behind first more same) fault.2),
     )
 accepted Play source form others rest sheet spelled is =
     by_plan (plan_or_fault source sheet.players others rest is.of_form.well.limits.some_players is.of_form.well.limits.players)

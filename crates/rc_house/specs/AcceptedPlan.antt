@@ -17,22 +17,30 @@ pub record IsPlanOf (players : ℕ) (form : Tree) (plan : Plan) : Type 0 where
   pub within : IsWithinLimits plan
   pub seats : length plan.strategies ≡ players
 
--- The first of these lists is accepted as this plan for so many players, and nothing follows it in the source.
+-- The first of these lists is read as this plan for so many players.
+abbrev pub IsPlanRead : ℕ → List Tree → Plan → Type 0
+IsPlanRead players [] plan = ⊥
+IsPlanRead players (form ∷ others) plan = IsPlanOf players form plan
+
+-- The first fault of the plan, where these are the lists and the rest that were read behind the sheet: it is missing, or else it is
+-- the first fault of the first of them.
+abbrev pub HasReadFault : ℕ → PlanKind → ℕ → List Tree → ℕ → Type 0
+HasReadFault players kind at [] rest = (kind ≡ Shape) × (at ≡ rest)
+HasReadFault players kind at (form ∷ others) rest = IsPlanFault form players kind at
+
+-- It is read as this plan, and nothing follows it in the source.
 abbrev pub IsPlanAccepted : List ℕ → ℕ → List Tree → ℕ → Plan → Type 0
-IsPlanAccepted source players [] rest plan = ⊥
-IsPlanAccepted source players (form ∷ others) rest plan = IsPlanOf players form plan × (rest ≡ length source)
+IsPlanAccepted source players others rest plan = IsPlanRead players others plan × (rest ≡ length source)
 
 -- there is such a plan
 abbrev pub HasPlan : List ℕ → ℕ → List Tree → ℕ → Type 0
 HasPlan source players others rest = (plan : Plan) × IsPlanAccepted source players others rest plan
 
--- The first fault of the plan: it is missing, where these are the lists and the rest that were read behind the sheet; or else it
--- is the first fault of the first of them; or else something follows it.
+-- The first fault of the plan where nothing may follow it: the first fault as it is read; or else something follows it.
 abbrev pub HasPlanFault : List ℕ → ℕ → PlanKind → ℕ → List Tree → ℕ → Type 0
-HasPlanFault source players kind at [] rest = (kind ≡ Shape) × (at ≡ rest)
-HasPlanFault source players kind at (form ∷ others) rest =
-    IsPlanFault form players kind at
-    ⊎ ((plan_faults players form ≡ []) × (rest ≢ length source) × (kind ≡ Rest) × (at ≡ rest))
+HasPlanFault source players kind at others rest =
+    HasReadFault players kind at others rest
+    ⊎ ((plan : Plan) × IsPlanRead players others plan × (rest ≢ length source) × (kind ≡ Rest) × (at ≡ rest))
 
 -- Behind the first of these lists, the sheet, stands this plan, and it is accepted.
 abbrev pub IsPlanned : List ℕ → ℕ → List Tree → ℕ → Plan → Type 0
@@ -43,3 +51,12 @@ IsPlanned source players lists rest plan =
 abbrev pub IsPlanFaulty : List ℕ → ℕ → PlanKind → ℕ → List Tree → ℕ → Type 0
 IsPlanFaulty source players kind at lists rest =
     (form : Tree) (others : List Tree) → lists ≡ form ∷ others → HasPlanFault source players kind at others rest
+
+-- Behind the first of these lists stands this plan.
+abbrev pub IsBehind : ℕ → List Tree → Plan → Type 0
+IsBehind players lists plan = (form : Tree) (others : List Tree) → lists ≡ form ∷ others → IsPlanRead players others plan
+
+-- Behind the first of these lists stands a plan whose first fault, as it is read, is this.
+abbrev pub IsFaultyBehind : ℕ → PlanKind → ℕ → List Tree → ℕ → Type 0
+IsFaultyBehind players kind at lists rest =
+    (form : Tree) (others : List Tree) → lists ≡ form ∷ others → HasReadFault players kind at others rest

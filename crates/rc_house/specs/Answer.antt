@@ -1,10 +1,14 @@
 -- What a command answers to its source.
-use Rattle.std.specs.Prelude.{◌≡◌, ℕ, ◌+◌, List, [], length}
+use Rattle.std.specs.Prelude.{◌≡◌, ℕ, ◌+◌, List, [], length, drop, codes, Option, Some, None, Result, Ok, Err}
 use Rattle.rc_model.specs.Transcript.{line}
 use Rattle.rc_model.specs.Tree.{Tree}
 use Rattle.rc_play_model.specs.About.{About, about_of}
 use Rattle.rc_play_model.specs.Plan.{Plan}
-use Rattle.rc_play_model.specs.Keyed.{keyed_house}
+use Rattle.rc_play_model.specs.Keyed.{keyed_house, dealing_of}
+use Rattle.rc_text_model.specs.HouseText.{HouseText}
+use Rattle.rc_text_model.specs.Reading.{read_text}
+use Rattle.rc_judge_model.specs.Why.{Illegal}
+use Rattle.rc_judge_model.specs.Judged.{first_illegal}
 use Rattle.rc_redraw.specs.Choosing.{all_costs}
 use Rattle.rc_plays.specs.Series.{looks_of}
 use Rattle.rc_sheet_model.specs.Sheet as sheet
@@ -13,7 +17,7 @@ use Rattle.rc_plan_model.specs.declared.fault.PlanKind.{PlanKind}
 use Rattle.rc_plan.specs.declared.fail.PlanFail.{PlanFail}
 use Rattle.rc_plan.specs.declared.fail.PlanFail.TheVariants as fails
 use Rattle.rc_house.specs.declared.command.Command.{Command}
-use Rattle.rc_house.specs.declared.command.Command.TheVariants.{Play, Sheet}
+use Rattle.rc_house.specs.declared.command.Command.TheVariants.{Play, Check, Sheet}
 use Rattle.rc_house.specs.declared.refusal.Refusal.{Refusal}
 use Rattle.rc_house.specs.declared.refusal.Refusal.TheVariants as refusal
 use Rattle.rc_house.specs.declared.status.SourceKind.{SourceKind}
@@ -22,7 +26,8 @@ use Rattle.rc_house.specs.declared.answer.Answer.TheVariants as stored
 use Rattle.rc_house.specs.Command.{wanted}
 use Rattle.rc_house.specs.declared.note.Note.TheVariants.{Nothing}
 use Rattle.rc_house.specs.Note.{looks_line, note_line}
-use Rattle.rc_house.specs.AcceptedPlan.{HasPlanFault, IsPlanAccepted}
+use Rattle.rc_house.specs.Status.{why_told}
+use Rattle.rc_house.specs.AcceptedPlan.{HasPlanFault, HasReadFault, IsPlanAccepted, IsPlanRead}
 use Rattle.rc_house.specs.Reading.{Reading, HasFormFault, HasSheetFault, IsAcceptedWith}
 
 -- a text, with what is noted behind it and how many playouts it takes; or a refusal
@@ -35,16 +40,29 @@ abbrev pub played : About → Plan → Answer
 played about plan =
     text (keyed_house about plan) (looks_line (length (looks_of about plan)) 0) (all_costs (looks_of about plan))
 
+-- The verdict on a transcript: that it is legal, or its first illegal line and why.
+abbrev pub verdict : Option Illegal → Answer
+verdict None = text (line (codes "legal")) [] 0
+verdict (Some illegal) = refused (refusal.Illegal illegal.line (why_told illegal.why))
+
+-- The answer to a transcript, as it is read: the verdict, or its first line outside the grammar.
+abbrev pub judged : About → Plan → Result HouseText ℕ → Answer
+judged about plan (Err at) = refused (refusal.Text at)
+judged about plan (Ok told) = verdict (first_illegal about dealing_of plan told)
+
 -- What a command answers where the sheet is accepted, with these lists behind it and the rest that begins here, and where the plan is
 -- accepted too, if the command reads one.
 abbrev pub IsAnswered : Command → List ℕ → sheet.Sheet → List Tree → ℕ → Answer → Type 0
 IsAnswered Play source sheet others rest answer =
     (plan : Plan) × IsPlanAccepted source sheet.players others rest plan × (answer ≡ played (about_of sheet plan.turns) plan)
+IsAnswered Check source sheet others rest answer =
+    (plan : Plan) × IsPlanRead sheet.players others plan × (answer ≡ judged (about_of sheet plan.turns) plan (read_text (drop rest source)))
 IsAnswered Sheet source sheet others rest answer = answer ≡ text (line (printed_sheet sheet)) [] 0
 
 -- The plan's first fault, where the command reads a plan.
 abbrev pub HasPlanRefusal : Command → List ℕ → sheet.Sheet → List Tree → ℕ → PlanKind → ℕ → Type 0
 HasPlanRefusal Play source sheet others rest kind at = HasPlanFault source sheet.players kind at others rest
+HasPlanRefusal Check source sheet others rest kind at = HasReadFault sheet.players kind at others rest
 HasPlanRefusal Sheet source sheet others rest kind at = ⊥
 
 -- The command has this answer to its source. To each source it has exactly one.
@@ -86,6 +104,10 @@ IsAnswerTo command source steps steps' answer =
 abbrev pub IsSheetText : sheet.Sheet → Stored → Type 0
 IsSheetText sheet (stored.Text bytes note) = (bytes.items ≡ line (printed_sheet sheet)) × (note ≡ Nothing)
 IsSheetText sheet (stored.Refused refusal) = ⊥
+
+-- the answer to a transcript that a value of the program stands for, which takes no playouts
+abbrev pub IsJudged : About → Plan → List ℕ → Stored → Type 0
+IsJudged about plan bytes answer = seen answer 0 ≡ judged about plan (read_text bytes)
 
 -- the refusal where the plan fails so: its first fault, and none where memory ran out
 abbrev pub IsPlanRefusal : PlanFail → Stored → Type 0

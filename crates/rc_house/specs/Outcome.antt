@@ -4,28 +4,24 @@ use Rattle.rc_house.specs.declared.command.Command.{Command}
 use Rattle.rc_house.specs.declared.refusal.Refusal.{Refusal}
 use Rattle.rc_house.specs.declared.status.Status.{Status}
 use Rattle.rc_house.specs.declared.status.Status.TheVariants as ending
-use Rattle.rc_house.specs.Command.{IsCommand, IsNoteOf}
+use Rattle.rc_house.specs.Command.{IsCommand, IsNoteOf, limit_of}
 use Rattle.rc_house.specs.Answer.{Answer, text, refused, HasAnswer, playouts_of}
 use Rattle.rc_house.specs.Status.{line_of, refusal_status}
 use Rattle.rc_house.specs.Port.{Port, Ports, HasFailed, Supplied, Received, ReceivedFront, Took, Noted, NotedFront, NoCountFell}
 
--- the most bytes that a command takes from its source
-abbrev pub source_limit : ℕ
-source_limit = 1048576
-
--- the source gave no more than that
-abbrev pub GaveFew : Port → Port → Type 0
-GaveFew before after = (taken : List ℕ) × Supplied before after taken × (length taken ≤ source_limit)
+-- the source gave no more than the command takes
+abbrev pub GaveFew : Command → Port → Port → Type 0
+GaveFew command before after = (taken : List ℕ) × Supplied before after taken × (length taken ≤ limit_of command)
 
 -- the source gave more than that
-abbrev pub GaveTooMuch : Port → Port → Type 0
-GaveTooMuch before after = (taken : List ℕ) × Supplied before after taken × (source_limit < length taken)
+abbrev pub GaveTooMuch : Command → Port → Port → Type 0
+GaveTooMuch command before after = (taken : List ℕ) × Supplied before after taken × (limit_of command < length taken)
 
 -- Where the source tells its bytes: it gave all of them, they are few enough, and P holds of the command's answer to them.
 abbrev pub Answers : Port → Port → Command → (Answer → Type 0) → Type 0
 Answers before after command P =
     IfSome before.told (λ source.
-    (length source ≤ source_limit) × (after.told ≡ Some []) × (answer : Answer) × HasAnswer command source answer × P answer)
+    (length source ≤ limit_of command) × (after.told ≡ Some []) × (answer : Answer) × HasAnswer command source answer × P answer)
 
 -- The answer is a text with this note, Q holds of it, and so many steps were counted as it takes playouts.
 abbrev pub IsTextWith : List ℕ → ℕ → ℕ → (List ℕ → Type 0) → Answer → Type 0
@@ -60,15 +56,15 @@ pub data Outcome (command : Command) (before after : Ports) (steps steps' : ℕ)
       → Refuses status before after → steps' ≡ steps
       → Outcome command before after steps steps' status
   -- want of memory may come at any time before the text is written
-  no_memory : status ≡ ending.Memory → GaveFew before.source after.source → Refuses status before after
+  no_memory : status ≡ ending.Memory → GaveFew command before.source after.source → Refuses status before after
       → CountedFew before.source command steps steps'
       → Outcome command before after steps steps' status
   -- a read failed
   read_failed : status ≡ ending.ReadFault → HasFailed before.source after.source
-      → GaveFew before.source after.source → Refuses status before after → steps' ≡ steps
+      → GaveFew command before.source after.source → Refuses status before after → steps' ≡ steps
       → Outcome command before after steps steps' status
   -- the source gave too much
-  too_long : status ≡ ending.TooLong → GaveTooMuch before.source after.source → Refuses status before after → steps' ≡ steps
+  too_long : status ≡ ending.TooLong → GaveTooMuch command before.source after.source → Refuses status before after → steps' ≡ steps
       → Outcome command before after steps steps' status
   -- a write of the text failed
   text_failed : status ≡ ending.WriteFault → HasFailed before.out after.out → (note : List ℕ) → IsNoteOf command note
@@ -96,10 +92,10 @@ NoPortFailed (refused refusal) before after = HasFailed before.source after.sour
 
 -- Where no port fails, only want of memory keeps a command from the status of its answer to a source that tells its bytes.
 pub record Succeeds (command : Command) (before after : Ports) (status : Status) : Type 0 where
-  pub answers : (source : List ℕ) (answer : Answer) → before.source.told ≡ Some source → length source ≤ source_limit
+  pub answers : (source : List ℕ) (answer : Answer) → before.source.told ≡ Some source → length source ≤ limit_of command
       → HasAnswer command source answer → NoPortFailed answer before after
       → (status ≡ status_of answer) ⊎ (status ≡ ending.Memory)
-  pub too_long : (source : List ℕ) → before.source.told ≡ Some source → source_limit < length source
+  pub too_long : (source : List ℕ) → before.source.told ≡ Some source → limit_of command < length source
       → (HasFailed before.source after.source → ⊥) → (status ≡ ending.TooLong) ⊎ (status ≡ ending.Memory)
 
 -- How words that began with these ports and so many steps ended.

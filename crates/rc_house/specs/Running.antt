@@ -27,9 +27,9 @@ ReadsAnswer command before after steps steps' answer =
 
 -- why there is no answer
 abbrev pub ReadsNone : Command → Port → Port → ℕ → ℕ → ReadFail → Type 0
-ReadsNone command before after steps steps' ReadFault = HasFailed before after × GaveFew before after × (steps' ≡ steps)
-ReadsNone command before after steps steps' TooLong = GaveTooMuch before after × (steps' ≡ steps)
-ReadsNone command before after steps steps' Memory = GaveFew before after × CountedFew before command steps steps'
+ReadsNone command before after steps steps' ReadFault = HasFailed before after × GaveFew command before after × (steps' ≡ steps)
+ReadsNone command before after steps steps' TooLong = GaveTooMuch command before after × (steps' ≡ steps)
+ReadsNone command before after steps steps' Memory = GaveFew command before after × CountedFew before command steps steps'
 
 -- How writing a text and its note ends: both were written; or a write of the text failed, which was noted; or the text was
 -- written, and a write of its note failed.

@@ -9,12 +9,15 @@ use Rattle.rc_outside.specs.declared.errors.ReadFail.{ReadFail}
 use Rattle.rc_outside.specs.declared.errors.ReadFail.TheVariants as read
 use Rattle.rc_plan_model.specs.declared.fault.PlanKind.{PlanKind}
 use Rattle.rc_plan_model.specs.declared.fault.PlanKind.TheVariants as plan
+use Rattle.rc_judge.specs.declared.verdict.Why.{Why}
+use Rattle.rc_judge.specs.declared.verdict.Why.TheVariants as whys
+use Rattle.rc_judge_model.specs.Why.{Why as PureWhy, by_match, by_shuffle, by_seat, by_menu, by_item, by_end, by_score, by_standing}
 use Rattle.rc_house.specs.declared.refusal.Refusal.{Refusal}
 use Rattle.rc_house.specs.declared.refusal.Refusal.TheVariants as refusal
 use Rattle.rc_house.specs.declared.status.SourceKind.{SourceKind}
 use Rattle.rc_house.specs.declared.status.SourceKind.TheVariants.{BadByte, Stray, TooDeep, AtomLong, Unclosed, Shape, Number, Twice, Unknown, WrongKind, TooMany, NoCards, Unseen}
 use Rattle.rc_house.specs.declared.status.Status.{Status}
-use Rattle.rc_house.specs.declared.status.Status.TheVariants.{Done, Sheet, Plan, Memory, ReadFault, WriteFault, TooLong, Unbuilt}
+use Rattle.rc_house.specs.declared.status.Status.TheVariants.{Done, Sheet, Plan, Text, Illegal, Memory, ReadFault, WriteFault, TooLong, Unbuilt}
 
 -- the name of a kind
 abbrev pub kind_name : SourceKind → List ℕ
@@ -42,6 +45,28 @@ plan_kind_name plan.Turns = codes "Turns"
 plan_kind_name plan.TooLarge = codes "TooLarge"
 plan_kind_name plan.Rest = codes "Rest"
 
+-- why a line is illegal, by its name
+abbrev pub why_name : Why → List ℕ
+why_name whys.Match = codes "Match"
+why_name whys.Shuffle = codes "Shuffle"
+why_name whys.Seat = codes "Seat"
+why_name whys.Menu = codes "Menu"
+why_name whys.Item = codes "Item"
+why_name whys.End = codes "End"
+why_name whys.Score = codes "Score"
+why_name whys.Standing = codes "Standing"
+
+-- and by what the judge's definitions find
+abbrev pub why_told : PureWhy → Why
+why_told by_match = whys.Match
+why_told by_shuffle = whys.Shuffle
+why_told by_seat = whys.Seat
+why_told by_menu = whys.Menu
+why_told by_item = whys.Item
+why_told by_end = whys.End
+why_told by_score = whys.Score
+why_told by_standing = whys.Standing
+
 -- the kind that a fault of forms is in a source
 abbrev pub source_kind : FormKind → SourceKind
 source_kind form.BadByte = BadByte
@@ -64,6 +89,8 @@ sheet_kind part.NoCards = NoCards
 abbrev pub refusal_status : Refusal → Status
 refusal_status (refusal.Sheet kind at) = Sheet kind at
 refusal_status (refusal.Plan kind at) = Plan kind at
+refusal_status (refusal.Text line) = Text line
+refusal_status (refusal.Illegal line why) = Illegal line why
 
 -- the status of a source that wasn't read to its end
 abbrev pub read_status : ReadFail → Status
@@ -76,6 +103,8 @@ abbrev pub code_of : Status → ℕ
 code_of Done = 0
 code_of (Sheet kind at) = 1
 code_of (Plan kind at) = 3
+code_of (Text at) = 4
+code_of (Illegal at why) = 4
 code_of Memory = 5
 code_of ReadFault = 6
 code_of WriteFault = 7
@@ -87,6 +116,8 @@ abbrev pub line_of : Status → List ℕ
 line_of Done = []
 line_of (Sheet kind at) = line (codes "sheet " ++ kind_name kind ++ codes " " ++ decimal at)
 line_of (Plan kind at) = line (codes "plan " ++ plan_kind_name kind ++ codes " " ++ decimal at)
+line_of (Text at) = line (codes "text " ++ decimal at)
+line_of (Illegal at why) = line (codes "illegal " ++ decimal at ++ codes " " ++ why_name why)
 line_of Memory = line (codes "no memory")
 line_of ReadFault = line (codes "read fault")
 line_of WriteFault = line (codes "write fault")

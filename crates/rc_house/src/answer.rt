@@ -1,10 +1,15 @@
 //! What a command answers to the bytes of its source.
-ghost use Rattle.std.specs.Prelude.{◌≡◌, ◌≤◌, ◌+◌, length, IfOk, OnErr, All};
+ghost use Rattle.std.specs.Prelude.{◌≡◌, ◌≤◌, ◌+◌, ℕ, length, None, IfOk, OnErr, All};
 ghost use Rattle.rc_model.specs.Placed.{IsPlaced};
 ghost use Rattle.rc_model.specs.Spelled.{Spelled};
 ghost use Rattle.rc_form.specs.Form.{tree_of, trees_of, IsPrintable};
 ghost use Rattle.rc_form.specs.SameForm.{IsOfAtoms};
 ghost use Rattle.rc_plan_model.specs.Limits.{IsWithinLimits};
+ghost use Rattle.rc_play_model.specs.About.{about_of};
+ghost use Rattle.rc_play_model.specs.Keyed.{dealing_of};
+ghost use Rattle.rc_text_model.specs.HouseText.{IsHouseText, lines_of};
+ghost use Rattle.rc_judge.specs.Seen.{text_seen};
+ghost use Rattle.rc_judge_model.specs.Judged.{first_illegal};
 ghost use Rattle.rc_rules.specs.Plan.{plan_seen};
 ghost use Rattle.rc_house.specs.declared.refusal.Refusal.TheVariants as refusal;
 ghost use Rattle.rc_house.specs.declared.status.SourceKind.TheVariants.{Shape};
@@ -14,21 +19,24 @@ ghost use Rattle.rc_house.specs.AcceptedPlan.{IsPlanned};
 ghost use Rattle.rc_house.specs.Command.{wanted};
 ghost use Rattle.rc_house.specs.Reading.{IsAcceptedWith};
 ghost use Rattle.rc_house.specs.declared.answer.Answer.TheVariants as stored;
-ghost use Rattle.rc_house.specs.Answer.{Answer as PureAnswer, HasAnswer, IsAnswerTo, IsPlanRefusal, IsSheetText, playouts_of};
+ghost use Rattle.rc_house.specs.Answer.{Answer as PureAnswer, HasAnswer, IsAnswerTo, IsJudged, IsPlanRefusal, IsSheetText, playouts_of, seen, verdict};
 
 use crate::accepting::{SourceFail, accept};
 use crate::command::Command;
 use crate::note::Note;
-use crate::planning::read_plan;
+use crate::planning::{plan_behind, read_plan};
 use crate::printing::print_line;
 use crate::refusal::Refusal;
 use crate::status::SourceKind;
+use rc_deck::Memory;
 use rc_flow::Checked;
 use rc_form::{FormFail, FormFault, Forms, read_forms};
+use rc_judge::{Verdict, judge};
 use rc_plan::PlanFail;
-use rc_plays::house_of;
+use rc_plays::{house_of, shared_about};
 use rc_rules::Plan;
 use rc_steps::Steps;
+use rc_text::{HouseText, TextFail, read_house};
 use std::alloc::{AllocError, Global};
 use std::sync::ledger::Ledger;
 
@@ -48,7 +56,7 @@ pub fn answer_to<L: Ledger>(
     source: &[u8],
     steps: &mut Steps<L>,
 ) -> Result<Answer, AllocError>
-    requires { length source.now ≤ 1048576 }
+    requires { length source.now ≤ 8388608 }
     ensures answered { IfOk result (IsAnswerTo command source.now steps.old steps.new) }
     ensures few { OnErr result ((answer : PureAnswer) → HasAnswer command source.now answer → steps.new ≤ steps.old + playouts_of answer) }
 {
@@ -77,7 +85,7 @@ fn answer_of_forms<L: Ledger>(
     forms: &Forms,
     steps: &mut Steps<L>,
 ) -> Result<Answer, AllocError>
-    requires small { length source.now ≤ 1048576 }
+    requires small { length source.now ≤ 8388608 }
     requires within { forms.now.rest ≤ length source.now }
     requires read { Spelled source.now (wanted command) (trees_of forms.now.list.items) forms.now.rest }
     requires printable { All (λ form. IsPrintable (tree_of form)) forms.now.list.items }
@@ -98,7 +106,7 @@ fn answer_of_forms<L: Ledger>(
 
 /// The answer where the sheet is missing.
 fn missing(forms: &Forms) -> Answer
-    requires { forms.now.rest ≤ 1048576 }
+    requires { forms.now.rest ≤ 8388608 }
     ensures { result ≡ stored.Refused (refusal.Sheet Shape forms.now.rest) }
 {
     Answer::Refused(Refusal::Sheet {
@@ -116,7 +124,7 @@ fn accepted_answer<L: Ledger>(
     checked: Checked,
     steps: &mut Steps<L>,
 ) -> Result<Answer, AllocError>
-    requires small { length source.now ≤ 1048576 }
+    requires small { length source.now ≤ 8388608 }
     requires within { forms.now.rest ≤ length source.now }
     requires read { Spelled source.now (wanted command) (trees_of forms.now.list.items) forms.now.rest }
     requires placed { All (λ form. IsPlaced (length source.now) (tree_of form)) forms.now.list.items }
@@ -126,6 +134,7 @@ fn accepted_answer<L: Ledger>(
 {
     match command {
         Command::Play => play_answer(alloc, source, forms, checked, steps),
+        Command::Check => check_answer(alloc, source, forms, checked),
         Command::Sheet => sheet_answer(alloc, &checked),
     }
 }
@@ -138,7 +147,7 @@ fn play_answer<L: Ledger>(
     checked: Checked,
     steps: &mut Steps<L>,
 ) -> Result<Answer, AllocError>
-    requires small { length source.now ≤ 1048576 }
+    requires small { length source.now ≤ 8388608 }
     requires within { forms.now.rest ≤ length source.now }
     requires read { Spelled source.now 2 (trees_of forms.now.list.items) forms.now.rest }
     requires placed { All (λ form. IsPlaced (length source.now) (tree_of form)) forms.now.list.items }
@@ -180,6 +189,79 @@ fn planned_answer<L: Ledger>(
         )),
         Err(_) => Err(AllocError),
     }
+}
+
+/// The answer of `check` to a source with these forms, of which the first is accepted as this sheet.
+fn check_answer(
+    alloc: Global,
+    source: &[u8],
+    forms: &Forms,
+    checked: Checked,
+) -> Result<Answer, AllocError>
+    requires small { length source.now ≤ 8388608 }
+    requires within { forms.now.rest ≤ length source.now }
+    requires read { Spelled source.now 2 (trees_of forms.now.list.items) forms.now.rest }
+    requires placed { All (λ form. IsPlaced (length source.now) (tree_of form)) forms.now.list.items }
+    requires accepted { IsAcceptedWith (λ sheet _. sheet ≡ checked) (trees_of forms.now.list.items) }
+    ensures { (steps : ℕ) → IfOk result (IsAnswerTo command.Check source.now steps steps) }
+{
+    let players = checked.sheet().players;
+    match plan_behind(alloc, source, forms, players) {
+        Ok(plan) => judged_answer(alloc, checked, &plan, &source[forms.rest..]),
+        Err(fail) => plan_failed(fail),
+    }
+}
+
+/// The answer of `check` to this transcript where the sheet and the plan are accepted.
+fn judged_answer(
+    alloc: Global,
+    checked: Checked,
+    plan: &Plan,
+    bytes: &[u8],
+) -> Result<Answer, AllocError>
+    requires short { length bytes.now ≤ 8388608 }
+    requires within { IsWithinLimits (plan_seen plan.now) }
+    requires seats { length (plan_seen plan.now).strategies ≡ checked.players }
+    ensures { IfOk result (IsJudged (about_of checked plan.now.turns) (plan_seen plan.now) bytes.now) }
+{
+    match read_house(alloc, bytes) {
+        Ok(text) => verdict_answer(alloc, checked, plan, &text),
+        Err(TextFail::Fault { line }) => Ok(Answer::Refused(Refusal::Text { line })),
+        Err(TextFail::Memory) => Err(AllocError),
+    }
+}
+
+/// The verdict on a house text.
+fn verdict_answer(
+    alloc: Global,
+    checked: Checked,
+    plan: &Plan,
+    text: &HouseText,
+) -> Result<Answer, AllocError>
+    requires within { IsWithinLimits (plan_seen plan.now) }
+    requires seats { length (plan_seen plan.now).strategies ≡ checked.players }
+    requires text { IsHouseText (text_seen text.now) }
+    requires few { length (lines_of (text_seen text.now)) ≤ 8388608 }
+    ensures { IfOk result (λ answer. seen answer 0
+        ≡ verdict (first_illegal (about_of checked plan.now.turns) dealing_of (plan_seen plan.now) (text_seen text.now))) }
+{
+    let about = match shared_about(alloc, checked, plan.turns) {
+        Ok(about) => about,
+        Err(Memory) => return Err(AllocError),
+    };
+    match judge(alloc, &about, plan, text) {
+        Ok(Verdict::Legal) => legal_answer(alloc),
+        Ok(Verdict::Illegal { line, why }) => Ok(Answer::Refused(Refusal::Illegal { line, why })),
+        Err(Memory) => Err(AllocError),
+    }
+}
+
+/// The answer to a legal transcript.
+fn legal_answer(alloc: Global) -> Result<Answer, AllocError>
+    ensures { IfOk result (λ answer. seen answer 0 ≡ verdict None) }
+{
+    let text = Vec::from_slice(alloc, b"legal\n")?;
+    Ok(Answer::Text(text, Note::Nothing))
 }
 
 /// The answer of `sheet` where this sheet is accepted.

@@ -1,13 +1,15 @@
 //! The commands that words name.
-ghost use Rattle.std.specs.Prelude.{◌≡◌, [], ◌∷◌, map, string_bytes, IfSome, IfNone};
+ghost use Rattle.std.specs.Prelude.{◌≡◌, ◌≤◌, [], ◌∷◌, map, string_bytes, IfSome, IfNone};
 ghost use Rattle.rc_house.specs.declared.command.Command.{Command};
-ghost use Rattle.rc_house.specs.Command.{wanted, IsCommand};
+ghost use Rattle.rc_house.specs.Command.{limit_of, wanted, IsCommand};
 
 /// A command.
 #[derive(Clone, Copy, Debug, PartialEq, Eq, Hash)]
 pub enum Command {
     /// Plays the matches of a sheet and a plan.
     Play,
+    /// Judges a transcript of a sheet and a plan.
+    Check,
     /// Prints a sheet.
     Sheet,
 }
@@ -19,7 +21,20 @@ impl Command {
     {
         match self {
             Command::Play => 2,
+            Command::Check => 2,
             Command::Sheet => 1,
+        }
+    }
+
+    /// The most bytes that it takes from its source.
+    pub fn limit(self) -> usize
+        ensures is { result ≡ limit_of self }
+        ensures few { result ≤ 8388608 }
+    {
+        match self {
+            Command::Play => 1_048_576,
+            Command::Check => 8_388_608,
+            Command::Sheet => 1_048_576,
         }
     }
 }
@@ -31,6 +46,7 @@ fn command_named(word: &String) -> Option<Command>
 {
     match word.as_str() {
         "play" => Some(Command::Play),
+        "check" => Some(Command::Check),
         "sheet" => Some(Command::Sheet),
         _ => None,
     }

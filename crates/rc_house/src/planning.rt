@@ -6,16 +6,16 @@ ghost use Rattle.rc_plan_model.specs.Limits.{IsWithinLimits};
 ghost use Rattle.rc_plan_model.specs.declared.fault.PlanKind.TheVariants as plan_kind;
 ghost use Rattle.rc_plan.specs.Reads.{IfPlanFault};
 ghost use Rattle.rc_rules.specs.Plan.{plan_seen};
-ghost use Rattle.rc_house.specs.AcceptedPlan.{IsPlanned, IsPlanFaulty};
+ghost use Rattle.rc_house.specs.AcceptedPlan.{IsBehind, IsFaultyBehind, IsPlanned, IsPlanFaulty};
 
 use rc_form::Forms;
 use rc_plan::{PlanFail, PlanFault, PlanKind, plan_of};
 use rc_rules::Plan;
 use std::alloc::Global;
 
-/// The plan behind the sheet in a source with these forms, for so many players; or its first fault.
+/// The plan behind the sheet in a source with these forms, for so many players, behind which nothing stands; or its first fault.
 pub fn read_plan(alloc: Global, source: &[u8], forms: &Forms, players: u8) -> Result<Plan, PlanFail>
-    requires small { length source.now ≤ 1048576 }
+    requires small { length source.now ≤ 8388608 }
     requires within { forms.now.rest ≤ length source.now }
     requires placed { All (λ form. IsPlaced (length source.now) (tree_of form)) forms.now.list.items }
     requires some { 1 ≤ players }
@@ -26,13 +26,7 @@ pub fn read_plan(alloc: Global, source: &[u8], forms: &Forms, players: u8) -> Re
     ensures fault { IfErr result (λ fail. IfPlanFault fail (λ fault.
         IsPlanFaulty source.now players fault.kind fault.at (trees_of forms.now.list.items) forms.now.rest)) }
 {
-    let Some(form) = forms.list.get(1) else {
-        return Err(PlanFail::Fault(PlanFault {
-            kind: PlanKind::Shape,
-            at: forms.rest as u32,
-        }));
-    };
-    let plan = match plan_of(alloc, form, players) {
+    let plan = match plan_behind(alloc, source, forms, players) {
         Ok(plan) => plan,
         Err(fail) => return Err(fail),
     };
@@ -42,9 +36,39 @@ pub fn read_plan(alloc: Global, source: &[u8], forms: &Forms, players: u8) -> Re
     }
 }
 
+/// The plan behind the sheet in a source with these forms, for so many players, whatever follows it; or its first fault.
+pub fn plan_behind(
+    alloc: Global,
+    source: &[u8],
+    forms: &Forms,
+    players: u8,
+) -> Result<Plan, PlanFail>
+    requires small { length source.now ≤ 8388608 }
+    requires within { forms.now.rest ≤ length source.now }
+    requires placed { All (λ form. IsPlaced (length source.now) (tree_of form)) forms.now.list.items }
+    requires some { 1 ≤ players }
+    requires few { players ≤ 8 }
+    ensures behind { IfOk result (λ plan. IsBehind players (trees_of forms.now.list.items) (plan_seen plan)) }
+    ensures limits { IfOk result (λ plan. IsWithinLimits (plan_seen plan)) }
+    ensures seats { IfOk result (λ plan. length (plan_seen plan).strategies ≡ players) }
+    ensures fault { IfErr result (λ fail. IfPlanFault fail (λ fault.
+        IsFaultyBehind players fault.kind fault.at (trees_of forms.now.list.items) forms.now.rest)) }
+{
+    let Some(form) = forms.list.get(1) else {
+        return Err(PlanFail::Fault(PlanFault {
+            kind: PlanKind::Shape,
+            at: forms.rest as u32,
+        }));
+    };
+    match plan_of(alloc, form, players) {
+        Ok(plan) => Ok(plan),
+        Err(fail) => Err(fail),
+    }
+}
+
 // The fault of a source where something follows what was read of it.
 fn rest_fault(source: &[u8], rest: usize) -> Option<PlanFault>
-    requires { rest ≤ 1048576 }
+    requires { rest ≤ 8388608 }
     ensures found { IfSome result (λ fault. (rest ≢ length source.now) × (fault.kind ≡ plan_kind.Rest) × (fault.at ≡ rest)) }
     ensures none { IfNone result (rest ≡ length source.now) }
 {

@@ -18,9 +18,6 @@ use std::sync::Wait;
 use std::sync::ledger::{Blank, Ledger};
 use std::thread::Threads;
 
-/// The most bytes that a command takes from its source.
-const SOURCE_LIMIT: usize = 1_048_576;
-
 /// Notes a refusal, whether that succeeds or not.
 pub fn refuse<N: Sink>(notes: &mut N, status: Status) -> Status
     ensures status { result ≡ status }
@@ -42,7 +39,7 @@ fn read_answer<S: Source, L: Ledger>(
     ensures none { IfErr result (ReadsNone command (port (S.left source.old) (S.faults source.old)) (port (S.left source.new) (S.faults source.new)) steps.old steps.new) }
     ensures counted { S.faults source.old ≤ S.faults source.new }
 {
-    let bytes = match read_all(alloc, source, SOURCE_LIMIT) {
+    let bytes = match read_all(alloc, source, command.limit()) {
         Ok(bytes) => bytes,
         Err(fail) => return Err(fail),
     };

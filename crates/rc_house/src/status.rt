@@ -1,10 +1,11 @@
 //! How a command ends.
 ghost use Rattle.std.specs.Prelude.{◌≡◌, ◌++◌, ◌≤◌, length, codes, decimal};
-ghost use Rattle.rc_house.specs.Status.{code_of, line_of, kind_name, plan_kind_name, source_kind};
+ghost use Rattle.rc_house.specs.Status.{code_of, line_of, kind_name, plan_kind_name, why_name};
 
 use arrayvec::ArrayString;
 use rc_form::FormKind;
 use rc_grammar::SheetKind;
+use rc_judge::Why;
 use rc_outside::ReadFail;
 use rc_plan::PlanKind;
 
@@ -82,6 +83,23 @@ fn plan_kind_name(kind: PlanKind) -> &'static str
     }
 }
 
+/// The name of why a line is illegal.
+fn why_name(why: Why) -> &'static str
+    ensures name { result.now ≡ why_name why }
+    ensures short { length result.now ≤ 8 }
+{
+    match why {
+        Why::Match => "Match",
+        Why::Shuffle => "Shuffle",
+        Why::Seat => "Seat",
+        Why::Menu => "Menu",
+        Why::Item => "Item",
+        Why::End => "End",
+        Why::Score => "Score",
+        Why::Standing => "Standing",
+    }
+}
+
 impl From<FormKind> for SourceKind {
     ghost use Rattle.std.specs.Prelude.{◌≡◌};
     ghost use Rattle.rc_house.specs.Status.{source_kind};
@@ -119,7 +137,7 @@ impl From<SheetKind> for SourceKind {
 }
 
 /// How a command ended.
-#[derive(Clone, Copy, Debug, PartialEq, Eq, Hash)]
+#[derive(Clone, Copy, Debug, PartialEq, Eq)]
 pub enum Status {
     /// All was read, played and written.
     Done,
@@ -127,6 +145,10 @@ pub enum Status {
     Sheet { kind: SourceKind, at: u32 },
     /// The plan's first fault, with the offset where it stands.
     Plan { kind: PlanKind, at: u32 },
+    /// The transcript's first line outside the grammar, counted from 1.
+    Text { line: u32 },
+    /// The transcript's first line that no play allows, counted from 1, and why.
+    Illegal { line: u32, why: Why },
     /// There was not enough memory.
     Memory,
     /// Reading the source failed.
@@ -148,6 +170,8 @@ impl Status {
             Status::Done => 0,
             Status::Sheet { .. } => 1,
             Status::Plan { .. } => 3,
+            Status::Text { .. } => 4,
+            Status::Illegal { .. } => 4,
             Status::Memory => 5,
             Status::ReadFault => 6,
             Status::WriteFault => 7,
@@ -164,6 +188,8 @@ impl Status {
             Status::Done => ArrayString::new(),
             Status::Sheet { kind, at } => fault_line("sheet ", kind.name(), *at),
             Status::Plan { kind, at } => fault_line("plan ", plan_kind_name(*kind), *at),
+            Status::Text { line } => text_line(*line),
+            Status::Illegal { line, why } => illegal_line(*line, *why),
             Status::Memory => fixed_line("no memory\n"),
             Status::ReadFault => fixed_line("read fault\n"),
             Status::WriteFault => fixed_line("write fault\n"),
@@ -210,6 +236,32 @@ fn fault_line(what: &str, kind: &str, at: u32) -> ArrayString<LINE>
     line.push_str(kind);
     line.push_str(" ");
     line.push_str(digits.format(at));
+    line.push_str("\n");
+    line
+}
+
+/// The line that names a transcript's line outside the grammar.
+fn text_line(at: u32) -> ArrayString<LINE>
+    ensures { result.bytes ≡ codes "text " ++ decimal at ++ codes "\n" }
+{
+    let mut digits = itoa::Buffer::new();
+    let mut line = ArrayString::new();
+    line.push_str("text ");
+    line.push_str(digits.format(at));
+    line.push_str("\n");
+    line
+}
+
+/// The line that names a transcript's illegal line, and why.
+fn illegal_line(at: u32, why: Why) -> ArrayString<LINE>
+    ensures { result.bytes ≡ codes "illegal " ++ decimal at ++ codes " " ++ why_name why ++ codes "\n" }
+{
+    let mut digits = itoa::Buffer::new();
+    let mut line = ArrayString::new();
+    line.push_str("illegal ");
+    line.push_str(digits.format(at));
+    line.push_str(" ");
+    line.push_str(why_name(why));
     line.push_str("\n");
     line
 }

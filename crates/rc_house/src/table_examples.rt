@@ -4,9 +4,10 @@ ghost use Rattle.std.specs.Prelude.{◌≡◌, ◌∷◌, [], codes};
 ghost use Rattle.rc_house.specs.declared.command.Command.TheVariants as command;
 ghost use Rattle.rc_house.specs.declared.status.SourceKind.TheVariants.{Unseen, NoCards};
 ghost use Rattle.rc_plan_model.specs.declared.fault.PlanKind.TheVariants.{TooLarge};
+ghost use Rattle.rc_judge.specs.declared.verdict.Why.TheVariants.{Menu};
 ghost use Rattle.rc_house.specs.declared.status.Status.TheVariants as ending;
 ghost use Rattle.rc_house.specs.declared.note.Note.TheVariants.{Nothing, Looks};
-ghost use Rattle.rc_house.specs.Command.{IsCommand, wanted};
+ghost use Rattle.rc_house.specs.Command.{IsCommand, limit_of, wanted};
 ghost use Rattle.rc_house.specs.Note.{note_line};
 ghost use Rattle.rc_house.specs.Status.{code_of, line_of};
 
@@ -15,6 +16,8 @@ pub fn codes_of_statuses()
     ensures done { code_of ending.Done ≡ 0 }
     ensures sheet { code_of (ending.Sheet NoCards 6) ≡ 1 }
     ensures plan { code_of (ending.Plan TooLarge 463) ≡ 3 }
+    ensures text { code_of (ending.Text 8) ≡ 4 }
+    ensures illegal { code_of (ending.Illegal 3 Menu) ≡ 4 }
     ensures memory { code_of ending.Memory ≡ 5 }
     ensures read_fault { code_of ending.ReadFault ≡ 6 }
     ensures write_fault { code_of ending.WriteFault ≡ 7 }
@@ -28,6 +31,8 @@ pub fn lines_of_statuses()
     ensures sheet { line_of (ending.Sheet Unseen 338) ≡ codes "sheet Unseen 338\n" }
     ensures no_cards { line_of (ending.Sheet NoCards 0) ≡ codes "sheet NoCards 0\n" }
     ensures plan { line_of (ending.Plan TooLarge 463) ≡ codes "plan TooLarge 463\n" }
+    ensures text { line_of (ending.Text 8) ≡ codes "text 8\n" }
+    ensures illegal { line_of (ending.Illegal 3 Menu) ≡ codes "illegal 3 Menu\n" }
     ensures memory { line_of ending.Memory ≡ codes "no memory\n" }
     ensures read_fault { line_of ending.ReadFault ≡ codes "read fault\n" }
     ensures write_fault { line_of ending.WriteFault ≡ codes "write fault\n" }
@@ -38,13 +43,16 @@ pub fn lines_of_statuses()
 /// One word names a command, as it is written.
 pub fn words_of_commands()
     ensures play { IsCommand (codes "play" ∷ []) command.Play }
+    ensures check { IsCommand (codes "check" ∷ []) command.Check }
     ensures sheet { IsCommand (codes "sheet" ∷ []) command.Sheet }
     ensures none { IsCommand [] command.Sheet → ⊥ }
     ensures another { IsCommand (codes "sheet" ∷ codes "x" ∷ []) command.Sheet → ⊥ }
     ensures capital { IsCommand (codes "Play" ∷ []) command.Play → ⊥ }
     ensures other { IsCommand (codes "sheet" ∷ []) command.Play → ⊥ }
     ensures play_reads { wanted command.Play ≡ 2 }
+    ensures check_reads { wanted command.Check ≡ 2 }
     ensures sheet_reads { wanted command.Sheet ≡ 1 }
+    ensures check_takes { limit_of command.Check ≡ 8388608 }
     ensures note { note_line (Looks 600 0) ≡ codes "cache looks 600 hits 0\n" }
     ensures no_note { note_line Nothing ≡ [] }
 {}

@@ -3,4 +3,4 @@
 
 mod plays;
 
-pub use plays::{House, Series, house_of, series_of};
+pub use plays::{House, Series, house_of, series_of, shared_about};

@@ -98,8 +98,8 @@ pub fn series_of<L: Ledger>(
     played(alloc, &about, &plan, steps)
 }
 
-// What the matches of a checked sheet are played by.
-fn shared_about(alloc: Global, checked: Checked, turns: u32) -> Result<Arc<About>, Memory>
+/// What the matches of a checked sheet are played by. Memory may run out.
+pub fn shared_about(alloc: Global, checked: Checked, turns: u32) -> Result<Arc<About>, Memory>
     ensures { IfOk result (λ about. about.value ≡ about_of checked turns) }
 {
     let shape = match shape_of(alloc, checked.sheet()) {

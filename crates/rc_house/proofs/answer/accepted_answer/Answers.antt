@@ -12,3 +12,6 @@ returns-in-Sheet-clause-answered g c =
 
 pub returns-in-Play-clause-few : goal.returns-in-Play-clause-few
 returns-in-Play-clause-few g c = rw c.in-Play.is c.play_answer.ensures.few
+
+pub returns-in-Check-clause-answered : goal.returns-in-Check-clause-answered
+returns-in-Check-clause-answered g c = rw c.in-Check.is (c.check_answer.ensures c.args.steps.now)

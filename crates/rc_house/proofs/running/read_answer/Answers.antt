@@ -1,4 +1,5 @@
 use Rattle.std.proofs.Common.{◌≤◌, ◌+◌, length, rules, subst}
+use Rattle.rc_house.specs.Command.{limit_of}
 use Rattle.rc_house.specs.Answer.{Answer, HasAnswer, IsAnswerTo, playouts_of}
 use Rattle.rc_house.proofs.OutcomeLemmas.{reads_answer, counted_given}
 use Rattle.rc_house.proofs.running.read_answer.Goals as goal
@@ -6,7 +7,7 @@ use Rattle.rc_house.proofs.running.read_answer.Goals as goal
 pub returns-in-Ok-answer_to-clause-answer : goal.returns-in-Ok-answer_to-clause-answer
 returns-in-Ok-answer_to-clause-answer g c =
     let bytes = c.in-Ok.bytes.items in
-    let few : length bytes ≤ 1048576 = search rules in
+    let few : length bytes ≤ limit_of c.args.command = search rules in
     let is : IsAnswerTo c.args.command bytes c.args.steps.now c.answer_to.new.steps c.in-Ok-answer_to.answer =
     subst (λ bytes. IsAnswerTo c.args.command bytes c.args.steps.now c.answer_to.new.steps c.in-Ok-answer_to.answer) c.deref.ensures.value c.in-Ok-answer_to.ensures.answered in
     reads_answer (g.S.Source.left c.args.source.now) (g.S.Source.left c.read_all.new.source) (g.S.Source.faults c.args.source.now)
@@ -16,7 +17,7 @@ returns-in-Ok-answer_to-clause-answer g c =
 pub returns-clause-none : goal.returns-clause-none
 returns-clause-none g c =
     let bytes = c.in-Ok.bytes.items in
-    let few : length bytes ≤ 1048576 = search rules in
+    let few : length bytes ≤ limit_of c.args.command = search rules in
     let counted : (answer : Answer) → HasAnswer c.args.command bytes answer → c.answer_to.new.steps ≤ c.args.steps.now + playouts_of answer =
     subst (λ bytes. (answer : Answer) → HasAnswer c.args.command bytes answer → c.answer_to.new.steps ≤ c.args.steps.now + playouts_of answer)
     c.deref.ensures.value c.in-Err-answer_to.ensures.few in (

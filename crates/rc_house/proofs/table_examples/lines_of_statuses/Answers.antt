@@ -13,3 +13,11 @@ returns-clause-no_cards c = refl
 pub returns-clause-plan : goal.returns-clause-plan
 unfolding digits
 returns-clause-plan c = refl
+
+pub returns-clause-text : goal.returns-clause-text
+unfolding digits
+returns-clause-text c = refl
+
+pub returns-clause-illegal : goal.returns-clause-illegal
+unfolding digits
+returns-clause-illegal c = refl
