@@ -1,7 +1,7 @@
 -- What `bench N` plays, and what it writes.
 use Rattle.std.specs.Prelude.{ℕ, Bool, true, false, List, [], ◌∷◌, ◌++◌, length, codes, decimal, flat_map, count_by, sum_by}
 use Rattle.rc_model.specs.Transcript.{Record, Standing, Ending, done, limit, line, standing_line}
-use Rattle.rc_play_model.specs.Plan.{Plan, scripted, random, rollout}
+use Rattle.rc_play_model.specs.Plan.{Plan, random, rollout}
 use Rattle.rc_plan_model.specs.PlanStands.{counted_from}
 
 -- two seats that pick by chance and two that roll out, over N matches from deal N and seed 1,000 on
