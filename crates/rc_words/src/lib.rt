@@ -1,0 +1,11 @@
+//! The words of the commands: which command a list of words names, with its number and its options.
+#![tactic(auto)]
+
+mod command;
+mod number;
+mod option;
+mod options;
+mod reader;
+
+pub use command::{Command, command_of};
+pub use options::Options;
