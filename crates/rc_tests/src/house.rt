@@ -311,7 +311,7 @@ const WORDS: [&[&str]; 8] = [
     &["play", "play"],
     &["sheet", "play"],
     &[""],
-    &["check"],
+    &["check", "check"],
     &["Play"],
     &["play "],
     &["pla"],
