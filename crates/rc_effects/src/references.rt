@@ -46,7 +46,7 @@ pub fn remember(
 fn note(table: &mut Table, id: u16, end: End, at: u16)
     requires card { id < length table.old.shape.faces }
     requires holds { HoldsReferences table.old.shape at }
-    ensures { table.new ≡ relaid table.old (noted_at table.old.shape (end_seen end) at id table.old.table) }
+    ensures { table.new ≡ relaid table.old (noted_at table.old.shape (end_seen end) id at table.old.table) }
 {
     match end {
         End::Top => table.remember_top(id, at),

@@ -1,4 +1,5 @@
--- The same in one pass: the play goes on from line to line.
+-- The first illegal line, found in one pass: the play goes on from line to line. That it is the one of first_illegal in Judged.antt is
+-- a law.
 use Rattle.std.specs.Prelude.{ℕ, ◌+◌, ◌==◌, if◌then◌else◌, List, [], ◌∷◌, length, Option, Some, None, Result, Ok, Err}
 use Rattle.rc_model.specs.Transcript.{Pick, Score, Record, Standing}
 use Rattle.rc_text_model.specs.Fields.{◌>>=◌}

@@ -37,7 +37,7 @@ module _ (shape : Shape) where
   card_id (noted loc id) is = is.1
 
   note_sound : (end : End) (loc : ℕ) → HoldsReferences shape loc → (table : Table) → IsSound shape table → (card : CardValue) → IsCardOf shape card →
-      IsSound shape (note shape end loc (id_of card) table)
+      IsSound shape (note shape end (id_of card) loc table)
   note_sound top loc holds table sound card is = remember_top_sound shape table (id_of card) loc holds.0 sound (card_id card is) holds.1 holds.2
   note_sound bottom loc holds table sound card is = remember_bottom_sound shape table (id_of card) loc holds.0 sound (card_id card is) holds.1 holds.2
 
@@ -58,7 +58,7 @@ module _ (shape : Shape) where
   moved_all end cards all (Some n) holds table sound = all_put_sound end n (holds n refl) cards all table sound
 
   noted_one : (end : End) (o : Option CardValue) → MayBeCard shape o → (p : Option ℕ) → ((n : ℕ) → p ≡ Some n → HoldsReferences shape n) → (table : Table) →
-      IsSound shape table → IsSound shape (if_some (λ at. if_some (λ c. note shape end at (id_of c)) o) p table)
+      IsSound shape table → IsSound shape (if_some (λ at. if_some (λ c. note shape end (id_of c) at) o) p table)
   noted_one end o is None holds table sound = sound
   noted_one end None is (Some n) holds table sound = sound
   noted_one end (Some card) is (Some n) holds table sound = note_sound end n (holds n refl) table sound card is

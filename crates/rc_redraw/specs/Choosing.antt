@@ -33,10 +33,11 @@ asked_for need = asked_by need.about need.strategy need.seed need.view
 abbrev pub Chooses : Need → Counts → Counts → ℕ → ℕ → Type 0
 Chooses need before after steps steps' = AsksAll (asked_for need) before after steps steps'
 
--- the most steps that a choice takes
+-- the steps that these lookups take where none is a hit
 abbrev pub all_costs : List Key → ℕ
 all_costs [] = 0
 all_costs (key ∷ keys) = cost_of key + all_costs keys
 
+-- the most steps that a choice takes
 abbrev pub most_steps : Need → ℕ
 most_steps need = all_costs (asked_for need)
