@@ -7,7 +7,7 @@ use Rattle.std.proofs.lemmas.List.FromFn.{length-map-range_with_len, get_or-map-
 use Rattle.rc_model.specs.Tree.{Tree, word, list, Trees, nil, cons, count, start_of}
 use Rattle.rc_sheet_model.specs.Rows.{◌▸◌, End, Row, Atom}
 use Rattle.rc_play_model.specs.Plan.{Strategy, Deal}
-use Rattle.rc_plan_model.specs.Limits.{largest_number, most_matches, most_turns, most_turns_in_all, IsBetween, IsWithinLimits, IsStrategyWithin, IsDealWithin}
+use Rattle.rc_plan_model.specs.Limits.{largest_seed, most_matches, most_turns, most_turns_in_all, IsBetween, IsWithinLimits, IsStrategyWithin, IsDealWithin}
 use Rattle.rc_plan_model.specs.PlanStands.{Number, InTurn, StandsStrategy, StandsDeal, later, counted_from, StandsSeats, StandsMatches, StandsTurns, PlanStands}
 use Rattle.rc_plan_model.specs.Faults.{fault_unless, is_between, spelled, number_in, seat_faults, is_countable, from_faults, each, match_faults, turn_faults, matches_said, all_matches_said, match_parts, turn_limit, is_small, second_round}
 use Rattle.rc_plan_model.specs.declared.fault.PlanKind.{PlanKind}
@@ -132,7 +132,7 @@ pub record IsWithin (deals : List Deal) (turns : ℕ) : Type 0 where
   pub each_deal : All IsDealWithin deals
   pub size : length deals * turns ≤ most_turns_in_all
 
-counted_within : (first : Deal) (count : ℕ) → 1 ≤ count → first.deal + count - 1 ≤ largest_number → first.seats + count - 1 ≤ largest_number
+counted_within : (first : Deal) (count : ℕ) → 1 ≤ count → first.deal + count - 1 ≤ largest_seed → first.seats + count - 1 ≤ largest_seed
     → All IsDealWithin (counted_from first count)
 counted_within first count some deals seats k d lt =
     let long = length-map-range_with_len (later first) 0 count in
@@ -163,8 +163,8 @@ matches_within (From first count at) (list (cons head parts) from to) turns are 
     let between = and_parts _ _ first_tests.0 in
     let some = leb-true 1 count between.0 in
     let most = leb-true count most_matches between.1 in
-    let deals = leb-true (first.deal + count - 1) largest_number first_tests.1 in
-    let seats = leb-true (first.seats + count - 1) largest_number tests.1 in
+    let deals = leb-true (first.deal + count - 1) largest_seed first_tests.1 in
+    let seats = leb-true (first.seats + count - 1) largest_seed tests.1 in
     let long = length-map-range_with_len (later (deal_seen first)) 0 count in
     record {
       count = (omega (arith, long, some), omega (arith, long, most));

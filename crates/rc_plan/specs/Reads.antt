@@ -3,7 +3,7 @@ use Rattle.std.specs.Prelude.{◌≡◌, ℕ, List, [], ◌++◌, Result, Ok, Er
 use Rattle.rc_model.specs.Tree.{Tree, word, list, Trees, cons, start_of}
 use Rattle.rc_sheet_model.specs.Rows.{◌▸◌, End, Some as AtLeastOne, Row, Atom}
 use Rattle.rc_play_model.specs.Plan.{Strategy, Deal}
-use Rattle.rc_plan_model.specs.Limits.{largest_number, IsBetween, IsStrategyWithin, most_rounds}
+use Rattle.rc_plan_model.specs.Limits.{largest_seed, IsBetween, IsStrategyWithin, most_rounds}
 use Rattle.rc_plan_model.specs.PlanStands.{Number, InTurn, StandsStrategy}
 use Rattle.rc_plan_model.specs.Faults.{Place, each}
 use Rattle.rc_plan_model.specs.PlanFault.{first}
@@ -37,7 +37,7 @@ abbrev pub IsNumberBetween : ℕ → ℕ → ℕ → Tree → Type 0
 IsNumberBetween least most n form = Number n form × IsBetween least most n
 
 abbrev pub IsAnyNumber : ℕ → Tree → Type 0
-IsAnyNumber = IsNumberBetween 0 largest_number
+IsAnyNumber = IsNumberBetween 0 largest_seed
 
 -- the form stands for the strategy, which is within the limits
 abbrev pub IsStrategy : Strategy → Tree → Type 0

@@ -11,7 +11,7 @@ use Rattle.std.proofs.lemmas.Slice.Eq.{bytes_eq-Decides}
 use Rattle.rc_model.specs.Tree.{Tree, word, list, Trees, nil, cons, count, start_of}
 use Rattle.rc_sheet_model.specs.Rows.{Word}
 use Rattle.rc_play_model.specs.Plan.{Strategy, scripted, random, rollout, Deal, Plan}
-use Rattle.rc_plan_model.specs.Limits.{largest_number, most_matches, most_turns, most_turns_in_all, IsBetween, IsStrategyWithin, IsDealWithin, IsWithinLimits}
+use Rattle.rc_plan_model.specs.Limits.{largest_seed, most_matches, most_turns, most_turns_in_all, IsBetween, IsStrategyWithin, IsDealWithin, IsWithinLimits}
 use Rattle.rc_plan_model.specs.PlanStands.{Number, InTurn, StandsStrategy, StandsDeal, later, counted_from, StandsFrom, StandMatches, StandsSeats, StandsMatches, StandsTurns, PlanStands}
 use Rattle.rc_plan_model.specs.Faults.{Place, fault, fault_unless, is_between, is_word, is_number_between, number_between, any_number, script_number, rounds, row, each, some, headed, strategy, match, match_list, lists_among, seats, matches, turns, first_round, spelled, number_in, seat_faults, is_countable, from_faults, match_faults, turn_faults, matches_said, all_matches_said, match_parts, turn_limit, is_small, plan_faults}
 use Rattle.rc_plan_model.specs.declared.fault.PlanKind.{PlanKind}
@@ -50,8 +50,8 @@ number_fine least most n (word bytes from to) spells is =
     no_fault _ NumberKind from (ap (is_number_between least most) spells ∙ between_holds least most n is)
 number_fine least most n (list parts from to) spells is = absurd spells
 
-any_fine : (n : ℕ) (form : Tree) → Number n form → n ≤ largest_number → any_number form ≡ []
-any_fine n form spells most = number_fine 0 largest_number n form spells (omega arith, most)
+any_fine : (n : ℕ) (form : Tree) → Number n form → n ≤ largest_seed → any_number form ≡ []
+any_fine n form spells most = number_fine 0 largest_seed n form spells (omega arith, most)
 
 script_fine : (numbers : List ℕ) (parts : Trees) → InTurn Number numbers parts → All (λ n. n ≤ 65535) numbers → each script_number parts ≡ []
 script_fine [] nil stand all = refl
@@ -142,8 +142,8 @@ listed_fine alone (deal ∷ deals) (cons tree parts) stand all =
 pub record CountsWithin (first : Deal) (count : ℕ) : Type 0 where
   pub some : 1 ≤ count
   pub most : count ≤ most_matches
-  pub deal : first.deal + count - 1 ≤ largest_number
-  pub seats : first.seats + count - 1 ≤ largest_number
+  pub deal : first.deal + count - 1 ≤ largest_seed
+  pub seats : first.seats + count - 1 ≤ largest_seed
 
 counts_within : (first : Deal) (count : ℕ) → IsBetween 1 most_matches (length (counted_from first count)) → All IsDealWithin (counted_from first count)
     → CountsWithin first count

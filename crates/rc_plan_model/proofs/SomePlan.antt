@@ -10,7 +10,7 @@ use Rattle.rc_model.specs.Literal.{natural}
 use Rattle.rc_model.specs.Tree.{Tree, word, list, Trees, nil, cons, count}
 use Rattle.rc_sheet_model.specs.Rows.{◌▸◌, End, Row, Word, Atom}
 use Rattle.rc_play_model.specs.Plan.{Strategy, scripted, random, rollout, Deal, Plan}
-use Rattle.rc_plan_model.specs.Limits.{largest_number, largest_script_number, most_rounds, most_matches, most_turns, most_turns_in_all, IsBetween, IsStrategyWithin, IsDealWithin, IsWithinLimits}
+use Rattle.rc_plan_model.specs.Limits.{largest_seed, largest_script_number, most_rounds, most_matches, most_turns, most_turns_in_all, IsBetween, IsStrategyWithin, IsDealWithin, IsWithinLimits}
 use Rattle.rc_plan_model.specs.PlanStands.{Number, InTurn, StandsStrategy, StandsDeal, later, counted_from, StandMatches, StandsSeats, StandsMatches, StandsTurns, PlanStands}
 use Rattle.rc_plan_model.specs.Faults.{Place, fault, fault_unless, is_between, is_word, is_number_between, number_between, any_number, script_number, rounds, in_turn, row, each, some, headed, strategy, match, match_list, lists_among, seats, matches, turns, first_round, number_in, seat_faults, is_countable, from_faults, match_faults, turn_faults, matches_said, all_matches_said, match_parts, turn_limit, is_small, plan_faults}
 use Rattle.rc_plan_model.specs.declared.fault.PlanKind.{PlanKind}
@@ -72,8 +72,8 @@ number_stands : (least most : ℕ) (form : Tree) → number_between least most f
 number_stands least most (word bytes from to) none = spelled_between least most (natural bytes) (holds_if _ NumberKind from none)
 number_stands least most (list parts from to) none = absurd cc
 
-any_stands : (form : Tree) → any_number form ≡ [] → (n : ℕ) × Number n form × (n ≤ largest_number)
-any_stands form none = let is = number_stands 0 largest_number form none in (is.0, is.1, is.2.1)
+any_stands : (form : Tree) → any_number form ≡ [] → (n : ℕ) × Number n form × (n ≤ largest_seed)
+any_stands form none = let is = number_stands 0 largest_seed form none in (is.0, is.1, is.2.1)
 
 script_stands : (parts : Trees) → each script_number parts ≡ []
     → (numbers : List ℕ) × InTurn Number numbers parts × All (λ n. n ≤ largest_script_number) numbers
@@ -86,7 +86,7 @@ script_stands (cons part parts) none =
 
 -- ROWS OF NUMBERS
 
-key_stands : (from : ℕ) (parts : Trees) → row (any_number ∷ []) from parts ≡ [] → (key : ℕ) × (Number key ▸ End) parts × (key ≤ largest_number)
+key_stands : (from : ℕ) (parts : Trees) → row (any_number ∷ []) from parts ≡ [] → (key : ℕ) × (Number key ▸ End) parts × (key ≤ largest_seed)
 key_stands from nil none = absurd cc
 key_stands from (cons a nil) none =
     let is = any_stands a (neither (any_number a) [] none).0 in
@@ -283,7 +283,7 @@ counts_if first many (list (cons head (cons a (cons b (cons c nil)))) from to) s
     )
 counts_if first many (list (cons head (cons a (cons b (cons c (cons d parts))))) from to) stands none = absurd stands.1.1.1.1
 
-counted_within : (first : Deal) (many : ℕ) → 1 ≤ many → first.deal + many - 1 ≤ largest_number → first.seats + many - 1 ≤ largest_number
+counted_within : (first : Deal) (many : ℕ) → 1 ≤ many → first.deal + many - 1 ≤ largest_seed → first.seats + many - 1 ≤ largest_seed
     → All IsDealWithin (counted_from first many)
 counted_within first many least deals seats k d lt =
     let long = length-map-range_with_len (later first) 0 many in
@@ -300,8 +300,8 @@ counted alone form turns is none small =
     let tests = and_parts _ _ says.0 in
     let others = and_parts _ _ tests.0 in
     let between = between_if 1 most_matches many others.0 in
-    let deals = leb-true (first.deal + many - 1) largest_number others.1 in
-    let seats = leb-true (first.seats + many - 1) largest_number tests.1 in
+    let deals = leb-true (first.deal + many - 1) largest_seed others.1 in
+    let seats = leb-true (first.seats + many - 1) largest_seed tests.1 in
     let long = length-map-range_with_len (later first) 0 many in
     let size = leb-true (all_matches_said (cons form nil) * turns) most_turns_in_all (and_parts (nat_le (count (cons form nil)) most_matches) _ small).1 in
     record {

@@ -4,7 +4,7 @@
 use Rattle.std.specs.Prelude.{ℕ, ◌+◌, ◌*◌, ◌-◌, Bool, false, ◌&&◌, ◌==◌, nat_le, if◌then◌else◌, List, [], ◌∷◌, ◌++◌, length, codes, bytes_eq, Option, Some, None}
 use Rattle.rc_model.specs.Tree.{Tree, word, list, Trees, nil, cons, count, start_of}
 use Rattle.rc_model.specs.Literal.{natural}
-use Rattle.rc_plan_model.specs.Limits.{largest_number, largest_script_number, most_rounds, most_matches, most_turns, most_turns_in_all}
+use Rattle.rc_plan_model.specs.Limits.{largest_seed, largest_script_number, most_rounds, most_matches, most_turns, most_turns_in_all}
 use Rattle.rc_plan_model.specs.declared.fault.PlanKind.{PlanKind}
 use Rattle.rc_plan_model.specs.declared.fault.PlanKind.TheVariants.{Shape, Number, Seats, Matches, Turns, TooLarge}
 use Rattle.rc_plan_model.specs.declared.fault.PlanFault.{PlanFault}
@@ -42,7 +42,7 @@ number_between least most (word bytes from to) = fault_unless (is_number_between
 number_between least most (list parts from to) = fault Shape from
 
 abbrev pub any_number : Place
-any_number = number_between 0 largest_number
+any_number = number_between 0 largest_seed
 
 abbrev pub script_number : Place
 script_number = number_between 0 largest_script_number
@@ -136,7 +136,7 @@ seat_faults players form = []
 
 -- so many matches can be counted from a number on
 abbrev pub can_count : ℕ → ℕ → Bool
-can_count first count = nat_le (first + count - 1) largest_number
+can_count first count = nat_le (first + count - 1) largest_seed
 
 -- a `from` counts one match at least, 4,096 at most, and stays within the numbers
 abbrev pub is_countable : ℕ → ℕ → ℕ → Bool

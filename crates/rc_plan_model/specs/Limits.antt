@@ -2,9 +2,9 @@
 use Rattle.std.specs.Prelude.{ℕ, ◌*◌, ◌≤◌, length, All}
 use Rattle.rc_play_model.specs.Plan.{Strategy, scripted, random, rollout, Deal, Plan}
 
--- the largest deal, seat and key: eighteen digits
-abbrev pub largest_number : ℕ
-largest_number = 999999999999999999
+-- the largest seed of a match, and the largest key of a strategy: eighteen digits
+abbrev pub largest_seed : ℕ
+largest_seed = 999999999999999999
 
 -- the largest number of a script
 abbrev pub largest_script_number : ℕ
@@ -33,11 +33,11 @@ IsBetween least most n = (least ≤ n) × (n ≤ most)
 
 abbrev pub IsStrategyWithin : Strategy → Type 0
 IsStrategyWithin (scripted numbers) = All (λ n. n ≤ largest_script_number) numbers
-IsStrategyWithin (random key) = key ≤ largest_number
-IsStrategyWithin (rollout rounds key) = IsBetween 1 most_rounds rounds × (key ≤ largest_number)
+IsStrategyWithin (random key) = key ≤ largest_seed
+IsStrategyWithin (rollout rounds key) = IsBetween 1 most_rounds rounds × (key ≤ largest_seed)
 
 abbrev pub IsDealWithin : Deal → Type 0
-IsDealWithin deal = (deal.deal ≤ largest_number) × (deal.seats ≤ largest_number)
+IsDealWithin deal = (deal.deal ≤ largest_seed) × (deal.seats ≤ largest_seed)
 
 -- the plan is within the limits
 pub record IsWithinLimits (plan : Plan) : Type 0 where
