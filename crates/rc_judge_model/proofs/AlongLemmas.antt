@@ -13,11 +13,11 @@ use Rattle.rc_text_model.proofs.Grammar.{run_append, text_taken, add_picks, add_
 use Rattle.rc_play_model.specs.About.{About}
 use Rattle.rc_play_model.specs.Effects.{Dealing}
 use Rattle.rc_play_model.specs.Stop.{Stopped}
-use Rattle.rc_play_model.specs.Play.{from_stop, follow, reached}
+use Rattle.rc_play_model.specs.Play.{items_of, from_stop, follow, reached}
 use Rattle.rc_play_model.specs.Plan.{Plan, deal_at}
 use Rattle.rc_judge_model.specs.Why.{Why, Illegal}
 use Rattle.rc_judge_model.specs.Rows.{◌or◌, lacking_row, opening_row, chosen_row, shuffled_row, ending_row, scored_row, ranked_row, end_row}
-use Rattle.rc_judge_model.specs.Judged.{items_of, at_line, play_after, play_at, row_at, end_at, row_of, end_of, first_from, first_illegal}
+use Rattle.rc_judge_model.specs.Judged.{at_line, play_after, play_at, row_at, end_at, row_of, end_of, first_from, first_illegal}
 use Rattle.rc_judge_model.specs.Along.{next_stop, stop_along, along_from, Judging, on_row, and_then, picks_along, told_along, scores_along, body_along, record_along, matches_along, standings_along, or_illegal, judged}
 use Rattle.rc_judge_model.proofs.GoesOn.{reached_append}
 

@@ -1,5 +1,5 @@
 -- The first illegal line of a house text. For each line the play of its match is started anew.
-use Rattle.std.specs.Prelude.{ℕ, ◌+◌, List, [], ◌∷◌, ◌++◌, length, map, Option, Some, None}
+use Rattle.std.specs.Prelude.{ℕ, ◌+◌, List, [], ◌∷◌, ◌++◌, length, Option, Some, None}
 use Rattle.rc_model.specs.Transcript.{Pick}
 use Rattle.rc_text_model.specs.Fields.{◌>>=◌}
 use Rattle.rc_text_model.specs.Lines.{Line, opening, chosen, shuffled, ending, scored, ranked}
@@ -9,13 +9,10 @@ use Rattle.rc_text_model.specs.Grammar.{run}
 use Rattle.rc_play_model.specs.About.{About}
 use Rattle.rc_play_model.specs.Effects.{Dealing}
 use Rattle.rc_play_model.specs.Stop.{Stopped}
-use Rattle.rc_play_model.specs.Play.{reached}
+use Rattle.rc_play_model.specs.Play.{items_of, reached}
 use Rattle.rc_play_model.specs.Plan.{Plan, deal_at}
 use Rattle.rc_judge_model.specs.Why.{Why, Illegal}
 use Rattle.rc_judge_model.specs.Rows.{◌or◌, lacking_row, opening_row, chosen_row, shuffled_row, ending_row, scored_row, ranked_row, end_row}
-
-abbrev pub items_of : List Pick → List ℕ
-items_of picks = map (λ p. p.item) picks
 
 -- the n-th line where a row applies to it, else what is found later
 abbrev pub at_line : ℕ → Option Why → Option Illegal → Option Illegal

@@ -1,17 +1,14 @@
 -- Where a match on its way stands: at the stop to which the items picked so far lead.
-use Rattle.std.specs.Prelude.{◌≡◌, ℕ, ◌<◌, Bool, false, List, [], length, map, Some, None}
-use Rattle.rc_model.specs.Transcript.{Pick, Ending}
+use Rattle.std.specs.Prelude.{◌≡◌, ℕ, ◌<◌, Bool, false, List, [], length, Some, None}
+use Rattle.rc_model.specs.Transcript.{Ending}
 use Rattle.rc_play_model.specs.About.{About, menu_at}
 use Rattle.rc_play_model.specs.Step.{Stop, decide, start}
-use Rattle.rc_play_model.specs.Play.{stop_for}
+use Rattle.rc_play_model.specs.Play.{items_of, stop_for}
 use Rattle.rc_play_model.specs.Plan.{Plan, deal_at}
 use Rattle.rc_play_model.specs.Keyed.{dealing_of, reached_in}
 use Rattle.rc_redraw.specs.Need.{Need, IsNeed}
 use Rattle.rc_match.specs.declared.lane.LaneState.{LaneState}
 use Rattle.rc_match.specs.Lane.{Phase, ready, asks, missed, holds, over, spent, Lane, phase_seen, need_at, completed}
-
-abbrev pub items_of : List Pick → List ℕ
-items_of picks = map (λ (pick : Pick). pick.item) picks
 
 -- the items picked so far lead to this stop, where the match stands
 abbrev pub StandsAt : About → Plan → ℕ → Lane → Stop → Type 0
