@@ -12,7 +12,6 @@ ghost use Rattle.rc_rules.specs.Control.{stop_seen};
 ghost use Rattle.rc_rules.specs.Plan.{plan_seen};
 ghost use Rattle.rc_rules.specs.Record.{pick_seen, score_seen, record_seen};
 ghost use Rattle.rc_rules.specs.Machine.{StandsAtDecision, StandsWhereItStops, menu_here};
-ghost use Rattle.rc_plain.specs.Plain.{config_of};
 ghost use Rattle.rc_judge.specs.Seen.{Judges, stands_at, lines_in};
 
 use crate::rows::{chosen_row, ending_row, opening_row, scored_row, shuffled_row};
@@ -42,22 +41,11 @@ pub(crate) fn record_along(
         Ok(()) => {}
         Err(halt) => return Err(halt),
     }
-    let machine = match machine_of(alloc, about) {
+    let machine = match PlainMachine::start_of(alloc, about) {
         Ok(machine) => machine,
         Err(Memory) => return Err(Halt::NoMemory),
     };
     body_along(about, plan, number, line + 1, machine, played)
-}
-
-// A machine at the start of a match.
-fn machine_of(alloc: Global, about: &About) -> Result<PlainMachine, Memory>
-    ensures about { IfOk result (λ m. m.about ≡ about.now) }
-    ensures start { IfOk result (λ m. config_of m ≡ start about.now) }
-{
-    match about.copy() {
-        Ok(about) => PlainMachine::at_start(alloc, about),
-        Err(Memory) => Err(Memory),
-    }
 }
 
 // Judges the lines of a match behind its first one, on a machine that stands at its start.

@@ -70,6 +70,17 @@ impl PlainMachine {
         Ok(PlainMachine::with_opening(about, table))
     }
 
+    /// A match at its start, in matches of this about, which is copied.
+    pub fn start_of(alloc: Global, about: &About) -> Result<PlainMachine, Memory>
+        ensures about { IfOk result (λ m. m.about ≡ about.now) }
+        ensures start { IfOk result (λ m. config_of m ≡ start about.now) }
+    {
+        match about.copy() {
+            Ok(about) => PlainMachine::at_start(alloc, about),
+            Err(Memory) => Err(Memory),
+        }
+    }
+
     /// A match at the decision for which this table and this control stand. The shape is the sheet's.
     pub fn at(
         checked: &Arc<Checked>,

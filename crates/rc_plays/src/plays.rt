@@ -1,11 +1,9 @@
 //! Plays of all matches, one after the other.
 ghost use Rattle.std.specs.Prelude.{◌≡◌, ◌<◌, ◌≤◌, ◌+◌, map, length, Some, All, IfOk, OnOk};
-ghost use Rattle.rc_play_model.specs.Step.{start};
 ghost use Rattle.rc_play_model.specs.About.{about_of};
 ghost use Rattle.rc_play_model.specs.House.{standings_of};
 ghost use Rattle.rc_play_model.specs.Keyed.{keyed_match, keyed_house};
 ghost use Rattle.rc_plan_model.specs.Limits.{IsWithinLimits};
-ghost use Rattle.rc_plain.specs.Plain.{config_of};
 ghost use Rattle.rc_redraw.specs.Choosing.{AsksAll, all_costs};
 ghost use Rattle.rc_redraw.specs.Counts.{Serves};
 ghost use Rattle.rc_rules.specs.Plan.{plan_seen};
@@ -207,7 +205,7 @@ fn record_of<C: Chooser, L: Ledger>(
     ensures rises { steps.old ≤ steps.new }
     ensures bounded { steps.new ≤ steps.old + all_costs (asks_of about.now.value (plan_seen plan.now.value) number) }
 {
-    let machine = match machine_of(alloc, about) {
+    let machine = match PlainMachine::start_of(alloc, about) {
         Ok(machine) => machine,
         Err(Memory) => return Err(Memory),
     };
@@ -216,17 +214,6 @@ fn record_of<C: Chooser, L: Ledger>(
         Err(Memory) => return Err(Memory),
     };
     play_match(alloc, &job, machine, chooser, steps)
-}
-
-// A machine at the start of a match.
-fn machine_of(alloc: Global, about: &About) -> Result<PlainMachine, Memory>
-    ensures about { IfOk result (λ m. m.about ≡ about.now) }
-    ensures start { IfOk result (λ m. config_of m ≡ start about.now) }
-{
-    match about.copy() {
-        Ok(about) => PlainMachine::at_start(alloc, about),
-        Err(Memory) => Err(Memory),
-    }
 }
 
 // The match with this number.
