@@ -8,7 +8,7 @@ ghost use Rattle.rc_plan_model.specs.Limits.{IsWithinLimits};
 ghost use Rattle.rc_play_model.specs.About.{about_of};
 ghost use Rattle.rc_play_model.specs.Keyed.{dealing_of};
 ghost use Rattle.rc_text_model.specs.HouseText.{IsHouseText, lines_of};
-ghost use Rattle.rc_judge.specs.Seen.{text_seen};
+ghost use Rattle.rc_text.specs.House.{house_seen};
 ghost use Rattle.rc_judge_model.specs.Judged.{first_illegal};
 ghost use Rattle.rc_rules.specs.Plan.{plan_seen};
 ghost use Rattle.rc_house.specs.declared.refusal.Refusal.TheVariants as refusal;
@@ -240,10 +240,10 @@ fn verdict_answer(
 ) -> Result<Answer, AllocError>
     requires within { IsWithinLimits (plan_seen plan.now) }
     requires seats { length (plan_seen plan.now).strategies ≡ checked.players }
-    requires text { IsHouseText (text_seen text.now) }
-    requires few { length (lines_of (text_seen text.now)) ≤ 8388608 }
+    requires text { IsHouseText (house_seen text.now) }
+    requires few { length (lines_of (house_seen text.now)) ≤ 8388608 }
     ensures { IfOk result (λ answer. seen answer 0
-        ≡ verdict (first_illegal (about_of checked plan.now.turns) dealing_of (plan_seen plan.now) (text_seen text.now))) }
+        ≡ verdict (first_illegal (about_of checked plan.now.turns) dealing_of (plan_seen plan.now) (house_seen text.now))) }
 {
     let about = match shared_about(alloc, checked, plan.turns) {
         Ok(about) => about,

@@ -5,9 +5,8 @@ use Rattle.rc_play_model.specs.Stop.{Stopped}
 use Rattle.rc_rules.specs.declared.control.Stop.{Stop}
 use Rattle.rc_rules.specs.declared.record.MatchRecord.{MatchRecord}
 use Rattle.rc_rules.specs.Control.{stop_seen}
-use Rattle.rc_rules.specs.Record.{record_seen, standing_seen}
-use Rattle.rc_text.specs.declared.house.HouseText.{HouseText}
-use Rattle.rc_text_model.specs.HouseText.{HouseText as PureText, record_lines}
+use Rattle.rc_rules.specs.Record.{record_seen}
+use Rattle.rc_text_model.specs.HouseText.{record_lines}
 use Rattle.rc_judge_model.specs.Why.{Why as PureWhy, by_match, by_shuffle, by_seat, by_menu, by_item, by_end, by_score, by_standing, Illegal as PureIllegal}
 use Rattle.rc_judge_model.specs.Along.{Judging}
 use Rattle.rc_judge.specs.declared.verdict.Why.{Why}
@@ -35,10 +34,6 @@ row_seen (Some why) = Some (why_seen why)
 abbrev pub verdict_seen : Verdict → Option PureIllegal
 verdict_seen Legal = None
 verdict_seen (IllegalAt line why) = Some (record { line = line; why = why_seen why })
-
--- the matches and the standings that a text tells
-abbrev pub text_seen : HouseText → PureText
-text_seen text = record { matches = map record_seen text.matches.items; standings = map standing_seen text.standings.items }
 
 -- Judging stops at this illegal line, or memory ran out.
 abbrev pub IsHalted : {A : Type 0} → Halt → Judging A → Type 0

@@ -14,7 +14,8 @@ ghost use Rattle.rc_judge_model.specs.Why.{Illegal};
 ghost use Rattle.rc_judge.specs.declared.verdict.Verdict.TheVariants.{Legal};
 ghost use Rattle.rc_rules.specs.Plan.{plan_seen};
 ghost use Rattle.rc_rules.specs.Record.{record_seen, standing_seen};
-ghost use Rattle.rc_judge.specs.Seen.{Finds, Judges, row_seen, text_seen, verdict_seen, lines_in_all};
+ghost use Rattle.rc_text.specs.House.{house_seen};
+ghost use Rattle.rc_judge.specs.Seen.{Finds, Judges, row_seen, verdict_seen, lines_in_all};
 
 use crate::playing::record_along;
 use crate::rows::ranked_row;
@@ -35,10 +36,10 @@ use std::alloc::Global;
 pub fn judge(alloc: Global, about: &About, plan: &Plan, text: &HouseText) -> Result<Verdict, Memory>
     requires within { IsWithinLimits (plan_seen plan.now) }
     requires seats { length plan.now.strategies.items ≡ about.now.sheet.players }
-    requires text { IsHouseText (text_seen text.now) }
-    requires few { length (lines_of (text_seen text.now)) ≤ 33554432 }
-    ensures first { IfOk result (λ v. verdict_seen v ≡ first_illegal about.now dealing_of (plan_seen plan.now) (text_seen text.now)) }
-    ensures legal { IfOk result (λ v. (v ≡ Legal) ↔ IsLegal about.now dealing_of (plan_seen plan.now) (text_seen text.now)) }
+    requires text { IsHouseText (house_seen text.now) }
+    requires few { length (lines_of (house_seen text.now)) ≤ 33554432 }
+    ensures first { IfOk result (λ v. verdict_seen v ≡ first_illegal about.now dealing_of (plan_seen plan.now) (house_seen text.now)) }
+    ensures legal { IfOk result (λ v. (v ≡ Legal) ↔ IsLegal about.now dealing_of (plan_seen plan.now) (house_seen text.now)) }
 {
     one_pass_judges();
     legal_exactly();
@@ -60,9 +61,9 @@ fn verdict_of(judged: Result<(), Halt>) -> Result<Verdict, Memory>
 fn text_along(alloc: Global, about: &About, plan: &Plan, text: &HouseText) -> Result<(), Halt>
     requires within { IsWithinLimits (plan_seen plan.now) }
     requires seats { length plan.now.strategies.items ≡ about.now.sheet.players }
-    requires text { IsHouseText (text_seen text.now) }
-    requires few { length (lines_of (text_seen text.now)) ≤ 33554432 }
-    ensures { Finds result (along.judged about.now dealing_of (plan_seen plan.now) (text_seen text.now)) }
+    requires text { IsHouseText (house_seen text.now) }
+    requires few { length (lines_of (house_seen text.now)) ≤ 33554432 }
+    ensures { Finds result (along.judged about.now dealing_of (plan_seen plan.now) (house_seen text.now)) }
 {
     let line = match matches_along(alloc, about, plan, &text.matches) {
         Ok(line) => line,

@@ -3,7 +3,8 @@ use Rattle.rc_play_model.specs.Keyed.{dealing_of}
 use Rattle.rc_judge_model.specs.Judged.{first_illegal}
 use Rattle.rc_judge_model.specs.Legal.{IsLegal}
 use Rattle.rc_rules.specs.Plan.{plan_seen}
-use Rattle.rc_judge.specs.Seen.{Finds, text_seen}
+use Rattle.rc_text.specs.House.{house_seen}
+use Rattle.rc_judge.specs.Seen.{Finds}
 use Rattle.rc_judge.proofs.Steps.{legal_is}
 use Rattle.rc_judge.proofs.judging.judge.Goals as goal
 
@@ -11,7 +12,7 @@ pub returns-clause-first : goal.returns-clause-first
 returns-clause-first c =
     let about = c.args.about.now in
     let plan = plan_seen c.args.plan.now in
-    let text = text_seen c.args.text.now in
+    let text = house_seen c.args.text.now in
     c.verdict_of.ensures (first_illegal about dealing_of plan text)
     (subst (Finds c.text_along.result) (c.one_pass_judges.ensures about dealing_of plan text c.requires.text) c.text_along.ensures)
 
@@ -19,7 +20,7 @@ pub returns-clause-legal : goal.returns-clause-legal
 returns-clause-legal c =
     let about = c.args.about.now in
     let plan = plan_seen c.args.plan.now in
-    let text = text_seen c.args.text.now in
+    let text = house_seen c.args.text.now in
     legal_is c.verdict_of.result (first_illegal about dealing_of plan text) (IsLegal about dealing_of plan text)
     (c.verdict_of.ensures (first_illegal about dealing_of plan text)
     (subst (Finds c.text_along.result) (c.one_pass_judges.ensures about dealing_of plan text c.requires.text) c.text_along.ensures))
