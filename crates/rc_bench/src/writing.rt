@@ -1,11 +1,11 @@
 //! The summary that `bench` writes.
-ghost use Rattle.std.specs.Prelude.{◌≡◌, ◌++◌, length, map, flat_map, string_bytes, IfOk, OnOk};
-ghost use Rattle.rc_model.specs.Transcript.{standing_line};
+ghost use Rattle.std.specs.Prelude.{◌≡◌, ◌++◌, map, string_bytes, IfOk, OnOk};
 ghost use Rattle.rc_rules.specs.Record.{record_seen, standing_seen};
 ghost use Rattle.rc_bench.specs.Bench.{bench_text, decisions, limits};
 
 use rc_deck::Memory;
 use rc_rules::{Ended, MatchRecord, Standing};
+use rc_text::write_standings;
 use std::alloc::{AllocError, Global};
 use std::fmt::Write;
 
@@ -66,25 +66,4 @@ fn limits_of(matches: &[MatchRecord]) -> usize
         .iter()
         .filter(|played| played.stop == Ended::Limit)
         .count()
-}
-
-/// Adds a line for each strategy.
-fn write_standings(out: &mut String, standings: &[Standing]) -> Result<(), AllocError>
-    ensures { OnOk result (string_bytes out.new ≡ string_bytes out.old ++ flat_map standing_line (map standing_seen standings.now)) }
-{
-    for standing in standings {
-        write_standing(out, *standing)?;
-    }
-    Ok(())
-}
-
-fn write_standing(out: &mut String, standing: Standing) -> Result<(), AllocError>
-    ensures { OnOk result (string_bytes out.new ≡ string_bytes out.old ++ standing_line (standing_seen standing)) }
-{
-    let Standing {
-        place,
-        strategy,
-        points,
-    } = standing;
-    writeln!(out, "standing {place} strategy {strategy} points {points}")
 }

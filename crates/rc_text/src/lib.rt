@@ -12,3 +12,4 @@ mod write;
 pub use house::{HouseText, write_house, write_record};
 pub use ranking::standings;
 pub use reading::{TextFail, read_house};
+pub use write::write_standings;
