@@ -1,8 +1,7 @@
 -- The score that stands at a place in the record of a play.
-use Rattle.std.proofs.Common.{◌≡◌, ℕ, zero, suc, ◌+◌, ◌<◌, ◌≤◌, List, length, map, get_or, slice_get, slice_index_or, ℤ, pos, Some, None, arith, sym, ap, ◌∙◌}
+use Rattle.std.proofs.Common.{◌≡◌, ℕ, zero, suc, ◌+◌, ◌<◌, List, length, map, get_or, slice_get, slice_index_or, ℤ, pos, Some, arith, sym, ap, ◌∙◌}
 use Rattle.std.specs.List.{range_with_len}
 use Rattle.std.proofs.lemmas.List.FromFn.{length-map-range_with_len}
-use Rattle.std.proofs.lemmas.Option.{slice_get_past}
 use Rattle.rc_model.specs.Numbers.{below}
 use Rattle.rc_play_model.specs.About.{About}
 use Rattle.rc_play_model.specs.Step.{Config}
@@ -36,8 +35,3 @@ score_told about c scores points k is ranked lt =
     ∙ ap (λ i. Some (score_at about (scores_of about c.table c.control) i)) same
     ∙ ap (λ all. Some (score_at about all k)) (sym is)
     ∙ ap (λ p. Some (record { player = k; score = slice_index_or scores k (pos 0); points = p })) (sym worth)
-
-pub none_told : (about : About) (c : Config) (k : ℕ) → about.sheet.players ≤ k → slice_get (scores_at about c) k ≡ None
-none_told about c k le =
-    let long = length-map-range_with_len (score_at about (scores_of about c.table c.control)) 0 about.sheet.players in
-    slice_get_past (scores_at about c) k (omega (arith, le, long))

@@ -1,5 +1,5 @@
 //! The play of a match, as its record tells it.
-ghost use Rattle.std.specs.Prelude.{◌≡◌, ℕ, ◌+◌, ◌<◌, ◌≤◌, ◌^◌, [], false, length, map, Some, None, IfOk, OnOk};
+ghost use Rattle.std.specs.Prelude.{◌≡◌, ℕ, ◌+◌, ◌<◌, ◌≤◌, ◌^◌, [], false, length, map, Some, IfOk, OnOk};
 ghost use Rattle.rc_play_model.specs.Step.{start, Config};
 ghost use Rattle.rc_play_model.specs.Play.{stop_behind};
 ghost use Rattle.rc_play_model.specs.Decision.{choose};
@@ -18,7 +18,6 @@ use crate::rows::{chosen_row, ending_row, opening_row, scored_row, shuffled_row}
 use crate::verdict::{Halt, on_row};
 use rc_deck::Memory;
 use rc_plain::PlainMachine;
-use rc_play_model::configurations_come_to_stops;
 use rc_rules::{About, Machine, MatchDealer, MatchRecord, Pick, Plan, Score, Stop, rank_points};
 use std::alloc::Global;
 

@@ -8,7 +8,7 @@ ghost use Rattle.rc_judge_model.specs.Rows as rows;
 ghost use Rattle.rc_judge_model.specs.Why.{by_standing};
 ghost use Rattle.rc_rules.specs.Control.{stop_seen};
 ghost use Rattle.rc_rules.specs.Plan.{plan_seen};
-ghost use Rattle.rc_rules.specs.Record.{pick_seen, ending_seen, score_seen, standing_seen, record_seen};
+ghost use Rattle.rc_rules.specs.Record.{pick_seen, ending_seen, score_seen, standing_seen};
 ghost use Rattle.rc_rules.specs.Machine.{StandsAtDecision, StandsWhereItStops, Decides, menu_here};
 ghost use Rattle.rc_judge.specs.Seen.{row_seen, stands_at};
 

@@ -59,16 +59,6 @@ module _ (m : Plain) (dealing : Dealing ℕ) (k : ℕ) where
       ∙ ap (at_round m.about dealing k s rest m.table m.control) ends
       ∙ ap (λ fs. goes k (record { left = rest; table = m.table; control = with_frames m.control fs })) closes
 
-  pub limit_leads : (s : Stage) → m.path.at_round ≡ true → stage_in (item_at m.about.sheet m.path) ≡ Some s →
-      test_value (scene_at m.about m.table m.control.frames) [] s.end ≡ false → m.about.turns ≤ m.control.turn →
-      step m.about dealing k (config_of m) ≡ stops is_limit (config_of m)
-  limit_leads s here is ends over =
-      let first = left-round items m.path s here is in
-      ap from first
-      ∙ ap (at_round m.about dealing k s rest m.table m.control) ends
-      ∙ cond-true (nat_le m.about.turns m.control.turn) _ _ (le-leb _ _ over)
-      ∙ ap (λ left. stops is_limit (record { left = left; table = m.table; control = m.control })) (sym first)
-
   pub round_leads : (s : Stage) → m.path.at_round ≡ true → stage_in (item_at m.about.sheet m.path) ≡ Some s →
       test_value (scene_at m.about m.table m.control.frames) [] s.end ≡ false → m.control.turn < m.about.turns →
       step m.about dealing k (config_of m) ≡ goes k (config_of (moved m (into m.path) m.table (one_turn_more m.control)))

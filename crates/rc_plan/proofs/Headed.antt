@@ -26,20 +26,6 @@ is_behind text head parts form from to is at_head =
       is = is ∙ ap (λ h. list (cons h parts) from to) found.2 ∙ ap (λ at. list (cons (word text found.0 found.1) parts) at to) (sym (ap start_of is));
     }
 
--- a list with another head
-pub other_head : (text : List ℕ) (head : Tree) (others : Trees) (form : Tree) (from to : ℕ) → form ≡ list (cons head others) from to
-    → is_word text head ≡ false → IsNotHeaded text form
-other_head text head others form from to is other parts behind =
-    let same : list (cons head others) from to ≡ list (cons (word text behind.word_from behind.word_to) parts) (start_of form) behind.to = sym is ∙ behind.is in
-    let heads : head ≡ word text behind.word_from behind.word_to = cc in
-    let here : is_word text head ≡ true = ap (is_word text) heads ∙ (bytes_eq-Decides text text).1 refl in
-    absurd cc
-
-no_head : (text : List ℕ) (form : Tree) (from to : ℕ) → form ≡ list nil from to → IsNotHeaded text form
-no_head text form from to is parts behind =
-    let same : list nil from to ≡ list (cons (word text behind.word_from behind.word_to) parts) (start_of form) behind.to = sym is ∙ behind.is in
-    absurd cc
-
 -- the faults of a list with the word are those behind it
 pub headed_is : (text : List ℕ) (parts : Trees) (form : Tree) (behind : ℕ → Trees → List PlanFault) → IsBehind text parts form
     → headed text behind form ≡ behind (start_of form) parts
@@ -65,14 +51,6 @@ unheaded text (list (cons head parts) from to) behind not = by_test (is_word tex
 -- the strategies by their words
 pub strategy_script : (parts : Trees) (form : Tree) → IsBehind (codes "script") parts form → strategy form ≡ each script_number parts
 strategy_script parts form at = ap strategy at.is
-
-pub strategy_random : (parts : Trees) (form : Tree) → IsBehind (codes "random") parts form
-    → strategy form ≡ row (any_number ∷ []) (start_of form) parts
-strategy_random parts form at = ap strategy at.is
-
-pub strategy_rollout : (parts : Trees) (form : Tree) → IsBehind (codes "rollout") parts form
-    → strategy form ≡ row (rounds ∷ any_number ∷ []) (start_of form) parts
-strategy_rollout parts form at = ap strategy at.is
 
 pub no_strategy : (form : Tree) → IsNotHeaded (codes "script") form → IsNotHeaded (codes "random") form → IsNotHeaded (codes "rollout") form
     → strategy form ≡ fault Shape (start_of form)

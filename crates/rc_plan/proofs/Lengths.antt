@@ -31,10 +31,6 @@ pub some_counted : (forms : List Form) → length forms ≢ 0 → nat_le 1 (coun
 some_counted [] many = absurd (many refl)
 some_counted (form ∷ forms) many = grind arith
 
-pub no_parts : (place : Place) (from : ℕ) (forms : List Form) → length forms ≡ 0 → some place from (packed (trees_of forms)) ≡ fault Shape from
-no_parts place from [] none = refl
-no_parts place from (form ∷ forms) none = absurd cc
-
 -- three parts
 pub three : {X : Type 0} (xs : List X) (a b c : X) → length xs ≡ 3 → a ≡ get_or xs 0 a → b ≡ get_or xs 1 b → c ≡ get_or xs 2 c
     → xs ≡ a ∷ b ∷ c ∷ []

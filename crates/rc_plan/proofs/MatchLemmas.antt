@@ -4,23 +4,15 @@ use Rattle.std.specs.Prelude.{codes}
 use Rattle.std.proofs.lemmas.Bool.{le-leb, lt-leb}
 use Rattle.rc_form.specs.Form.{trees_of, packed}
 use Rattle.rc_form.specs.declared.form.Form.{Form}
-use Rattle.rc_model.specs.Tree.{Tree, word, list, Trees, nil, cons, start_of, count}
+use Rattle.rc_model.specs.Tree.{word, list, Trees, nil, cons, count}
 use Rattle.rc_plan_model.specs.Faults.{match, match_list, is_word, row, some, any_number, fault, each, lists_among}
 use Rattle.rc_plan_model.specs.declared.fault.PlanKind.TheVariants.{Shape}
 use Rattle.rc_plan_model.specs.declared.fault.PlanFault.{PlanFault}
-use Rattle.rc_plan.specs.Reads.{IsBehind, IsNotHeaded}
+use Rattle.rc_plan.specs.Reads.{IsNotHeaded}
 use Rattle.rc_plan.proofs.Headed.{is_behind}
 use Rattle.rc_plan.proofs.Lengths.{some_parts}
 
--- a list that begins with `from`
-pub match_from : (parts : Trees) (form : Tree) → IsBehind (codes "from") parts form
-    → match true form ≡ row (any_number ∷ any_number ∷ any_number ∷ []) (start_of form) parts
-match_from parts form at = ap (match true) at.is
-
-pub match_beside : (parts : Trees) (form : Tree) → IsBehind (codes "from") parts form → match false form ≡ fault Shape (start_of form)
-match_beside parts form at = ap (match false) at.is
-
--- another list
+-- a list that begins with something else than `from`
 pub match_deal : (alone : Bool) (parts : Trees) (from to : ℕ) → IsNotHeaded (codes "from") (list parts from to)
     → match alone (list parts from to) ≡ row (any_number ∷ any_number ∷ []) from parts
 match_deal alone nil from to not = refl

@@ -1,5 +1,5 @@
 //! What the parts of a plan say, and whether they say it together.
-ghost use Rattle.std.specs.Prelude.{◌≡◌, ◌≤◌, ◌∷◌, [], IfOk, map, true};
+ghost use Rattle.std.specs.Prelude.{◌≡◌, ◌≤◌, [], IfOk, map, true};
 ghost use Rattle.rc_plan_model.specs.PlanStands.{counted_from};
 ghost use Rattle.rc_form.specs.Form.{tree_of};
 ghost use Rattle.rc_plan_model.specs.Faults as place;

@@ -1,5 +1,5 @@
 //! The strategies of the seats.
-ghost use Rattle.std.specs.Prelude.{◌≡◌, ◌∷◌, [], map};
+ghost use Rattle.std.specs.Prelude.{◌∷◌, [], map};
 ghost use Rattle.rc_form.specs.Form.{tree_of, trees_of, packed};
 ghost use Rattle.rc_plan_model.specs.Faults as place;
 ghost use Rattle.rc_plan_model.specs.PlanStands.{InTurn};
@@ -7,7 +7,7 @@ ghost use Rattle.rc_rules.specs.Plan.{strategy_seen};
 ghost use Rattle.rc_plan.specs.Reads.{Reads, IsNumberBetween, IsStrategy, AreSeats, IsKey, IsRollout};
 
 use crate::fail::PlanFail;
-use crate::forms::{is_word, parts_behind, read_any, read_number, start_of};
+use crate::forms::{parts_behind, read_any, read_number, start_of};
 use rc_form::Form;
 use rc_rules::Strategy;
 use std::alloc::Global;

@@ -59,9 +59,6 @@ sum_lt (p ∷ places) (xs ∷ lists) (ys ∷ lists') (suc loc) len len' within e
 if_true : {X : Type 0} (b : Bool) (x y : X) → b ≡ true → (if b then x else y) ≡ x
 if_true b x y e = ap (λ c. if c then x else y) e
 
-if_false : {X : Type 0} (b : Bool) (x y : X) → b ≡ false → (if b then x else y) ≡ y
-if_false b x y e = ap (λ c. if c then x else y) e
-
 -- an empty list is one that has no first item
 nil_unless : (xs : List ℕ) → ((x : ℕ) (rest : List ℕ) → xs ≡ x ∷ rest → ⊥) → xs ≡ []
 nil_unless [] never = refl

@@ -1,8 +1,8 @@
 -- One number more is set.
-use Rattle.std.proofs.Common.{◌≡◌, ℕ, ◌+◌, ◌<◌, ◌≤◌, List, [], ◌∷◌, ◌++◌, length, take, drop, get_or, slice_set, ℤ, pos, SFits, w64, sym, ap, ◌∙◌, arith, append_assoc, append-nil, take_all}
+use Rattle.std.proofs.Common.{◌≡◌, ℕ, ◌+◌, ◌<◌, List, [], ◌∷◌, ◌++◌, length, take, drop, get_or, slice_set, ℤ, pos, SFits, w64, sym, ap, ◌∙◌, arith, append_assoc}
 use Rattle.std.proofs.lemmas.Int.{ints}
 use Rattle.rc_model.specs.Clamp.{IsWithinClamp}
-use Rattle.std.proofs.lemmas.List.{take_more, drop_more, drop_all, set_at, length-take-le}
+use Rattle.std.proofs.lemmas.List.{take_more, drop_more, set_at, length-take-le}
 
 -- a number within the clamp fits its type
 pub clamp_fits : (z : ℤ) → IsWithinClamp z → SFits w64 z
@@ -16,7 +16,3 @@ set_next new old i same less =
     ap (λ rest. slice_set (take i new ++ rest) i x) (drop_more old i (pos 0) less)
     ∙ set_at (take i new) y (drop (i + 1) old) x i (length-take-le i new (omega (arith, same, less)))
     ∙ sym (append_assoc (take i new) (x ∷ []) (drop (i + 1) old)) ∙ ap (λ front. front ++ drop (i + 1) old) (sym (take_more new i (pos 0) (omega (arith, same, less))))
-
-pub all_set : (new old : List ℤ) (i : ℕ) → length new ≡ length old → length old ≤ i → take i new ++ drop i old ≡ new
-all_set new old i same past =
-    ap (λ rest. take i new ++ rest) (drop_all i old past) ∙ append-nil (take i new) ∙ take_all i new (omega (arith, same, past))

@@ -7,7 +7,7 @@ use Rattle.rc_play_model.specs.About.{About, menu_at}
 use Rattle.rc_play_model.specs.Control.{Control}
 use Rattle.rc_play_model.specs.Table.{Table}
 use Rattle.rc_play_model.specs.Effects.{Dealing}
-use Rattle.rc_play_model.specs.Step.{Config, goes, Stop, decide, is_done, is_limit}
+use Rattle.rc_play_model.specs.Step.{Config, goes, Stop, decide}
 use Rattle.rc_play_model.specs.Stop.{Stopped, stop_of}
 use Rattle.rc_play_model.specs.Decision.{choose}
 use Rattle.rc_play_model.specs.Play.{Played, with_pick, pick_at, from_stop, stop_behind, played_on}
@@ -54,17 +54,6 @@ module _ (about : About) (ask : Ask) (round x : ℕ) where
   pub goes_on_from_item : (k : ℕ) (c : Config) → choose about dealing 0 x (redrawn_at about ask round) ≡ goes k c →
       GoesOn about ask round x about.turns k c
   goes_on_from_item k c first = sym (ap (λ next. end_of (on about.turns (stop_behind about dealing next))) first)
-
-  -- at the end
-  pub done_there : (left k k' : ℕ) (c c' : Config) → GoesOn about ask round x left k c →
-      stop_of about dealing k c ≡ Some (record { stop = is_done; config = c'; dealer = k' }) →
-      end_of (playout about ask round x) ≡ Some (c'.table, c'.control)
-  done_there left k k' c c' goes_on stops = sym goes_on ∙ ap (λ stop. end_of (on left stop)) stops
-
-  pub limit_there : (left k k' : ℕ) (c c' : Config) → GoesOn about ask round x left k c →
-      stop_of about dealing k c ≡ Some (record { stop = is_limit; config = c'; dealer = k' }) →
-      end_of (playout about ask round x) ≡ Some (c'.table, c'.control)
-  limit_there left k k' c c' goes_on stops = sym goes_on ∙ ap (λ stop. end_of (on left stop)) stops
 
   -- at a decision one is left
   some_left : (left seat site k : ℕ) (c : Config) → EveryPlayoutEnds →

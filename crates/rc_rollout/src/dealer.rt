@@ -2,7 +2,7 @@
 ghost use Rattle.std.specs.Prelude.{◌≡◌, ◌≤◌, ◌+◌, ◌*◌, length};
 ghost use Rattle.std.specs.List.Sorted.{IsPermutation};
 ghost use Rattle.rc_model.specs.Numbers.{below};
-ghost use Rattle.rc_play_model.specs.Draws.{key32 as key_of_four, keyed};
+ghost use Rattle.rc_play_model.specs.Draws.{keyed};
 ghost use Rattle.rc_play_model.specs.Table.{taken};
 ghost use Rattle.rc_play_model.specs.Tally.{draw_number as number_of_draw, one_draw_more, playout_dealing};
 ghost use Rattle.rc_redraw.specs.Asking.{ask_seen};

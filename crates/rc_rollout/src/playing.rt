@@ -1,5 +1,5 @@
 //! Playouts.
-ghost use Rattle.std.specs.Prelude.{◌≡◌, ◌<◌, length, map, slice_index, Some, IfOk, OnOk};
+ghost use Rattle.std.specs.Prelude.{◌≡◌, ◌<◌, length, slice_index, Some, IfOk, OnOk};
 ghost use Rattle.rc_model.specs.Numbers.{below};
 ghost use Rattle.rc_play_model.specs.Draws.{keyed};
 ghost use Rattle.rc_play_model.specs.Scores as play;

@@ -1,7 +1,6 @@
 -- Where a card stands, and how many references there are, location by location.
-use Rattle.std.proofs.Common.{◌≡◌, ℕ, zero, suc, ◌+◌, ◌<◌, ◌≤◌, ◌==◌, not, ◌&&◌, cond, List, [], ◌∷◌, length, get_or, drop, slice_get, sum_by, zip, refl, ap, subst, arith}
+use Rattle.std.proofs.Common.{◌≡◌, ℕ, zero, suc, ◌+◌, ◌<◌, ◌==◌, not, ◌&&◌, cond, List, [], ◌∷◌, length, get_or, drop, slice_get, sum_by, zip, refl, ap, subst, arith}
 use Rattle.std.specs.List.{list_any}
-use Rattle.std.proofs.lemmas.List.{drop_all}
 use Rattle.std.proofs.lemmas.List.Sums.{sum_by-cons}
 use Rattle.rc_sheet_model.specs.Sheet.{game_class, vloc}
 use Rattle.rc_play_model.specs.Shape.{Place, Shape, holds_references}
@@ -44,10 +43,6 @@ references_here places lists loc within same =
     subst (λ n. sum_by references_in (zip (drop loc places) (drop loc lists))
     ≡ cond (holds_references (slice_get places loc)) (length (get_or lists loc [])) 0
     + sum_by references_in (zip (drop n places) (drop n lists))) next (references_next places lists loc within same)
-
-pub references_end : (places : List Place) (lists : List (List ℕ)) (loc : ℕ) → length places ≤ loc →
-    sum_by references_in (zip (drop loc places) (drop loc lists)) ≡ 0
-references_end places lists loc past = ap (λ rest. sum_by references_in (zip rest (drop loc lists))) (drop_all loc places past)
 
 -- a card of a sound table is found where it is looked for
 pub placed_there : (shape : Shape) (table : Table) (id : ℕ) → IsSound shape table → id < length shape.faces →

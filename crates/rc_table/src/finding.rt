@@ -1,5 +1,5 @@
 //! Where a card is, and how many references there are.
-ghost use Rattle.std.specs.Prelude.{◌≡◌, ◌==◌, ◌<◌, ◌≤◌, ◌&&◌, not, if◌then◌else◌, length, slice_get};
+ghost use Rattle.std.specs.Prelude.{◌≡◌, ◌==◌, ◌<◌, ◌&&◌, not, if◌then◌else◌, length, slice_get};
 ghost use Rattle.std.specs.List.{list_any};
 ghost use Rattle.rc_play_model.specs.Shape.{holds_references};
 ghost use Rattle.rc_play_model.specs.Table.{list_at, index_in, loc_of, place_of, references, has_room};

@@ -1,10 +1,10 @@
 //! Who sees the cards of a location, and by which number a face is known.
 ghost use Rattle.std.specs.Prelude.{◌≡◌, ◌<◌, ◌≤◌, length};
 ghost use Rattle.rc_play_model.specs.Shape.{face_at, face_eq, face_number as face_number_of};
-ghost use Rattle.rc_play_model.specs.Sees.{is_owner as is_owner_of, sees_place, sees as sees_faces};
-ghost use Rattle.rc_table.specs.Places.{class_of, number_of, place_seen};
+ghost use Rattle.rc_play_model.specs.Sees.{is_owner as is_owner_of, sees as sees_faces};
+ghost use Rattle.rc_table.specs.Places.{class_of, number_of};
 
-use crate::place::{Owner, Place};
+use crate::place::Owner;
 use crate::shape::Shape;
 use rc_names::LocKind;
 

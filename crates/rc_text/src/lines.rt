@@ -1,5 +1,4 @@
 //! The lines of a house text, read.
-ghost use Rattle.std.specs.Prelude.{◌≡◌};
 ghost use Rattle.rc_text_model.specs.Lines.{line_of, header_in, opening_in, chosen_in, shuffled_in, done_in, limit_in, scored_in, ranked_in};
 ghost use Rattle.rc_text_model.specs.Fields.{last};
 ghost use Rattle.rc_text.specs.Finds.{Finds};

@@ -1,10 +1,10 @@
 -- Sums and bests, card by card.
-use Rattle.std.proofs.Common.{◌≡◌, ℕ, ◌+◌, ◌<◌, ◌≤◌, Bool, cond, List, [], ◌∷◌, ◌++◌, length, get_or, take, drop, map, ℤ, pos, ◌+ℤ◌, Some, arith, sym, ap, ◌∙◌}
+use Rattle.std.proofs.Common.{◌≡◌, ℕ, ◌+◌, ◌<◌, ◌≤◌, Bool, cond, List, [], ◌∷◌, ◌++◌, length, get_or, take, drop, map, ℤ, pos, ◌+ℤ◌, sym, ap, ◌∙◌}
 use Rattle.std.specs.List.{fold}
-use Rattle.std.proofs.lemmas.List.{take_more, take_all, drop_all, map-append}
+use Rattle.std.proofs.lemmas.List.{take_more, take_all, map-append}
 use Rattle.std.proofs.lemmas.List.Sums.{fold-append}
 use Rattle.std.specs.List.{best_of as first_best}
-use Rattle.rc_play_model.specs.Value.{beats, best_of}
+use Rattle.rc_play_model.specs.Value.{beats}
 use Rattle.rc_value.proofs.Steps.{drop_here}
 
 pub sum_more : {C : Type 0} (f : C → ℤ) (cards : List C) (i : ℕ) (c : C) → i < length cards → c ≡ get_or cards i c →
@@ -18,16 +18,9 @@ pub sum_all : {C : Type 0} (f : C → ℤ) (cards : List C) (i : ℕ) → length
 sum_all f cards i le = ap (λ xs. fold ◌+ℤ◌ (pos 0) (map f xs)) (take_all i cards le)
 
 module _ {C : Type 0} (better : ℤ → ℤ → Bool) (worth : C → ℤ) where
-  pub best_first : (cards : List C) (c : C) → 0 < length cards → c ≡ get_or cards 0 c → best_of better worth cards ≡ Some (first_best (beats better worth) c (drop 1 cards))
-  best_first [] c lt is = absurd (omega arith)
-  best_first (d ∷ cards) c lt is = ap (λ x. Some (first_best (beats better worth) x cards)) (sym is)
-
   pub best_step : (cards : List C) (i : ℕ) (found next c whole : C) → i < length cards → c ≡ get_or cards i c →
       next ≡ cond (better (worth c) (worth found)) c found → first_best (beats better worth) found (drop i cards) ≡ whole →
       first_best (beats better worth) next (drop (i + 1) cards) ≡ whole
   best_step cards i found next c whole lt is chosen told =
       ap (λ x. first_best (beats better worth) x (drop (i + 1) cards)) chosen
       ∙ ap (first_best (beats better worth) found) (sym (drop_here cards i c lt is)) ∙ told
-
-  pub best_end : (cards : List C) (i : ℕ) (found whole : C) → length cards ≤ i → first_best (beats better worth) found (drop i cards) ≡ whole → found ≡ whole
-  best_end cards i found whole le told = ap (first_best (beats better worth) found) (sym (drop_all i cards le)) ∙ told

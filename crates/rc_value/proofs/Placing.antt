@@ -10,10 +10,6 @@ use Rattle.rc_play_model.specs.Owners.{place_among}
 use Rattle.rc_value.specs.Places.{has_owner_in, placed}
 use Rattle.rc_value.proofs.Lists.{take_min}
 
-raised : (before owner : ℕ) (b : Bool) → option_map (λ n. before + n) (cond b (Some owner) None) ≡ cond b (Some (before + owner)) None
-raised before owner true = refl
-raised before owner false = refl
-
 more : (sheet : Sheet) (wanted : Class) (count before owner : ℕ) (class : Option Class) →
     option_map (λ n. count + n) (placed sheet wanted class before owner) ≡ placed sheet wanted class (count + before) owner
 more sheet wanted count before owner None = refl

@@ -1,5 +1,5 @@
 //! What a scene says of cards, locations and numbers.
-ghost use Rattle.std.specs.Prelude.{◌≡◌, ◌≤◌, [], ◌∷◌, pos, option_map, unwrap_or, IfSome, All, slice_get, slice_index_or, Some, None, if◌then◌else◌};
+ghost use Rattle.std.specs.Prelude.{◌≡◌, [], option_map, unwrap_or, IfSome, All, slice_get, slice_index_or, Some, None, if◌then◌else◌};
 ghost use Rattle.rc_deck.specs.Points.{entries_of};
 ghost use Rattle.rc_model.specs.Clamp.{IsWithinClamp};
 ghost use Rattle.rc_play_model.specs.Shape.{face_eq, holds_references};

@@ -1,5 +1,5 @@
 //! Loops over the cards of a collection.
-ghost use Rattle.std.specs.Prelude.{◌≡◌, ◌+◌, ◌<◌, ◌++◌, ◌∷◌, [], ◌≤◌, length, slice_set, slice_index_or, option_map, int_lt, if◌then◌else◌};
+ghost use Rattle.std.specs.Prelude.{◌≡◌, ◌+◌, ◌<◌, ◌++◌, [], ◌≤◌, length, slice_set, slice_index_or, option_map, int_lt, if◌then◌else◌};
 ghost use Rattle.rc_play_model.specs.Value.{cut, sum_worth, best_of, int_more, worth};
 ghost use Rattle.rc_value.specs.Cards.{value_seen, values_seen};
 ghost use Rattle.rc_value.specs.Picks.{picked_of, measured_of};
