@@ -10,7 +10,7 @@ ghost use Rattle.rc_redraw.specs.Asking.{ask_seen};
 ghost use Rattle.rc_rollout.specs.Drawn.{dealing_at};
 ghost use Rattle.rc_rollout.specs.Playing.{end_of, GoesOn};
 
-use crate::dealer::{PlayoutDealer, draw_number};
+use crate::dealer::{Draw, PlayoutDealer, draw_number};
 use arrayvec::ArrayVec;
 use rc_deck::Memory;
 use rc_draw::{key32, pick_by};
@@ -75,8 +75,13 @@ fn play_on(
             Stop::Done => return Ok(()),
             Stop::Limit => return Ok(()),
             Stop::Decide { seat, site } => {
-                let draw = dealer.count_pick();
-                let pick = pick_of(about, ask, round, item, draw, machine, seat, site);
+                let number = dealer.count_pick();
+                let draw = Draw {
+                    round,
+                    item,
+                    number,
+                };
+                let pick = pick_of(about, ask, draw, machine, seat, site);
                 left -= 1;
                 match machine.apply(pick, dealer) {
                     Ok(()) => {}
@@ -88,24 +93,15 @@ fn play_on(
 }
 
 // What the seat picks that decides at this site.
-fn pick_of(
-    about: &About,
-    ask: &Ask,
-    round: u16,
-    item: u16,
-    draw: u32,
-    machine: &PlainMachine,
-    seat: u8,
-    site: u8,
-) -> u16
+fn pick_of(about: &About, ask: &Ask, draw: Draw, machine: &PlainMachine, seat: u8, site: u8) -> u16
     requires about { machine.now.about ≡ about.now }
     requires decides { Decides about.now seat site (config_of machine.now) }
-    ensures is { (result, tally.one_draw_more draw) ≡ tally.playout_chooser about.now (ask_seen ask.now) round item seat site
-        (config_of machine.now).table (config_of machine.now).control draw }
+    ensures is { (result, tally.one_draw_more draw.number) ≡ tally.playout_chooser about.now (ask_seen ask.now) draw.round draw.item seat site
+        (config_of machine.now).table (config_of machine.now).control draw.number }
     ensures offered { result < length (menu_here about.now (config_of machine.now)) }
 {
     let size = machine.menu().len() as u16;
-    picked(ask, draw_number(round, item, draw), size)
+    picked(ask, draw_number(draw), size)
 }
 
 // The pick below the size by the key of the ask and of this number.

@@ -23,6 +23,13 @@ use std::alloc::Global;
 use std::sync::Arc;
 use std::sync::ledger::Ledger;
 
+/// A round by its number from 0, with the table that is redrawn for it.
+#[derive(Drop)]
+struct Round {
+    number: u16,
+    table: Table,
+}
+
 /// The totals of a key: what each item of the menu gains over all rounds, each from a table redrawn for the round. It counts a
 /// step for each playout. Memory may run out; then no more steps are counted than for the whole.
 pub fn tally<L: Ledger>(alloc: Global, key: &Key, steps: &mut Steps<L>) -> Result<Entry, Memory>
@@ -113,37 +120,39 @@ fn add_round<L: Ledger>(
     alloc: Global,
     about: &About,
     ask: &Ask,
-    round: u16,
+    number: u16,
     totals: &mut Vec<u32>,
     steps: &mut Steps<L>,
 ) -> Result<(), Memory>
     requires at { IsAtDecision about.now (ask_seen ask.now).view }
-    requires before { totals.old.items ≡ tally.tally about.now (in_rounds round (ask_seen ask.now)) }
-    ensures after { OnOk result (totals.new.items ≡ tally.tally about.now (in_rounds (round + 1) (ask_seen ask.now))) }
+    requires before { totals.old.items ≡ tally.tally about.now (in_rounds number (ask_seen ask.now)) }
+    ensures after { OnOk result (totals.new.items ≡ tally.tally about.now (in_rounds (number + 1) (ask_seen ask.now))) }
     ensures counted { OnOk result (steps.new ≡ steps.old + menu_size about.now (ask_seen ask.now).view) }
     ensures rises { steps.old ≤ steps.new }
     ensures bounded { steps.new ≤ steps.old + menu_size about.now (ask_seen ask.now).view }
 {
-    match redrawn(alloc, about, ask, round) {
-        Ok(table) => add_gains(alloc, about, ask, round, &table, totals, steps),
+    match redrawn(alloc, about, ask, number) {
+        Ok(table) => {
+            let round = Round { number, table };
+            add_gains(alloc, about, ask, &round, totals, steps)
+        }
         Err(Memory) => Err(Memory),
     }
 }
 
-// Adds what each item gains in a round with this table.
+// Adds what each item gains in playouts from a round's table.
 fn add_gains<L: Ledger>(
     alloc: Global,
     about: &About,
     ask: &Ask,
-    round: u16,
-    table: &Table,
+    round: &Round,
     totals: &mut Vec<u32>,
     steps: &mut Steps<L>,
 ) -> Result<(), Memory>
     requires at { IsAtDecision about.now (ask_seen ask.now).view }
-    requires table { table.now ≡ redrawn_for about.now (ask_seen ask.now) round }
-    requires before { totals.old.items ≡ tally.tally about.now (in_rounds round (ask_seen ask.now)) }
-    ensures after { OnOk result (totals.new.items ≡ tally.tally about.now (in_rounds (round + 1) (ask_seen ask.now))) }
+    requires table { round.now.table ≡ redrawn_for about.now (ask_seen ask.now) round.now.number }
+    requires before { totals.old.items ≡ tally.tally about.now (in_rounds round.now.number (ask_seen ask.now)) }
+    ensures after { OnOk result (totals.new.items ≡ tally.tally about.now (in_rounds (round.now.number + 1) (ask_seen ask.now))) }
     ensures counted { OnOk result (steps.new ≡ steps.old + menu_size about.now (ask_seen ask.now).view) }
     ensures rises { steps.old ≤ steps.new }
     ensures bounded { steps.new ≤ steps.old + menu_size about.now (ask_seen ask.now).view }
@@ -154,7 +163,7 @@ fn add_gains<L: Ledger>(
     // what an about keeps
     let _sheet = about.sheet();
     for item in 0..totals.len() {
-        let gain = match gain_from(alloc, about, ask, round, item as u16, table) {
+        let gain = match gain_from(alloc, about, ask, round, item as u16) {
             Ok(gain) => gain,
             Err(Memory) => return Err(Memory),
         };
@@ -179,22 +188,21 @@ fn gain_from(
     alloc: Global,
     about: &About,
     ask: &Ask,
-    round: u16,
+    round: &Round,
     item: u16,
-    table: &Table,
 ) -> Result<u8, Memory>
     requires at { IsAtDecision about.now (ask_seen ask.now).view }
-    requires table { table.now ≡ redrawn_for about.now (ask_seen ask.now) round }
+    requires table { round.now.table ≡ redrawn_for about.now (ask_seen ask.now) round.now.number }
     requires offered { item < menu_size about.now (ask_seen ask.now).view }
     ensures { IfOk result (λ gain. gain
-        ≡ tally.gain_of about.now (ask_seen ask.now).view.seat (tally.playout about.now (ask_seen ask.now) round item)) }
+        ≡ tally.gain_of about.now (ask_seen ask.now).view.seat (tally.playout about.now (ask_seen ask.now) round.now.number item)) }
 {
-    let table = match table.copy(alloc) {
+    let table = match round.table.copy(alloc) {
         Ok(table) => table,
         Err(Memory) => return Err(Memory),
     };
-    match machine_at(about, ask, round, table) {
-        Ok(machine) => gain_of(about, ask, round, item, machine),
+    match machine_at(about, ask, round.number, table) {
+        Ok(machine) => gain_of(about, ask, round.number, item, machine),
         Err(Memory) => Err(Memory),
     }
 }

@@ -19,8 +19,8 @@ returns-clause-is c =
     let ask = ask_seen c.args.ask.now in
     let pick = c.picked.ensures.is
     ∙ ap (λ number. keyed.pick ask.key (use_of ask 4) ask.seed number c.len-size.result) c.draw_number.ensures
-    ∙ ap (λ size. keyed.pick ask.key (use_of ask 4) ask.seed (draw_number c.args.round c.args.item c.args.draw) size) count in
-    ap (λ n. (n, one_draw_more c.args.draw)) pick
+    ∙ ap (λ size. keyed.pick ask.key (use_of ask 4) ask.seed (draw_number c.args.draw.round c.args.draw.item c.args.draw.number) size) count in
+    ap (λ n. (n, one_draw_more c.args.draw.number)) pick
 
 pub returns-clause-offered : goal.returns-clause-offered
 returns-clause-offered c =
