@@ -11,7 +11,7 @@ use std::sync::ledger::{Blank, Ledger};
 use std::test::Fail;
 
 /// Two players with two cards each who choose the first one each time, of which the last dealt is worth least.
-const GAME: &[u8] = b"\
+pub const GAME: &[u8] = b"\
 (game
 (setup (create players 2)
 (create deck (game hloc STOCK) (deck (RANK (1 2 3 4))))

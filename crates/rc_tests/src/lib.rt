@@ -17,4 +17,8 @@ mod outside;
 #[cfg(test)]
 mod redraw;
 #[cfg(test)]
+mod table;
+#[cfg(test)]
+mod text;
+#[cfg(test)]
 mod view;

@@ -1,14 +1,15 @@
-//! A redrawn table, worked out by hand.
+//! A redrawn table, worked out by hand, and a copied tally.
 ghost use Rattle.std.specs.Prelude.{◌≡◌, IfOk};
 ghost use Rattle.rc_play_model.specs.RedrawLaws.{IsViewOfSound};
 ghost use Rattle.rc_view.specs.Seen.{view_seen};
 
+use crate::table::expect_lists;
 use crate::view::{checked_in, go_on};
 use rc_draw::key32;
 use rc_plain::PlainMachine;
-use rc_redraw::redraw;
+use rc_redraw::{Tally, redraw};
 use rc_rules::{Machine, MatchDealer, shape_of};
-use rc_table::{Shape, Table};
+use rc_table::Shape;
 use rc_view::{View, view_of};
 use std::process::Abort;
 use std::sync::Arc;
@@ -16,7 +17,7 @@ use std::test::Fail;
 
 /// Two seats with two cards each, two open cards that are remembered, and two of the four others laid on a pile. The ten cards are
 /// numbered in the order of the deck, so the numbers of their faces are 0, 1, 1, 3, 1, 3, 6, 0, 6 and 3.
-const PILES: &str = "\
+const PILES: &[u8] = b"\
 (game
 (setup (create players 2)
 (create deck (game hloc STOCK) (deck (RANK (1 2 2 3 2 3 4 1 4 3)))))
@@ -30,7 +31,7 @@ const PILES: &str = "\
 (scoring max 0))";
 
 /// What the locations hold at the first decision: STOCK, the two hands, OPEN, MARKS and PILE, from bottom to top.
-const DEALT: [[u16; 2]; 6] = [[0, 1], [9, 7], [8, 6], [5, 4], [5, 4], [3, 2]];
+const DEALT: [&[u16]; 6] = [&[0, 1], &[9, 7], &[8, 6], &[5, 4], &[5, 4], &[3, 2]];
 
 /// And in the table that is redrawn for the first seat, which sees the faces 3 and 0 in its hand and 3 and 1 in OPEN and in MARKS.
 ///
@@ -44,13 +45,7 @@ const DEALT: [[u16; 2]; 6] = [[0, 1], [9, 7], [8, 6], [5, 4], [5, 4], [3, 2]];
 /// - place 3 of 4: the same
 /// - place 0 of 3: 9 8 2 7 4 6
 /// - place 1 of 2: the same
-const REDRAWN: [[u16; 2]; 6] = [[9, 8], [3, 0], [2, 7], [5, 1], [3, 1], [4, 6]];
-
-fn expect_lists(rt: &(impl AllocGlobal + Abort), table: &Table, lists: [[u16; 2]; 6]) {
-    for (loc, list) in (0u16..6).zip(lists) {
-        assert_eq!(rt; table.list(loc), list.as_slice());
-    }
-}
+const REDRAWN: [&[u16]; 6] = [&[9, 8], &[3, 0], &[2, 7], &[5, 1], &[3, 1], &[4, 6]];
 
 /// What the first seat sees of a match.
 fn seen_by_first(
@@ -74,10 +69,18 @@ fn a_table_is_redrawn_by_what_is_seen_and_a_key(rt: HostRuntime) -> Result<(), F
     let shape = Arc::new(rt.alloc(), shape_of(rt.alloc(), checked.sheet())?)?;
     let mut machine = PlainMachine::start(rt.alloc(), &checked, &shape, 64)?;
     go_on(&mut machine, &mut MatchDealer::new(0))?;
-    expect_lists(&rt, machine.table(), DEALT);
+    expect_lists(&rt, machine.table(), &DEALT);
     let view = seen_by_first(&rt, &shape, &machine)?;
     let table = redraw(rt.alloc(), &shape, &view, &key32(7, 3, 0, 0))?;
-    expect_lists(&rt, &table, REDRAWN);
+    expect_lists(&rt, &table, &REDRAWN);
     assert_eq!(rt; table.number(0), -3);
+    Ok(())
+}
+
+#[test]
+fn a_copied_tally_has_its_totals(rt: HostRuntime) -> Result<(), Fail> {
+    let totals = vec![in rt.alloc(); 6u32, 0, 14_000]?;
+    let copy = Tally { totals }.copy(rt.alloc())?;
+    assert_eq!(rt; copy.totals.as_slice(), [6u32, 0, 14_000].as_slice());
     Ok(())
 }

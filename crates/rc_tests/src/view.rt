@@ -16,7 +16,7 @@ use std::sync::Arc;
 use std::test::Fail;
 
 /// The trick game of `bench/tricks.sheet`: 35 cards, of which each of four seats is dealt six from the top.
-const TRICKS: &str = "\
+const TRICKS: &[u8] = b"\
 (game
 (setup (create players 4)
 (create deck (game hloc STOCK) (deck (RANK (3 4 5 6 7 8 9 10)) (SUIT (C D H S))))
@@ -47,9 +47,9 @@ const TRICKS: &str = "\
 (scoring max ('SELF sto LAST)))";
 
 /// The checked sheet of a text.
-pub fn checked_in(rt: &(impl AllocGlobal + Abort), text: &str) -> Result<Checked, Fail> {
+pub fn checked_in(rt: &(impl AllocGlobal + Abort), text: &[u8]) -> Result<Checked, Fail> {
     assert!(rt; text.len() <= 100_000);
-    let forms = read_forms(rt.alloc(), text.as_bytes(), 1)?;
+    let forms = read_forms(rt.alloc(), text, 1)?;
     let form = forms.list.first().ok_or("the text has a list")?;
     let Ok(sheet) = made(rt.alloc(), form) else {
         return Err("the text is a sheet".into());
@@ -61,7 +61,7 @@ pub fn checked_in(rt: &(impl AllocGlobal + Abort), text: &str) -> Result<Checked
 }
 
 /// A match of the sheet in a text, at its start.
-fn start_of(rt: &(impl AllocGlobal + Abort), text: &str) -> Result<PlainMachine, Fail> {
+pub fn start_of(rt: &(impl AllocGlobal + Abort), text: &[u8]) -> Result<PlainMachine, Fail> {
     let checked = Arc::new(rt.alloc(), checked_in(rt, text)?)?;
     let shape = Arc::new(rt.alloc(), shape_of(rt.alloc(), checked.sheet())?)?;
     Ok(PlainMachine::start(rt.alloc(), &checked, &shape, 64)?)
@@ -177,7 +177,7 @@ fn a_seat_sees_its_own_cards_alone(rt: HostRuntime) -> Result<(), Fail> {
 
 /// Three seats with a card each, of which the last one's has the face of the open card. At the second choice of a turn the inner
 /// stage goes backward, and its member to come is named.
-const OPEN_CARD: &str = "\
+pub const OPEN_CARD: &[u8] = b"\
 (game
 (setup (create players 3)
 (create deck (game hloc STOCK) (deck (RANK (1 2 2 3 4)))))
