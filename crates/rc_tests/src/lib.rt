@@ -15,6 +15,8 @@ mod names;
 #[cfg(test)]
 mod outside;
 #[cfg(test)]
+mod plain;
+#[cfg(test)]
 mod redraw;
 #[cfg(test)]
 mod table;
