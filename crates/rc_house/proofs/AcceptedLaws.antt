@@ -13,7 +13,8 @@ use Rattle.rc_sheet_laws.proofs.One.Sheet.{one_well_formed}
 use Rattle.rc_house.specs.declared.refusal.Refusal.TheVariants as refusal
 use Rattle.rc_house.specs.declared.status.SourceKind.{SourceKind}
 use Rattle.rc_house.specs.Status.{sheet_kind}
-use Rattle.rc_house.specs.Accepted.{IsSheetOf, IsAccepted, HasPartFault, HasFirstFault}
+use Rattle.rc_sheet_laws.specs.Accepted.{IsSheetOf, IsAccepted}
+use Rattle.rc_house.specs.Accepted.{HasPartFault, HasFirstFault}
 use Rattle.rc_house.specs.Reading.{HasSheetFault, IsAcceptedWith}
 use Rattle.rc_house.proofs.Options.{some_is}
 

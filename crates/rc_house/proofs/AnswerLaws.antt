@@ -25,7 +25,8 @@ use Rattle.rc_house.specs.declared.refusal.Refusal.TheVariants as refusal
 use Rattle.rc_house.specs.declared.status.SourceKind.{SourceKind}
 use Rattle.rc_house.specs.declared.status.SourceKind.TheVariants.{Shape}
 use Rattle.rc_house.specs.Status.{source_kind}
-use Rattle.rc_house.specs.Accepted.{IsAccepted, HasFirstFault}
+use Rattle.rc_sheet_laws.specs.Accepted.{IsAccepted}
+use Rattle.rc_house.specs.Accepted.{HasFirstFault}
 use Rattle.rc_house.specs.Command.{wanted}
 use Rattle.rc_house.specs.Reading.{Reading, IsAcceptedWith}
 use Rattle.rc_house.specs.Note.{note_line}

@@ -7,7 +7,7 @@ use Rattle.rc_sheet_model.specs.Sheet.{Sheet}
 use Rattle.rc_sheet_model.specs.Printing.{printed_sheet}
 use Rattle.rc_sheet_laws.proofs.PrintedAgain.{line_spelled, line_reads_back}
 use Rattle.rc_house.specs.declared.command.Command.TheVariants as command
-use Rattle.rc_house.specs.Accepted.{IsSheetOf, IsAccepted}
+use Rattle.rc_sheet_laws.specs.Accepted.{IsSheetOf, IsAccepted}
 use Rattle.rc_house.specs.Reading.{IsAcceptedWith}
 use Rattle.rc_house.specs.Answer.{text, HasAnswer, form_faulty, sheet_faulty, plan_faulty, accepted}
 

@@ -20,7 +20,7 @@ use Rattle.rc_house.specs.declared.command.Command.TheVariants.{Play, Check, She
 use Rattle.rc_house.specs.declared.refusal.Refusal.TheVariants as refusal
 use Rattle.rc_house.specs.declared.status.SourceKind.TheVariants.{Shape, Unseen}
 use Rattle.rc_house.specs.Status.{source_kind, sheet_kind}
-use Rattle.rc_house.specs.Accepted.{IsSheetOf, IsAccepted}
+use Rattle.rc_sheet_laws.specs.Accepted.{IsSheetOf, IsAccepted}
 use Rattle.rc_house.specs.AcceptedPlan.{HasPlanFault, HasReadFault, IsPlanAccepted, IsPlanRead}
 use Rattle.rc_house.specs.Command.{wanted}
 use Rattle.rc_house.specs.Reading.{IsAcceptedWith}

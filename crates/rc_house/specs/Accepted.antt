@@ -1,30 +1,16 @@
--- Which forms are accepted as sheets, and the first fault of one that isn't.
-use Rattle.std.specs.Prelude.{Some, None, ◌≡◌, ℕ, ◌⊎◌}
+-- The first fault of a form that isn't accepted as a sheet.
+use Rattle.std.specs.Prelude.{Some, ◌≡◌, ℕ, ◌⊎◌}
 use Rattle.rc_model.specs.Tree.{Tree}
 use Rattle.rc_grammar.specs.declared.fault.SheetFault.{SheetFault}
 use Rattle.rc_semantics.specs.SecondFaults.{sheet_fault}
 use Rattle.rc_sheet_model.specs.Sheet.{Sheet}
-use Rattle.rc_sheet_model.specs.Stands.{Stands}
-use Rattle.rc_sheet_model.specs.WellFormed.{IsWellFormed}
-use Rattle.rc_sheet_model.specs.Sight.{IsInSight, IsUnseen}
+use Rattle.rc_sheet_model.specs.Sight.{IsUnseen}
+use Rattle.rc_sheet_laws.specs.Accepted.{IsSheetOf}
 use Rattle.rc_house.specs.declared.accepting.SourceFail.{SourceFail}
 use Rattle.rc_house.specs.declared.accepting.SourceFail.TheVariants as fails
 use Rattle.rc_house.specs.declared.status.SourceKind.{SourceKind}
 use Rattle.rc_house.specs.declared.status.SourceKind.TheVariants.{Unseen}
 use Rattle.rc_house.specs.Status.{sheet_kind}
-
--- The sheet of a form that has no fault of its parts: the well formed sheet that stands for the form. Of each form there is one
--- at most.
-pub record IsSheetOf (form : Tree) (sheet : Sheet) : Type 0 where
-  pub faultless : sheet_fault form ≡ None
-  pub stands : Stands sheet form
-  pub well : IsWellFormed sheet
-
--- The form is accepted as this sheet: no part has a fault, and no guard and no domain of a choice reads what its mover doesn't
--- see.
-pub record IsAccepted (form : Tree) (sheet : Sheet) : Type 0 where
-  pub of_form : IsSheetOf form sheet
-  pub sight : IsInSight sheet
 
 -- the first fault of the parts of a form that is to be a sheet
 abbrev pub HasPartFault : SourceKind → ℕ → Tree → Type 0

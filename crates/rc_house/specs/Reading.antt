@@ -8,7 +8,8 @@ use Rattle.rc_sheet_model.specs.Sheet.{Sheet}
 use Rattle.rc_house.specs.declared.status.SourceKind.{SourceKind}
 use Rattle.rc_house.specs.declared.status.SourceKind.TheVariants.{Shape}
 use Rattle.rc_house.specs.Status.{source_kind}
-use Rattle.rc_house.specs.Accepted.{IsAccepted, HasFirstFault}
+use Rattle.rc_sheet_laws.specs.Accepted.{IsAccepted}
+use Rattle.rc_house.specs.Accepted.{HasFirstFault}
 
 -- The source is read: these are the wanted lists that it spells, of which the first is to be the sheet, and the rest begins here.
 pub record Reading (source : List ℕ) (want : ℕ) : Type 0 where

@@ -3,7 +3,8 @@ ghost use Rattle.std.specs.Prelude.{◌≡◌, ℕ, IfOk, IfErr};
 ghost use Rattle.rc_model.specs.Placed.{IsPlaced};
 ghost use Rattle.rc_form.specs.Form.{tree_of, IsPrintable};
 ghost use Rattle.rc_form.specs.SameForm.{IsOfAtoms};
-ghost use Rattle.rc_house.specs.Accepted.{IsAccepted, HasFirstFault, IfSourceFault};
+ghost use Rattle.rc_sheet_laws.specs.Accepted.{IsAccepted};
+ghost use Rattle.rc_house.specs.Accepted.{HasFirstFault, IfSourceFault};
 
 use crate::status::SourceKind;
 use rc_flow::{Checked, Unseen, check_sight};

@@ -2,7 +2,7 @@ use Rattle.std.proofs.Common.{subst, sym}
 use Rattle.rc_form.specs.Form.{tree_of}
 use Rattle.rc_sheet_model.specs.Sight.{IsInSight}
 use Rattle.rc_ast.specs.Sheet.{sheet_seen}
-use Rattle.rc_house.specs.Accepted.{IsSheetOf}
+use Rattle.rc_sheet_laws.specs.Accepted.{IsSheetOf}
 use Rattle.rc_house.proofs.AcceptedLaws.{fits}
 use Rattle.rc_house.proofs.accepting.accept.Goals as goal
 
