@@ -17,3 +17,10 @@ IsCommand words Check = words ≡ codes "check" ∷ []
 IsCommand words Sheet = words ≡ codes "sheet" ∷ []
 IsCommand words (Bench number options) =
     (rest : List (List ℕ)) × (words ≡ codes "bench" ∷ rest) × IsBench rest number options
+
+-- how many threads the command is to be played by
+abbrev pub workers_of : Command → ℕ
+workers_of (Play options) = options.workers
+workers_of Check = 1
+workers_of Sheet = 1
+workers_of (Bench number options) = options.workers

@@ -3,7 +3,7 @@ ghost use Rattle.std.specs.Prelude.{◌≡◌, ◌∷◌, ℕ, map, codes, strin
 ghost use Rattle.rc_words.specs.Words.{HasOptions};
 ghost use Rattle.rc_words.specs.declared.options.Options.{Options};
 ghost use Rattle.rc_words.specs.declared.command.Command.{Command};
-ghost use Rattle.rc_words.specs.Command.{IsCommand, IsBench};
+ghost use Rattle.rc_words.specs.Command.{IsCommand, IsBench, workers_of};
 
 use crate::number::number_of;
 use crate::options::{Options, options_of};
@@ -21,6 +21,20 @@ pub enum Command {
     Sheet,
     /// Plays so many matches of the game of the bench, 1 to 1,000.
     Bench { number: u16, options: Options },
+}
+
+impl Command {
+    /// How many threads play, 1 to 64. A command that plays nothing has one.
+    pub fn workers(&self) -> u8
+        ensures { result ≡ workers_of self.now }
+    {
+        match self {
+            Command::Play(options) => options.workers,
+            Command::Check => 1,
+            Command::Sheet => 1,
+            Command::Bench { options, .. } => options.workers,
+        }
+    }
 }
 
 /// The command that words name, if they name one. The program's name isn't among them.
