@@ -1,2 +1,3 @@
 mod ClapLemmas
+pub mod OneCommand
 mod WordLemmas

@@ -12,11 +12,11 @@ abbrev Text : Type 0
 Text = List ℕ
 
 -- the first word, and the words behind it
-abbrev first_of : List Text → Text
+abbrev pub first_of : List Text → Text
 first_of [] = []
 first_of (word ∷ words) = word
 
-abbrev behind_first : List Text → List Text
+abbrev pub behind_first : List Text → List Text
 behind_first [] = []
 behind_first (word ∷ words) = words
 

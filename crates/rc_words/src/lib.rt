@@ -2,10 +2,12 @@
 #![tactic(auto)]
 
 mod command;
+mod laws;
 mod number;
 mod option;
 mod options;
 mod reader;
 
 pub use command::{Command, command_of};
+pub use laws::words_are_one_command;
 pub use options::Options;
