@@ -18,7 +18,7 @@ IsCommand words Sheet = words ≡ codes "sheet" ∷ []
 IsCommand words (Bench number options) =
     (rest : List (List ℕ)) × (words ≡ codes "bench" ∷ rest) × IsBench rest number options
 
--- how many threads the command is to be played by
+-- how many threads are to play. A command that plays nothing has one
 abbrev pub workers_of : Command → ℕ
 workers_of (Play options) = options.workers
 workers_of Check = 1

@@ -50,7 +50,8 @@ fn is_pair(word: &String, value: &String, name: OptionName, text: &str) -> bool
     word.as_bytes() == name.flag() && value.as_str() == text
 }
 
-/// The words behind the option, where the first words give it this text.
+/// The words behind the option, where the first words give it this text. Without a text it isn't named, and all words stand
+/// behind it.
 fn behind_option<'a>(
     words: &'a [String],
     name: OptionName,
