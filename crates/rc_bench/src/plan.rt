@@ -1,6 +1,7 @@
 //! The plan of the bench.
-ghost use Rattle.std.specs.Prelude.{◌≡◌, ◌∷◌, [], IfOk, map};
+ghost use Rattle.std.specs.Prelude.{◌≡◌, ◌≤◌, ◌∷◌, [], length, map, IfOk};
 ghost use Rattle.rc_play_model.specs.Plan.{random, rollout};
+ghost use Rattle.rc_plan_model.specs.Limits.{IsWithinLimits};
 ghost use Rattle.rc_plan_model.specs.PlanStands.{counted_from};
 ghost use Rattle.rc_rules.specs.Plan.{deal_seen, plan_seen, strategy_seen};
 ghost use Rattle.rc_bench.specs.Bench.{bench_plan};
@@ -9,13 +10,17 @@ use rc_deck::Memory;
 use rc_rules::{Deal, Plan, Strategy};
 use std::alloc::{AllocError, Global};
 
-/// The plan of `bench number`: so many matches, by seats that pick by chance and seats that roll out.
+/// The plan of `bench number`, with 1 to 1,000: so many matches, by seats that pick by chance and seats that roll out.
 ///
 /// # Errors
 ///
 /// No memory is left.
 pub fn bench_plan(alloc: Global, number: u16) -> Result<Plan, Memory>
-    ensures { IfOk result (λ plan. plan_seen plan ≡ bench_plan number) }
+    requires some { 1 ≤ number }
+    requires few { number ≤ 1000 }
+    ensures is { IfOk result (λ plan. plan_seen plan ≡ bench_plan number) }
+    ensures within { IfOk result (λ plan. IsWithinLimits (plan_seen plan)) }
+    ensures seats { IfOk result (λ plan. length (plan_seen plan).strategies ≡ 4) }
 {
     let matches = match deals(alloc, number) {
         Ok(matches) => matches,
