@@ -17,8 +17,8 @@ use Rattle.rc_plan.specs.declared.fail.PlanFail.TheVariants as fails
 use Rattle.rc_plan.specs.Reads.{IfPlanFault}
 use Rattle.rc_house.specs.declared.answer.Answer.{Answer as Stored}
 use Rattle.rc_house.specs.declared.answer.Answer.TheVariants.{Text, Refused}
-use Rattle.rc_house.specs.declared.command.Command.{Command}
-use Rattle.rc_house.specs.declared.command.Command.TheVariants.{Play, Check, Sheet as PrintsSheet}
+use Rattle.rc_house.specs.declared.task.Task.{Task}
+use Rattle.rc_house.specs.declared.task.Task.TheVariants.{Play, Check, Sheet as PrintsSheet}
 use Rattle.rc_house.specs.AcceptedPlan.{IsBehind, IsFaultyBehind, IsPlanFaulty}
 use Rattle.rc_house.specs.declared.refusal.Refusal.{Refusal}
 use Rattle.rc_house.specs.declared.refusal.Refusal.TheVariants as refusal
@@ -27,7 +27,7 @@ use Rattle.rc_house.specs.declared.status.SourceKind.TheVariants.{Shape}
 use Rattle.rc_house.specs.Status.{source_kind}
 use Rattle.rc_sheet_laws.specs.Accepted.{IsAccepted}
 use Rattle.rc_house.specs.Accepted.{HasFirstFault}
-use Rattle.rc_house.specs.Command.{wanted}
+use Rattle.rc_house.specs.Task.{wanted}
 use Rattle.rc_house.specs.Reading.{Reading, IsAcceptedWith}
 use Rattle.rc_house.specs.Note.{note_line}
 use Rattle.rc_house.specs.Answer.{Answer, text, refused, seen, playouts_of, IsAnswered, HasPlanRefusal, HasAnswer, form_faulty, sheet_faulty, plan_faulty, accepted, IsAnswerTo, IsJudged, IsPlanRefusal, IsSheetText}
@@ -49,23 +49,23 @@ abbrev reading : (source : List ℕ) (want : ℕ) (lists : List Tree) (rest : �
 reading source want lists rest spelled = record { lists = lists; rest = rest; spelled = spelled }
 
 -- The first fault of the source's forms refuses it, where as many lists are wanted as the command wants.
-pub fault_answered : (command : Command) (want : ℕ) (source : List ℕ) (kind : FormKind) (at : ℕ) → want ≡ wanted command
-    → IsFormFault source want kind at → HasAnswer command source (refused (refusal.Sheet (source_kind kind) at))
-fault_answered command want source kind at same is =
+pub fault_answered : (task : Task) (want : ℕ) (source : List ℕ) (kind : FormKind) (at : ℕ) → want ≡ wanted task
+    → IsFormFault source want kind at → HasAnswer task source (refused (refusal.Sheet (source_kind kind) at))
+fault_answered task want source kind at same is =
     form_faulty (source_kind kind) at (kind, subst (λ want. IsFormFault source want kind at) same is, refl) refl
 
 -- A source without a sheet is refused where its rest begins.
-pub missing_answer : (command : Command) (source : List ℕ) (lists : List Tree) (rest : ℕ) → lists ≡ []
-    → Spelled source (wanted command) lists rest → HasAnswer command source (refused (refusal.Sheet Shape rest))
-missing_answer command source [] rest none spelled = sheet_faulty (reading source _ [] rest spelled) Shape rest (refl, refl) refl
-missing_answer command source (form ∷ others) rest none spelled = absurd (omega (arith, ap length none))
+pub missing_answer : (task : Task) (source : List ℕ) (lists : List Tree) (rest : ℕ) → lists ≡ []
+    → Spelled source (wanted task) lists rest → HasAnswer task source (refused (refusal.Sheet Shape rest))
+missing_answer task source [] rest none spelled = sheet_faulty (reading source _ [] rest spelled) Shape rest (refl, refl) refl
+missing_answer task source (form ∷ others) rest none spelled = absurd (omega (arith, ap length none))
 
 -- The first fault of the first list refuses the source.
-pub refused_answer : (command : Command) (source : List ℕ) (lists : List Tree) (form : Tree) (others : List Tree) (rest : ℕ)
-    (kind : SourceKind) (at : ℕ) → lists ≡ form ∷ others → Spelled source (wanted command) lists rest → HasFirstFault kind at form
-    → HasAnswer command source (refused (refusal.Sheet kind at))
-refused_answer command source lists form others rest kind at same spelled is =
-    sheet_faulty (reading source _ (form ∷ others) rest (subst (λ lists. Spelled source (wanted command) lists rest) same spelled)) kind at is refl
+pub refused_answer : (task : Task) (source : List ℕ) (lists : List Tree) (form : Tree) (others : List Tree) (rest : ℕ)
+    (kind : SourceKind) (at : ℕ) → lists ≡ form ∷ others → Spelled source (wanted task) lists rest → HasFirstFault kind at form
+    → HasAnswer task source (refused (refusal.Sheet kind at))
+refused_answer task source lists form others rest kind at same spelled is =
+    sheet_faulty (reading source _ (form ∷ others) rest (subst (λ lists. Spelled source (wanted task) lists rest) same spelled)) kind at is refl
 
 -- the first list is accepted as this sheet
 pub first_accepted : (lists : List Tree) (form : Tree) (others : List Tree) (sheet : Sheet) → lists ≡ form ∷ others
@@ -80,28 +80,28 @@ accepted_then Q [] sheet is follows = absurd is
 accepted_then Q (form ∷ others) sheet is follows = (is.0, is.1, subst (λ sheet. Q sheet others) (sym is.2) (follows form others refl))
 
 -- What is answered for the accepted sheet is the answer.
-pub accepted_answer : (command : Command) (source : List ℕ) (lists : List Tree) (rest : ℕ) (sheet : Sheet) (answer : Answer)
-    → Spelled source (wanted command) lists rest → IsAcceptedWith (λ other _. other ≡ sheet) lists
-    → ((form : Tree) (others : List Tree) → lists ≡ form ∷ others → IsAnswered command source sheet others rest answer)
-    → HasAnswer command source answer
-accepted_answer command source lists rest sheet answer spelled is has =
+pub accepted_answer : (task : Task) (source : List ℕ) (lists : List Tree) (rest : ℕ) (sheet : Sheet) (answer : Answer)
+    → Spelled source (wanted task) lists rest → IsAcceptedWith (λ other _. other ≡ sheet) lists
+    → ((form : Tree) (others : List Tree) → lists ≡ form ∷ others → IsAnswered task source sheet others rest answer)
+    → HasAnswer task source answer
+accepted_answer task source lists rest sheet answer spelled is has =
     accepted (reading source _ lists rest spelled)
-    (accepted_then (λ sheet others. IsAnswered command source sheet others rest answer) lists sheet is has)
+    (accepted_then (λ sheet others. IsAnswered task source sheet others rest answer) lists sheet is has)
 
 -- The first fault of the plan behind the accepted sheet refuses the source.
-pub plan_answer : (command : Command) (source : List ℕ) (lists : List Tree) (rest : ℕ) (sheet : Sheet) (kind : PlanKind) (at : ℕ)
-    → Spelled source (wanted command) lists rest → IsAcceptedWith (λ other _. other ≡ sheet) lists
-    → ((form : Tree) (others : List Tree) → lists ≡ form ∷ others → HasPlanRefusal command source sheet others rest kind at)
-    → HasAnswer command source (refused (refusal.Plan kind at))
-plan_answer command source lists rest sheet kind at spelled is has =
+pub plan_answer : (task : Task) (source : List ℕ) (lists : List Tree) (rest : ℕ) (sheet : Sheet) (kind : PlanKind) (at : ℕ)
+    → Spelled source (wanted task) lists rest → IsAcceptedWith (λ other _. other ≡ sheet) lists
+    → ((form : Tree) (others : List Tree) → lists ≡ form ∷ others → HasPlanRefusal task source sheet others rest kind at)
+    → HasAnswer task source (refused (refusal.Plan kind at))
+plan_answer task source lists rest sheet kind at spelled is has =
     plan_faulty (reading source _ lists rest spelled) kind at
-    (accepted_then (λ sheet others. HasPlanRefusal command source sheet others rest kind at) lists sheet is has) refl
+    (accepted_then (λ sheet others. HasPlanRefusal task source sheet others rest kind at) lists sheet is has) refl
 
 -- a refusal takes no playout
-pub refusal_is : (command : Command) (source : List ℕ) (refusal : Refusal) (steps : ℕ) (answer : Stored) → answer ≡ Refused refusal
-    → HasAnswer command source (refused refusal) → IsAnswerTo command source steps steps answer
-refusal_is command source refusal steps answer is has =
-    subst (IsAnswerTo command source steps steps) (sym is) (0, has, omega arith)
+pub refusal_is : (task : Task) (source : List ℕ) (refusal : Refusal) (steps : ℕ) (answer : Stored) → answer ≡ Refused refusal
+    → HasAnswer task source (refused refusal) → IsAnswerTo task source steps steps answer
+refusal_is task source refusal steps answer is has =
+    subst (IsAnswerTo task source steps steps) (sym is) (0, has, omega arith)
 
 -- an accepted sheet as it is printed
 sheet_answer : (source : List ℕ) (lists : List Tree) (rest : ℕ) (sheet : Sheet) (steps : ℕ) (answer : Stored)
@@ -173,7 +173,7 @@ failed_answers source lists rest sheet steps fail (Ok answer) spelled is fault r
     failed_answer source lists rest sheet steps fail answer spelled is fault refusal_so
 
 -- where no more steps were counted than one answer takes playouts, that is so of any answer to the source
-pub counted_few : (command : Command) (source : List ℕ) (answer : Answer) (steps steps' : ℕ) → HasAnswer command source answer
-    → steps' ≤ steps + playouts_of answer → (other : Answer) → HasAnswer command source other → steps' ≤ steps + playouts_of other
-counted_few command source answer steps steps' has few other has' =
-    subst (λ answer. steps' ≤ steps + playouts_of answer) (sym (only_answer command source answer other has has')) few
+pub counted_few : (task : Task) (source : List ℕ) (answer : Answer) (steps steps' : ℕ) → HasAnswer task source answer
+    → steps' ≤ steps + playouts_of answer → (other : Answer) → HasAnswer task source other → steps' ≤ steps + playouts_of other
+counted_few task source answer steps steps' has few other has' =
+    subst (λ answer. steps' ≤ steps + playouts_of answer) (sym (only_answer task source answer other has has')) few

@@ -1,5 +1,7 @@
 pub mod AcceptedLaws
 pub mod AnswerLaws
+pub mod BenchLaws
+pub mod EndsLemmas
 pub mod OneAnswer
 pub mod OneReading
 pub mod Options

@@ -1,5 +1,5 @@
 -- How the outcome of a command follows from what its parts did.
-use Rattle.std.proofs.Common.{◌≡◌, ◌<◌, ◌≤◌, ◌+◌, ◌⊎◌, ℕ, List, [], ◌∷◌, ◌++◌, length, drop, get_or, length-append, Option, Some, None, Result, Ok, Err, inl, inr, refl, sym, ◌∙◌, ap, subst, arith}
+use Rattle.std.proofs.Common.{◌≡◌, ◌<◌, ◌≤◌, ◌+◌, ◌⊎◌, ℕ, List, [], ◌∷◌, ◌++◌, length, drop, length-append, Option, Some, None, Result, Ok, Err, inl, inr, refl, sym, ◌∙◌, ap, subst, arith}
 use Rattle.std.proofs.lemmas.List.{append-nil}
 use Rattle.rc_model.specs.Tree.{Tree}
 use Rattle.rc_sheet_model.specs.Sheet.{Sheet}
@@ -14,22 +14,23 @@ use Rattle.rc_plays.specs.Series.{looks_of}
 use Rattle.rc_outside.specs.Source.{Gave, IsAtEnd}
 use Rattle.rc_outside.specs.declared.errors.ReadFail.{ReadFail}
 use Rattle.rc_outside.specs.declared.errors.ReadFail.TheVariants as read
-use Rattle.rc_house.specs.declared.command.Command.{Command}
-use Rattle.rc_house.specs.declared.command.Command.TheVariants as named
-use Rattle.rc_house.specs.declared.command.Command.TheVariants.{Play}
+use Rattle.rc_house.specs.declared.task.Task.{Task}
+use Rattle.rc_house.specs.declared.task.Task.TheVariants as named
+use Rattle.rc_house.specs.declared.task.Task.TheVariants.{Play}
 use Rattle.rc_house.specs.declared.refusal.Refusal.{Refusal}
 use Rattle.rc_house.specs.declared.status.Status.{Status}
 use Rattle.rc_house.specs.declared.status.Status.TheVariants.{Memory, TooLong}
 use Rattle.rc_house.specs.declared.answer.Answer.{Answer as Stored}
 use Rattle.rc_house.specs.declared.answer.Answer.TheVariants.{Text, Refused}
-use Rattle.rc_house.specs.Command.{IsCommand, IsNoteOf, limit_of}
+use Rattle.rc_house.specs.Task.{IsNoteOf, limit_of}
 use Rattle.rc_house.specs.Note.{note_line}
-use Rattle.rc_house.specs.Answer.{Answer, text, refused, seen, judged, verdict, playouts_of, IsAnswered, HasAnswer, form_faulty, sheet_faulty, plan_faulty, accepted, IsAnswerTo}
+use Rattle.rc_house.specs.Answer.{Answer, text, refused, seen, text_judged, verdict, playouts_of, IsAnswered, HasAnswer, form_faulty, sheet_faulty, plan_faulty, accepted, IsAnswerTo}
 use Rattle.rc_house.specs.Status.{line_of, refusal_status, read_status}
-use Rattle.rc_house.specs.Port.{Port, Ports, port, HasFailed, Took, NoCountFell}
-use Rattle.rc_house.specs.Outcome.{GaveTooMuch, Answers, CountedFew, Outcome, written, refusing, no_memory, read_failed, too_long, text_failed, note_failed, NoPortFailed, Succeeds, Ends, status_of}
+use Rattle.rc_house.specs.Port.{Port, Ports, port, HasFailed, Took, Delivers}
+use Rattle.rc_house.specs.Outcome.{GaveTooMuch, Answers, CountedFew, Outcome, written, refusing, no_memory, read_failed, too_long, text_failed, note_failed, NoPortFailed, Succeeds, status_of}
+use Rattle.rc_house.specs.Ends.{Performs}
 use Rattle.rc_house.specs.Reading.{IsAcceptedWith}
-use Rattle.rc_house.specs.Running.{HasNoteOf, ReadsAnswer, ReadsNone, Delivers}
+use Rattle.rc_house.specs.Running.{HasNoteOf, ReadsAnswer, ReadsNone}
 use Rattle.rc_house.proofs.OneAnswer.{only_answer}
 
 -- what a source gave to its end is all that it told
@@ -41,21 +42,21 @@ gave_all whole rest bytes (Some left) some given end =
     (cc, cc)
 
 -- the answer to the bytes that a source gave to its end is the answer to what it told
-pub answers_given : (told after : Option (List ℕ)) (faults faults' : ℕ) (command : Command) (bytes : List ℕ) (answer : Answer)
-    → Gave told after bytes → IsAtEnd after → length bytes ≤ limit_of command → HasAnswer command bytes answer
-    → Answers (port told faults) (port after faults') command (λ other. other ≡ answer)
-answers_given None after faults faults' command bytes answer given end few is = tt
-answers_given (Some whole) after faults faults' command bytes answer given end few is =
+pub answers_given : (told after : Option (List ℕ)) (faults faults' : ℕ) (task : Task) (bytes : List ℕ) (answer : Answer)
+    → Gave told after bytes → IsAtEnd after → length bytes ≤ limit_of task → HasAnswer task bytes answer
+    → Answers (port told faults) (port after faults') task (λ other. other ≡ answer)
+answers_given None after faults faults' task bytes answer given end few is = tt
+answers_given (Some whole) after faults faults' task bytes answer given end few is =
     let all = gave_all whole given.0 bytes after given.1 given.2 end in
-    (subst (λ source. length source ≤ limit_of command) all.0 few, all.1, answer, subst (λ source. HasAnswer command source answer) all.0 is, refl)
+    (subst (λ source. length source ≤ limit_of task) all.0 few, all.1, answer, subst (λ source. HasAnswer task source answer) all.0 is, refl)
 
 -- what holds of the answer holds where the source is answered so
-answers_with : (before after : Port) (command : Command) (answer : Answer) (P : Answer → Type 0)
-    → Answers before after command (λ other. other ≡ answer) → P answer → Answers before after command P
-answers_with before after command answer P answers here = by before.told answers
+answers_with : (before after : Port) (task : Task) (answer : Answer) (P : Answer → Type 0)
+    → Answers before after task (λ other. other ≡ answer) → P answer → Answers before after task P
+answers_with before after task answer P answers here = by before.told answers
   where
-    by : (told : Option (List ℕ)) → Answers (port told before.faults) after command (λ other. other ≡ answer)
-        → Answers (port told before.faults) after command P
+    by : (told : Option (List ℕ)) → Answers (port told before.faults) after task (λ other. other ≡ answer)
+        → Answers (port told before.faults) after task P
     by None answers = tt
     by (Some source) answers = (answers.0, answers.1, answers.2, answers.3, subst P (sym answers.4) here)
 
@@ -64,120 +65,120 @@ verdict_note : (found : Option Illegal) (bytes note : List ℕ) (playouts : ℕ)
 verdict_note None bytes note playouts same = cc
 verdict_note (Some illegal) bytes note playouts same = absurd cc
 
-judged_note : (about : About) (plan : Plan) (read : Result HouseText ℕ) (bytes note : List ℕ) (playouts : ℕ) → judged about plan read ≡ text bytes note playouts → note ≡ []
+judged_note : (about : About) (plan : Plan) (read : Result HouseText ℕ) (bytes note : List ℕ) (playouts : ℕ) → text_judged about plan read ≡ text bytes note playouts → note ≡ []
 judged_note about plan (Err line) bytes note playouts same = absurd cc
 judged_note about plan (Ok told) bytes note playouts same = verdict_note (first_illegal about dealing_of plan told) bytes note playouts same
 
 -- what is answered for an accepted sheet is noted as the command notes
-note_of_sheet : (command : Command) (source : List ℕ) (sheet : Sheet) (others : List Tree) (rest : ℕ) (bytes note : List ℕ) (playouts : ℕ)
-    → IsAnswered command source sheet others rest (text bytes note playouts) → IsNoteOf command note
+note_of_sheet : (task : Task) (source : List ℕ) (sheet : Sheet) (others : List Tree) (rest : ℕ) (bytes note : List ℕ) (playouts : ℕ)
+    → IsAnswered task source sheet others rest (text bytes note playouts) → IsNoteOf task note
 note_of_sheet Play source sheet others rest bytes note playouts has = (length (looks_of (about_of sheet has.0.turns) has.0), cc)
 note_of_sheet named.Check source sheet others rest bytes note playouts has = judged_note (about_of sheet has.0.turns) has.0 (read_text (drop rest source)) bytes note playouts (sym has.2)
 note_of_sheet named.Sheet source sheet others rest bytes note playouts has = cc
 
 -- and so is what is answered to a source
-note_of_text : (command : Command) (source bytes note : List ℕ) (playouts : ℕ) → HasAnswer command source (text bytes note playouts) → IsNoteOf command note
-note_of_text command source bytes note playouts (form_faulty kind at has is) = absurd cc
-note_of_text command source bytes note playouts (sheet_faulty read kind at has is) = absurd cc
-note_of_text command source bytes note playouts (plan_faulty read kind at has is) = absurd cc
-note_of_text command source bytes note playouts (accepted read has) = by read.lists has
+note_of_text : (task : Task) (source bytes note : List ℕ) (playouts : ℕ) → HasAnswer task source (text bytes note playouts) → IsNoteOf task note
+note_of_text task source bytes note playouts (form_faulty kind at has is) = absurd cc
+note_of_text task source bytes note playouts (sheet_faulty read kind at has is) = absurd cc
+note_of_text task source bytes note playouts (plan_faulty read kind at has is) = absurd cc
+note_of_text task source bytes note playouts (accepted read has) = by read.lists has
   where
-    by : (lists : List Tree) → IsAcceptedWith (λ sheet others. IsAnswered command source sheet others read.rest (text bytes note playouts)) lists
-        → IsNoteOf command note
+    by : (lists : List Tree) → IsAcceptedWith (λ sheet others. IsAnswered task source sheet others read.rest (text bytes note playouts)) lists
+        → IsNoteOf task note
     by [] is = absurd is
-    by (form ∷ others) is = note_of_sheet command source is.0 others read.rest bytes note playouts is.2
+    by (form ∷ others) is = note_of_sheet task source is.0 others read.rest bytes note playouts is.2
 
-note_answered : (command : Command) (source : List ℕ) (answer : Stored) (playouts : ℕ) → HasAnswer command source (seen answer playouts) → HasNoteOf command answer
-note_answered command source (Text bytes note) playouts has = note_of_text command source bytes.items (note_line note) playouts has
-note_answered command source (Refused refusal) playouts has = tt
+note_answered : (task : Task) (source : List ℕ) (answer : Stored) (playouts : ℕ) → HasAnswer task source (seen answer playouts) → HasNoteOf task answer
+note_answered task source (Text bytes note) playouts has = note_of_text task source bytes.items (note_line note) playouts has
+note_answered task source (Refused refusal) playouts has = tt
 
 -- an answer to the bytes that a source gave to its end
-pub reads_answer : (told after : Option (List ℕ)) (faults faults' steps steps' : ℕ) (command : Command) (bytes : List ℕ) (answer : Stored)
-    → Gave told after bytes → IsAtEnd after → length bytes ≤ limit_of command → IsAnswerTo command bytes steps steps' answer
-    → ReadsAnswer command (port told faults) (port after faults') steps steps' answer
-reads_answer told after faults faults' steps steps' command bytes answer given end few is =
-    (is.0, answers_given told after faults faults' command bytes (seen answer is.0) given end few is.1, is.2, note_answered command bytes answer is.0 is.1)
+pub reads_answer : (told after : Option (List ℕ)) (faults faults' steps steps' : ℕ) (task : Task) (bytes : List ℕ) (answer : Stored)
+    → Gave told after bytes → IsAtEnd after → length bytes ≤ limit_of task → IsAnswerTo task bytes steps steps' answer
+    → ReadsAnswer task (port told faults) (port after faults') steps steps' answer
+reads_answer told after faults faults' steps steps' task bytes answer given end few is =
+    (is.0, answers_given told after faults faults' task bytes (seen answer is.0) given end few is.1, is.2, note_answered task bytes answer is.0 is.1)
 
 -- no more steps than the answer to those bytes takes
-pub counted_given : (told after : Option (List ℕ)) (faults steps steps' : ℕ) (command : Command) (bytes : List ℕ)
-    → Gave told after bytes → IsAtEnd after → ((answer : Answer) → HasAnswer command bytes answer → steps' ≤ steps + playouts_of answer)
-    → CountedFew (port told faults) command steps steps'
-counted_given None after faults steps steps' command bytes given end few = tt
-counted_given (Some whole) after faults steps steps' command bytes given end few =
+pub counted_given : (told after : Option (List ℕ)) (faults steps steps' : ℕ) (task : Task) (bytes : List ℕ)
+    → Gave told after bytes → IsAtEnd after → ((answer : Answer) → HasAnswer task bytes answer → steps' ≤ steps + playouts_of answer)
+    → CountedFew (port told faults) task steps steps'
+counted_given None after faults steps steps' task bytes given end few = tt
+counted_given (Some whole) after faults steps steps' task bytes given end few =
     let all = gave_all whole given.0 bytes after given.1 given.2 end in
-    subst (λ source. (answer : Answer) → HasAnswer command source answer → steps' ≤ steps + playouts_of answer) all.0 few
+    subst (λ source. (answer : Answer) → HasAnswer task source answer → steps' ≤ steps + playouts_of answer) all.0 few
 
 -- no step
-pub counted_none : (before : Port) (steps : ℕ) (command : Command) → CountedFew before command steps steps
-counted_none before steps command = by before.told
+pub counted_none : (before : Port) (steps : ℕ) (task : Task) → CountedFew before task steps steps
+counted_none before steps task = by before.told
   where
-    by : (told : Option (List ℕ)) → CountedFew (port told before.faults) command steps steps
+    by : (told : Option (List ℕ)) → CountedFew (port told before.faults) task steps steps
     by None = tt
     by (Some source) = λ answer has. omega arith
 
 -- a text that was handed on
-pub delivered : (command : Command) (before after : Ports) (steps steps' playouts : ℕ) (bytes note : List ℕ) (status : Status)
-    → IsNoteOf command note
-    → Answers before.source after.source command (λ other. other ≡ text bytes note playouts) → steps' ≡ steps + playouts
+pub delivered : (task : Task) (before after : Ports) (steps steps' playouts : ℕ) (bytes note : List ℕ) (status : Status)
+    → IsNoteOf task note
+    → Answers before.source after.source task (λ other. other ≡ text bytes note playouts) → steps' ≡ steps + playouts
     → Delivers bytes note before.out after.out before.notes after.notes status
-    → Outcome command before after steps steps' status
-delivered command before after steps steps' playouts bytes note status noted answers counted (inl done) =
+    → Outcome task before after steps steps' status
+delivered task before after steps steps' playouts bytes note status noted answers counted (inl done) =
     written done.0 note noted
-    (answers_with before.source after.source command (text bytes note playouts) _ answers (bytes, playouts, refl, counted, done.1)) done.2
-delivered command before after steps steps' playouts bytes note status noted answers counted (inr (inl failed)) =
+    (answers_with before.source after.source task (text bytes note playouts) _ answers (bytes, playouts, refl, counted, done.1)) done.2
+delivered task before after steps steps' playouts bytes note status noted answers counted (inr (inl failed)) =
     text_failed failed.0 failed.1 note noted
-    (answers_with before.source after.source command (text bytes note playouts) _ answers (bytes, playouts, refl, counted, failed.2)) failed.3
-delivered command before after steps steps' playouts bytes note status noted answers counted (inr (inr failed)) =
+    (answers_with before.source after.source task (text bytes note playouts) _ answers (bytes, playouts, refl, counted, failed.2)) failed.3
+delivered task before after steps steps' playouts bytes note status noted answers counted (inr (inr failed)) =
     note_failed failed.0 failed.1 note noted
-    (answers_with before.source after.source command (text bytes note playouts) _ answers (bytes, playouts, refl, counted, failed.2)) failed.3
+    (answers_with before.source after.source task (text bytes note playouts) _ answers (bytes, playouts, refl, counted, failed.2)) failed.3
 
 -- a refusal
-pub refused_so : (command : Command) (before after : Ports) (steps steps' : ℕ) (refusal : Refusal) (status : Status) → status ≡ refusal_status refusal
-    → Answers before.source after.source command (λ other. other ≡ refused refusal) → steps' ≡ steps → after.out ≡ before.out
-    → Took before.notes after.notes (line_of status) → Outcome command before after steps steps' status
-refused_so command before after steps steps' refusal status is answers counted untouched noted =
+pub refused_so : (task : Task) (before after : Ports) (steps steps' : ℕ) (refusal : Refusal) (status : Status) → status ≡ refusal_status refusal
+    → Answers before.source after.source task (λ other. other ≡ refused refusal) → steps' ≡ steps → after.out ≡ before.out
+    → Took before.notes after.notes (line_of status) → Outcome task before after steps steps' status
+refused_so task before after steps steps' refusal status is answers counted untouched noted =
     refusing refusal is answers (record { untouched = untouched; noted = noted }) counted
 
 -- a source that wasn't read to its end, or for whose answer there was no memory
-pub unread_so : (command : Command) (before after : Ports) (steps steps' : ℕ) (fail : ReadFail) (status : Status) → status ≡ read_status fail
-    → ReadsNone command before.source after.source steps steps' fail → after.out ≡ before.out
-    → Took before.notes after.notes (line_of status) → Outcome command before after steps steps' status
-unread_so command before after steps steps' read.ReadFault status is none untouched noted =
+pub unread_so : (task : Task) (before after : Ports) (steps steps' : ℕ) (fail : ReadFail) (status : Status) → status ≡ read_status fail
+    → ReadsNone task before.source after.source steps steps' fail → after.out ≡ before.out
+    → Took before.notes after.notes (line_of status) → Outcome task before after steps steps' status
+unread_so task before after steps steps' read.ReadFault status is none untouched noted =
     read_failed is none.0 none.1 (record { untouched = untouched; noted = noted }) none.2
-unread_so command before after steps steps' read.TooLong status is none untouched noted =
+unread_so task before after steps steps' read.TooLong status is none untouched noted =
     too_long is none.0 (record { untouched = untouched; noted = noted }) none.1
-unread_so command before after steps steps' read.Memory status is none untouched noted =
+unread_so task before after steps steps' read.Memory status is none untouched noted =
     no_memory is none.0 (record { untouched = untouched; noted = noted }) none.1
 
 -- the answers that two readings of one source give are one
-same_answer : (before after : Port) (command : Command) (P : Answer → Type 0) (source : List ℕ) (other : Answer)
-    → Answers before after command P → before.told ≡ Some source → HasAnswer command source other
+same_answer : (before after : Port) (task : Task) (P : Answer → Type 0) (source : List ℕ) (other : Answer)
+    → Answers before after task P → before.told ≡ Some source → HasAnswer task source other
     → (answer : Answer) × P answer × (other ≡ answer)
-same_answer before after command P source other answers told has = by before.told told answers
+same_answer before after task P source other answers told has = by before.told told answers
   where
-    by : (mine : Option (List ℕ)) → mine ≡ Some source → Answers (port mine before.faults) after command P
+    by : (mine : Option (List ℕ)) → mine ≡ Some source → Answers (port mine before.faults) after task P
         → (answer : Answer) × P answer × (other ≡ answer)
     by None told answers = absurd (cc)
     by (Some whole) told answers =
         let same : source ≡ whole = cc in
-        (answers.2, answers.4, only_answer command whole answers.2 other answers.3 (subst (λ bytes. HasAnswer command bytes other) same has))
+        (answers.2, answers.4, only_answer task whole answers.2 other answers.3 (subst (λ bytes. HasAnswer task bytes other) same has))
 
 -- a source that has few bytes doesn't give too many
-not_too_much : (command : Command) (before after : Port) (source : List ℕ) → GaveTooMuch command before after → before.told ≡ Some source → length source ≤ limit_of command → ⊥
-not_too_much command before after source gave told few = by before.told told gave
+not_too_much : (task : Task) (before after : Port) (source : List ℕ) → GaveTooMuch task before after → before.told ≡ Some source → length source ≤ limit_of task → ⊥
+not_too_much task before after source gave told few = by before.told told gave
   where
-    by : (mine : Option (List ℕ)) → mine ≡ Some source → GaveTooMuch command (port mine before.faults) after → ⊥
+    by : (mine : Option (List ℕ)) → mine ≡ Some source → GaveTooMuch task (port mine before.faults) after → ⊥
     by None told gave = absurd (cc)
     by (Some whole) told gave =
         let same : whole ≡ source = cc in
         omega (arith, ap length same, ap length gave.1.2, length-append gave.0 gave.1.0, gave.2)
 
 -- a source past the limit has no answer
-not_answered : (before after : Port) (command : Command) (P : Answer → Type 0) (source : List ℕ)
-    → Answers before after command P → before.told ≡ Some source → limit_of command < length source → ⊥
-not_answered before after command P source answers told long = by before.told told answers
+not_answered : (before after : Port) (task : Task) (P : Answer → Type 0) (source : List ℕ)
+    → Answers before after task P → before.told ≡ Some source → limit_of task < length source → ⊥
+not_answered before after task P source answers told long = by before.told told answers
   where
-    by : (mine : Option (List ℕ)) → mine ≡ Some source → Answers (port mine before.faults) after command P → ⊥
+    by : (mine : Option (List ℕ)) → mine ≡ Some source → Answers (port mine before.faults) after task P → ⊥
     by None told answers = absurd (cc)
     by (Some whole) told answers =
         let same : whole ≡ source = cc in omega (arith, ap length same, answers.0)
@@ -186,72 +187,52 @@ not_answered before after command P source answers told long = by before.told to
 refusal_is_no_text : (refusal : Refusal) (bytes note : List ℕ) (playouts : ℕ) (other : Answer) → refused refusal ≡ other → other ≡ text bytes note playouts → ⊥
 refusal_is_no_text refusal bytes note playouts other same is = let both : refused refusal ≡ text bytes note playouts = same ∙ is in absurd cc
 
-answers_due : (command : Command) (before after : Ports) (steps steps' : ℕ) (status : Status) → Outcome command before after steps steps' status
-    → (source : List ℕ) (answer : Answer) → before.source.told ≡ Some source → length source ≤ limit_of command
-    → HasAnswer command source answer → NoPortFailed answer before after → (status ≡ status_of answer) ⊎ (status ≡ Memory)
-answers_due command before after steps steps' status (written is note noted answers took) source answer told few has well =
-    let same = same_answer before.source after.source command _ source answer answers told has in
+answers_due : (task : Task) (before after : Ports) (steps steps' : ℕ) (status : Status) → Outcome task before after steps steps' status
+    → (source : List ℕ) (answer : Answer) → before.source.told ≡ Some source → length source ≤ limit_of task
+    → HasAnswer task source answer → NoPortFailed answer before after → (status ≡ status_of answer) ⊎ (status ≡ Memory)
+answers_due task before after steps steps' status (written is note noted answers took) source answer told few has well =
+    let same = same_answer before.source after.source task _ source answer answers told has in
     inl (is ∙ ap status_of (sym (same.2 ∙ same.1.2)))
-answers_due command before after steps steps' status (refusing refusal is answers refuses counted) source answer told few has well =
-    let same = same_answer before.source after.source command _ source answer answers told has in
+answers_due task before after steps steps' status (refusing refusal is answers refuses counted) source answer told few has well =
+    let same = same_answer before.source after.source task _ source answer answers told has in
     inl (is ∙ ap status_of (sym (same.2 ∙ same.1)))
-answers_due command before after steps steps' status (no_memory is gave refuses counted) source answer told few has well = inr is
-answers_due command before after steps steps' status (read_failed is failed gave refuses counted) source (text bytes note' playouts) told few has well = absurd (well.0 failed)
-answers_due command before after steps steps' status (read_failed is failed gave refuses counted) source (refused refusal) told few has well = absurd (well failed)
-answers_due command before after steps steps' status (too_long is gave refuses counted) source answer told few has well =
-    absurd (not_too_much command before.source after.source source gave told few)
-answers_due command before after steps steps' status (text_failed is failed note noted answers took) source (text bytes note' playouts) told few has well = absurd (well.1 failed)
-answers_due command before after steps steps' status (text_failed is failed note noted answers took) source (refused refusal) told few has well =
-    let same = same_answer before.source after.source command _ source (refused refusal) answers told has in
+answers_due task before after steps steps' status (no_memory is gave refuses counted) source answer told few has well = inr is
+answers_due task before after steps steps' status (read_failed is failed gave refuses counted) source (text bytes note' playouts) told few has well = absurd (well.0 failed)
+answers_due task before after steps steps' status (read_failed is failed gave refuses counted) source (refused refusal) told few has well = absurd (well failed)
+answers_due task before after steps steps' status (too_long is gave refuses counted) source answer told few has well =
+    absurd (not_too_much task before.source after.source source gave told few)
+answers_due task before after steps steps' status (text_failed is failed note noted answers took) source (text bytes note' playouts) told few has well = absurd (well.1 failed)
+answers_due task before after steps steps' status (text_failed is failed note noted answers took) source (refused refusal) told few has well =
+    let same = same_answer before.source after.source task _ source (refused refusal) answers told has in
     absurd (refusal_is_no_text refusal same.1.0 note same.1.1 same.0 same.2 same.1.2)
-answers_due command before after steps steps' status (note_failed is failed note noted answers took) source (text bytes note' playouts) told few has well = absurd (well.2 failed)
-answers_due command before after steps steps' status (note_failed is failed note noted answers took) source (refused refusal) told few has well =
-    let same = same_answer before.source after.source command _ source (refused refusal) answers told has in
+answers_due task before after steps steps' status (note_failed is failed note noted answers took) source (text bytes note' playouts) told few has well = absurd (well.2 failed)
+answers_due task before after steps steps' status (note_failed is failed note noted answers took) source (refused refusal) told few has well =
+    let same = same_answer before.source after.source task _ source (refused refusal) answers told has in
     absurd (refusal_is_no_text refusal same.1.0 note same.1.1 same.0 same.2 same.1.2)
 
-too_long_due : (command : Command) (before after : Ports) (steps steps' : ℕ) (status : Status) → Outcome command before after steps steps' status
-    → (source : List ℕ) → before.source.told ≡ Some source → limit_of command < length source
+too_long_due : (task : Task) (before after : Ports) (steps steps' : ℕ) (status : Status) → Outcome task before after steps steps' status
+    → (source : List ℕ) → before.source.told ≡ Some source → limit_of task < length source
     → (HasFailed before.source after.source → ⊥) → (status ≡ TooLong) ⊎ (status ≡ Memory)
-too_long_due command before after steps steps' status (written is note noted answers took) source told long well =
-    absurd (not_answered before.source after.source command _ source answers told long)
-too_long_due command before after steps steps' status (refusing refusal is answers refuses counted) source told long well =
-    absurd (not_answered before.source after.source command _ source answers told long)
-too_long_due command before after steps steps' status (no_memory is gave refuses counted) source told long well = inr is
-too_long_due command before after steps steps' status (read_failed is failed gave refuses counted) source told long well = absurd (well failed)
-too_long_due command before after steps steps' status (too_long is gave refuses counted) source told long well = inl is
-too_long_due command before after steps steps' status (text_failed is failed note noted answers took) source told long well =
-    absurd (not_answered before.source after.source command _ source answers told long)
-too_long_due command before after steps steps' status (note_failed is failed note noted answers took) source told long well =
-    absurd (not_answered before.source after.source command _ source answers told long)
+too_long_due task before after steps steps' status (written is note noted answers took) source told long well =
+    absurd (not_answered before.source after.source task _ source answers told long)
+too_long_due task before after steps steps' status (refusing refusal is answers refuses counted) source told long well =
+    absurd (not_answered before.source after.source task _ source answers told long)
+too_long_due task before after steps steps' status (no_memory is gave refuses counted) source told long well = inr is
+too_long_due task before after steps steps' status (read_failed is failed gave refuses counted) source told long well = absurd (well failed)
+too_long_due task before after steps steps' status (too_long is gave refuses counted) source told long well = inl is
+too_long_due task before after steps steps' status (text_failed is failed note noted answers took) source told long well =
+    absurd (not_answered before.source after.source task _ source answers told long)
+too_long_due task before after steps steps' status (note_failed is failed note noted answers took) source told long well =
+    absurd (not_answered before.source after.source task _ source answers told long)
 
 -- only want of memory keeps a command whose ports don't fail from the status of its answer
-pub succeeds : (command : Command) (before after : Ports) (steps steps' : ℕ) (status : Status) → Outcome command before after steps steps' status
-    → Succeeds command before after status
-succeeds command before after steps steps' status ends =
-    record { answers = answers_due command before after steps steps' status ends; too_long = too_long_due command before after steps steps' status ends }
+succeeds : (task : Task) (before after : Ports) (steps steps' : ℕ) (status : Status) → Outcome task before after steps steps' status
+    → Succeeds task before after status
+succeeds task before after steps steps' status ends =
+    record { answers = answers_due task before after steps steps' status ends; too_long = too_long_due task before after steps steps' status ends }
 
--- no word is two commands
-first_letter : (words : List (List ℕ)) (one other : List ℕ) → words ≡ one ∷ [] → words ≡ other ∷ [] → get_or one 0 0 ≡ get_or other 0 0
-first_letter words one other is is_other = ap (λ (all : List (List ℕ)). get_or (get_or all 0 []) 0 0) (sym is ∙ is_other)
-
--- words are one command at most
-same_command : (words : List (List ℕ)) (command other : Command) → IsCommand words command → IsCommand words other → other ≡ command
-same_command words Play Play is is_other = refl
-same_command words Play named.Check is is_other = let letters : 112 ≡ 99 = first_letter words _ _ is is_other in absurd (omega (arith, letters))
-same_command words Play named.Sheet is is_other = let letters : 112 ≡ 115 = first_letter words _ _ is is_other in absurd (omega (arith, letters))
-same_command words named.Check Play is is_other = let letters : 99 ≡ 112 = first_letter words _ _ is is_other in absurd (omega (arith, letters))
-same_command words named.Check named.Check is is_other = refl
-same_command words named.Check named.Sheet is is_other = let letters : 99 ≡ 115 = first_letter words _ _ is is_other in absurd (omega (arith, letters))
-same_command words named.Sheet Play is is_other = let letters : 115 ≡ 112 = first_letter words _ _ is is_other in absurd (omega (arith, letters))
-same_command words named.Sheet named.Check is is_other = let letters : 115 ≡ 99 = first_letter words _ _ is is_other in absurd (omega (arith, letters))
-same_command words named.Sheet named.Sheet is is_other = refl
-
--- how a command ended that words named
-pub ends_as_command : (words : List (List ℕ)) (command : Command) (before after : Ports) (steps steps' : ℕ) (status : Status) → IsCommand words command
-    → Outcome command before after steps steps' status → NoCountFell before after → Ends words before after steps steps' status
-ends_as_command words command before after steps steps' status is ends counted =
-    record {
-      outcome = inl (command, is, ends);
-      succeeds = λ other is_other. subst (λ command. Succeeds command before after status) (sym (same_command words command other is is_other)) (succeeds command before after steps steps' status ends);
-      no_count_fell = counted;
-    }
+-- a source was read and answered
+pub performed : (task : Task) (before after : Ports) (steps steps' : ℕ) (status : Status) → Outcome task before after steps steps' status
+    → Performs task before after steps steps' status
+performed task before after steps steps' status ends =
+    record { outcome = ends; succeeds = succeeds task before after steps steps' status ends }

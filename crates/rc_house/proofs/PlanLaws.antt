@@ -18,7 +18,7 @@ use Rattle.rc_plan_model.proofs.SomePlan.{some_plan}
 use Rattle.rc_plan.specs.declared.fail.PlanFail.{PlanFail}
 use Rattle.rc_plan.specs.declared.fail.PlanFail.TheVariants as fails
 use Rattle.rc_plan.specs.Reads.{IfPlanFault}
-use Rattle.rc_house.specs.AcceptedPlan.{HasPlanFault, IsFaultyBehind, IsPlanFaulty, HasReadFault, IsPlanAccepted, IsPlanRead, HasPlan}
+use Rattle.rc_house.specs.AcceptedPlan.{HasPlanFault, IsFaultyBehind, IsPlanFaulty, HasPlanReadFault, IsPlanAccepted, IsPlanRead, HasPlan}
 
 -- no fault is one of none
 none_first : (form : Tree) (players : ℕ) (kind : PlanKind) (at : ℕ) → plan_faults players form ≡ [] → IsPlanFault form players kind at → ⊥
@@ -27,7 +27,7 @@ none_first form players kind at none is =
 
 -- a plan that is read has no fault
 pub read_no_fault : (players : ℕ) (others : List Tree) (rest : ℕ) (plan : Plan) (kind : PlanKind) (at : ℕ)
-    → IsPlanRead players others plan → HasReadFault players kind at others rest → ⊥
+    → IsPlanRead players others plan → HasPlanReadFault players kind at others rest → ⊥
 read_no_fault players [] rest plan kind at is has = is
 read_no_fault players (form ∷ others) rest plan kind at is has = none_first form players kind at is.faultless has
 
@@ -52,7 +52,7 @@ one_accepted_plan source players others rest plan other is is' = one_read_plan p
 
 -- there is one first fault as it is read
 pub one_read_fault : (players : ℕ) (others : List Tree) (rest : ℕ) (kind other : PlanKind) (at offset : ℕ)
-    → HasReadFault players kind at others rest → HasReadFault players other offset others rest
+    → HasPlanReadFault players kind at others rest → HasPlanReadFault players other offset others rest
     → refusal.Plan other offset ≡ refusal.Plan kind at
 one_read_fault players [] rest kind other at offset has has' =
     same_fault kind other at offset (has'.0 ∙ sym has.0) (has'.1 ∙ sym has.1)
@@ -73,7 +73,7 @@ one_plan_fault source players others rest kind other at offset (inr has) (inr ha
 -- a plan is read, or it has a fault
 abbrev pub IsReadOrFault : ℕ → List Tree → ℕ → Type 0
 IsReadOrFault players others rest =
-    ((plan : Plan) × IsPlanRead players others plan) ⊎ ((kind : PlanKind) × (at : ℕ) × HasReadFault players kind at others rest)
+    ((plan : Plan) × IsPlanRead players others plan) ⊎ ((kind : PlanKind) × (at : ℕ) × HasPlanReadFault players kind at others rest)
 
 pub read_or_fault : (players : ℕ) (others : List Tree) (rest : ℕ) → 1 ≤ players → players ≤ 8 → IsReadOrFault players others rest
 read_or_fault players [] rest some few = inr (Shape, rest, (refl, refl))

@@ -15,27 +15,27 @@ use Rattle.rc_form.proofs.TopLists.{fits-first}
 use Rattle.rc_sheet.proofs.Accepted.{has_sheet}
 use Rattle.rc_play_model.specs.About.{about_of}
 use Rattle.rc_text_model.specs.Reading.{read_text}
-use Rattle.rc_house.specs.declared.command.Command.{Command}
-use Rattle.rc_house.specs.declared.command.Command.TheVariants.{Play, Check, Sheet}
+use Rattle.rc_house.specs.declared.task.Task.{Task}
+use Rattle.rc_house.specs.declared.task.Task.TheVariants.{Play, Check, Sheet}
 use Rattle.rc_house.specs.declared.refusal.Refusal.TheVariants as refusal
 use Rattle.rc_house.specs.declared.status.SourceKind.TheVariants.{Shape, Unseen}
 use Rattle.rc_house.specs.Status.{source_kind, sheet_kind}
 use Rattle.rc_sheet_laws.specs.Accepted.{IsSheetOf, IsAccepted}
-use Rattle.rc_house.specs.AcceptedPlan.{HasPlanFault, HasReadFault, IsPlanAccepted, IsPlanRead}
-use Rattle.rc_house.specs.Command.{wanted}
+use Rattle.rc_house.specs.AcceptedPlan.{HasPlanFault, HasPlanReadFault, IsPlanAccepted, IsPlanRead}
+use Rattle.rc_house.specs.Task.{wanted}
 use Rattle.rc_house.specs.Reading.{IsAcceptedWith}
-use Rattle.rc_house.specs.Answer.{Answer, text, refused, played, judged, HasAnswer, form_faulty}
+use Rattle.rc_house.specs.Answer.{Answer, text, refused, plan_played, text_judged, HasAnswer, form_faulty}
 use Rattle.rc_house.proofs.AcceptedLaws.{in_sight_or_not}
 use Rattle.rc_house.proofs.AnswerLaws.{missing_answer, refused_answer, first_accepted, accepted_answer, plan_answer}
 use Rattle.rc_house.proofs.PlanLaws.{IsPlanOrFault, plan_or_fault, IsReadOrFault, read_or_fault}
 
 -- the command has an answer to this source
-abbrev SomeAnswer : Command → List ℕ → Type 0
-SomeAnswer command source = (answer : Answer) × HasAnswer command source answer
+abbrev SomeAnswer : Task → List ℕ → Type 0
+SomeAnswer task source = (answer : Answer) × HasAnswer task source answer
 
 -- a source that is read, with a sheet that is accepted
-accepted : (command : Command) (source : List ℕ) (form : Tree) (others : List Tree) (rest : ℕ) (sheet : sheets.Sheet)
-    → Spelled source (wanted command) (form ∷ others) rest → IsAccepted form sheet → SomeAnswer command source
+accepted : (task : Task) (source : List ℕ) (form : Tree) (others : List Tree) (rest : ℕ) (sheet : sheets.Sheet)
+    → Spelled source (wanted task) (form ∷ others) rest → IsAccepted form sheet → SomeAnswer task source
 accepted Sheet source form others rest sheet spelled is =
     let answer = text (line (printed_sheet sheet)) [] 0 in (
       answer,
@@ -53,7 +53,7 @@ accepted Check source form others rest sheet spelled is =
 
     by_plan : IsReadOrFault sheet.players others rest → SomeAnswer Check source
     by_plan (inl plan) =
-        let answer = judged (about_of sheet plan.0.turns) plan.0 (read_text (drop rest source)) in (
+        let answer = text_judged (about_of sheet plan.0.turns) plan.0 (read_text (drop rest source)) in (
           answer,
           accepted_answer Check source (form ∷ others) rest sheet answer spelled sheet_is
               (λ first more same. (plan.0, subst (λ others. IsPlanRead sheet.players others plan.0) (behind first more same) plan.1, refl)),
@@ -61,7 +61,7 @@ accepted Check source form others rest sheet spelled is =
     by_plan (inr fault) = (
       refused (refusal.Plan fault.0 fault.1),
       plan_answer Check source (form ∷ others) rest sheet fault.0 fault.1 spelled sheet_is
-          (λ first more same. subst (λ others. HasReadFault sheet.players fault.0 fault.1 others rest) (behind first more same) fault.2),
+          (λ first more same. subst (λ others. HasPlanReadFault sheet.players fault.0 fault.1 others rest) (behind first more same) fault.2),
     )
 accepted Play source form others rest sheet spelled is =
     by_plan (plan_or_fault source sheet.players others rest is.of_form.well.limits.some_players is.of_form.well.limits.players)
@@ -74,8 +74,8 @@ accepted Play source form others rest sheet spelled is =
 
     by_plan : IsPlanOrFault source sheet.players others rest → SomeAnswer Play source
     by_plan (inl plan) = (
-      played (about_of sheet plan.0.turns) plan.0,
-      accepted_answer Play source (form ∷ others) rest sheet (played (about_of sheet plan.0.turns) plan.0) spelled sheet_is
+      plan_played (about_of sheet plan.0.turns) plan.0,
+      accepted_answer Play source (form ∷ others) rest sheet (plan_played (about_of sheet plan.0.turns) plan.0) spelled sheet_is
           (λ first more same. (plan.0, subst (λ others. IsPlanAccepted source sheet.players others rest plan.0) (behind first more same) plan.1, refl)),
     )
     by_plan (inr fault) = (
@@ -85,36 +85,36 @@ accepted Play source form others rest sheet spelled is =
     )
 
 -- one whose first list has no fault of its parts
-faultless : (command : Command) (source : List ℕ) (form : Tree) (others : List Tree) (rest : ℕ) (sheet : sheets.Sheet)
-    → Spelled source (wanted command) (form ∷ others) rest → IsSheetOf form sheet → IsInSight sheet ⊎ ((at : ℕ) × IsUnseen sheet at)
-    → SomeAnswer command source
-faultless command source form others rest sheet spelled is (inl sight) =
-    accepted command source form others rest sheet spelled (record { of_form = is; sight = sight })
-faultless command source form others rest sheet spelled is (inr unseen) = (
+faultless : (task : Task) (source : List ℕ) (form : Tree) (others : List Tree) (rest : ℕ) (sheet : sheets.Sheet)
+    → Spelled source (wanted task) (form ∷ others) rest → IsSheetOf form sheet → IsInSight sheet ⊎ ((at : ℕ) × IsUnseen sheet at)
+    → SomeAnswer task source
+faultless task source form others rest sheet spelled is (inl sight) =
+    accepted task source form others rest sheet spelled (record { of_form = is; sight = sight })
+faultless task source form others rest sheet spelled is (inr unseen) = (
   refused (refusal.Sheet Unseen unseen.0),
-  refused_answer command source (form ∷ others) form others rest Unseen unseen.0 refl spelled (inr (refl, sheet, is, unseen.1)),
+  refused_answer task source (form ∷ others) form others rest Unseen unseen.0 refl spelled (inr (refl, sheet, is, unseen.1)),
 )
 
 -- one that is read
-read : (command : Command) (source : List ℕ) (lists : List Tree) (rest : ℕ) → Spelled source (wanted command) lists rest
-    → SomeAnswer command source
-read command source [] rest spelled = (refused (refusal.Sheet Shape rest), missing_answer command source [] rest refl spelled)
-read command source (form ∷ others) rest spelled = by (sheet_fault form) refl
+read : (task : Task) (source : List ℕ) (lists : List Tree) (rest : ℕ) → Spelled source (wanted task) lists rest
+    → SomeAnswer task source
+read task source [] rest spelled = (refused (refusal.Sheet Shape rest), missing_answer task source [] rest refl spelled)
+read task source (form ∷ others) rest spelled = by (sheet_fault form) refl
   where
-    by : (found : Option SheetFault) → sheet_fault form ≡ found → SomeAnswer command source
+    by : (found : Option SheetFault) → sheet_fault form ≡ found → SomeAnswer task source
     by (Some found) is = (
       refused (refusal.Sheet (sheet_kind found.kind) found.at),
-      refused_answer command source (form ∷ others) form others rest (sheet_kind found.kind) found.at refl spelled
+      refused_answer task source (form ∷ others) form others rest (sheet_kind found.kind) found.at refl spelled
           (inl (found, is, refl, refl)),
     )
     by None none =
-        let made = has_sheet form none (fits-first source (wanted command) form others rest spelled) (of_atoms-first source (wanted command) form others rest spelled) in
+        let made = has_sheet form none (fits-first source (wanted task) form others rest spelled) (of_atoms-first source (wanted task) form others rest spelled) in
         let is : IsSheetOf form made.0 = record { faultless = none; stands = made.1; well = made.2 } in
-        faultless command source form others rest made.0 spelled is (in_sight_or_not made.0)
+        faultless task source form others rest made.0 spelled is (in_sight_or_not made.0)
 
-pub answered : (command : Command) (source : List ℕ) → SomeAnswer command source
-answered command source = by (spelled_or_faulty source (wanted command))
+pub answered : (task : Task) (source : List ℕ) → SomeAnswer task source
+answered task source = by (spelled_or_faulty source (wanted task))
   where
-    by : IsSpelledOrFaulty source (wanted command) → SomeAnswer command source
-    by (inl spelled) = read command source spelled.0 spelled.1 spelled.2
+    by : IsSpelledOrFaulty source (wanted task) → SomeAnswer task source
+    by (inl spelled) = read task source spelled.0 spelled.1 spelled.2
     by (inr fault) = (refused (refusal.Sheet (source_kind fault.0) fault.1), form_faulty (source_kind fault.0) fault.1 (fault.0, fault.2, refl) refl)

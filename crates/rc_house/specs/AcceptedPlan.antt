@@ -24,9 +24,9 @@ IsPlanRead players (form ∷ others) plan = IsPlanOf players form plan
 
 -- The first fault of the plan, where these are the lists and the rest that were read behind the sheet: it is missing, or else it is
 -- the first fault of the first of them.
-abbrev pub HasReadFault : ℕ → PlanKind → ℕ → List Tree → ℕ → Type 0
-HasReadFault players kind at [] rest = (kind ≡ Shape) × (at ≡ rest)
-HasReadFault players kind at (form ∷ others) rest = IsPlanFault form players kind at
+abbrev pub HasPlanReadFault : ℕ → PlanKind → ℕ → List Tree → ℕ → Type 0
+HasPlanReadFault players kind at [] rest = (kind ≡ Shape) × (at ≡ rest)
+HasPlanReadFault players kind at (form ∷ others) rest = IsPlanFault form players kind at
 
 -- It is read as this plan, and nothing follows it in the source.
 abbrev pub IsPlanAccepted : List ℕ → ℕ → List Tree → ℕ → Plan → Type 0
@@ -39,7 +39,7 @@ HasPlan source players others rest = (plan : Plan) × IsPlanAccepted source play
 -- The first fault of the plan where nothing may follow it: the first fault as it is read; or else something follows it.
 abbrev pub HasPlanFault : List ℕ → ℕ → PlanKind → ℕ → List Tree → ℕ → Type 0
 HasPlanFault source players kind at others rest =
-    HasReadFault players kind at others rest
+    HasPlanReadFault players kind at others rest
     ⊎ ((plan : Plan) × IsPlanRead players others plan × (rest ≢ length source) × (kind ≡ Rest) × (at ≡ rest))
 
 -- Behind the first of these lists, the sheet, stands this plan, and it is accepted.
@@ -59,4 +59,4 @@ IsBehind players lists plan = (form : Tree) (others : List Tree) → lists ≡ f
 -- Behind the first of these lists stands a plan whose first fault, as it is read, is this.
 abbrev pub IsFaultyBehind : ℕ → PlanKind → ℕ → List Tree → ℕ → Type 0
 IsFaultyBehind players kind at lists rest =
-    (form : Tree) (others : List Tree) → lists ≡ form ∷ others → HasReadFault players kind at others rest
+    (form : Tree) (others : List Tree) → lists ≡ form ∷ others → HasPlanReadFault players kind at others rest

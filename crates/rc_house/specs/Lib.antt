@@ -1,10 +1,12 @@
 pub mod Accepted
 pub mod AcceptedPlan
 pub mod Answer
-pub mod Command
+pub mod Bench
+pub mod Ends
 pub mod Note
 pub mod Outcome
 pub mod Port
 pub mod Reading
 pub mod Running
 pub mod Status
+pub mod Task

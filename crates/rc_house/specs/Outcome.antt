@@ -1,27 +1,27 @@
--- How a command may end, and what its ports have received then.
+-- How a command that reads a source may end, and what its ports have received then.
 use Rattle.std.specs.Prelude.{◌≡◌, ℕ, ◌+◌, ◌<◌, ◌≤◌, ◌⊎◌, List, [], length, Some, IfSome}
-use Rattle.rc_house.specs.declared.command.Command.{Command}
+use Rattle.rc_house.specs.declared.task.Task.{Task}
 use Rattle.rc_house.specs.declared.refusal.Refusal.{Refusal}
 use Rattle.rc_house.specs.declared.status.Status.{Status}
 use Rattle.rc_house.specs.declared.status.Status.TheVariants as ending
-use Rattle.rc_house.specs.Command.{IsCommand, IsNoteOf, limit_of}
+use Rattle.rc_house.specs.Task.{IsNoteOf, limit_of}
 use Rattle.rc_house.specs.Answer.{Answer, text, refused, HasAnswer, playouts_of}
 use Rattle.rc_house.specs.Status.{line_of, refusal_status}
-use Rattle.rc_house.specs.Port.{Port, Ports, HasFailed, Supplied, Received, ReceivedFront, Took, Noted, NotedFront, NoCountFell}
+use Rattle.rc_house.specs.Port.{Port, Ports, HasFailed, Supplied, Received, ReceivedFront, Took, Noted, NotedFront}
 
 -- the source gave no more than the command takes
-abbrev pub GaveFew : Command → Port → Port → Type 0
-GaveFew command before after = (taken : List ℕ) × Supplied before after taken × (length taken ≤ limit_of command)
+abbrev pub GaveFew : Task → Port → Port → Type 0
+GaveFew task before after = (taken : List ℕ) × Supplied before after taken × (length taken ≤ limit_of task)
 
 -- the source gave more than that
-abbrev pub GaveTooMuch : Command → Port → Port → Type 0
-GaveTooMuch command before after = (taken : List ℕ) × Supplied before after taken × (limit_of command < length taken)
+abbrev pub GaveTooMuch : Task → Port → Port → Type 0
+GaveTooMuch task before after = (taken : List ℕ) × Supplied before after taken × (limit_of task < length taken)
 
 -- Where the source tells its bytes: it gave all of them, they are few enough, and P holds of the command's answer to them.
-abbrev pub Answers : Port → Port → Command → (Answer → Type 0) → Type 0
-Answers before after command P =
+abbrev pub Answers : Port → Port → Task → (Answer → Type 0) → Type 0
+Answers before after task P =
     IfSome before.told (λ source.
-    (length source ≤ limit_of command) × (after.told ≡ Some []) × (answer : Answer) × HasAnswer command source answer × P answer)
+    (length source ≤ limit_of task) × (after.told ≡ Some []) × (answer : Answer) × HasAnswer task source answer × P answer)
 
 -- The answer is a text with this note, Q holds of it, and so many steps were counted as it takes playouts.
 abbrev pub IsTextWith : List ℕ → ℕ → ℕ → (List ℕ → Type 0) → Answer → Type 0
@@ -33,49 +33,44 @@ pub record Refuses (status : Status) (before after : Ports) : Type 0 where
   pub untouched : after.out ≡ before.out
   pub noted : Took before.notes after.notes (line_of status)
 
--- these words are no command, and nothing was read
-pub record IsNoCommand (words : List (List ℕ)) (before after : Ports) : Type 0 where
-  pub none : (command : Command) → IsCommand words command → ⊥
-  pub unread : after.source ≡ before.source
-
 -- No more steps were counted than the command's answer takes playouts, where the source tells its bytes.
-abbrev pub CountedFew : Port → Command → ℕ → ℕ → Type 0
-CountedFew before command steps steps' =
-    IfSome before.told (λ source. (answer : Answer) → HasAnswer command source answer → steps' ≤ steps + playouts_of answer)
+abbrev pub CountedFew : Port → Task → ℕ → ℕ → Type 0
+CountedFew before task steps steps' =
+    IfSome before.told (λ source. (answer : Answer) → HasAnswer task source answer → steps' ≤ steps + playouts_of answer)
 
--- A command that was named by words may end so. Each playout is a step.
-pub data Outcome (command : Command) (before after : Ports) (steps steps' : ℕ) (status : Status) : Type 0 where
+-- The command may end so. Each playout is a step.
+pub data Outcome (task : Task) (before after : Ports) (steps steps' : ℕ) (status : Status) : Type 0 where
   -- the text was written, and what the command notes then
-  written : status ≡ ending.Done → (note : List ℕ) → IsNoteOf command note
-      → Answers before.source after.source command (IsTextWith note steps steps' (Received before.out after.out))
+  written : status ≡ ending.Done → (note : List ℕ) → IsNoteOf task note
+      → Answers before.source after.source task (IsTextWith note steps steps' (Received before.out after.out))
       → Noted before.notes after.notes note
-      → Outcome command before after steps steps' status
+      → Outcome task before after steps steps' status
   -- the source is refused
   refusing : (refusal : Refusal) → status ≡ refusal_status refusal
-      → Answers before.source after.source command (λ answer. answer ≡ refused refusal)
+      → Answers before.source after.source task (λ answer. answer ≡ refused refusal)
       → Refuses status before after → steps' ≡ steps
-      → Outcome command before after steps steps' status
+      → Outcome task before after steps steps' status
   -- want of memory may come at any time before the text is written
-  no_memory : status ≡ ending.Memory → GaveFew command before.source after.source → Refuses status before after
-      → CountedFew before.source command steps steps'
-      → Outcome command before after steps steps' status
+  no_memory : status ≡ ending.Memory → GaveFew task before.source after.source → Refuses status before after
+      → CountedFew before.source task steps steps'
+      → Outcome task before after steps steps' status
   -- a read failed
   read_failed : status ≡ ending.ReadFault → HasFailed before.source after.source
-      → GaveFew command before.source after.source → Refuses status before after → steps' ≡ steps
-      → Outcome command before after steps steps' status
+      → GaveFew task before.source after.source → Refuses status before after → steps' ≡ steps
+      → Outcome task before after steps steps' status
   -- the source gave too much
-  too_long : status ≡ ending.TooLong → GaveTooMuch command before.source after.source → Refuses status before after → steps' ≡ steps
-      → Outcome command before after steps steps' status
+  too_long : status ≡ ending.TooLong → GaveTooMuch task before.source after.source → Refuses status before after → steps' ≡ steps
+      → Outcome task before after steps steps' status
   -- a write of the text failed
-  text_failed : status ≡ ending.WriteFault → HasFailed before.out after.out → (note : List ℕ) → IsNoteOf command note
-      → Answers before.source after.source command (IsTextWith note steps steps' (ReceivedFront before.out after.out))
+  text_failed : status ≡ ending.WriteFault → HasFailed before.out after.out → (note : List ℕ) → IsNoteOf task note
+      → Answers before.source after.source task (IsTextWith note steps steps' (ReceivedFront before.out after.out))
       → Took before.notes after.notes (line_of status)
-      → Outcome command before after steps steps' status
+      → Outcome task before after steps steps' status
   -- the text was written, and the write of the note failed
-  note_failed : status ≡ ending.WriteFault → HasFailed before.notes after.notes → (note : List ℕ) → IsNoteOf command note
-      → Answers before.source after.source command (IsTextWith note steps steps' (Received before.out after.out))
+  note_failed : status ≡ ending.WriteFault → HasFailed before.notes after.notes → (note : List ℕ) → IsNoteOf task note
+      → Answers before.source after.source task (IsTextWith note steps steps' (Received before.out after.out))
       → NotedFront before.notes after.notes note
-      → Outcome command before after steps steps' status
+      → Outcome task before after steps steps' status
 
 -- a command's status where it has this answer to its source, memory is found and no port fails
 abbrev pub status_of : Answer → Status
@@ -91,16 +86,9 @@ NoPortFailed (text bytes note playouts) before after =
 NoPortFailed (refused refusal) before after = HasFailed before.source after.source → ⊥
 
 -- Where no port fails, only want of memory keeps a command from the status of its answer to a source that tells its bytes.
-pub record Succeeds (command : Command) (before after : Ports) (status : Status) : Type 0 where
-  pub answers : (source : List ℕ) (answer : Answer) → before.source.told ≡ Some source → length source ≤ limit_of command
-      → HasAnswer command source answer → NoPortFailed answer before after
+pub record Succeeds (task : Task) (before after : Ports) (status : Status) : Type 0 where
+  pub answers : (source : List ℕ) (answer : Answer) → before.source.told ≡ Some source → length source ≤ limit_of task
+      → HasAnswer task source answer → NoPortFailed answer before after
       → (status ≡ status_of answer) ⊎ (status ≡ ending.Memory)
-  pub too_long : (source : List ℕ) → before.source.told ≡ Some source → limit_of command < length source
+  pub too_long : (source : List ℕ) → before.source.told ≡ Some source → limit_of task < length source
       → (HasFailed before.source after.source → ⊥) → (status ≡ ending.TooLong) ⊎ (status ≡ ending.Memory)
-
--- How words that began with these ports and so many steps ended.
-pub record Ends (words : List (List ℕ)) (before after : Ports) (steps steps' : ℕ) (status : Status) : Type 0 where
-  pub outcome : ((command : Command) × IsCommand words command × Outcome command before after steps steps' status)
-      ⊎ (IsNoCommand words before after × (status ≡ ending.Unbuilt) × Refuses status before after × (steps' ≡ steps))
-  pub succeeds : (command : Command) → IsCommand words command → Succeeds command before after status
-  pub no_count_fell : NoCountFell before after

@@ -17,7 +17,7 @@ use Rattle.rc_house.specs.declared.refusal.Refusal.TheVariants as refusal
 use Rattle.rc_house.specs.declared.status.SourceKind.{SourceKind}
 use Rattle.rc_house.specs.declared.status.SourceKind.TheVariants.{BadByte, Stray, TooDeep, AtomLong, Unclosed, Shape, Number, Twice, Unknown, WrongKind, TooMany, NoCards, Unseen}
 use Rattle.rc_house.specs.declared.status.Status.{Status}
-use Rattle.rc_house.specs.declared.status.Status.TheVariants.{Done, Sheet, Plan, Text, Illegal, Memory, ReadFault, WriteFault, TooLong, Unbuilt}
+use Rattle.rc_house.specs.declared.status.Status.TheVariants.{Done, Sheet, Plan, Text, Illegal, Memory, ReadFault, WriteFault, TooLong, Unbuilt, Usage}
 
 -- the name of a kind
 abbrev pub kind_name : SourceKind → List ℕ
@@ -102,6 +102,7 @@ read_status read.Memory = Memory
 abbrev pub code_of : Status → ℕ
 code_of Done = 0
 code_of (Sheet kind at) = 1
+code_of Usage = 2
 code_of (Plan kind at) = 3
 code_of (Text at) = 4
 code_of (Illegal at why) = 4
@@ -123,3 +124,4 @@ line_of ReadFault = line (codes "read fault")
 line_of WriteFault = line (codes "write fault")
 line_of TooLong = line (codes "too long")
 line_of Unbuilt = line (codes "unbuilt")
+line_of Usage = line (codes "usage: cardhouse play, check, sheet or bench")

@@ -14,20 +14,20 @@ ghost use Rattle.rc_rules.specs.Plan.{plan_seen};
 ghost use Rattle.rc_house.specs.declared.refusal.Refusal.TheVariants as refusal;
 ghost use Rattle.rc_house.specs.declared.status.SourceKind.TheVariants.{Shape};
 ghost use Rattle.rc_house.specs.Status.{source_kind};
-ghost use Rattle.rc_house.specs.declared.command.Command.TheVariants as command;
+ghost use Rattle.rc_house.specs.declared.task.Task.TheVariants as task;
 ghost use Rattle.rc_house.specs.AcceptedPlan.{IsPlanned};
-ghost use Rattle.rc_house.specs.Command.{wanted};
+ghost use Rattle.rc_house.specs.Task.{wanted};
 ghost use Rattle.rc_house.specs.Reading.{IsAcceptedWith};
 ghost use Rattle.rc_house.specs.declared.answer.Answer.TheVariants as stored;
 ghost use Rattle.rc_house.specs.Answer.{Answer as PureAnswer, HasAnswer, IsAnswerTo, IsJudged, IsPlanRefusal, IsSheetText, playouts_of, seen, verdict};
 
 use crate::accepting::{SourceFail, accept};
-use crate::command::Command;
 use crate::note::Note;
 use crate::planning::{plan_behind, read_plan};
 use crate::printing::print_line;
 use crate::refusal::Refusal;
 use crate::status::SourceKind;
+use crate::task::Task;
 use rc_deck::Memory;
 use rc_flow::Checked;
 use rc_form::{FormFail, FormFault, Forms, read_forms};
@@ -52,16 +52,16 @@ pub enum Answer {
 /// The answer of a command to its source. `Err` is want of memory alone.
 pub fn answer_to<L: Ledger>(
     alloc: Global,
-    command: Command,
+    task: Task,
     source: &[u8],
     steps: &mut Steps<L>,
 ) -> Result<Answer, AllocError>
     requires { length source.now ≤ 8388608 }
-    ensures answered { IfOk result (IsAnswerTo command source.now steps.old steps.new) }
-    ensures few { OnErr result ((answer : PureAnswer) → HasAnswer command source.now answer → steps.new ≤ steps.old + playouts_of answer) }
+    ensures answered { IfOk result (IsAnswerTo task source.now steps.old steps.new) }
+    ensures few { OnErr result ((answer : PureAnswer) → HasAnswer task source.now answer → steps.new ≤ steps.old + playouts_of answer) }
 {
-    match read_forms(alloc, source, command.wanted()) {
-        Ok(forms) => answer_of_forms(alloc, command, source, &forms, steps),
+    match read_forms(alloc, source, task.wanted()) {
+        Ok(forms) => answer_of_forms(alloc, task, source, &forms, steps),
         Err(FormFail::Fault(form_fault)) => Ok(fault_of(form_fault)),
         Err(FormFail::Memory) => Err(AllocError),
     }
@@ -80,25 +80,25 @@ fn fault_of(form_fault: FormFault) -> Answer
 /// The answer of a command to a source with these forms.
 fn answer_of_forms<L: Ledger>(
     alloc: Global,
-    command: Command,
+    task: Task,
     source: &[u8],
     forms: &Forms,
     steps: &mut Steps<L>,
 ) -> Result<Answer, AllocError>
     requires small { length source.now ≤ 8388608 }
     requires within { forms.now.rest ≤ length source.now }
-    requires read { Spelled source.now (wanted command) (trees_of forms.now.list.items) forms.now.rest }
+    requires read { Spelled source.now (wanted task) (trees_of forms.now.list.items) forms.now.rest }
     requires printable { All (λ form. IsPrintable (tree_of form)) forms.now.list.items }
     requires of_atoms { All (λ form. IsOfAtoms (tree_of form)) forms.now.list.items }
     requires placed { All (λ form. IsPlaced (length source.now) (tree_of form)) forms.now.list.items }
-    ensures answered { IfOk result (IsAnswerTo command source.now steps.old steps.new) }
-    ensures few { OnErr result ((answer : PureAnswer) → HasAnswer command source.now answer → steps.new ≤ steps.old + playouts_of answer) }
+    ensures answered { IfOk result (IsAnswerTo task source.now steps.old steps.new) }
+    ensures few { OnErr result ((answer : PureAnswer) → HasAnswer task source.now answer → steps.new ≤ steps.old + playouts_of answer) }
 {
     let Some(form) = forms.list.first() else {
         return Ok(missing(forms));
     };
     match accept(alloc, form) {
-        Ok(checked) => accepted_answer(alloc, command, source, forms, checked, steps),
+        Ok(checked) => accepted_answer(alloc, task, source, forms, checked, steps),
         Err(SourceFail::Fault { kind, at }) => Ok(Answer::Refused(Refusal::Sheet { kind, at })),
         Err(SourceFail::Memory) => Err(AllocError),
     }
@@ -118,7 +118,7 @@ fn missing(forms: &Forms) -> Answer
 /// The answer of a command to a source with these forms, of which the first is accepted as this sheet.
 fn accepted_answer<L: Ledger>(
     alloc: Global,
-    command: Command,
+    task: Task,
     source: &[u8],
     forms: &Forms,
     checked: Checked,
@@ -126,16 +126,16 @@ fn accepted_answer<L: Ledger>(
 ) -> Result<Answer, AllocError>
     requires small { length source.now ≤ 8388608 }
     requires within { forms.now.rest ≤ length source.now }
-    requires read { Spelled source.now (wanted command) (trees_of forms.now.list.items) forms.now.rest }
+    requires read { Spelled source.now (wanted task) (trees_of forms.now.list.items) forms.now.rest }
     requires placed { All (λ form. IsPlaced (length source.now) (tree_of form)) forms.now.list.items }
     requires accepted { IsAcceptedWith (λ sheet _. sheet ≡ checked) (trees_of forms.now.list.items) }
-    ensures answered { IfOk result (IsAnswerTo command source.now steps.old steps.new) }
-    ensures few { OnErr result ((answer : PureAnswer) → HasAnswer command source.now answer → steps.new ≤ steps.old + playouts_of answer) }
+    ensures answered { IfOk result (IsAnswerTo task source.now steps.old steps.new) }
+    ensures few { OnErr result ((answer : PureAnswer) → HasAnswer task source.now answer → steps.new ≤ steps.old + playouts_of answer) }
 {
-    match command {
-        Command::Play => play_answer(alloc, source, forms, checked, steps),
-        Command::Check => check_answer(alloc, source, forms, checked),
-        Command::Sheet => sheet_answer(alloc, &checked),
+    match task {
+        Task::Play => play_answer(alloc, source, forms, checked, steps),
+        Task::Check => check_answer(alloc, source, forms, checked),
+        Task::Sheet => sheet_answer(alloc, &checked),
     }
 }
 
@@ -152,8 +152,8 @@ fn play_answer<L: Ledger>(
     requires read { Spelled source.now 2 (trees_of forms.now.list.items) forms.now.rest }
     requires placed { All (λ form. IsPlaced (length source.now) (tree_of form)) forms.now.list.items }
     requires accepted { IsAcceptedWith (λ sheet _. sheet ≡ checked) (trees_of forms.now.list.items) }
-    ensures answered { IfOk result (IsAnswerTo command.Play source.now steps.old steps.new) }
-    ensures few { OnErr result ((answer : PureAnswer) → HasAnswer command.Play source.now answer → steps.new ≤ steps.old + playouts_of answer) }
+    ensures answered { IfOk result (IsAnswerTo task.Play source.now steps.old steps.new) }
+    ensures few { OnErr result ((answer : PureAnswer) → HasAnswer task.Play source.now answer → steps.new ≤ steps.old + playouts_of answer) }
 {
     let players = checked.sheet().players;
     match read_plan(alloc, source, forms, players) {
@@ -176,8 +176,8 @@ fn planned_answer<L: Ledger>(
     requires planned { IsPlanned source.now checked.players (trees_of forms.now.list.items) forms.now.rest (plan_seen plan) }
     requires within { IsWithinLimits (plan_seen plan) }
     requires seats { length (plan_seen plan).strategies ≡ checked.players }
-    ensures answered { IfOk result (IsAnswerTo command.Play source.now steps.old steps.new) }
-    ensures few { OnErr result ((answer : PureAnswer) → HasAnswer command.Play source.now answer → steps.new ≤ steps.old + playouts_of answer) }
+    ensures answered { IfOk result (IsAnswerTo task.Play source.now steps.old steps.new) }
+    ensures few { OnErr result ((answer : PureAnswer) → HasAnswer task.Play source.now answer → steps.new ≤ steps.old + playouts_of answer) }
 {
     match house_of(alloc, checked, plan, steps) {
         Ok(house) => Ok(Answer::Text(
@@ -203,7 +203,7 @@ fn check_answer(
     requires read { Spelled source.now 2 (trees_of forms.now.list.items) forms.now.rest }
     requires placed { All (λ form. IsPlaced (length source.now) (tree_of form)) forms.now.list.items }
     requires accepted { IsAcceptedWith (λ sheet _. sheet ≡ checked) (trees_of forms.now.list.items) }
-    ensures { (steps : ℕ) → IfOk result (IsAnswerTo command.Check source.now steps steps) }
+    ensures { (steps : ℕ) → IfOk result (IsAnswerTo task.Check source.now steps steps) }
 {
     let players = checked.sheet().players;
     match plan_behind(alloc, source, forms, players) {

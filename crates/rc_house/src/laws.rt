@@ -1,18 +1,18 @@
 //! Laws of what commands answer. No function here does anything: its contract is the law.
 ghost use Rattle.std.specs.Prelude.{◌≡◌, ℕ, List, []};
-ghost use Rattle.rc_house.specs.declared.command.Command.{Command};
-ghost use Rattle.rc_house.specs.declared.command.Command.TheVariants.{Sheet};
+ghost use Rattle.rc_house.specs.declared.task.Task.{Task};
+ghost use Rattle.rc_house.specs.declared.task.Task.TheVariants.{Sheet};
 ghost use Rattle.rc_house.specs.Answer.{Answer, text, HasAnswer};
 
 /// A command has at most one answer to a source.
 pub fn one_answer()
-    ensures { (command : Command) (source : List ℕ) (answer other : Answer)
-        → HasAnswer command source answer → HasAnswer command source other → other ≡ answer }
+    ensures { (task : Task) (source : List ℕ) (answer other : Answer)
+        → HasAnswer task source answer → HasAnswer task source other → other ≡ answer }
 {}
 
 /// Each command has an answer to each source.
 pub fn some_answer()
-    ensures { (command : Command) (source : List ℕ) → (answer : Answer) × HasAnswer command source answer }
+    ensures { (task : Task) (source : List ℕ) → (answer : Answer) × HasAnswer task source answer }
 {}
 
 /// What `sheet` answers to a source, it answers to that text too: what it writes is in canonical form.

@@ -1,17 +1,24 @@
 //! The calls that a program makes: they run a command from its words to its end.
-ghost use Rattle.std.specs.Prelude.{◌≡◌, ◌<◌, ◌≤◌, ℕ, map, string_bytes, IfOk, IfErr};
+ghost use Rattle.std.specs.Prelude.{◌≡◌, ◌<◌, ◌≤◌, ℕ, List, map, string_bytes, IfOk, IfErr};
 ghost use Rattle.rc_play_model.specs.MatchLaws.{AlikeSamePicks};
 ghost use Rattle.rc_house.specs.Status.{line_of};
-ghost use Rattle.rc_house.specs.Port.{NoCountFell, Took, port, ports};
-ghost use Rattle.rc_house.specs.Outcome.{Outcome, Ends};
-ghost use Rattle.rc_house.specs.Running.{ReadsAnswer, ReadsNone, Delivers};
+ghost use Rattle.rc_words.specs.Command.{IsCommand};
+ghost use Rattle.rc_house.specs.declared.status.Status.TheVariants.{Usage, Unbuilt};
+ghost use Rattle.rc_house.specs.Port.{Port, Delivers, NoCountFell, Took, moment, port, ports};
+ghost use Rattle.rc_house.specs.Bench.{BenchOutcome};
+ghost use Rattle.rc_house.specs.Ends.{Ends, Performs, Runs};
+ghost use Rattle.rc_house.specs.Running.{ReadsAnswer, ReadsNone};
 
 use crate::answer::{Answer, answer_to};
-use crate::command::{Command, command_of};
+use crate::benching::bench;
+use crate::note::Note;
 use crate::status::Status;
+use crate::task::Task;
+use rc_deck::Memory;
 use rc_outside::{Gate, ReadFail, Sink, Source, read_all, write_all};
 use rc_play_model::alike_decisions_have_one_item;
 use rc_steps::Steps;
+use rc_words::{Command, command_of};
 use std::alloc::Global;
 use std::marker::Brand;
 use std::sync::Wait;
@@ -31,19 +38,19 @@ pub fn refuse<N: Sink>(notes: &mut N, status: Status) -> Status
 /// A command's answer to its source, or why there is none.
 fn read_answer<S: Source, L: Ledger>(
     alloc: Global,
-    command: Command,
+    task: Task,
     source: &mut S,
     steps: &mut Steps<L>,
 ) -> Result<Answer, ReadFail>
-    ensures answer { IfOk result (ReadsAnswer command (port (S.left source.old) (S.faults source.old)) (port (S.left source.new) (S.faults source.new)) steps.old steps.new) }
-    ensures none { IfErr result (ReadsNone command (port (S.left source.old) (S.faults source.old)) (port (S.left source.new) (S.faults source.new)) steps.old steps.new) }
+    ensures answer { IfOk result (ReadsAnswer task (port (S.left source.old) (S.faults source.old)) (port (S.left source.new) (S.faults source.new)) steps.old steps.new) }
+    ensures none { IfErr result (ReadsNone task (port (S.left source.old) (S.faults source.old)) (port (S.left source.new) (S.faults source.new)) steps.old steps.new) }
     ensures counted { S.faults source.old ≤ S.faults source.new }
 {
-    let bytes = match read_all(alloc, source, command.limit()) {
+    let bytes = match read_all(alloc, source, task.limit()) {
         Ok(bytes) => bytes,
         Err(fail) => return Err(fail),
     };
-    match answer_to(alloc, command, &bytes, steps) {
+    match answer_to(alloc, task, &bytes, steps) {
         Ok(answer) => Ok(answer),
         Err(_) => Err(ReadFail::Memory),
     }
@@ -64,6 +71,63 @@ fn deliver<O: Sink, N: Sink>(out: &mut O, notes: &mut N, text: &[u8], note: &[u8
     }
 }
 
+/// Reads a source and answers it.
+fn perform<S: Source, O: Sink, N: Sink, L: Ledger>(
+    alloc: Global,
+    task: Task,
+    source: &mut S,
+    out: &mut O,
+    notes: &mut N,
+    steps: &mut Steps<L>,
+) -> Status
+    ensures performs { Performs task
+        (moment (S.left source.old) (S.faults source.old) (O.written out.old) (O.faults out.old) (N.written notes.old) (N.faults notes.old))
+        (moment (S.left source.new) (S.faults source.new) (O.written out.new) (O.faults out.new) (N.written notes.new) (N.faults notes.new))
+        steps.old steps.new result }
+    ensures no_count_fell { NoCountFell
+        (moment (S.left source.old) (S.faults source.old) (O.written out.old) (O.faults out.old) (N.written notes.old) (N.faults notes.old))
+        (moment (S.left source.new) (S.faults source.new) (O.written out.new) (O.faults out.new) (N.written notes.new) (N.faults notes.new)) }
+{
+    match read_answer(alloc, task, source, steps) {
+        Ok(Answer::Text(text, note)) => deliver(out, notes, &text, note.line().as_str().as_bytes()),
+        Ok(Answer::Refused(refusal)) => refuse(notes, Status::from(refusal)),
+        Err(fail) => refuse(notes, Status::from(fail)),
+    }
+}
+
+/// Plays the game of the bench, and writes its summary. It has no source.
+fn run_bench<O: Sink, N: Sink, L: Ledger>(
+    alloc: Global,
+    number: u16,
+    out: &mut O,
+    notes: &mut N,
+    steps: &mut Steps<L>,
+) -> Status
+    requires some { 1 ≤ number }
+    requires few { number ≤ 1000 }
+    ensures outcome { (source : Port) → BenchOutcome number
+        (ports source
+        (port (O.written out.old) (O.faults out.old))
+        (port (N.written notes.old) (N.faults notes.old)))
+        (ports source
+        (port (O.written out.new) (O.faults out.new))
+        (port (N.written notes.new) (N.faults notes.new)))
+        steps.old steps.new result }
+    ensures out_counted { O.faults out.old ≤ O.faults out.new }
+    ensures notes_counted { N.faults notes.old ≤ N.faults notes.new }
+{
+    match bench(alloc, number, steps) {
+        Ok(summary) => {
+            let note = Note::Looks {
+                looks: summary.looks,
+                hits: 0,
+            };
+            deliver(out, notes, &summary.text, note.line().as_str().as_bytes())
+        }
+        Err(Memory) => refuse(notes, Status::Memory),
+    }
+}
+
 /// Runs a command.
 fn run_command<S: Source, O: Sink, N: Sink, L: Ledger>(
     alloc: Global,
@@ -73,36 +137,26 @@ fn run_command<S: Source, O: Sink, N: Sink, L: Ledger>(
     notes: &mut N,
     steps: &mut Steps<L>,
 ) -> Status
-    ensures outcome { Outcome command
-        (ports
-        (port (S.left source.old) (S.faults source.old))
-        (port (O.written out.old) (O.faults out.old))
-        (port (N.written notes.old) (N.faults notes.old)))
-        (ports
-        (port (S.left source.new) (S.faults source.new))
-        (port (O.written out.new) (O.faults out.new))
-        (port (N.written notes.new) (N.faults notes.new)))
+    requires { (words : List (List ℕ)) × IsCommand words command }
+    ensures runs { Runs command
+        (moment (S.left source.old) (S.faults source.old) (O.written out.old) (O.faults out.old) (N.written notes.old) (N.faults notes.old))
+        (moment (S.left source.new) (S.faults source.new) (O.written out.new) (O.faults out.new) (N.written notes.new) (N.faults notes.new))
         steps.old steps.new result }
     ensures no_count_fell { NoCountFell
-        (ports
-        (port (S.left source.old) (S.faults source.old))
-        (port (O.written out.old) (O.faults out.old))
-        (port (N.written notes.old) (N.faults notes.old)))
-        (ports
-        (port (S.left source.new) (S.faults source.new))
-        (port (O.written out.new) (O.faults out.new))
-        (port (N.written notes.new) (N.faults notes.new))) }
+        (moment (S.left source.old) (S.faults source.old) (O.written out.old) (O.faults out.old) (N.written notes.old) (N.faults notes.old))
+        (moment (S.left source.new) (S.faults source.new) (O.written out.new) (O.faults out.new) (N.written notes.new) (N.faults notes.new)) }
 {
-    match read_answer(alloc, command, source, steps) {
-        Ok(Answer::Text(text, note)) => deliver(out, notes, &text, note.line().as_str().as_bytes()),
-        Ok(Answer::Refused(refusal)) => refuse(notes, Status::from(refusal)),
-        Err(fail) => refuse(notes, Status::from(fail)),
+    match command {
+        Command::Play(_) => perform(alloc, Task::Play, source, out, notes, steps),
+        Command::Check => perform(alloc, Task::Check, source, out, notes, steps),
+        Command::Sheet => perform(alloc, Task::Sheet, source, out, notes, steps),
+        Command::Bench { number, .. } => run_bench(alloc, number, out, notes, steps),
     }
 }
 
-/// Runs a command with one worker. It waits for nobody and always returns. Each playout is a step. In what `play` writes, two
-/// decisions of one seat with one strategy and one seed of the seats, at states that are alike to that seat, have the same item, in
-/// whatever matches they stand.
+/// Runs a command with one worker; where its words name more, they are none of a command's. It waits for nobody and always
+/// returns. Each playout is a step. In what is played, two decisions of one seat with one strategy and one seed of the seats, at
+/// states that are alike to that seat, have the same item, in whatever matches they stand.
 pub fn run_alone<S: Source, O: Sink, N: Sink, L: Ledger>(
     alloc: Global,
     words: &[String],
@@ -111,22 +165,23 @@ pub fn run_alone<S: Source, O: Sink, N: Sink, L: Ledger>(
     notes: &mut N,
     steps: &mut Steps<L>,
 ) -> Status
-    ensures ends { Ends (map string_bytes words.now)
-        (ports
-        (port (S.left source.old) (S.faults source.old))
-        (port (O.written out.old) (O.faults out.old))
-        (port (N.written notes.old) (N.faults notes.old)))
-        (ports
-        (port (S.left source.new) (S.faults source.new))
-        (port (O.written out.new) (O.faults out.new))
-        (port (N.written notes.new) (N.faults notes.new)))
+    ensures ends { Ends Usage (map string_bytes words.now)
+        (moment (S.left source.old) (S.faults source.old) (O.written out.old) (O.faults out.old) (N.written notes.old) (N.faults notes.old))
+        (moment (S.left source.new) (S.faults source.new) (O.written out.new) (O.faults out.new) (N.written notes.new) (N.faults notes.new))
         steps.old steps.new result }
     ensures alike { AlikeSamePicks }
 {
     alike_decisions_have_one_item();
-    match command_of(words) {
-        Some(command) => run_command(alloc, command, source, out, notes, steps),
-        None => refuse(notes, Status::Unbuilt),
+    match command_of(alloc, words) {
+        Ok(Some(command)) => {
+            if command.workers() == 1 {
+                run_command(alloc, command, source, out, notes, steps)
+            } else {
+                refuse(notes, Status::Usage)
+            }
+        }
+        Ok(None) => refuse(notes, Status::Usage),
+        Err(Memory) => refuse(notes, Status::Memory),
     }
 }
 
@@ -142,15 +197,9 @@ fn run_from<S: Source, O: Sink, N: Sink, L: Ledger>(
     requires name { blank.name ≡ L.name }
     requires parts { blank.parts ≡ L.parts }
     requires some { 0 < blank.parts }
-    ensures ends { (playouts : ℕ) × Ends (map string_bytes words.now)
-        (ports
-        (port (S.left source.old) (S.faults source.old))
-        (port (O.written out.old) (O.faults out.old))
-        (port (N.written notes.old) (N.faults notes.old)))
-        (ports
-        (port (S.left source.new) (S.faults source.new))
-        (port (O.written out.new) (O.faults out.new))
-        (port (N.written notes.new) (N.faults notes.new)))
+    ensures ends { (playouts : ℕ) × Ends Usage (map string_bytes words.now)
+        (moment (S.left source.old) (S.faults source.old) (O.written out.old) (O.faults out.old) (N.written notes.old) (N.faults notes.old))
+        (moment (S.left source.new) (S.faults source.new) (O.written out.new) (O.faults out.new) (N.written notes.new) (N.faults notes.new))
         0 playouts result }
     ensures alike { AlikeSamePicks }
 {
@@ -158,7 +207,7 @@ fn run_from<S: Source, O: Sink, N: Sink, L: Ledger>(
     run_alone(alloc, words, source, out, notes, &mut steps)
 }
 
-/// Runs a command. It may wait for workers, and what it promises holds if it returns.
+/// Runs a command. It may wait for workers, and what it promises holds if it returns. More than one worker isn't built yet.
 pub fn run<R: Threads + Wait + Sync, S: Source, O: Sink, N: Sink, G: Gate>(
     alloc: Global,
     rt: &R,
@@ -168,17 +217,22 @@ pub fn run<R: Threads + Wait + Sync, S: Source, O: Sink, N: Sink, G: Gate>(
     notes: &mut N,
     gate: &G,
 ) -> Status
-    ensures ends { (playouts : ℕ) × Ends (map string_bytes words.now)
-        (ports
-        (port (S.left source.old) (S.faults source.old))
-        (port (O.written out.old) (O.faults out.old))
-        (port (N.written notes.old) (N.faults notes.old)))
-        (ports
-        (port (S.left source.new) (S.faults source.new))
-        (port (O.written out.new) (O.faults out.new))
-        (port (N.written notes.new) (N.faults notes.new)))
+    ensures ends { (playouts : ℕ) × Ends Unbuilt (map string_bytes words.now)
+        (moment (S.left source.old) (S.faults source.old) (O.written out.old) (O.faults out.old) (N.written notes.old) (N.faults notes.old))
+        (moment (S.left source.new) (S.faults source.new) (O.written out.new) (O.faults out.new) (N.written notes.new) (N.faults notes.new))
         0 playouts result }
     ensures alike { AlikeSamePicks }
 {
-    run_from::<S, O, N, Brand>(alloc, words, source, out, notes, Blank::new(1))
+    alike_decisions_have_one_item();
+    match command_of(alloc, words) {
+        Ok(Some(command)) => {
+            if command.workers() == 1 {
+                run_from::<S, O, N, Brand>(alloc, words, source, out, notes, Blank::new(1))
+            } else {
+                refuse(notes, Status::Unbuilt)
+            }
+        }
+        Ok(None) => refuse(notes, Status::Usage),
+        Err(Memory) => refuse(notes, Status::Memory),
+    }
 }

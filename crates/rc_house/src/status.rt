@@ -157,8 +157,10 @@ pub enum Status {
     WriteFault,
     /// The source gave more bytes than the command may read.
     TooLong,
-    /// The words ask for what isn't built yet.
+    /// The words name more than one worker, which isn't built yet.
     Unbuilt,
+    /// The words are no command's.
+    Usage,
 }
 
 impl Status {
@@ -169,6 +171,7 @@ impl Status {
         match self {
             Status::Done => 0,
             Status::Sheet { .. } => 1,
+            Status::Usage => 2,
             Status::Plan { .. } => 3,
             Status::Text { .. } => 4,
             Status::Illegal { .. } => 4,
@@ -195,6 +198,7 @@ impl Status {
             Status::WriteFault => fixed_line("write fault\n"),
             Status::TooLong => fixed_line("too long\n"),
             Status::Unbuilt => fixed_line("unbuilt\n"),
+            Status::Usage => fixed_line("usage: cardhouse play, check, sheet or bench\n"),
         }
     }
 }
@@ -216,7 +220,7 @@ impl From<ReadFail> for Status {
 
 /// A line that is the same each time.
 fn fixed_line(text: &str) -> ArrayString<LINE>
-    requires { length text.now ≤ 16 }
+    requires { length text.now ≤ 64 }
     ensures { result.bytes ≡ text.now }
 {
     let mut line = ArrayString::new();

@@ -1,13 +1,13 @@
-//! The tables of statuses and commands, computed. No function here does anything: each has a contract that the check proves
+//! The tables of statuses and of what commands read, computed. No function here does anything: each has a contract that the check proves
 //! by computing.
-ghost use Rattle.std.specs.Prelude.{◌≡◌, ◌∷◌, [], codes};
-ghost use Rattle.rc_house.specs.declared.command.Command.TheVariants as command;
+ghost use Rattle.std.specs.Prelude.{◌≡◌, [], codes};
+ghost use Rattle.rc_house.specs.declared.task.Task.TheVariants as task;
 ghost use Rattle.rc_house.specs.declared.status.SourceKind.TheVariants.{Unseen, NoCards};
 ghost use Rattle.rc_plan_model.specs.declared.fault.PlanKind.TheVariants.{TooLarge};
 ghost use Rattle.rc_judge.specs.declared.verdict.Why.TheVariants.{Menu};
 ghost use Rattle.rc_house.specs.declared.status.Status.TheVariants as ending;
 ghost use Rattle.rc_house.specs.declared.note.Note.TheVariants.{Nothing, Looks};
-ghost use Rattle.rc_house.specs.Command.{IsCommand, limit_of, wanted};
+ghost use Rattle.rc_house.specs.Task.{limit_of, wanted};
 ghost use Rattle.rc_house.specs.Note.{note_line};
 ghost use Rattle.rc_house.specs.Status.{code_of, line_of};
 
@@ -15,6 +15,7 @@ ghost use Rattle.rc_house.specs.Status.{code_of, line_of};
 pub fn codes_of_statuses()
     ensures done { code_of ending.Done ≡ 0 }
     ensures sheet { code_of (ending.Sheet NoCards 6) ≡ 1 }
+    ensures usage { code_of ending.Usage ≡ 2 }
     ensures plan { code_of (ending.Plan TooLarge 463) ≡ 3 }
     ensures text { code_of (ending.Text 8) ≡ 4 }
     ensures illegal { code_of (ending.Illegal 3 Menu) ≡ 4 }
@@ -38,21 +39,15 @@ pub fn lines_of_statuses()
     ensures write_fault { line_of ending.WriteFault ≡ codes "write fault\n" }
     ensures too_long { line_of ending.TooLong ≡ codes "too long\n" }
     ensures unbuilt { line_of ending.Unbuilt ≡ codes "unbuilt\n" }
+    ensures usage { line_of ending.Usage ≡ codes "usage: cardhouse play, check, sheet or bench\n" }
 {}
 
-/// One word names a command, as it is written.
-pub fn words_of_commands()
-    ensures play { IsCommand (codes "play" ∷ []) command.Play }
-    ensures check { IsCommand (codes "check" ∷ []) command.Check }
-    ensures sheet { IsCommand (codes "sheet" ∷ []) command.Sheet }
-    ensures none { IsCommand [] command.Sheet → ⊥ }
-    ensures another { IsCommand (codes "sheet" ∷ codes "x" ∷ []) command.Sheet → ⊥ }
-    ensures capital { IsCommand (codes "Play" ∷ []) command.Play → ⊥ }
-    ensures other { IsCommand (codes "sheet" ∷ []) command.Play → ⊥ }
-    ensures play_reads { wanted command.Play ≡ 2 }
-    ensures check_reads { wanted command.Check ≡ 2 }
-    ensures sheet_reads { wanted command.Sheet ≡ 1 }
-    ensures check_takes { limit_of command.Check ≡ 8388608 }
+/// How much a command reads, and what it notes.
+pub fn sources_of_tasks()
+    ensures play_reads { wanted task.Play ≡ 2 }
+    ensures check_reads { wanted task.Check ≡ 2 }
+    ensures sheet_reads { wanted task.Sheet ≡ 1 }
+    ensures check_takes { limit_of task.Check ≡ 8388608 }
     ensures note { note_line (Looks 600 0) ≡ codes "cache looks 600 hits 0\n" }
     ensures no_note { note_line Nothing ≡ [] }
 {}

@@ -4,7 +4,7 @@
 ghost use Rattle.std.specs.Prelude.{◌≡◌};
 ghost use Rattle.std_io.specs.IoError.{error_kind};
 ghost use Rattle.std_io.specs.declared.io.kind.ErrorKind.TheVariants.{OutOfMemory};
-ghost use Rattle.rc_house.specs.declared.status.Status.TheVariants.{Memory, Unbuilt};
+ghost use Rattle.rc_house.specs.declared.status.Status.TheVariants.{Memory, Usage};
 
 use rc_house::{Status, refuse, run};
 use rc_outside::{OpenGate, StdSink, StdSource};
@@ -23,12 +23,12 @@ fn words_of(rt: &HostRuntime) -> io::Result<Vec<String>> {
 /// How the program ends where its words can't be read.
 fn status_of(error: &io::Error) -> Status
     ensures memory { error_kind error.now ≡ OutOfMemory → result ≡ Memory }
-    ensures others { ¬ (error_kind error.now ≡ OutOfMemory) → result ≡ Unbuilt }
+    ensures others { ¬ (error_kind error.now ≡ OutOfMemory) → result ≡ Usage }
 {
     match error.kind() {
         io::ErrorKind::OutOfMemory => Status::Memory,
         // A word that isn't UTF-8 is none of a command's.
-        _ => Status::Unbuilt,
+        _ => Status::Usage,
     }
 }
 

@@ -56,10 +56,10 @@ const PLAYED: End = End {
     noted: b"cache looks 0 hits 0\n",
 };
 
-const UNBUILT: End = End {
-    status: Status::Unbuilt,
+const USAGE: End = End {
+    status: Status::Usage,
     written: b"",
-    noted: b"unbuilt\n",
+    noted: b"usage: cardhouse play, check, sheet or bench\n",
 };
 
 const REFUSED: End = End {
@@ -305,24 +305,47 @@ fn a_failed_note_is_a_write_fault_but_behind_a_refusal(rt: HostRuntime) -> Resul
     Ok(())
 }
 
-/// Words that are no command.
-const WORDS: [&[&str]; 8] = [
+/// Words that are no command's. The last ones name more than one worker.
+const WORDS: [&[&str]; 15] = [
     &[],
-    &["play", "play"],
-    &["sheet", "play"],
     &[""],
-    &["check", "check"],
     &["Play"],
     &["play "],
     &["pla"],
+    &["play", "play"],
+    &["sheet", "play"],
+    &["check", "x"],
+    &["bench"],
+    &["bench", "0"],
+    &["play", "--workers", "0"],
+    &["play", "--cache", "70000"],
+    &["play", "--workers=1", "--workers", "1"],
+    &["play", "--workers", "2"],
+    &["bench", "5", "--workers=64"],
 ];
 
 /// A read would fail.
 #[test]
-fn other_words_are_unbuilt_and_nothing_is_read(rt: HostRuntime) -> Result<(), Fail> {
+fn other_words_are_refused_and_nothing_is_read(rt: HostRuntime) -> Result<(), Fail> {
     for words in WORDS {
         let source = pieces(rt.alloc(), GAME, 100, 0)?;
-        expect_end(&rt, words, source, (WIDE, WIDE), UNBUILT)?;
+        expect_end(&rt, words, source, (WIDE, WIDE), USAGE)?;
+    }
+    Ok(())
+}
+
+/// A play with one worker.
+const OPTIONS: [&[&str]; 3] = [
+    &["play", "--workers", "1"],
+    &["play", "--cache=65536", "--workers=00001"],
+    &["play", "--cache", "1"],
+];
+
+#[test]
+fn options_change_nothing_that_is_written(rt: HostRuntime) -> Result<(), Fail> {
+    for words in OPTIONS {
+        let source = pieces(rt.alloc(), GAME, 100, 99)?;
+        expect_end(&rt, words, source, (WIDE, WIDE), PLAYED)?;
     }
     Ok(())
 }

@@ -7,8 +7,8 @@ pub returns-in_default-clause-answered : goal.returns-in_default-clause-answered
 returns-in_default-clause-answered g c =
     let forms = c.args.forms.now in
     let none : None ≡ slice_get forms.list.items 0 = search rules in
-    refusal_is c.args.command c.args.source.now _ c.args.steps.now c.missing.result c.missing.ensures
-    (missing_answer c.args.command c.args.source.now (trees_of forms.list.items) forms.rest (no_tree forms.list.items none)
+    refusal_is c.args.task c.args.source.now _ c.args.steps.now c.missing.result c.missing.ensures
+    (missing_answer c.args.task c.args.source.now (trees_of forms.list.items) forms.rest (no_tree forms.list.items none)
     c.requires.read)
 
 pub accepted_answer-requires-clause-accepted : goal.accepted_answer-requires-clause-accepted
@@ -25,6 +25,6 @@ returns-in-Err-Fault-clause-answered g c =
     let listed = first_tree forms.list.items c.in-Some.form.now item in
     let refused = rw c.in-Err-Fault.field-0-is at c.in-Err-Fault.ensures.refused in
     rw (c.in-Err-Fault.kind-is, c.in-Err-Fault.at-is)
-    (refusal_is c.args.command c.args.source.now _ c.args.steps.now _ refl
-    (refused_answer c.args.command c.args.source.now (trees_of forms.list.items) (tree_of c.in-Some.form.now) listed.0
+    (refusal_is c.args.task c.args.source.now _ c.args.steps.now _ refl
+    (refused_answer c.args.task c.args.source.now (trees_of forms.list.items) (tree_of c.in-Some.form.now) listed.0
     forms.rest _ _ listed.1 c.requires.read refused))

@@ -12,5 +12,5 @@ answer_of_forms-requires-clause-read g c =
 pub returns-in-Err-Fault-clause-answered : goal.returns-in-Err-Fault-clause-answered
 returns-in-Err-Fault-clause-answered g c =
     let e = rw c.in-Err-Fault.field-0-is at c.in-Err-Fault.ensures in
-    refusal_is c.args.command c.args.source.now _ c.args.steps.now c.fault_of.result c.fault_of.ensures
-    (rw c.in-Err-Fault.form_fault-is (fault_answered c.args.command c.wanted.result c.args.source.now _ _ c.wanted.ensures e.fault))
+    refusal_is c.args.task c.args.source.now _ c.args.steps.now c.fault_of.result c.fault_of.ensures
+    (rw c.in-Err-Fault.form_fault-is (fault_answered c.args.task c.wanted.result c.args.source.now _ _ c.wanted.ensures e.fault))

@@ -1,0 +1,55 @@
+use Rattle.std.proofs.Common.{◌≡◌, map, string_bytes, rules}
+use Rattle.rc_words.specs.Command.{IsCommand, workers_of}
+use Rattle.rc_house.specs.declared.status.Status.TheVariants.{Usage, Unbuilt}
+use Rattle.rc_house.specs.Port.{port, ports}
+use Rattle.rc_house.proofs.EndsLemmas.{ends_alike, has_many, is_none, is_unread}
+use Rattle.rc_house.proofs.running.run.Goals as goal
+
+pub returns-then-workers-eq1-clause-ends : goal.returns-then-workers-eq1-clause-ends
+returns-then-workers-eq1-clause-ends g c =
+    let at_source = λ (s : _). port (g.S.Source.left s) (g.S.Source.faults s) in
+    let at_out = λ (o : _). port (g.O.Sink.written o) (g.O.Sink.faults o) in
+    let at_notes = λ (n : _). port (g.N.Sink.written n) (g.N.Sink.faults n) in
+    let is : IsCommand (map string_bytes c.args.words.now) c.in-Ok-Some.command = search rules in
+    let one : workers_of c.in-Ok-Some.command ≡ 1 = search rules in
+    let ends = c.run_from.ensures.ends in (
+      ends.0,
+      ends_alike Usage Unbuilt (map string_bytes c.args.words.now) c.in-Ok-Some.command
+          (ports (at_source c.args.source.now) (at_out c.args.out.now) (at_notes c.args.notes.now))
+          (ports (at_source c.run_from.new.source) (at_out c.run_from.new.out) (at_notes c.run_from.new.notes))
+          0 ends.0 c.run_from.result is one ends.1,
+    )
+
+pub returns-else-workers-eq1-clause-ends : goal.returns-else-workers-eq1-clause-ends
+returns-else-workers-eq1-clause-ends g c =
+    let at_source = λ (s : _). port (g.S.Source.left s) (g.S.Source.faults s) in
+    let at_out = λ (o : _). port (g.O.Sink.written o) (g.O.Sink.faults o) in
+    let at_notes = λ (n : _). port (g.N.Sink.written n) (g.N.Sink.faults n) in
+    let is : IsCommand (map string_bytes c.args.words.now) c.in-Ok-Some.command = search rules in
+    let more : workers_of c.in-Ok-Some.command ≡ 1 → ⊥ = search rules in (
+      0,
+      has_many Unbuilt c.refuse.result (map string_bytes c.args.words.now) c.in-Ok-Some.command (at_source c.args.source.now) (at_out c.args.out.now)
+          (at_notes c.args.notes.now) (at_notes c.refuse.new.notes) 0 is more c.refuse.ensures.status c.refuse.ensures.noted c.refuse.ensures.counted,
+    )
+
+pub returns-in-Ok-None-clause-ends : goal.returns-in-Ok-None-clause-ends
+returns-in-Ok-None-clause-ends g c =
+    let at_source = λ (s : _). port (g.S.Source.left s) (g.S.Source.faults s) in
+    let at_out = λ (o : _). port (g.O.Sink.written o) (g.O.Sink.faults o) in
+    let at_notes = λ (n : _). port (g.N.Sink.written n) (g.N.Sink.faults n) in (
+      0,
+      is_none Unbuilt c.refuse-in-Ok-None.result (map string_bytes c.args.words.now) (at_source c.args.source.now) (at_out c.args.out.now)
+          (at_notes c.args.notes.now) (at_notes c.refuse-in-Ok-None.new.notes) 0 (rw c.in-Ok-None.field-0-is at c.in-Ok-None.ensures.none)
+          c.refuse-in-Ok-None.ensures.status c.refuse-in-Ok-None.ensures.noted c.refuse-in-Ok-None.ensures.counted,
+    )
+
+pub returns-in-Err-clause-ends : goal.returns-in-Err-clause-ends
+returns-in-Err-clause-ends g c =
+    let at_source = λ (s : _). port (g.S.Source.left s) (g.S.Source.faults s) in
+    let at_out = λ (o : _). port (g.O.Sink.written o) (g.O.Sink.faults o) in
+    let at_notes = λ (n : _). port (g.N.Sink.written n) (g.N.Sink.faults n) in (
+      0,
+      is_unread Unbuilt c.refuse-in-Err.result (map string_bytes c.args.words.now) (at_source c.args.source.now) (at_out c.args.out.now)
+          (at_notes c.args.notes.now) (at_notes c.refuse-in-Err.new.notes) 0
+          c.refuse-in-Err.ensures.status c.refuse-in-Err.ensures.noted c.refuse-in-Err.ensures.counted,
+    )

@@ -1,0 +1,54 @@
+-- How words end: those of a command, and all others.
+use Rattle.std.specs.Prelude.{◌≡◌, ◌<◌, ℕ, List}
+use Rattle.rc_words.specs.Command.{IsCommand, workers_of}
+use Rattle.rc_words.specs.declared.command.Command.{Command}
+use Rattle.rc_words.specs.declared.command.Command.TheVariants.{Play, Check, Sheet, Bench}
+use Rattle.rc_house.specs.declared.status.Status.{Status}
+use Rattle.rc_house.specs.declared.status.Status.TheVariants as ending
+use Rattle.rc_house.specs.declared.task.Task.{Task}
+use Rattle.rc_house.specs.declared.task.Task.TheVariants as task
+use Rattle.rc_house.specs.Bench.{BenchOutcome}
+use Rattle.rc_house.specs.Outcome.{Outcome, Succeeds, Refuses}
+use Rattle.rc_house.specs.Port.{Ports, NoCountFell}
+
+-- A source was read and answered.
+pub record Performs (task : Task) (before after : Ports) (steps steps' : ℕ) (status : Status) : Type 0 where
+  pub outcome : Outcome task before after steps steps' status
+  pub succeeds : Succeeds task before after status
+
+-- The command was run.
+abbrev pub Runs : Command → Ports → Ports → ℕ → ℕ → Status → Type 0
+Runs (Play options) before after steps steps' status = Performs task.Play before after steps steps' status
+Runs Check before after steps steps' status = Performs task.Check before after steps steps' status
+Runs Sheet before after steps steps' status = Performs task.Sheet before after steps steps' status
+Runs (Bench number options) before after steps steps' status =
+    (after.source ≡ before.source) × BenchOutcome number before after steps steps' status
+
+-- No command was run: nothing was read, written or counted, and the status's line was noted.
+pub record Rests (status : Status) (before after : Ports) (steps steps' : ℕ) : Type 0 where
+  pub unread : after.source ≡ before.source
+  pub refuses : Refuses status before after
+  pub uncounted : steps' ≡ steps
+
+-- Words that began with these ports and so many steps ended so, where `many` is how those of more than one worker end.
+pub data Ending (many : Status) (words : List (List ℕ)) (before after : Ports) (steps steps' : ℕ) (status : Status) : Type 0 where
+  -- they are a command's, with one worker
+  alone : (command : Command) → IsCommand words command → workers_of command ≡ 1
+      → Runs command before after steps steps' status
+      → Ending many words before after steps steps' status
+  -- with more workers
+  shared : (command : Command) → IsCommand words command → 1 < workers_of command
+      → status ≡ many → Rests status before after steps steps'
+      → Ending many words before after steps steps' status
+  -- no command's
+  usage : ((command : Command) → IsCommand words command → ⊥)
+      → status ≡ ending.Usage → Rests status before after steps steps'
+      → Ending many words before after steps steps' status
+  -- there was no memory to read them
+  no_memory : status ≡ ending.Memory → Rests status before after steps steps'
+      → Ending many words before after steps steps' status
+
+-- and no count of faults fell
+pub record Ends (many : Status) (words : List (List ℕ)) (before after : Ports) (steps steps' : ℕ) (status : Status) : Type 0 where
+  pub ending : Ending many words before after steps steps' status
+  pub no_count_fell : NoCountFell before after

@@ -1,0 +1,23 @@
+-- What commands do with a source, and how much of it they take.
+use Rattle.std.specs.Prelude.{◌≡◌, ℕ, List, []}
+use Rattle.rc_house.specs.declared.task.Task.{Task}
+use Rattle.rc_house.specs.declared.task.Task.TheVariants.{Play, Check, Sheet}
+use Rattle.rc_house.specs.Note.{looks_line}
+
+-- how many lists a command reads from the front of its source
+abbrev pub wanted : Task → ℕ
+wanted Play = 2
+wanted Check = 2
+wanted Sheet = 1
+
+-- the most bytes that a command takes from its source
+abbrev pub limit_of : Task → ℕ
+limit_of Play = 1048576
+limit_of Check = 8388608
+limit_of Sheet = 1048576
+
+-- what a command may note where all went well
+abbrev pub IsNoteOf : Task → List ℕ → Type 0
+IsNoteOf Play note = (looks : ℕ) × (note ≡ looks_line looks 0)
+IsNoteOf Check note = note ≡ []
+IsNoteOf Sheet note = note ≡ []

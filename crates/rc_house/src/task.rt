@@ -1,0 +1,40 @@
+//! What commands do with a source.
+ghost use Rattle.std.specs.Prelude.{◌≡◌, ◌≤◌};
+ghost use Rattle.rc_house.specs.declared.task.Task.{Task};
+ghost use Rattle.rc_house.specs.Task.{limit_of, wanted};
+
+/// What a command does with its source.
+#[derive(Clone, Copy, Debug, PartialEq, Eq, Hash)]
+pub enum Task {
+    /// Plays the matches of a sheet and a plan.
+    Play,
+    /// Judges a transcript of a sheet and a plan.
+    Check,
+    /// Prints a sheet.
+    Sheet,
+}
+
+impl Task {
+    /// How many lists it reads from the front of its source.
+    pub fn wanted(self) -> usize
+        ensures { result ≡ wanted self }
+    {
+        match self {
+            Task::Play => 2,
+            Task::Check => 2,
+            Task::Sheet => 1,
+        }
+    }
+
+    /// The most bytes that it takes from its source.
+    pub fn limit(self) -> usize
+        ensures is { result ≡ limit_of self }
+        ensures few { result ≤ 8388608 }
+    {
+        match self {
+            Task::Play => 1_048_576,
+            Task::Check => 8_388_608,
+            Task::Sheet => 1_048_576,
+        }
+    }
+}
