@@ -1,5 +1,5 @@
 -- What choosing asks of a memo, and how many playouts it takes.
-use Rattle.std.specs.Prelude.{◌≡◌, ℕ, ◌+◌, true, false, List, [], ◌∷◌}
+use Rattle.std.specs.Prelude.{◌≡◌, ℕ, ◌+◌, ◌⊎◌, true, false, List, [], ◌∷◌}
 use Rattle.rc_play_model.specs.About.{About}
 use Rattle.rc_play_model.specs.Plan.{Strategy, scripted, random, rollout}
 use Rattle.rc_play_model.specs.View.{View}
@@ -32,6 +32,13 @@ asked_for need = asked_by need.about need.strategy need.seed need.view
 
 abbrev pub Chooses : Need → Counts → Counts → ℕ → ℕ → Type 0
 Chooses need before after steps steps' = AsksAll (asked_for need) before after steps steps'
+
+-- Where memory runs out, nothing was asked, or the one key was looked up once, a miss; nothing was kept.
+abbrev pub Lacks : Key → Counts → Counts → Type 0
+Lacks key before after = (after ≡ before) ⊎ (after ≡ looked_up key false before)
+
+abbrev pub LacksChoice : Need → Counts → Counts → Type 0
+LacksChoice need before after = (after ≡ before) ⊎ ((key : Key) × (asked_for need ≡ key ∷ []) × (after ≡ looked_up key false before))
 
 -- the steps that these lookups take where none is a hit
 abbrev pub all_costs : List Key → ℕ

@@ -1,10 +1,10 @@
 //! What chooses for the seats.
-ghost use Rattle.std.specs.Prelude.{◌≡◌, ◌≤◌, ◌+◌, Option, IfOk, OnOk};
+ghost use Rattle.std.specs.Prelude.{◌≡◌, ◌≤◌, ◌+◌, Option, IfOk, OnOk, OnErr};
 ghost use Rattle.rc_play_model.specs.About.{About as PureAbout};
 ghost use Rattle.rc_play_model.specs.Keyed.{choice_of};
 ghost use Rattle.rc_redraw.specs.Counts.{Counts, Serves};
 ghost use Rattle.rc_redraw.specs.Need.{need_seen, IsNeed};
-ghost use Rattle.rc_redraw.specs.Choosing.{Chooses, most_steps};
+ghost use Rattle.rc_redraw.specs.Choosing.{Chooses, LacksChoice, most_steps};
 
 use crate::need::Need;
 use rc_deck::Memory;
@@ -12,7 +12,8 @@ use rc_steps::Steps;
 use std::alloc::Global;
 use std::sync::ledger::Ledger;
 
-/// Chooses as strategies do. For a rollout it asks a memo once, and what that misses is played out, a step for each playout.
+/// Chooses as strategies do. For a rollout it asks a memo once, and what that misses is played out, a step for each playout. Other
+/// strategies ask nothing. Where memory runs out, nothing was kept.
 pub trait Chooser {
     ghost serves: { Self → Option PureAbout };
 
@@ -30,6 +31,7 @@ pub trait Chooser {
         ensures is { IfOk result (λ item. item
             ≡ choice_of (need_seen need.now).about (need_seen need.now).strategy (need_seen need.now).seed (need_seen need.now).view) }
         ensures counted { OnOk result (Chooses (need_seen need.now) (counts self.old) (counts self.new) steps.old steps.new) }
+        ensures lacking { OnErr result (LacksChoice (need_seen need.now) (counts self.old) (counts self.new)) }
         ensures rises { steps.old ≤ steps.new }
         ensures bounded { steps.new ≤ steps.old + most_steps (need_seen need.now) }
         ensures same { serves self.new ≡ serves self.old };

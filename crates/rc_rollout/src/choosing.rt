@@ -1,11 +1,11 @@
 //! What strategies choose.
-ghost use Rattle.std.specs.Prelude.{◌≡◌, ◌==◌, ◌≤◌, ◌<◌, ◌+◌, max, fold, length, IfOk, OnOk};
+ghost use Rattle.std.specs.Prelude.{◌≡◌, ◌==◌, ◌≤◌, ◌<◌, ◌+◌, max, fold, length, IfOk, OnOk, OnErr};
 ghost use Rattle.std.specs.List.{position_or_len};
 ghost use Rattle.rc_play_model.specs.Keyed.{choice_of};
 ghost use Rattle.rc_play_model.specs.Strategy as strategy;
 ghost use Rattle.rc_play_model.specs.Tally.{tally as tally_of};
 ghost use Rattle.rc_redraw.specs.Asking.{cost_of, key_seen};
-ghost use Rattle.rc_redraw.specs.Choosing.{Asks, Chooses, most_steps};
+ghost use Rattle.rc_redraw.specs.Choosing.{Asks, Chooses, Lacks, LacksChoice, most_steps};
 ghost use Rattle.rc_redraw.specs.Counts.{Serves, kept_once};
 ghost use Rattle.rc_redraw.specs.Need.{need_seen, IsAtDecision, IsNeed};
 
@@ -33,6 +33,7 @@ pub fn choose<M: Memo, L: Ledger>(
     ensures is { IfOk result (λ item. item
         ≡ choice_of (need_seen need.now).about (need_seen need.now).strategy (need_seen need.now).seed (need_seen need.now).view) }
     ensures counted { OnOk result (Chooses (need_seen need.now) (M.counts memo.old) (M.counts memo.new) steps.old steps.new) }
+    ensures lacking { OnErr result (LacksChoice (need_seen need.now) (M.counts memo.old) (M.counts memo.new)) }
     ensures rises { steps.old ≤ steps.new }
     ensures bounded { steps.new ≤ steps.old + most_steps (need_seen need.now) }
     ensures same { M.serves memo.new ≡ M.serves memo.old }
@@ -98,6 +99,7 @@ fn best_of<M: Memo, L: Ledger>(
     requires menu { menu ≡ strategy.menu_size (key_seen key.now).about (key_seen key.now).ask.view }
     ensures is { IfOk result (λ item. item ≡ strategy.first_largest (tally_of (key_seen key.now).about (key_seen key.now).ask)) }
     ensures counted { OnOk result (Asks (key_seen key.now) (M.counts memo.old) (M.counts memo.new) steps.old steps.new) }
+    ensures lacking { OnErr result (Lacks (key_seen key.now) (M.counts memo.old) (M.counts memo.new)) }
     ensures rises { steps.old ≤ steps.new }
     ensures bounded { steps.new ≤ steps.old + cost_of (key_seen key.now) }
     ensures same { M.serves memo.new ≡ M.serves memo.old }
@@ -126,6 +128,7 @@ fn best_played<M: Memo, L: Ledger>(
     requires menu { menu ≡ strategy.menu_size (key_seen key.now).about (key_seen key.now).ask.view }
     ensures is { IfOk result (λ item. item ≡ strategy.first_largest (tally_of (key_seen key.now).about (key_seen key.now).ask)) }
     ensures kept { OnOk result (M.counts memo.new ≡ kept_once (key_seen key.now) (M.counts memo.old)) }
+    ensures lacking { OnErr result (M.counts memo.new ≡ M.counts memo.old) }
     ensures counted { OnOk result (steps.new ≡ steps.old + cost_of (key_seen key.now)) }
     ensures rises { steps.old ≤ steps.new }
     ensures bounded { steps.new ≤ steps.old + cost_of (key_seen key.now) }
