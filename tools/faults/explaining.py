@@ -1,0 +1,88 @@
+"""What is said beside the line of a refusal."""
+
+import os
+import re
+import textwrap
+from collections.abc import Callable
+
+from faults import kinds
+from faults.forms import PLAN_FORMS, SHEET_FORMS, forms_with
+from faults.places import line_at, picture, place_of
+from faults.tokens import head_of, lists_around, rest_of, word_at
+
+WIDTH = 100
+
+
+def explanation(note: str, source: bytes, words: list[str]) -> list[str]:
+    """The lines that explain a note on a source that was read by these words; none where there is nothing to explain."""
+    readings: list[tuple[str, Callable[[re.Match[str]], list[str]]]] = [
+        (r"(sheet|plan) (\w+) (\d+)", lambda told: on_part(told[1], told[2], int(told[3]), source)),
+        (r"text (\d+)", lambda told: on_line(int(told[1]), kinds.GRAMMAR, source)),
+        (r"illegal (\d+) (\w+)", lambda told: on_line(int(told[1]), kinds.ILLEGAL.get(told[2]), source)),
+        (r"(usage): .*", lambda told: on_words(words)),
+        (r"(.+)", lambda told: wrapped(kinds.WHOLE.get(told[1]))),
+    ]
+    for pattern, explain in readings:
+        told = re.fullmatch(pattern, note)
+        if told:
+            return explain(told)
+    return []
+
+
+def wrapped(sentence: str | None) -> list[str]:
+    return textwrap.wrap(sentence, WIDTH, break_on_hyphens=False, break_long_words=False) if sentence else []
+
+
+def on_part(what: str, kind: str, at: int, source: bytes) -> list[str]:
+    """On a fault of a sheet or a plan: its place, its line, a sentence, and where its shape is wrong how it is written."""
+    around = lists_around(source, at)
+    word = word_at(source, at) if at < len(source) else ""
+    part = kinds.Part(word, head_of(source, at), head_of(source, around[-1]) if around else "")
+    said = kinds.sentence_on(what, kind, part)
+    if said is None:
+        return []
+    place = place_of(source, at)
+    line = line_at(source, at)
+    shown = picture(line, place.column) if line or not place.is_end else []
+    hints = forms_of(what, part) if kind == "Shape" and word else []
+    return [f"{place}:", *shown, *wrapped(said), *hints]
+
+
+def forms_of(what: str, part: kinds.Part) -> list[str]:
+    """How a list with this head is written, and the list around it."""
+    forms = PLAN_FORMS if what == "plan" else SHEET_FORMS
+    lines = []
+    for head, told in ((part.head, "A list that begins with this word is written"), (part.around, "The list around it is written")):
+        written = forms_with(head, forms)
+        if written:
+            lines += [f"{told}:", *(f"    {form}" for form in written)]
+    return lines
+
+
+def on_line(number: int, said: str | None, source: bytes) -> list[str]:
+    """On a line of a transcript, which begins behind the sheet, the plan, and white space and comments."""
+    if said is None:
+        return []
+    begin = rest_of(source, 2)
+    lines = source[begin:].split(b"\n")
+    first = place_of(source, begin).line
+    where = f"line {number} of the transcript, line {first + number - 1} of the source"
+    if number > len(lines) or (number == len(lines) and not lines[-1]):
+        return wrapped(f"{where}, where the text ends: more lines are to follow.") + wrapped(said)
+    return [f"{where}{match_of(lines[:number])}:", *picture(lines[number - 1].removesuffix(b"\r"), 1), *wrapped(said)]
+
+
+def match_of(lines: list[bytes]) -> str:
+    """In which match the last of these lines stands, where one has begun and the standings haven't."""
+    if lines[-1].startswith(b"standing"):
+        return ""
+    numbers = (re.match(rb"match (\d+) ", line) for line in reversed(lines))
+    return next((f", in match {found[1].decode()}" for found in numbers if found), "")
+
+
+def on_words(words: list[str]) -> list[str]:
+    """On words that are no command. Who names a file is told how it is handed over."""
+    said = wrapped(kinds.WHOLE["usage"])
+    if any(os.path.isfile(word) for word in words):
+        said += wrapped("Files are handed to standard input, as in `cat GAME.sheet GAME.plan | ./cardhouse play`.")
+    return said
