@@ -161,6 +161,13 @@ class Explanations(unittest.TestCase):
         self.assertIn("    (forget CARD)", said)
         self.assertIn("    (do EFFECT+)", said)
 
+    def test_a_head_that_no_list_has(self) -> None:
+        said = explanation(SHEETS[6].note(), SHEETS[6].given(), ["sheet"])
+        self.assertIn("No list begins with `discard` here.", said)
+        source = SHEET.format("", "").replace("(R (A))", "(R)")
+        said = explanation(f"sheet Shape {source.index('(R)')}", source.encode(), ["sheet"])
+        self.assertFalse([line for line in said if line.startswith("No list")])
+
     def test_whole_lines(self) -> None:
         for note in ("too long", "unbuilt", "no memory", "read fault", "write fault"):
             with self.subTest(note):

@@ -53,10 +53,14 @@ class Case:
 
     def run(self) -> str | None:
         """Returns what is to be said where the case fails, and otherwise nothing."""
-        end = run(self.words, self.source)
-        if self.is_met(end):
-            return None
-        return f"{self.row.place()}: expected {self.expected}, found {end}\n    {self.source[:2000]}"
+        try:
+            end = run(self.words, self.source)
+        except subprocess.TimeoutExpired:
+            return self.said(f"no end within {SECONDS} seconds")
+        return None if self.is_met(end) else self.said(str(end))
+
+    def said(self, found: str) -> str:
+        return f"{self.row.place()}: expected {self.expected}, found {found}\n    {self.source[:2000]}"
 
 
 def run(words: tuple[str, ...], source: str) -> End:

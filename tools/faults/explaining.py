@@ -52,11 +52,19 @@ def forms_of(what: str, part: kinds.Part) -> list[str]:
     """How a list with this head is written, and the list around it."""
     forms = PLAN_FORMS if what == "plan" else SHEET_FORMS
     lines = []
+    if is_head_unknown(part, forms):
+        lines.append(f"No list begins with `{part.head}` here.")
     for head, told in ((part.head, "A list that begins with this word is written"), (part.around, "The list around it is written")):
         written = forms_with(head, forms)
         if written:
             lines += [f"{told}:", *(f"    {form}" for form in written)]
     return lines
+
+
+def is_head_unknown(part: kinds.Part, forms: tuple[str, ...]) -> bool:
+    """Whether a list begins with a word of the designer's own where a fixed word belongs. Groups begin with such a word."""
+    is_own = part.head[:1] not in ("", "'") and not forms_with(part.head, forms)
+    return is_own and part.around != "deck" and bool(forms_with(part.around, forms))
 
 
 def on_line(number: int, said: str | None, source: bytes) -> list[str]:
