@@ -4,9 +4,10 @@ import shutil
 import tempfile
 import unittest
 from collections.abc import Callable
+from itertools import islice
 from pathlib import Path
 
-from cases import bench, checking
+from cases import checking, tricks
 from cases.pages import frame_of, read_page
 from cases.plays import Play, lines_match, read_play, read_plays
 from cases.rows import Mistake, Row, copied, is_limit, marked, only_last_marker, read_groups, read_rows, unescaped
@@ -214,10 +215,9 @@ class Words(unittest.TestCase):
         self.assertTrue(self.case('["play", "--workers=2"]\tplay workers 2 cache 1024')[1](UNBUILT))
 
     def test_benches(self) -> None:
-        end = End(0, "bench 3\nmatches 3\ndecisions 72\nlimits 0\nstanding 1 strategy 1 points 12\nstanding 2 strategy 0 points 8\n"
-                     "standing 2 strategy 2 points 8\nstanding 2 strategy 3 points 8\n", "cache looks 36 hits 0\n")
-        self.assertTrue(self.case('["bench", "003"]\tbench 3 workers 1 cache 1024')[1](end))
-        self.assertFalse(self.case('["bench", "4"]\tbench 4 workers 1 cache 1024')[1](end))
+        end = End(0, tricks.summary(2), "cache looks 24 hits 0\n")
+        self.assertTrue(self.case('["bench", "002"]\tbench 2 workers 1 cache 1024')[1](end))
+        self.assertFalse(self.case('["bench", "1"]\tbench 1 workers 1 cache 1024')[1](end))
         words, is_met = self.case('["bench", "1000"]\tbench 1000 workers 1 cache 1024')
         self.assertEqual(words, ("bench", "1000", "--workers", "2"))
         self.assertTrue(is_met(UNBUILT))
@@ -241,14 +241,59 @@ class Ends(unittest.TestCase):
         self.assertEqual(str(End(0, "x\n", "")), "accepted, with the text 'x\\n'")
         self.assertEqual(str(End(8, "", "too long\n")), "status 8 with the note 'too long\\n'")
 
-    def test_played_tricks(self) -> None:
-        match = "match 0 deal 1 seats 1\n" + "choose 0 0 0 1\n" * 24 + "shuffles 1\nend done 54\n" + "score 0 0 2\n" * 4
-        text = "house 1\n" + match * 50 + "standing 1 strategy 0 points 150\n" * 4
-        notes = "cache looks 600 hits 0\n"
-        self.assertTrue(bench.is_played(End(0, text, notes)))
-        self.assertFalse(bench.is_played(End(0, text.replace("end done 54", "end done 53", 1), notes)))
-        self.assertFalse(bench.is_played(End(0, text.replace("points 150", "points 149", 1), notes)))
-        self.assertFalse(bench.is_played(End(0, text, "cache looks 599 hits 0\n")))
+
+class Tricks(unittest.TestCase):
+    """The trick game, by what its rules say and by words of the generator that are known."""
+
+    def test_words(self) -> None:
+        # The first block of ChaCha with eight rounds and a key of zeros.
+        known = (
+            "3e00ef2f895f40d67f5bb8e81f09a5a12c840ec3ce9a7f3b181be188ef711a1e"
+            "984ce172b9216f419f445367456d5619314a42a3da86b001387bfdb80e0cfe42"
+        )
+        self.assertEqual(b"".join(word.to_bytes(4, "little") for word in tricks.block((0,) * 8, 0)).hex(), known)
+        self.assertEqual(list(islice(tricks.words(1, 1, 0, 0), 4)), [1489600331, 1011583306, 2319271736, 3563607617])
+
+    def test_draws(self) -> None:
+        self.assertEqual(tricks.permuted([1, 2, 3, 4, 5], 1, 1, 0, 0), [4, 3, 5, 1, 2])
+        self.assertEqual(tricks.pick(256, 0, 2, 0, 1), 109)
+        self.assertEqual([tricks.pick(7, 0, 2, 0, turn) for turn in (1, 3, 5)], [2, 6, 4])
+
+    def test_cards(self) -> None:
+        self.assertEqual([tricks.worth(card) for card in (0, 3, 4, 31, 32, 34)], [3, 3, 4, 10, 11, 11])
+        self.assertEqual([tricks.suit(card) for card in (0, 3, 4, 31, 32, 34)], [0, 3, 0, 3, 0, 2])
+
+    def test_a_trick(self) -> None:
+        # Seat 1 leads the 4 of the first suit. Seat 2 has to follow, seat 3 can't, and seat 0 takes the trick with the ace.
+        table = tricks.Table([], [[32, 1], [4, 2], [3, 0], [6, 7]], mover=1)
+        self.assertEqual(table.menu(), [4, 2])
+        table.play(0)
+        self.assertEqual(table.menu(), [0])
+        table.play(0)
+        self.assertEqual(table.menu(), [6, 7])
+        table.play(1)
+        self.assertEqual(table.menu(), [32])
+        table.play(0)
+        self.assertEqual((table.last, table.mover, table.lead, table.menu()), (0, 0, None, [1]))
+        self.assertEqual([table.points(seat) for seat in range(4)], [6, 2, 2, 2])
+
+    def test_what_is_seen_stays_in_a_redraw(self) -> None:
+        table = tricks.dealt(1)
+        table.play(0)
+        drawn = tricks.redrawn(table, 1, 5, 6, 7, 8)
+        self.assertEqual((drawn.hands[1], drawn.tricks, drawn.lead), (table.hands[1], table.tricks, table.lead))
+        self.assertEqual([len(hand) for hand in drawn.hands], [5, 6, 6, 6])
+        self.assertEqual(sorted(drawn.stock + sum(drawn.hands, [])), sorted(table.stock + sum(table.hands, [])))
+        self.assertNotEqual(drawn.hands[2], table.hands[2])
+
+    def test_matches(self) -> None:
+        text = tricks.transcript(1, 1000, 2).splitlines()
+        self.assertEqual(len(text), 1 + 2 * 31 + 4)
+        self.assertEqual(text[1], "match 0 deal 1 seats 1000")
+        self.assertEqual(text[26:28], ["shuffles 1", "end done 54"])
+        self.assertEqual(sum(int(line.split()[-1]) for line in text if line.startswith("standing")), 24)
+        self.assertTrue(tricks.summary(2).startswith("bench 2\nmatches 2\ndecisions 48\nlimits 0\nstanding 1 "))
+        self.assertEqual(tricks.looks(50), 600)
 
 
 class Files(unittest.TestCase):

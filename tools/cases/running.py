@@ -60,7 +60,7 @@ class Case:
         return None if self.is_met(end) else self.said(str(end))
 
     def said(self, found: str) -> str:
-        return f"{self.row.place()}: expected {self.expected}, found {found}\n    {self.source[:2000]}"
+        return f"{self.row.place()}: expected {self.expected}, found {found[:2000]}\n    {self.source[:2000]}"
 
 
 def run(words: tuple[str, ...], source: str) -> End:

@@ -5,7 +5,7 @@ import re
 from collections.abc import Callable, Iterator
 from pathlib import Path
 
-from cases.bench import is_summary
+from cases.bench import ends_as_bench
 from cases.rows import Row, numbered_lines
 from cases.running import Case, End, ends_as
 
@@ -50,5 +50,5 @@ def run_of(row: Row, words: tuple[str, ...], expected: str) -> tuple[tuple[str, 
     if not number:
         return words, "", expected, ends_as(NO_SHEET)
     if number < LARGEST_PLAYED:
-        return words, "", expected, lambda end: is_summary(end, number)
+        return words, "", expected, ends_as_bench(number)
     return (*words, "--workers", "2"), "", f"{expected} but with two workers", ends_as(UNBUILT)
