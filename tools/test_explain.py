@@ -12,6 +12,8 @@ import unittest
 from dataclasses import dataclass
 from pathlib import Path
 
+from cases.pages import read_page
+from cases.sheets import read_frames
 from faults import kinds
 from faults.explaining import explanation
 from faults.forms import PLAN_FORMS, SHEET_FORMS, forms_with
@@ -183,15 +185,39 @@ class Explanations(unittest.TestCase):
         self.assertEqual(explanation("sheet Other 3", b"(game)", ["sheet"]), [])
         self.assertEqual(explanation("illegal 3 Other", b"(game)", ["check"]), [])
 
+    def test_each_kind_of_the_program_has_a_sentence(self) -> None:
+        for file, name, sentences in (
+            ("rc_house/src/status.rt", "SourceKind", kinds.SHEET),
+            ("rc_plan_model/src/fault.rt", "PlanKind", kinds.PLAN),
+            ("rc_judge/src/verdict.rt", "Why", kinds.ILLEGAL),
+        ):
+            with self.subTest(name):
+                self.assertEqual(variants(ROOT / "crates" / file, name), sentences.keys())
+
     def test_each_kind_on_the_pages_has_a_sentence(self) -> None:
         texts = [page.read_text("utf-8") for page in PAGES]
-        lines = {found for text in texts for found in re.findall(r"`(sheet|plan) ([A-Z][a-z]\w+)\b", text)}
-        cells = {found for text in texts for found in re.findall(r"(?<=\| )`([A-Z][a-z]\w+)`(?= \||, | at)", text)}
-        for what, kind in lines:
+        told = {found for text in texts for found in re.findall(r"`(sheet|plan) ([A-Z][a-z]\w+)\b", text)}
+        self.assertTrue(told)
+        for what, kind in told:
             self.assertIn(kind, kinds.SHEET if what == "sheet" else kinds.PLAN)
-        self.assertTrue(cells <= kinds.SHEET.keys() | kinds.PLAN.keys() | kinds.ILLEGAL.keys(), cells)
-        self.assertEqual(lines & {("sheet", "Shape"), ("sheet", "Unseen")}, {("sheet", "Shape"), ("sheet", "Unseen")})
-        self.assertTrue(kinds.PLAN.keys() <= cells)
+
+    def test_each_refusal_on_the_pages_is_explained(self) -> None:
+        frames = read_frames(ROOT / "cases/language")
+        refused = [case for page in PAGES for case in read_page(page, frames) if " at " in case.expected]
+        self.assertGreater(len(refused), 60)
+        for case in refused:
+            with self.subTest(case.row.text):
+                kind, _, at = case.expected.partition(" at ")
+                where, above, below, *said = explanation(f"sheet {kind} {at}", case.source.encode(), ["sheet"])
+                self.assertTrue(where.startswith("line 1, column "), where)
+                self.assertEqual(above[below.index("^")], case.source[int(at)])
+                self.assertTrue(said)
+
+
+def variants(file: Path, name: str) -> set[str]:
+    """The variants of an enumeration of the program."""
+    body = re.search(rf"^pub enum {name} {{\n(.*?)^}}", file.read_text("utf-8"), re.MULTILINE | re.DOTALL)
+    return set(re.findall(r"^    (\w+),$", body[1], re.MULTILINE)) if body else set()
 
 
 class Places(unittest.TestCase):

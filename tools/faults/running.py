@@ -70,9 +70,16 @@ def main(command: list[str]) -> int:
     status, notes, source = run(command)
     if not tell(notes):
         return status or WRITE_FAULT
-    lines = explanation(notes.decode("latin-1").removesuffix("\n"), source, command[1:]) if status else []
-    try:
-        print("", *lines, sep="\n", file=sys.stderr, flush=True) if lines else None
-    except OSError:
-        pass
+    if status:
+        explain(notes, source, command[1:])
     return status if status >= 0 else 128 - status
+
+
+def explain(notes: bytes, source: bytes, words: list[str]) -> None:
+    """Explains the first line that can be. What runs the program may have noted more, before it or behind."""
+    for note in notes.decode("latin-1").splitlines():
+        lines = explanation(note, source, words)
+        if lines:
+            said = "".join(f"{line}\n" for line in ["", *lines])
+            tell(said.encode(sys.stderr.encoding, "backslashreplace"))
+            return
