@@ -16,7 +16,7 @@ from cases.pages import read_page
 from cases.sheets import read_frames
 from faults import kinds
 from faults.explaining import explanation
-from faults.forms import PLAN_FORMS, SHEET_FORMS, forms_with
+from faults.forms import MEANINGS, PLAN_FORMS, SHEET_FORMS, forms_with, is_fixed, is_plural, meant_behind, parts_of
 from faults.places import picture, place_of, shown
 from faults.tokens import lists_around, rest_of
 
@@ -163,6 +163,23 @@ class Explanations(unittest.TestCase):
         self.assertIn("    (forget CARD)", said)
         self.assertIn("    (do EFFECT+)", said)
 
+    def test_what_belongs_there_is_shown(self) -> None:
+        for item, fault, lines in (
+            ("(do (shuffle STOCK))", "STOCK", ["Here belongs LOC.", "LOC is `(HOLDER KIND NAME)`, as `(game hloc STOCK)`"]),
+            ("(do (cycle next (team of (current team))))", "team))", ["Here belongs `player`."]),
+            ("(do (forget (max (game vloc S) by W)))", "by", ["Here belongs `using`."]),
+        ):
+            source = items(item)
+            said = explanation(f"sheet Shape {source.index(fault)}", source.encode(), ["sheet"])
+            for line in lines:
+                self.assertTrue([it for it in said if it.startswith(line)], said)
+
+    def test_names_that_arent_known(self) -> None:
+        source = items("(do (if (is 'C COLOR RED) (forget 'C)))")
+        for name, kind in (("COLOR", "attribute"), ("RED", "value"), ("'C C", "variable")):
+            said = " ".join(explanation(f"sheet Unknown {source.index(name)}", source.encode(), ["sheet"])[3:])
+            self.assertIn(f"this {kind}", said)
+
     def test_a_head_that_no_list_has(self) -> None:
         said = explanation(SHEETS[6].note(), SHEETS[6].given(), ["sheet"])
         self.assertIn("No list begins with `discard` here.", said)
@@ -278,36 +295,45 @@ class Forms(unittest.TestCase):
 
     def test_words_and_numbers_of_parts_are_those_of_the_grammar(self) -> None:
         for head, rules in self.table().items():
-            written = [top_parts(form) for form in forms_with(head, SHEET_FORMS)]
+            written = [parts_of(form) for form in forms_with(head, SHEET_FORMS)]
             for words, goes_on in rules:
                 if head == "game":
                     continue
                 with self.subTest(head=head, words=words):
                     self.assertTrue(any(is_form_of(parts, words, goes_on) for parts in written), written)
 
+    def test_what_belongs_in_a_place(self) -> None:
+        for words, meant in (
+            (["shuffle"], ["LOC"]),
+            (["all"], ["player", "COLL"]),
+            (["all", "player", "'P"], ["EFFECT", "BOOL"]),
+            (["max", "("], ["using"]),
+            (["cycle"], ["next", "reverse"]),
+            (["cycle", "next"], ["OWNER"]),
+            (["cycle", "reverse"], []),
+            (["and", "(", "(", "("], ["BOOL"]),
+            (["move"], ["CARD", "all"]),
+            (["+", "1"], ["INT"]),
+        ):
+            with self.subTest(words):
+                self.assertEqual(meant_behind(words, forms_with(words[0], SHEET_FORMS)), meant)
+        self.assertEqual(meant_behind(["game", "(", "(", "("], list(SHEET_FORMS[:1])), ["ITEM", "(scoring BEST INT)"])
+        self.assertEqual(meant_behind(["matches"], forms_with("matches", PLAN_FORMS)), ["(DEAL SEATS)", "(from DEAL SEATS COUNT)"])
+
+    def test_words_in_capitals_have_a_meaning(self) -> None:
+        words = {word for form in SHEET_FORMS for word in re.findall(r"'V|[A-Z]{2,}", form)}
+        words |= {word for meaning in MEANINGS.values() for word in re.findall(r"\b(?:COLL|LOC|NUM|INT|CARD|OWNER|PLAYER)\b", meaning)}
+        self.assertEqual(words - MEANINGS.keys(), {"ENTRY"})
+
     def test_plans(self) -> None:
         for head in ("plan", "seats", "script", "random", "rollout", "matches", "from", "turns"):
             self.assertTrue(forms_with(head, PLAN_FORMS))
 
 
-def top_parts(form: str) -> list[str]:
-    """The parts of a form, where `X+` is one."""
-    parts: list[str] = []
-    depth = 0
-    for piece in form[1:-1].split(" "):
-        if depth:
-            parts[-1] += f" {piece}"
-        else:
-            parts.append(piece)
-        depth += piece.count("(") - piece.count(")")
-    return parts
-
-
 def is_form_of(parts: list[str], words: list[str], goes_on: bool) -> bool:
     """Whether these parts have the fixed words of a rule, as many places, and a last `X+` where it goes on."""
-    fixed = [part if re.fullmatch(r"[^A-Z'(]+", part) else "" for part in parts]
-    plural = parts[-1].endswith("+") and len(parts[-1]) > 1
-    return fixed[: len(words)] == words and len(parts) == len(words) + goes_on and plural == goes_on
+    fixed = [part if is_fixed(part) else "" for part in parts]
+    return fixed[: len(words)] == words and len(parts) == len(words) + goes_on and is_plural(parts[-1]) == goes_on
 
 
 class Program(unittest.TestCase):

@@ -6,9 +6,9 @@ import textwrap
 from collections.abc import Callable
 
 from faults import kinds
-from faults.forms import PLAN_FORMS, SHEET_FORMS, forms_with
+from faults.forms import MEANINGS, PLAN_FORMS, SHEET_FORMS, forms_with, is_fixed, meant_behind
 from faults.places import line_at, picture, place_of
-from faults.tokens import head_of, lists_around, rest_of, word_at
+from faults.tokens import head_of, lists_around, rest_of, word_at, words_before
 
 WIDTH = 100
 
@@ -35,36 +35,44 @@ def wrapped(sentence: str | None) -> list[str]:
 
 def on_part(what: str, kind: str, at: int, source: bytes) -> list[str]:
     """On a fault of a sheet or a plan: its place, its line, a sentence, and where its shape is wrong how it is written."""
-    around = lists_around(source, at)
-    word = word_at(source, at) if at < len(source) else ""
-    part = kinds.Part(word, head_of(source, at), head_of(source, around[-1]) if around else "")
+    part = part_at(what, at, source)
     said = kinds.sentence_on(what, kind, part)
     if said is None:
         return []
     place = place_of(source, at)
     line = line_at(source, at)
     shown = picture(line, place.column) if line or not place.is_end else []
-    hints = forms_of(what, part) if kind == "Shape" and word else []
-    return [f"{place}:", *shown, *wrapped(said), *hints]
+    return [f"{place}:", *shown, *wrapped(said), *(written(part) if kind == "Shape" and part.word else [])]
 
 
-def forms_of(what: str, part: kinds.Part) -> list[str]:
-    """How a list with this head is written, and the list around it."""
-    forms = PLAN_FORMS if what == "plan" else SHEET_FORMS
-    lines = []
-    if is_head_unknown(part, forms):
-        lines.append(f"No list begins with `{part.head}` here.")
-    for head, told in ((part.head, "A list that begins with this word is written"), (part.around, "The list around it is written")):
-        written = forms_with(head, forms)
-        if written:
-            lines += [f"{told}:", *(f"    {form}" for form in written)]
+def part_at(what: str, at: int, source: bytes) -> kinds.Part:
+    """What stands at a place, and what belongs there by the list around it."""
+    around = lists_around(source, at)
+    word = word_at(source, at) if at < len(source) else ""
+    head = head_of(source, at)
+    head_around = head_of(source, around[-1]) if around else ""
+    forms = forms_by(what, head_around, len(around) - 1)
+    meant = meant_behind(words_before(source, around[-1], at), forms) if around else []
+    others = tuple(it for it in meant if it != word)
+    return kinds.Part(word, head, head_around, tuple(forms_by(what, head, len(around))), tuple(forms), others)
+
+
+def forms_by(what: str, head: str, depth: int) -> list[str]:
+    """How a list with this head is written in so many lists. A `game` list is the sheet at the top, and else a location."""
+    forms = forms_with(head, PLAN_FORMS if what == "plan" else SHEET_FORMS)
+    return [form for form in forms if head != "game" or form.startswith("(game (setup") == (depth == 0)]
+
+
+def written(part: kinds.Part) -> list[str]:
+    """How a list with this head is written, and the list around it, and what belongs in this place of that."""
+    lines = [f"No list begins with `{part.head}` here."] if part.is_head_unknown() else []
+    for forms, told in ((part.forms, "A list that begins with this word"), (part.forms_around, "The list around it")):
+        lines += [f"{told} is written:", *(f"    {form}" for form in forms)] if forms else []
+    if part.meant:
+        lines += wrapped(f"Here belongs {' or '.join(f'`{it}`' if is_fixed(it) else it for it in part.meant)}.")
+    for it in part.meant:
+        lines += wrapped(f"{it} is {MEANINGS[it]}.") if it in MEANINGS else []
     return lines
-
-
-def is_head_unknown(part: kinds.Part, forms: tuple[str, ...]) -> bool:
-    """Whether a list begins with a word of the designer's own where a fixed word belongs. Groups begin with such a word."""
-    is_own = part.head[:1] not in ("", "'") and not forms_with(part.head, forms)
-    return is_own and part.around != "deck" and bool(forms_with(part.around, forms))
 
 
 def on_line(number: int, said: str | None, source: bytes) -> list[str]:

@@ -86,8 +86,7 @@ BY_HEAD = {
     ("Unknown", "(choice"): "A choice is to stand inside a `(stage player ..)`, whose current player decides.",
     ("Unknown", "(cycle"): "No stage of the owner's kind is around this: put it inside a `(stage player ..)` or a `(stage team ..)`.",
     ("Unknown", "(create"): "The teams leave a player out: write each player from 0 on in one of them.",
-    ("Unknown", ""): "This name isn't known: attributes, values and maps are known from the decks and the points of the setup, and "
-    "players from 0 to the number of players less one; mend it there or here.",
+    ("Unknown", ""): "There is no player of this number: players are counted from 0, so the last one is the number of players less one.",
     ("WrongKind", "("): "A location or a stored number has one kind, and owners of one kind, in the whole sheet; a deck begins in one of "
     "the game for cards, `remember` takes a `mem`, and what is moved or shuffled lies in none.",
     ("WrongKind", "'"): "This variable stands for another sort of thing than belongs here: `player` binds players, a collection binds "
@@ -112,6 +111,13 @@ MISSING = {
     "plan": "No plan stands behind the sheet: hand over both, as in `cat examples/first.sheet examples/first.plan | ./cardhouse play`.",
 }
 
+# What isn't known by its place.
+NAMES = {
+    ("ATTR",): "No deck and no points have this attribute: mend its name, or give it to the cards in the setup.",
+    ("VALUE",): "No deck and no points have this value: mend its name, or give it to the cards in the setup.",
+    ("MAP",): "No point map has this name: mend it, or add `(put points MAP (ENTRY+))` to the setup.",
+}
+
 SIDES = (
     "Both sides of an equation are of one sort, two numbers, cards, values by `attr`, players or teams, and a group of cards is none of "
     "these; and a stored number has owners of one kind in the whole sheet."
@@ -120,11 +126,20 @@ SIDES = (
 
 @dataclass(frozen=True)
 class Part:
-    """A part of a source: its word, or `(` and the head of its list, and the head of the list around it."""
+    """A part of a source: its word, or `(` and the head of its list; the head of the list around it; how lists with these heads
+    are written; and what belongs in its place."""
 
     word: str
     head: str
     around: str
+    forms: tuple[str, ...] = ()
+    forms_around: tuple[str, ...] = ()
+    meant: tuple[str, ...] = ()
+
+    def is_head_unknown(self) -> bool:
+        """Whether a list begins with a word of the designer's own where a fixed word belongs. Groups begin with such a word."""
+        is_own = self.head[:1] not in ("", "'") and not self.forms
+        return is_own and self.around != "deck" and bool(self.forms_around)
 
     def looks(self) -> list[str]:
         """What the part looks like, from the most exact to the least: `(head`, `(`, `'` or nothing."""
@@ -141,5 +156,7 @@ def sentence_on(what: str, kind: str, part: Part) -> str | None:
         return PLAN.get(kind)
     if kind == "WrongKind" and part.around in ("=", "!="):
         return SIDES
+    if kind == "Unknown" and part.meant in NAMES:
+        return NAMES[part.meant]
     exact = (BY_HEAD.get((kind, look)) for look in part.looks())
     return next((sentence for sentence in exact if sentence), SHEET.get(kind))

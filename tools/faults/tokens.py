@@ -57,6 +57,19 @@ def lists_around(source: bytes, at: int) -> list[int]:
     return around
 
 
+def words_before(source: bytes, begin: int, at: int) -> list[str]:
+    """The parts of the list that begins at a place, before another place in it: atoms, and `(` for a list."""
+    words: list[str] = []
+    depth = 0
+    for token in tokens(source, begin):
+        if token.at >= at:
+            break
+        if depth == 1 and token.text != ")":
+            words.append(token.text)
+        depth += {"(": 1, ")": -1}.get(token.text, 0)
+    return words
+
+
 def word_at(source: bytes, at: int) -> str:
     """The parenthesis or the atom at a place; nothing at the end of the source."""
     return next((token.text for token in tokens(source, at)), "")
