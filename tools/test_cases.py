@@ -183,7 +183,8 @@ class Pages(InFolder):
             "| EFFECT | example | does |\n|---|---|---|\n| `(x)` | `(y)` | it |\n\n"
             "### The first round: shapes\n\n| EFFECT | line | since |\n|---|---|---|\n| `(a)` | `sheet Shape 2` | so |\n\n"
             "## The second round\n\n| LINE or EFFECT | line | since |\n|---|---|---|\n"
-            "| `(create a)` | `sheet Twice 2` | so |\n| `(b)` | `sheet Unknown 3` | so |\n\n| other | table |\n|---|---|\n| `x` | `y` |\n",
+            "| `(create a)` | `sheet Twice 2` | so |\n| `(b)` | `sheet Unknown 3` | so |\n\n"
+            "| other | table |\n|---|---|\n| `x` | `y` |\n",
         )
         cases = [(case.source, case.expected) for case in read_page(page, self.FRAMES)]
         self.assertEqual(cases, [("<(y)>", "no fault of shape"), ("1 (a)", "Shape at 2"), ("2 (create a)", "Twice at 2"),

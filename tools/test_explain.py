@@ -322,7 +322,8 @@ class Forms(unittest.TestCase):
 
     def test_words_in_capitals_have_a_meaning(self) -> None:
         words = {word for form in SHEET_FORMS for word in re.findall(r"'V|[A-Z]{2,}", form)}
-        words |= {word for meaning in MEANINGS.values() for word in re.findall(r"\b(?:COLL|LOC|NUM|INT|CARD|OWNER|PLAYER)\b", meaning)}
+        cited = r"\b(?:COLL|LOC|NUM|INT|CARD|OWNER|PLAYER)\b"
+        words |= {word for meaning in MEANINGS.values() for word in re.findall(cited, meaning)}
         self.assertEqual(words - MEANINGS.keys(), {"ENTRY"})
 
     def test_plans(self) -> None:

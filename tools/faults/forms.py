@@ -98,7 +98,10 @@ MEANINGS = {
     "PLAYER": "`(current player)` or a variable such as `'P`",
     "CARD": "a variable such as `'C`, `(top COLL)`, `(bottom COLL)`, `(max COLL using MAP)` or `(min COLL using MAP)`",
     "COLL": "a variable of a group such as `'G`, LOC, `(filter COLL 'V BOOL)` or `(union COLL COLL+)`",
-    "INT": "a number, NUM, `(size COLL)`, `(sum COLL using MAP)`, `(points CARD using MAP)`, `(+ INT INT)`, `(- INT INT)` or `(* INT INT)`",
+    "INT": (
+        "a number, NUM, `(size COLL)`, `(sum COLL using MAP)`, `(points CARD using MAP)`, `(+ INT INT)`, `(- INT INT)` or "
+        "`(* INT INT)`"
+    ),
     "BOOL": "a test, as `(= SIDE SIDE)` or `(is CARD ATTR VALUE)`",
     "SIDE": "INT, CARD, OWNER, a variable or `(attr CARD ATTR)`",
     "NAME": "a name without `'` before it",
