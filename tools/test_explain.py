@@ -152,6 +152,10 @@ class Explanations(unittest.TestCase):
         said = explanation("illegal 6 Standing", (BEFORE_TEXT + text).encode(), ["check"])
         self.assertTrue(said[0].startswith("line 6 of the transcript, line 11 of the source, where the text ends"))
 
+    def test_a_line_that_ends_with_a_carriage_return_shows_it(self) -> None:
+        said = explanation("text 1", (BEFORE_TEXT + TEXT.replace("\n", "\r\n")).encode(), ["check"])
+        self.assertEqual(said[1], "    house 1\\x0d")
+
     def test_the_match_of_a_line(self) -> None:
         for number, ends in ((1, "source:"), (2, "in match 0:"), (5, "in match 0:"), (6, "source:")):
             said = explanation(f"text {number}", (BEFORE_TEXT + TEXT).encode(), ["check"])

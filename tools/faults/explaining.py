@@ -85,7 +85,7 @@ def on_line(number: int, said: str | None, source: bytes) -> list[str]:
     where = f"line {number} of the transcript, line {first + number - 1} of the source"
     if number > len(lines) or (number == len(lines) and not lines[-1]):
         return wrapped(f"{where}, where the text ends: more lines are to follow.") + wrapped(said)
-    return [f"{where}{match_of(lines[:number])}:", *picture(lines[number - 1].removesuffix(b"\r"), 1), *wrapped(said)]
+    return [f"{where}{match_of(lines[:number])}:", *picture(lines[number - 1], 1), *wrapped(said)]
 
 
 def match_of(lines: list[bytes]) -> str:
