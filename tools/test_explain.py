@@ -178,6 +178,18 @@ class Explanations(unittest.TestCase):
             for line in lines:
                 self.assertTrue([it for it in said if it.startswith(line)], said)
 
+    def test_lists_without_a_fixed_word(self) -> None:
+        for line, fault, shown in (
+            ("(create deck (game hloc S) (deck ((R) (A))))", "(R)", ["    (deck GROUP+)", "GROUP is `(ATTR (BRANCH+))`"]),
+            ("(put points W ((R (A))))", "(R (A))", ["    (put points MAP (ENTRY+))", "(ENTRY+) is a list of entries"]),
+            ("(create teams ((0)))", "(0)", ["    (create teams (N+)+)", "(N+) is a team"]),
+        ):
+            source = f"(game (setup (create players 1) {line}) (do (cycle reverse)) (scoring max 0))"
+            said = explanation(f"sheet Shape {source.index(fault)}", source.encode(), ["sheet"])
+            for it in shown:
+                self.assertTrue([found for found in said if found.startswith(it)], said)
+            self.assertFalse([found for found in said if found.startswith(("Here belongs", "No list"))], said)
+
     def test_names_that_arent_known(self) -> None:
         source = items("(do (if (is 'C COLOR RED) (forget 'C)))")
         for name, kind in (("COLOR", "attribute"), ("RED", "value"), ("'C C", "variable")):

@@ -51,10 +51,22 @@ def part_at(what: str, at: int, source: bytes) -> kinds.Part:
     word = word_at(source, at) if at < len(source) else ""
     head = head_of(source, at)
     head_around = head_of(source, around[-1]) if around else ""
-    forms = forms_by(what, head_around, len(around) - 1)
-    meant = meant_behind(words_before(source, around[-1], at), forms) if around else []
-    others = tuple(it for it in meant if it != word)
-    return kinds.Part(word, head, head_around, tuple(forms_by(what, head, len(around))), tuple(forms), others)
+    forms = tuple(forms_by(what, head, len(around)))
+    return kinds.Part(word, head, head_around, forms, place_by(what, at, source, around))
+
+
+def place_by(what: str, at: int, source: bytes, around: list[int]) -> kinds.Setting:
+    """How the nearest list around a place is written that begins with a fixed word, and what belongs there. In such a list stand
+    lists without one, such as those of the teams, the values and the entries."""
+    for depth in reversed(range(len(around))):
+        begin = around[depth]
+        forms = forms_by(what, head_of(source, begin), depth)
+        if forms:
+            is_near = begin == around[-1]
+            before = words_before(source, begin, at)
+            meant = meant_behind(before if is_near else before[:-1], forms)
+            return kinds.Setting(is_near, tuple(forms), tuple(it for it in meant if it != word_at(source, at)))
+    return kinds.Setting()
 
 
 def forms_by(what: str, head: str, depth: int) -> list[str]:
@@ -65,12 +77,14 @@ def forms_by(what: str, head: str, depth: int) -> list[str]:
 
 def written(part: kinds.Part) -> list[str]:
     """How a list with this head is written, and the list around it, and what belongs in this place of that."""
+    setting = part.setting
+    around = "The list around it" if setting.is_near else "A list around it"
     lines = [f"No list begins with `{part.head}` here."] if part.is_head_unknown() else []
-    for forms, told in ((part.forms, "A list that begins with this word"), (part.forms_around, "The list around it")):
+    for forms, told in ((part.forms, "A list that begins with this word"), (setting.forms, around)):
         lines += [f"{told} is written:", *(f"    {form}" for form in forms)] if forms else []
-    if part.meant:
-        lines += wrapped(f"Here belongs {' or '.join(f'`{it}`' if is_fixed(it) else it for it in part.meant)}.")
-    for it in part.meant:
+    if setting.is_near and setting.meant:
+        lines += wrapped(f"Here belongs {' or '.join(f'`{it}`' if is_fixed(it) else it for it in setting.meant)}.")
+    for it in setting.meant:
         lines += wrapped(f"{it} is {MEANINGS[it]}.") if it in MEANINGS else []
     return lines
 

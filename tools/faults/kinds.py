@@ -183,21 +183,29 @@ SIDES = (
 
 
 @dataclass(frozen=True)
+class Setting:
+    """How a list around a part is written, what belongs there, and whether it is the list right around the part."""
+
+    is_near: bool = False
+    forms: tuple[str, ...] = ()
+    meant: tuple[str, ...] = ()
+
+
+@dataclass(frozen=True)
 class Part:
-    """A part of a source: its word, or `(` and the head of its list; the head of the list around it; how lists with these heads
-    are written; and what belongs in its place."""
+    """A part of a source: its word, or `(` and the head of its list; the head of the list around it; and how lists with this head
+    are written, and where it stands."""
 
     word: str
     head: str
     around: str
     forms: tuple[str, ...] = ()
-    forms_around: tuple[str, ...] = ()
-    meant: tuple[str, ...] = ()
+    setting: Setting = Setting()
 
     def is_head_unknown(self) -> bool:
         """Whether a list begins with a word of the designer's own where a fixed word belongs. Groups begin with such a word."""
         is_own = self.head[:1] not in ("", "'") and not self.forms
-        return is_own and self.around != "deck" and bool(self.forms_around)
+        return is_own and self.around != "deck" and self.setting.is_near
 
     def looks(self) -> list[str]:
         """What the part looks like, from the most exact to the least: `(head`, `(`, `'` or nothing."""
@@ -214,7 +222,7 @@ def sentence_on(what: str, kind: str, part: Part) -> str | None:
         return PLAN.get(kind)
     if kind == "WrongKind" and part.around in ("=", "!="):
         return SIDES
-    if kind == "Unknown" and part.meant in NAMES:
-        return NAMES[part.meant]
+    if kind == "Unknown" and part.setting.is_near and part.setting.meant in NAMES:
+        return NAMES[part.setting.meant]
     exact = (BY_HEAD.get((kind, look)) for look in part.looks())
     return next((sentence for sentence in exact if sentence), SHEET.get(kind))
