@@ -112,7 +112,7 @@ def match_of(lines: list[bytes]) -> str:
 
 def on_words(words: list[str]) -> list[str]:
     """On words that are no command. Who names a file is told how it is handed over."""
-    said = wrapped(kinds.WHOLE["usage"])
+    said = wrapped(kinds.WHOLE["usage"]) + ["`man -l docs/cardhouse.1` tells more."]
     if any(os.path.isfile(word) for word in words):
         said += wrapped("Files are handed to standard input, as in `cat GAME.sheet GAME.plan | ./cardhouse play`.")
     return said
