@@ -18,7 +18,7 @@ from faults import kinds
 from faults.explaining import explanation
 from faults.forms import MEANINGS, PLAN_FORMS, SHEET_FORMS, forms_with, is_fixed, is_plural, meant_behind, parts_of
 from faults.places import picture, place_of, shown
-from faults.tokens import lists_around, rest_of
+from faults.tokens import end_of, lists_around, rest_of
 
 ROOT = Path(__file__).resolve().parent.parent
 PROGRAM = ROOT / "crates/rc_main/out/rc_main"
@@ -117,7 +117,8 @@ class Explanations(unittest.TestCase):
     def check(self, refused: Refused) -> None:
         said = explanation(refused.note(), refused.given(), [command_of(refused)])
         ends = ", where the text ends" if not refused.under else ""
-        self.assertEqual(said[0], f"line {refused.line}, column {refused.column}{ends}:")
+        behind = f" (line {refused.line - 3} behind the sheet)" if refused.told.startswith("plan") else ""
+        self.assertEqual(said[0], f"line {refused.line}, column {refused.column}{ends}{behind}:")
         if refused.under:
             self.assertEqual(said[2].strip(), "^")
             self.assertEqual(said[1][said[2].index("^")], refused.under)
@@ -283,6 +284,7 @@ class Places(unittest.TestCase):
         self.assertEqual(rest_of(b"(a)", 2), 3)
         self.assertEqual(rest_of(b"(a)(b);x", 2), 8)
         self.assertEqual(rest_of(b"(a;)\n)(b) x", 2), 10)
+        self.assertEqual([end_of(b" (a (b)) (c)", lists) for lists in (1, 2, 3)], [8, 12, 12])
 
     def test_lists_around(self) -> None:
         self.assertEqual(lists_around(b"(a (b) (c ; (\n d", 15), [0, 7])

@@ -7,8 +7,8 @@ from collections.abc import Callable
 
 from faults import kinds
 from faults.forms import MEANINGS, PLAN_FORMS, SHEET_FORMS, forms_with, is_fixed, meant_behind
-from faults.places import line_at, picture, place_of
-from faults.tokens import head_of, lists_around, rest_of, word_at, words_before
+from faults.places import Place, line_at, picture, place_of
+from faults.tokens import end_of, head_of, lists_around, rest_of, word_at, words_before
 
 WIDTH = 100
 
@@ -42,7 +42,14 @@ def on_part(what: str, kind: str, at: int, source: bytes) -> list[str]:
     place = place_of(source, at)
     line = line_at(source, at)
     shown = picture(line, place.column) if line or not place.is_end else []
-    return [f"{place}:", *shown, *wrapped(said), *(written(part) if kind == "Shape" and part.word else [])]
+    behind = behind_sheet(source, place) if what == "plan" else ""
+    return [f"{place}{behind}:", *shown, *wrapped(said), *(written(part) if kind == "Shape" and part.word else [])]
+
+
+def behind_sheet(source: bytes, place: Place) -> str:
+    """Which line of the plan's own file that is, if it begins with the line behind the sheet."""
+    line = place.line - place_of(source, end_of(source, 1)).line
+    return f" (line {line} behind the sheet)" if line > 0 else ""
 
 
 def part_at(what: str, at: int, source: bytes) -> kinds.Part:

@@ -33,15 +33,20 @@ def gap_end(source: bytes, at: int) -> int:
     return found.end() if found else at
 
 
-def rest_of(source: bytes, lists: int) -> int:
-    """Where so many lists at the top end, and white space and comments behind them; else the length of the source."""
+def end_of(source: bytes, lists: int) -> int:
+    """Where so many lists at the top end; else the length of the source."""
     depth = complete = 0
     for token in tokens(source):
-        if complete == lists:
-            return token.at
         depth += {"(": 1, ")": -1}.get(token.text, 0)
         complete += token.text == ")" and depth == 0
+        if complete == lists:
+            return token.at + 1
     return len(source)
+
+
+def rest_of(source: bytes, lists: int) -> int:
+    """Where so many lists end, and white space and comments behind them."""
+    return gap_end(source, end_of(source, lists))
 
 
 def lists_around(source: bytes, at: int) -> list[int]:
