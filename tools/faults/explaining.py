@@ -30,7 +30,10 @@ def explanation(note: str, source: bytes, words: list[str]) -> list[str]:
 
 
 def wrapped(sentence: str | None) -> list[str]:
-    return textwrap.wrap(sentence, WIDTH, break_on_hyphens=False, break_long_words=False) if sentence else []
+    """The lines of a sentence. No line ends inside of what stands between two backquotes."""
+    joined = re.sub(r"`[^`]*`", lambda code: code[0].replace(" ", "\xa0"), sentence or "")
+    lines = textwrap.wrap(joined, WIDTH, break_on_hyphens=False, break_long_words=False)
+    return [line.replace("\xa0", " ") for line in lines]
 
 
 def on_part(what: str, kind: str, at: int, source: bytes) -> list[str]:
