@@ -6,12 +6,13 @@ import unittest
 from collections.abc import Callable
 from itertools import islice
 from pathlib import Path
+from unittest.mock import patch
 
 from cases import checking, tricks
 from cases.pages import frame_of, read_page
 from cases.plays import Play, lines_match, read_play, read_plays
 from cases.rows import Mistake, Row, copied, is_limit, marked, only_last_marker, read_groups, read_rows, unescaped
-from cases.running import End
+from cases.running import End, fault_case, run
 from cases.sheets import read_frames, read_sheets
 from cases.texts import altered, read_texts
 from cases.words import UNBUILT, USAGE, words_case
@@ -241,6 +242,31 @@ class Ends(unittest.TestCase):
         self.assertEqual(str(End(3, "", "plan Seats 3\n")), "plan Seats at 3")
         self.assertEqual(str(End(0, "x\n", "")), "accepted, with the text 'x\\n'")
         self.assertEqual(str(End(8, "", "too long\n")), "status 8 with the note 'too long\\n'")
+
+
+class Runs(InFolder):
+    def program(self, script: str) -> None:
+        file = self.write("program", f"#!/bin/sh\n{script}\n")
+        file.chmod(0o755)
+        patched = patch("cases.running.PROGRAM", file)
+        patched.start()
+        self.addCleanup(patched.stop)
+
+    def test_how_a_run_ends(self) -> None:
+        self.program('cat; echo "$1-$2" >&2; exit 3')
+        self.assertEqual(run(("a", "\u0661"), "x\xe9\n"), End(3, "x\xe9\n", "a-\u0661\n".encode().decode("latin-1")))
+
+    def test_what_is_said_of_a_case_that_fails(self) -> None:
+        self.program("echo sheet Stray 3 >&2; exit 1")
+        self.assertIsNone(fault_case(ROW, "sheet", "(x)", ("Stray", 3)).run())
+        said = fault_case(ROW, "sheet", "(x)", ("Unseen", 3)).run()
+        self.assertEqual(said, "file.cases:7: expected Unseen at 3, found Stray at 3\n    (x)")
+
+    def test_a_case_that_takes_too_long(self) -> None:
+        self.program("exec sleep 30")
+        with patch("cases.running.SECONDS", 0.1):
+            said = fault_case(ROW, "sheet", "(x)", ("Unseen", 3)).run() or ""
+        self.assertIn("no end within 0.1 seconds", said)
 
 
 class Tricks(unittest.TestCase):
