@@ -1,0 +1,3 @@
+" Sheets and plans of cardhouse, by the names of their files.
+autocmd BufNewFile,BufRead *.sheet setfiletype cardsheet
+autocmd BufNewFile,BufRead *.plan setfiletype cardplan

@@ -1,0 +1,2 @@
+" As for sheets.
+runtime! ftplugin/cardsheet.vim

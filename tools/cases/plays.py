@@ -1,0 +1,89 @@
+"""Files `.plays`: plays of one source with places, and what comes of each."""
+
+import re
+from collections.abc import Iterator
+from dataclasses import dataclass
+from pathlib import Path
+
+from cases.expected import KINDS, REFUSALS, REFUSED, TOLD
+from cases.rows import Group, Row, copied, marked, read_groups, unescaped
+from cases.running import Case, End, ends_as, fault_case, told_case
+from cases.texts import judged_case
+
+
+@dataclass(frozen=True)
+class Play:
+    """What stands at the places of the source, the lines or the refusal that is expected, and how many looks."""
+
+    places: dict[str, str]
+    expected: list[str]
+    looks: int
+
+
+def read_play(group: Group, base: dict[str, str]) -> Play:
+    """A play, with the places of the first play where it says nothing of one."""
+    places, expected, looks = dict(base), [], 0
+    for row in group.rows:
+        place = re.fullmatch(r"(\w+):(.*)", row.text, re.DOTALL)
+        told = re.fullmatch(r"looks (\d+)", row.text)
+        if row.text in REFUSED:
+            expected.append(row.text)
+        elif row.text.startswith("> "):
+            expected.append(row.text.removeprefix("> "))
+        elif told:
+            looks = int(told[1])
+        elif place:
+            places[place[1]] = copied(unescaped(row, place[2].strip()))
+        else:
+            raise row.mistake("neither a place of the source nor what is expected")
+    if not expected or (expected[0] in REFUSED and len(expected) > 1):
+        raise group.heading.mistake("what is expected of a play is lines, or one refusal")
+    return Play(places, expected, looks)
+
+
+def lines_match(expected: list[str], text: str) -> bool:
+    """Whether a text has these lines, where `..` stands for any lines."""
+    parts = [r"(?:.*\n)*?" if line == ".." else re.escape(line) + r"\n" for line in expected]
+    return re.fullmatch("".join(parts), text) is not None
+
+
+def play_cases(heading: Row, text: str, play: Play) -> Iterator[Case]:
+    """The cases of a play: its fault under all commands, or how `play` ends."""
+    source, at = marked(text)
+    first = play.expected[0]
+    wanted = 1 if first in TOLD else 0
+    if text.count("^") != wanted:
+        raise heading.mistake(f"a play where {first} is expected has {wanted} of the marker '^', and not {text.count('^')}")
+    if first in KINDS:
+        for command in ("sheet", "play", "check"):
+            yield fault_case(heading, command, source, (first, at))
+    elif first in TOLD:
+        yield told_case(heading, source, at, first)
+    elif first in REFUSALS:
+        yield Case(heading, ("play",), source, first, ends_as(End(REFUSALS[first], "", f"{first}\n")))
+    else:
+        yield from played_cases(heading, source, play)
+
+
+def played_cases(heading: Row, source: str, play: Play) -> Iterator[Case]:
+    """The case of a source that is played, and that of its transcript, if it is known as a whole, which is legal."""
+    note = f"cache looks {play.looks} hits 0\n"
+
+    def is_played(end: End) -> bool:
+        return (end.status, end.notes) == (0, note) and lines_match(play.expected, end.out)
+
+    yield Case(heading, ("play",), source, f"the lines {play.expected!r} and the note {note!r}", is_played)
+    if ".." not in play.expected:
+        yield judged_case(heading, source, "".join(f"{line}\n" for line in play.expected), "legal")
+
+
+def read_plays(file: Path, source: str) -> Iterator[Case]:
+    """The cases of a file of plays, of which the first says what stands at each place of the source."""
+    first: dict[str, str] = {}
+    for group in read_groups(file):
+        play = read_play(group, first)
+        first = first or play.places
+        if set(play.places) != set(re.findall(r"@(\w+)", source)):
+            raise group.heading.mistake(f"it has the places {', '.join(sorted(play.places))}, which aren't those of the source")
+        text = re.sub(r"@(\w+)", lambda found: play.places[found[1]], source)
+        yield from play_cases(group.heading, text, play)

@@ -1,0 +1,92 @@
+"""Runs of the program: how they end, and what is expected of them."""
+
+import re
+import subprocess
+from collections.abc import Callable
+from dataclasses import dataclass
+
+from cases.rows import ROOT, Mistake, Row
+
+PROGRAM = ROOT / "crates/rc_main/out/rc_main"
+SECONDS = 60
+
+
+@dataclass(frozen=True)
+class End:
+    """How a run ended: its status, and what it wrote to standard output and standard error."""
+
+    status: int
+    out: str
+    notes: str
+
+    def fault(self) -> tuple[str, int] | None:
+        """The kind and the offset of the fault of the sheet, if that is how the run ended."""
+        return self.told("sheet", 1)
+
+    def plan_fault(self) -> tuple[str, int] | None:
+        """The kind and the offset of the fault of the plan, if that is how the run ended."""
+        return self.told("plan", 3)
+
+    def told(self, what: str, status: int) -> tuple[str, int] | None:
+        told = re.fullmatch(rf"{what} (\w+) (\d+)\n", self.notes)
+        return (told[1], int(told[2])) if told and self.status == status and not self.out else None
+
+    def __str__(self) -> str:
+        if fault := self.fault():
+            return "{} at {}".format(*fault)
+        if fault := self.plan_fault():
+            return "plan {} at {}".format(*fault)
+        if self.status == 0:
+            return f"accepted, with the text {self.out!r}"
+        return f"status {self.status} with the note {self.notes!r}"
+
+
+@dataclass(frozen=True)
+class Case:
+    """A run of the program: where it stands, the words, the source, and what is expected."""
+
+    row: Row
+    words: tuple[str, ...]
+    source: str
+    expected: str
+    is_met: Callable[[End], bool]
+
+    def run(self) -> str | None:
+        """Returns what is to be said where the case fails, and otherwise nothing."""
+        try:
+            end = run(self.words, self.source)
+        except subprocess.TimeoutExpired:
+            return self.said(f"no end within {SECONDS} seconds")
+        return None if self.is_met(end) else self.said(str(end))
+
+    def said(self, found: str) -> str:
+        return f"{self.row.place()}: expected {self.expected}, found {found[:2000]}\n    {self.source[:2000]}"
+
+
+def run(words: tuple[str, ...], source: str) -> End:
+    command = [str(PROGRAM).encode(), *(word.encode() for word in words)]
+    ran = subprocess.run(command, input=source.encode("latin-1"), capture_output=True, timeout=SECONDS)
+    return End(ran.returncode, ran.stdout.decode("latin-1"), ran.stderr.decode("latin-1"))
+
+
+def ends_as(end: End) -> Callable[[End], bool]:
+    return lambda ended: ended == end
+
+
+def fault_case(row: Row, command: str, source: str, fault: tuple[str, int]) -> Case:
+    """The case of a source of which a command tells this fault of its sheet."""
+    return Case(row, (command,), source, "{} at {}".format(*fault), lambda end: end.fault() == fault)
+
+
+def told_case(row: Row, source: str, at: int, expected: str) -> Case:
+    """The case of a source of which `play` tells a fault, of its plan or of its sheet."""
+    what, kind = expected.split()
+    told = End.plan_fault if what == "plan" else End.fault
+    return Case(row, ("play",), source, f"{expected} at {at}", lambda end: told(end) == (kind, at))
+
+
+def build() -> None:
+    """Has the program built where it isn't, as its script does, and sees that it runs."""
+    ran = subprocess.run([ROOT / "cardhouse", "sheet"], input=b"", stdout=subprocess.DEVNULL, stderr=subprocess.PIPE)
+    if ran.returncode != 1 or not ran.stderr.endswith(b"sheet Shape 0\n"):
+        raise Mistake(f"the program can't be run: {ran.stderr.decode(errors='replace')}")

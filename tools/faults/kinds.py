@@ -1,0 +1,228 @@
+"""A sentence on each kind of fault, with what would mend it."""
+
+from dataclasses import dataclass
+
+# Faults of a text or of a sheet.
+SHEET = {
+    "BadByte": (
+        "This byte may stand in comments only, where a `;` goes before it; outside of them write the letters, digits and "
+        "signs of a plain English keyboard."
+    ),
+    "Stray": (
+        "Nothing stands between the lists of a source but white space and comments: take this out, or look for a `)` too "
+        "many before it."
+    ),
+    "TooDeep": "64 lists are open around this one, and more can't be: nest less deeply.",
+    "AtomLong": "A word has 64 characters at most: take a shorter one.",
+    "Unclosed": "This list is still open where the source ends: a `)` is missing, here or further on.",
+    "Shape": (
+        "This isn't written as its place asks: look at its first word, at the number of its parts, and at whether a list, "
+        "a word or a 'name is to stand here."
+    ),
+    "Number": (
+        "A whole number in the range of its place is to stand here, of at most eighteen digits: 1 to 8 players, a team's "
+        "members from 0 to 7, and else -1000000000 to 1000000000."
+    ),
+    "Twice": "This stands before already and may stand once: take one of the two out, or give it another name.",
+    "Unknown": "Nothing is known by this here: mend the name, make what it names, or put this where it belongs.",
+    "WrongKind": "This is of another kind than its place takes: put something of the right kind here, or another name.",
+    "TooMany": "With this a limit of sheets is passed: make do with fewer.",
+    "NoCards": (
+        "No line of the setup makes a deck: add one, such as `(create deck (game hloc STOCK) (deck (RANK (1 2 3))))`."
+    ),
+    "Unseen": (
+        "What a choice offers may not depend on cards that its player doesn't see: read a `vloc`, a `mem`, or an `iloc` of "
+        "`(current player)` or `(team of (current player))`; only how many cards lie there may always be asked, by `(size "
+        "LOC)`."
+    ),
+}
+
+PLAN = {
+    "Shape": (
+        "This isn't written as its place in a plan asks: look at its first word, at the number of its parts, and at "
+        "whether a list or a number is to stand here."
+    ),
+    "Number": (
+        "A number of a plan has one to eighteen digits and no sign; a number of a script goes up to 65535, and the rounds "
+        "of a rollout go from 1 to 1000."
+    ),
+    "Seats": "There are to be as many strategies as the sheet has players: add some here, or take some out.",
+    "Matches": (
+        "A `from` counts 1 to 4096 matches, and neither DEAL nor SEATS beyond 999999999999999999: take a smaller COUNT, or "
+        "smaller seeds."
+    ),
+    "Turns": "The turn limit of a match is 1 to 100000: take a number in this range.",
+    "TooLarge": (
+        "There are more than 4096 matches, or more than 262144 turns in all, which is the number of matches times the turn "
+        "limit: ask for fewer of either."
+    ),
+    "Rest": "Nothing stands behind the plan but white space and comments: take out what begins here.",
+}
+
+# A line of a transcript that no text has at that place.
+GRAMMAR = (
+    "No transcript has this line here: its words, numbers and single blanks are to be just as `play` writes them, and "
+    "every line ends with a line feed."
+)
+
+ILLEGAL = {
+    "Match": (
+        "The matches are to be those of the plan, in order, with the number, the DEAL and the SEATS that it gives each."
+    ),
+    "Shuffle": "The line `shuffles` is to tell how often this match shuffled, and is to be missing where it never did.",
+    "Seat": "Another seat, or another choice of the sheet, is to decide here.",
+    "Menu": "Another number of items is offered here: the last number of the line is to be the size of the menu.",
+    "Item": "There is no such item in the menu: items are counted from 0, so the item has to be below the size.",
+    "End": (
+        "The match stands elsewhere here: a decision is to come before this line, or none may come, or the word or the "
+        "turn count of the line `end` is another."
+    ),
+    "Score": (
+        "The scores are to be one line for each player in order, with the score that the sheet counts and the rank points."
+    ),
+    "Standing": (
+        "The standings are to be one line for each strategy, with the most points first, as the scores above add up."
+    ),
+}
+
+# Lines that point nowhere.
+WHOLE = {
+    "too long": (
+        "The source is too long: `play` and `sheet` take 1048576 bytes at most, and `check` takes 8388608; take out "
+        "comments, or list fewer matches."
+    ),
+    "unbuilt": "What these words ask for isn't built: ask for one worker, or leave `--workers` out.",
+    "no memory": (
+        "There was not enough memory, and nothing was written: end other programs, or play fewer matches at a time."
+    ),
+    "read fault": "Standard input couldn't be read: hand over a file or the output of another program.",
+    "write fault": (
+        "Not all could be written: look whether the disk is full, or whether the program that reads the output ended."
+    ),
+    "usage": (
+        "These words are no command: write `play`, `check` or `sheet`, or `bench N` with N from 1 to 1000; `play` and "
+        "`bench` take `--workers N` (1 to 64) and `--cache N` (1 to 65536) behind that."
+    ),
+}
+
+# More exact sentences, for kinds that come in many places: what the faulty part is, or begins with, decides.
+BY_HEAD = {
+    ("Shape", "(setup"): (
+        "The setup stands once, right behind `game`, and one of its lines begins with `create players`: add what is "
+        "missing."
+    ),
+    ("Twice", "(create"): "This line stands in the setup already, and only once: take one of the two out.",
+    ("Twice", "(put"): "There is a point map of this name already: take another name, or put all entries into one map.",
+    ("Twice", "(any"): "The variable that is bound here is bound around it already: take another name.",
+    ("Twice", "(all"): "The variable that is bound here is bound around it already: take another name.",
+    ("Twice", "(filter"): "The variable that is bound here is bound around it already: take another name.",
+    ("Twice", "("): (
+        "The cards of this group have this attribute already, by a group around it or before it: take another attribute."
+    ),
+    ("Twice", ""): "This player is in a team already: write each player once.",
+    ("Unknown", "'"): (
+        "Nothing binds this variable here: bind it by `any`, `all` or `filter` around this place, behind the list that it "
+        "goes over, or mend its name; `'SELF` stands in `scoring` alone."
+    ),
+    ("Unknown", "(current"): (
+        "There is no current one here: this may stand inside a `(stage player ..)` or `(stage team ..)` of its own kind "
+        "alone."
+    ),
+    ("Unknown", "(choice"): "A choice is to stand inside a `(stage player ..)`, whose current player decides.",
+    ("Unknown", "(cycle"): (
+        "No stage of the owner's kind is around this: put it inside a `(stage player ..)` or a `(stage team ..)`."
+    ),
+    ("Unknown", "(create"): "The teams leave a player out: write each player from 0 on in one of them.",
+    ("Unknown", ""): (
+        "There is no player of this number: players are counted from 0, so the last one is the number of players less one."
+    ),
+    ("WrongKind", "("): (
+        "A location or a stored number has one kind, and owners of one kind, in the whole sheet; a deck begins in one of "
+        "the game for cards, `remember` takes a `mem`, and what is moved or shuffled lies in none."
+    ),
+    ("WrongKind", "'"): (
+        "This variable stands for another sort of thing than belongs here: `player` binds players, a collection binds "
+        "cards, and a `partition` binds groups."
+    ),
+    ("TooMany", "("): (
+        "There are more than 256 different attributes, or more than 256 locations or stored numbers, each counted once for "
+        "each owner: make do with fewer."
+    ),
+    ("TooMany", "(create"): "The decks have more than 512 cards: make fewer.",
+    ("TooMany", "(put"): "There are more than 256 point maps: make fewer.",
+    ("TooMany", "(stage"): "There are more than 256 stages: make do with fewer.",
+    ("TooMany", "(choice"): "There are more than 64 choices: make do with fewer, or join them as alternatives of one.",
+    ("TooMany", "(repeat"): "Two repeats stand around this one, and more can't be: take one out.",
+    ("TooMany", "(any"): "Four variables are bound around this place, and more can't be: bind one less.",
+    ("TooMany", "(all"): "Four variables are bound around this place, and more can't be: bind one less.",
+    ("TooMany", "(filter"): "Four variables are bound around this place, and more can't be: bind one less.",
+    ("TooMany", ""): "There are more than 256 different values: make do with fewer.",
+}
+
+
+# What stands at the end of a source, where a list is missing.
+MISSING = {
+    "sheet": "No sheet stands here: hand one to standard input, as in `./cardhouse sheet <examples/first.sheet`.",
+    "plan": (
+        "No plan stands behind the sheet: hand over both, as in `cat examples/first.sheet examples/first.plan | "
+        "./cardhouse play`."
+    ),
+}
+
+# What isn't known by its place.
+NAMES = {
+    ("ATTR",): "No deck and no points have this attribute: mend its name, or give it to the cards in the setup.",
+    ("VALUE",): "No deck and no points have this value: mend its name, or give it to the cards in the setup.",
+    ("MAP",): "No point map has this name: mend it, or add `(put points MAP (ENTRY+))` to the setup.",
+}
+
+SIDES = (
+    "Both sides of an equation are of one sort, two numbers, cards, values by `attr`, players or teams, and a group of "
+    "cards is none of these; and a stored number has owners of one kind in the whole sheet."
+)
+
+
+@dataclass(frozen=True)
+class Setting:
+    """How a list around a part is written, what belongs there, and whether it is the list right around the part."""
+
+    is_near: bool = False
+    forms: tuple[str, ...] = ()
+    meant: tuple[str, ...] = ()
+
+
+@dataclass(frozen=True)
+class Part:
+    """A part of a source: its word, or `(` and the head of its list; the head of the list around it; and how lists with this head
+    are written, and where it stands."""
+
+    word: str
+    head: str
+    around: str
+    forms: tuple[str, ...] = ()
+    setting: Setting = Setting()
+
+    def is_head_unknown(self) -> bool:
+        """Whether a list begins with a word of the designer's own where a fixed word belongs. Groups begin with such a word."""
+        is_own = self.head[:1] not in ("", "'") and not self.forms
+        return is_own and self.around != "deck" and self.setting.is_near
+
+    def looks(self) -> list[str]:
+        """What the part looks like, from the most exact to the least: `(head`, `(`, `'` or nothing."""
+        if self.word == "(":
+            return [f"({self.head}", "("]
+        return ["'"] if self.word.startswith("'") else [""]
+
+
+def sentence_on(what: str, kind: str, part: Part) -> str | None:
+    """The sentence on a fault of this kind of a sheet or a plan, if it is known."""
+    if kind == "Shape" and not part.word:
+        return MISSING[what]
+    if what == "plan":
+        return PLAN.get(kind)
+    if kind == "WrongKind" and part.around in ("=", "!="):
+        return SIDES
+    if kind == "Unknown" and part.setting.is_near and part.setting.meant in NAMES:
+        return NAMES[part.setting.meant]
+    exact = (BY_HEAD.get((kind, look)) for look in part.looks())
+    return next((sentence for sentence in exact if sentence), SHEET.get(kind))

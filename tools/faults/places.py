@@ -1,0 +1,54 @@
+"""Lines, columns and pictures of places in a source."""
+
+from dataclasses import dataclass
+
+# The widest picture of a line, and how much of the line stands at least before the caret.
+WIDTH = 96
+BEFORE = 60
+
+
+@dataclass(frozen=True)
+class Place:
+    """A place in a text: its line and its column, counted from 1, and whether the text ends there."""
+
+    line: int
+    column: int
+    is_end: bool
+
+    def __str__(self) -> str:
+        return f"line {self.line}, column {self.column}" + (", where the text ends" if self.is_end else "")
+
+
+def place_of(text: bytes, at: int) -> Place:
+    """The place of a byte. Only LF ends a line, and every other byte before it, a tab too, is one column."""
+    at = min(at, len(text))
+    begin = text.rfind(b"\n", 0, at) + 1
+    return Place(text.count(b"\n", 0, at) + 1, at - begin + 1, at == len(text))
+
+
+def line_at(text: bytes, at: int) -> bytes:
+    """The line in which a byte stands, without its LF, and without a CR before that."""
+    begin = text.rfind(b"\n", 0, at) + 1
+    end = text.find(b"\n", at)
+    return text[begin : len(text) if end < 0 else end].removesuffix(b"\r")
+
+
+def shown(line: bytes) -> str:
+    """The line in printable characters. A tab is one space wide, so that a column is a place in the picture."""
+    decoded = line.replace(b"\t", b" ").decode("utf-8", "backslashreplace")
+    return "".join(it if it.isprintable() else escaped(it) for it in decoded)
+
+
+def escaped(character: str) -> str:
+    return "".join(f"\\x{byte:02x}" for byte in character.encode("utf-8", "surrogatepass"))
+
+
+def picture(line: bytes, column: int) -> list[str]:
+    """The line and a caret below its column, with what is too far away cut off."""
+    before, behind = shown(line[: column - 1]), shown(line[column - 1 :])
+    if len(before) + len(behind) > WIDTH:
+        kept = BEFORE if len(before) > BEFORE else len(before)
+        before = before if kept == len(before) else ".. " + before[-kept:]
+        room = WIDTH - len(before)
+        behind = behind if len(behind) <= room else behind[:room] + " .."
+    return [f"    {before}{behind}".rstrip(), f"    {' ' * len(before)}^"]

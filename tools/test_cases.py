@@ -1,0 +1,332 @@
+"""Tests of how files of cases are read, and of what is asked of a run."""
+
+import shutil
+import tempfile
+import unittest
+from collections.abc import Callable
+from itertools import islice
+from pathlib import Path
+from unittest.mock import patch
+
+from cases import checking, tricks
+from cases.pages import frame_of, read_page
+from cases.plays import Play, lines_match, read_play, read_plays
+from cases.rows import Mistake, Row, copied, is_limit, marked, only_last_marker, read_groups, read_rows, unescaped
+from cases.running import End, fault_case, run
+from cases.sheets import read_frames, read_sheets
+from cases.texts import altered, read_texts
+from cases.words import UNBUILT, USAGE, words_case
+
+ROW = Row(Path("file.cases"), 7, "")
+
+
+class InFolder(unittest.TestCase):
+    """Tests that write files into a folder of their own."""
+
+    def setUp(self) -> None:
+        self.folder = Path(tempfile.mkdtemp())
+        self.addCleanup(shutil.rmtree, self.folder)
+
+    def write(self, name: str, text: str) -> Path:
+        file = self.folder / name
+        file.write_text(text)
+        return file
+
+    def mistake(self, what: str, read: Callable[[], object]) -> None:
+        with self.assertRaisesRegex(Mistake, what):
+            read()
+
+
+class Rows(InFolder):
+    def test_comments_and_empty_lines_mean_nothing(self) -> None:
+        rows = read_rows(self.write("a", "# one\n\nfirst  \n\n# two\nsecond\n"))
+        self.assertEqual([(row.number, row.text) for row in rows], [(3, "first"), (6, "second")])
+
+    def test_a_line_with_a_space_goes_on_with_the_row_above(self) -> None:
+        rows = read_rows(self.write("a", "first\n  more \n# a comment between\n and more\nsecond\n"))
+        self.assertEqual([(row.number, row.text) for row in rows], [(1, "first\nmore\nand more"), (5, "second")])
+
+    def test_groups(self) -> None:
+        groups = read_groups(self.write("a", "[one: x]\na\nb\n[two] in [one]\nc\n"))
+        self.assertEqual([(it.heading.text, it.behind, [row.text for row in it.rows]) for it in groups],
+                         [("one: x", "", ["a", "b"]), ("two", "in [one]", ["c"])])
+
+    def test_mistakes_of_groups(self) -> None:
+        self.mistake(r":1: this row stands below no heading", lambda: read_groups(self.write("a", "x\n[one]\ny\n")))
+        self.mistake(r":1: no row stands below this heading", lambda: read_groups(self.write("a", "[one]\n[two]\ny\n")))
+        self.mistake(r"it has no rows", lambda: read_groups(self.write("a", "# nothing\n")))
+
+    def test_escapes(self) -> None:
+        self.assertEqual(unescaped(ROW, r"a\nb\tc\\d\xe9\r"), "a\nb\tc\\d\xe9\r")
+        self.mistake("file.cases:7: an escape that isn't known", lambda: unescaped(ROW, r"a\xg"))
+
+    def test_copies(self) -> None:
+        self.assertEqual(copied("a {3 (b#) }c"), "a (b0) (b1) (b2) c")
+        self.assertEqual(copied("{2 x}{0 y}{2+ z}"), "xxzz")
+        self.assertEqual(copied("{2 x}{2+ z#}", 1), "xxz0z1z2")
+        self.assertTrue(is_limit("{2+ z}"))
+        self.assertFalse(is_limit("{2 z}"))
+
+    def test_markers(self) -> None:
+        self.assertEqual(marked("ab^cd^"), ("abcd", 2))
+        self.assertEqual(marked("abcd"), ("abcd", -1))
+        self.assertEqual(only_last_marker("^a^b^c"), "ab^c")
+
+
+class Sheets(InFolder):
+    def cases(self, frames: str, text: str) -> list[tuple[tuple[str, ...], str, str]]:
+        self.write("frames", frames)
+        file = self.write("a.cases", text)
+        return [(case.words, case.source, case.expected) for case in read_sheets(file, read_frames(self.folder))]
+
+    def test_frames_with_several_places(self) -> None:
+        cases = self.cases("[f]\n(@ (@) @)\n", "[f: Unseen]\na^b\n")
+        self.assertEqual(cases, [(("sheet",), "(ab (ab) ab)", "Unseen at 2")])
+
+    def test_frames_in_frames_and_with_several_texts(self) -> None:
+        self.write("frames", "[out]\n1 @\n2 @ @\n[in] in [out]\n(@)\n")
+        self.assertEqual(read_frames(self.folder)["in"], ["1 (@)", "2 (@) (@)"])
+
+    def test_several_frames_of_a_group(self) -> None:
+        cases = self.cases("[f]\n(@)\n[g]\n<@>\n", "[f, g: no fault]\na\nb\n")
+        self.assertEqual([source for _, source, _ in cases], ["(a)", "<a>", "(b)", "<b>"])
+
+    def test_a_limit_is_met_and_passed(self) -> None:
+        cases = self.cases("[f]\n(@)\n", "[f: TooMany]\n{2+ ^a# }\n")
+        self.assertEqual(cases, [(("sheet",), "(a0 a1 )", "no fault of meaning"), (("sheet",), "(a0 a1 a2 )", "TooMany at 7")])
+
+    def test_faults_of_plans(self) -> None:
+        cases = self.cases("[f]\n(@)\n", "[f: plan Seats]\n^a\n[f: play Stray]\n^b\n[f: no fault of plan]\nc\n")
+        self.assertEqual(cases, [(("play",), "(a)", "plan Seats at 1"), (("play",), "(b)", "play Stray at 1"),
+                                 (("play",), "(c)", "no fault of plan")])
+
+    def test_mistakes(self) -> None:
+        self.mistake("no frame 'g'", lambda: self.cases("[f]\n(@)\n", "[g: no fault]\na\n"))
+        self.mistake("a frame has no '@'", lambda: self.cases("[f]\n()\n", "[f: no fault]\na\n"))
+        self.mistake("a frame of this name", lambda: self.cases("[f]\n@\n[f]\n@\n", "[f: no fault]\na\n"))
+        self.mistake("no frame above", lambda: self.cases("[f] in [g]\n@\n", "[f: no fault]\na\n"))
+        self.mistake("'Unsene' is nothing", lambda: self.cases("[f]\n@\n", "[f: Unsene]\n^a\n"))
+        self.mistake("has 1 of the marker", lambda: self.cases("[f]\n@\n", "[f: Unseen]\na\n"))
+        self.mistake("has 0 of the marker", lambda: self.cases("[f]\n@\n", "[f: no fault]\n^a\n"))
+
+    def test_what_meets_an_expectation(self) -> None:
+        self.write("frames", "[f]\n@\n")
+        file = self.write("a.cases", "[f: Unseen]\n^a\n[f: no fault of shape]\na\n[f: prints itself]\na\n[f: prints b]\na\n")
+        fault, shape, itself, other = read_sheets(file, read_frames(self.folder))
+        unseen, unclosed = End(1, "", "sheet Unseen 0\n"), End(1, "", "sheet Shape 0\n")
+        printed = End(0, "a\n", "")
+        self.assertEqual([fault.is_met(end) for end in (unseen, unclosed, printed)], [True, False, False])
+        self.assertEqual([shape.is_met(end) for end in (unseen, unclosed, printed)], [True, False, True])
+        self.assertEqual([itself.is_met(printed), other.is_met(printed), other.is_met(End(0, "b\n", ""))], [True, False, True])
+        self.assertFalse(fault.is_met(End(1, "x", "sheet Unseen 0\n")))
+        self.assertFalse(fault.is_met(End(3, "", "sheet Unseen 0\n")))
+
+
+class Plays(InFolder):
+    SOURCE = "(game @a @b)"
+
+    def plays(self, text: str) -> list[tuple[tuple[str, ...], str, str]]:
+        return [(case.words, case.source, case.expected) for case in read_plays(self.write("a.plays", text), self.SOURCE)]
+
+    def test_later_plays_take_over_from_the_first(self) -> None:
+        cases = self.plays("[one]\na: 1\nb: {2 x}\n> house 1\n[two]\na: ^2\nNumber\n")
+        self.assertEqual(cases[0][:2], (("play",), "(game 1 xx)"))
+        self.assertEqual(cases[1], (("check",), "(game 1 xx)\nhouse 1\n", "legal"))
+        self.assertEqual(cases[2:], [((word,), "(game 2 xx)", "Number at 6") for word in ("sheet", "play", "check")])
+
+    def test_lines_that_are_left_out(self) -> None:
+        cases = self.plays("[one]\na: 1\nb: 2\n> house 1\n> ..\nlooks 3\n")
+        self.assertEqual(len(cases), 1)
+        self.assertIn("cache looks 3 hits 0", cases[0][2])
+        self.assertTrue(lines_match(["a", "..", "b"], "a\nb\n"))
+        self.assertTrue(lines_match(["a", "..", "b"], "a\nx\ny\nb\n"))
+        self.assertFalse(lines_match(["a", "..", "b"], "a\nx\nb\nc\n"))
+        self.assertFalse(lines_match(["a."], "ab\n"))
+
+    def test_other_refusals(self) -> None:
+        self.assertEqual(self.plays("[one]\na: 1\nb: 2\ntoo long\n"), [(("play",), "(game 1 2)", "too long")])
+        self.assertEqual(self.plays("[one]\na: ^1\nb: 2\nplan Seats\n"), [(("play",), "(game 1 2)", "plan Seats at 6")])
+
+    def test_mistakes(self) -> None:
+        self.mistake("lines, or one refusal", lambda: self.plays("[one]\na: 1\nb: 2\n"))
+        self.mistake("lines, or one refusal", lambda: self.plays("[one]\na: 1\nb: 2\nNumber\n> house 1\n"))
+        self.mistake("neither a place", lambda: self.plays("[one]\nsomething\n> house 1\n"))
+        self.mistake("aren't those of the source", lambda: self.plays("[one]\na: 1\n> house 1\n"))
+        self.mistake("has 1 of the marker", lambda: self.plays("[one]\na: 1\nb: 2\nNumber\n"))
+
+    def test_a_place_of_several_lines(self) -> None:
+        group = read_groups(self.write("a", "[one]\na: 1\n 2\n> x\n"))[0]
+        self.assertEqual(read_play(group, {"b": "3"}), Play({"b": "3", "a": "1\n2"}, ["x"], 0))
+
+
+class Texts(InFolder):
+    def test_alterations(self) -> None:
+        text = "[as it is]\nlegal\n[altered]\n2: B\n1-\n1+ x\n4+ d\nillegal 2 Match\n"
+        groups = read_groups(self.write("a.texts", text))
+        self.assertEqual(altered(groups[0], ["a", "b", "c"]), (["a", "b", "c"], "legal"))
+        self.assertEqual(altered(groups[1], ["a", "b", "c"]), (["x", "B", "c", "d"], "illegal 2 Match"))
+
+    def test_what_is_expected(self) -> None:
+        cases = list(read_texts(self.write("a.texts", "[one]\nlegal\n[two]\n1: b\ntext 1\n"), "(s)", "a\n"))
+        self.assertEqual([case.source for case in cases], ["(s)\na\n", "(s)\nb\n"])
+        self.assertTrue(cases[0].is_met(End(0, "legal\n", "")))
+        self.assertTrue(cases[1].is_met(End(4, "", "text 1\n")))
+        self.assertFalse(cases[1].is_met(End(4, "legal\n", "text 1\n")))
+        self.mistake("what is expected of a text", lambda: list(read_texts(self.write("b.texts", "[one]\n1: x\n"), "", "")))
+
+
+class Pages(InFolder):
+    FRAMES = {"EFFECT": ["<@>"], "first EFFECT": ["1 @"], "second LINE": ["2 @"], "second EFFECT": ["3 @"]}
+
+    def test_tables(self) -> None:
+        page = self.write(
+            "PAGE.md",
+            "| EFFECT | example | does |\n|---|---|---|\n| `(x)` | `(y)` | it |\n\n"
+            "### The first round: shapes\n\n| EFFECT | line | since |\n|---|---|---|\n| `(a)` | `sheet Shape 2` | so |\n\n"
+            "## The second round\n\n| LINE or EFFECT | line | since |\n|---|---|---|\n"
+            "| `(create a)` | `sheet Twice 2` | so |\n| `(b)` | `sheet Unknown 3` | so |\n\n"
+            "| other | table |\n|---|---|\n| `x` | `y` |\n",
+        )
+        cases = [(case.source, case.expected) for case in read_page(page, self.FRAMES)]
+        self.assertEqual(cases, [("<(y)>", "no fault of shape"), ("1 (a)", "Shape at 2"), ("2 (create a)", "Twice at 2"),
+                                 ("3 (b)", "Unknown at 3")])
+
+    def test_where_a_part_stands(self) -> None:
+        self.assertEqual(frame_of("second", "EFFECT, LINE or ITEM", "(choice (do))"), "second ITEM")
+        self.assertEqual(frame_of("second", "EFFECT, LINE or ITEM", "(put points)"), "second LINE")
+        self.assertEqual(frame_of("second", "EFFECT, LINE or ITEM", "(forget 'C)"), "second EFFECT")
+        self.assertEqual(frame_of("first", "sheet", "(game)"), "first sheet")
+
+
+class Words(unittest.TestCase):
+    def case(self, text: str) -> tuple[tuple[str, ...], Callable[[End], bool]]:
+        case = words_case(Row(Path("words.rows"), 1, text))
+        self.assertEqual(case.source, "")
+        return case.words, case.is_met
+
+    def test_no_command(self) -> None:
+        words, is_met = self.case('["play", "--", ""]\tusage')
+        self.assertEqual(words, ("play", "--", ""))
+        self.assertTrue(is_met(USAGE))
+        self.assertFalse(is_met(End(2, "x", USAGE.notes)))
+        self.assertFalse(is_met(UNBUILT))
+
+    def test_commands_on_an_empty_input(self) -> None:
+        for row in ('["play"]\tplay workers 1 cache 1024', '["check"]\tcheck', '["sheet"]\tsheet'):
+            self.assertTrue(self.case(row)[1](End(1, "", "sheet Shape 0\n")))
+        self.assertTrue(self.case('["play", "--workers=2"]\tplay workers 2 cache 1024')[1](UNBUILT))
+
+    def test_benches(self) -> None:
+        end = End(0, tricks.summary(2), "cache looks 24 hits 0\n")
+        self.assertTrue(self.case('["bench", "002"]\tbench 2 workers 1 cache 1024')[1](end))
+        self.assertFalse(self.case('["bench", "1"]\tbench 1 workers 1 cache 1024')[1](end))
+        words, is_met = self.case('["bench", "1000"]\tbench 1000 workers 1 cache 1024')
+        self.assertEqual(words, ("bench", "1000", "--workers", "2"))
+        self.assertTrue(is_met(UNBUILT))
+
+    def test_mistakes(self) -> None:
+        for row in ('play\tusage', '["play"]', '[1]\tusage', '["play"]\tplays'):
+            with self.assertRaises(Mistake):
+                self.case(row)
+
+
+class Ends(unittest.TestCase):
+    def test_faults(self) -> None:
+        self.assertEqual(End(1, "", "sheet Unseen 338\n").fault(), ("Unseen", 338))
+        self.assertEqual(End(3, "", "plan Seats 3\n").plan_fault(), ("Seats", 3))
+        for end in (End(3, "", "sheet Unseen 338\n"), End(1, "x", "sheet Unseen 338\n"), End(1, "", "sheet Unseen 338")):
+            self.assertIsNone(end.fault())
+
+    def test_how_they_are_said(self) -> None:
+        self.assertEqual(str(End(1, "", "sheet Unseen 338\n")), "Unseen at 338")
+        self.assertEqual(str(End(3, "", "plan Seats 3\n")), "plan Seats at 3")
+        self.assertEqual(str(End(0, "x\n", "")), "accepted, with the text 'x\\n'")
+        self.assertEqual(str(End(8, "", "too long\n")), "status 8 with the note 'too long\\n'")
+
+
+class Runs(InFolder):
+    def program(self, script: str) -> None:
+        file = self.write("program", f"#!/bin/sh\n{script}\n")
+        file.chmod(0o755)
+        patched = patch("cases.running.PROGRAM", file)
+        patched.start()
+        self.addCleanup(patched.stop)
+
+    def test_how_a_run_ends(self) -> None:
+        self.program('cat; echo "$1-$2" >&2; exit 3')
+        self.assertEqual(run(("a", "\u0661"), "x\xe9\n"), End(3, "x\xe9\n", "a-\u0661\n".encode().decode("latin-1")))
+
+    def test_what_is_said_of_a_case_that_fails(self) -> None:
+        self.program("echo sheet Stray 3 >&2; exit 1")
+        self.assertIsNone(fault_case(ROW, "sheet", "(x)", ("Stray", 3)).run())
+        said = fault_case(ROW, "sheet", "(x)", ("Unseen", 3)).run()
+        self.assertEqual(said, "file.cases:7: expected Unseen at 3, found Stray at 3\n    (x)")
+
+    def test_a_case_that_takes_too_long(self) -> None:
+        self.program("exec sleep 30")
+        with patch("cases.running.SECONDS", 0.1):
+            said = fault_case(ROW, "sheet", "(x)", ("Unseen", 3)).run() or ""
+        self.assertIn("no end within 0.1 seconds", said)
+
+
+class Tricks(unittest.TestCase):
+    """The trick game, by what its rules say and by words of the generator that are known."""
+
+    def test_words(self) -> None:
+        # The first block of ChaCha with eight rounds and a key of zeros.
+        known = (
+            "3e00ef2f895f40d67f5bb8e81f09a5a12c840ec3ce9a7f3b181be188ef711a1e"
+            "984ce172b9216f419f445367456d5619314a42a3da86b001387bfdb80e0cfe42"
+        )
+        self.assertEqual(b"".join(word.to_bytes(4, "little") for word in tricks.block((0,) * 8, 0)).hex(), known)
+        self.assertEqual(list(islice(tricks.words(1, 1, 0, 0), 4)), [1489600331, 1011583306, 2319271736, 3563607617])
+
+    def test_draws(self) -> None:
+        self.assertEqual(tricks.permuted([1, 2, 3, 4, 5], 1, 1, 0, 0), [4, 3, 5, 1, 2])
+        self.assertEqual(tricks.pick(256, 0, 2, 0, 1), 109)
+        self.assertEqual([tricks.pick(7, 0, 2, 0, turn) for turn in (1, 3, 5)], [2, 6, 4])
+
+    def test_cards(self) -> None:
+        self.assertEqual([tricks.worth(card) for card in (0, 3, 4, 31, 32, 34)], [3, 3, 4, 10, 11, 11])
+        self.assertEqual([tricks.suit(card) for card in (0, 3, 4, 31, 32, 34)], [0, 3, 0, 3, 0, 2])
+
+    def test_a_trick(self) -> None:
+        # Seat 1 leads the 4 of the first suit. Seat 2 has to follow, seat 3 can't, and seat 0 takes the trick with the ace.
+        table = tricks.Table([], [[32, 1], [4, 2], [3, 0], [6, 7]], mover=1)
+        self.assertEqual(table.menu(), [4, 2])
+        table.play(0)
+        self.assertEqual(table.menu(), [0])
+        table.play(0)
+        self.assertEqual(table.menu(), [6, 7])
+        table.play(1)
+        self.assertEqual(table.menu(), [32])
+        table.play(0)
+        self.assertEqual((table.last, table.mover, table.lead, table.menu()), (0, 0, None, [1]))
+        self.assertEqual([table.points(seat) for seat in range(4)], [6, 2, 2, 2])
+
+    def test_what_is_seen_stays_in_a_redraw(self) -> None:
+        table = tricks.dealt(1)
+        table.play(0)
+        drawn = tricks.redrawn(table, 1, 5, 6, 7, 8)
+        self.assertEqual((drawn.hands[1], drawn.tricks, drawn.lead), (table.hands[1], table.tricks, table.lead))
+        self.assertEqual([len(hand) for hand in drawn.hands], [5, 6, 6, 6])
+        self.assertEqual(sorted(drawn.stock + sum(drawn.hands, [])), sorted(table.stock + sum(table.hands, [])))
+        self.assertNotEqual(drawn.hands[2], table.hands[2])
+
+    def test_matches(self) -> None:
+        text = tricks.transcript(1, 1000, 2).splitlines()
+        self.assertEqual(len(text), 1 + 2 * 31 + 4)
+        self.assertEqual(text[1], "match 0 deal 1 seats 1000")
+        self.assertEqual(text[26:28], ["shuffles 1", "end done 54"])
+        self.assertEqual(sum(int(line.split()[-1]) for line in text if line.startswith("standing")), 24)
+        self.assertTrue(tricks.summary(2).startswith("bench 2\nmatches 2\ndecisions 48\nlimits 0\nstanding 1 "))
+        self.assertEqual(tricks.looks(50), 600)
+
+
+class Files(unittest.TestCase):
+    def test_all_files_of_cases_can_be_read(self) -> None:
+        self.assertGreater(sum(map(len, checking.read_all().values())), 4600)
+
+
+if __name__ == "__main__":
+    unittest.main()

@@ -1,0 +1,163 @@
+"""Tests of the syntax files for editors: their words are those of the grammar, and a sample is coloured as it should be."""
+
+import json
+import re
+import shutil
+import subprocess
+import tempfile
+import unittest
+from pathlib import Path
+
+ROOT = Path(__file__).resolve().parent.parent
+VIM = ROOT / "editors/vim"
+VSCODE = ROOT / "editors/vscode"
+
+SHEET = """(game ; a comment (game
+(setup (create players 2)(put points max ((A 7UP -7))))
+(all (filter ('P iloc HAND-7) 'C (!= 1 x'y)) 'D) 12,34
+"""
+PLAN = "(plan (seats (rollout 20 7) (script)) ;7\n(matches (from 1 x1 2)))\n"
+
+# What is coloured as what, in order: an atom or a comment, and the class.
+SHEET_COLOURS = [
+    ("game", "Word"), ("; a comment (game", "Comment"),
+    ("setup", "Word"), ("create", "Word"), ("players", "Word"), ("2", "Number"), ("put", "Word"), ("points", "Word"),
+    ("max", "Word"), ("-7", "Number"),
+    ("all", "Word"), ("filter", "Word"), ("'P", "Variable"), ("iloc", "Kind"), ("'C", "Variable"), ("!=", "Sign"), ("1", "Number"),
+    ("'D", "Variable"), ("12", "Number"), ("34", "Number"),
+]  # fmt: skip
+PLAN_COLOURS = [
+    ("plan", "Word"), ("seats", "Word"), ("rollout", "Strategy"), ("20", "Number"), ("7", "Number"), ("script", "Strategy"),
+    (";7", "Comment"), ("matches", "Word"), ("from", "Word"), ("1", "Number"), ("2", "Number"),
+]  # fmt: skip
+
+SCOPES = {
+    "comment.line.semicolon": "Comment",
+    "variable.other": "Variable",
+    "constant.numeric": "Number",
+    "keyword.control": "Word",
+    "storage.type": "Kind",
+    "keyword.operator": "Sign",
+    "support.function": "Strategy",
+}
+
+
+def sheet_words() -> list[str]:
+    """The fixed words of the table of the grammar."""
+    text = (ROOT / "crates/rc_grammar/specs/Keyword.antt").read_text("utf-8")
+    return sorted(re.findall(r'^text_of keyword\.\w+ = codes "(.+)"$', text, re.MULTILINE))
+
+
+def plan_words() -> list[str]:
+    """The fixed words of the faults of plans."""
+    text = (ROOT / "crates/rc_plan_model/specs/Faults.antt").read_text("utf-8")
+    return sorted(set(re.findall(r'codes "(\w+)"', text)))
+
+
+def vim_words(name: str) -> list[str]:
+    text = (VIM / f"syntax/{name}.vim").read_text("ascii")
+    return sorted(word for row in re.findall(r"^syntax keyword \w+ (.+)$", text, re.MULTILINE) for word in row.split())
+
+
+def grammar(name: str) -> list[dict[str, str]]:
+    patterns: list[dict[str, str]] = json.loads((VSCODE / f"syntaxes/{name}.tmLanguage.json").read_text("ascii"))["patterns"]
+    return patterns
+
+
+def vscode_words(name: str) -> list[str]:
+    rows = [re.fullmatch(r".*\)\(\?:(.+)\)\(\?!.*", pattern["match"]) for pattern in grammar(name)]
+    return sorted(re.sub(r"\\(.)", r"\1", word) for row in rows if row for word in row[1].split("|"))
+
+
+class Words(unittest.TestCase):
+    def test_of_sheets(self) -> None:
+        self.assertEqual(len(sheet_words()), 60)
+        self.assertEqual(vim_words("cardsheet"), sheet_words())
+        self.assertEqual(vscode_words("cardsheet"), sheet_words())
+
+    def test_of_plans(self) -> None:
+        self.assertEqual(plan_words(), ["from", "matches", "plan", "random", "rollout", "script", "seats", "turns"])
+        self.assertEqual(vim_words("cardplan"), plan_words())
+        self.assertEqual(vscode_words("cardplan"), plan_words())
+
+
+class Colours(unittest.TestCase):
+    def setUp(self) -> None:
+        self.folder = Path(tempfile.mkdtemp())
+        self.addCleanup(shutil.rmtree, self.folder)
+
+    def vim_colours(self, file: str, text: str) -> list[tuple[str, str]]:
+        """The runs of characters of one class, as Vim colours them."""
+        (self.folder / file).write_text(text)
+        (self.folder / "script.vim").write_text(
+            f"set nocompatible runtimepath^={VIM}\nfiletype plugin on\nsyntax on\nedit {self.folder / file}\n"
+            "let rows = []\nfor row in range(1, line('$'))\nfor column in range(1, col([row, '$']) - 1)\n"
+            "call add(rows, row . ' ' . column . ' ' . synIDattr(synID(row, column, 1), 'name'))\nendfor\nendfor\n"
+            f"call writefile(rows, '{self.folder / 'rows'}')\nqall!\n"
+        )
+        subprocess.run(["vim", "-u", "NONE", "-es", "-S", self.folder / "script.vim"], timeout=60, stdin=subprocess.DEVNULL)
+        lines = text.split("\n")
+        runs: list[tuple[str, str]] = []
+        last = ("", 0, 0)
+        for told in (self.folder / "rows").read_text().splitlines():
+            row, column, name = told.split(" ")
+            if not name:
+                continue
+            character = lines[int(row) - 1][int(column) - 1]
+            if last == (name, int(row), int(column) - 1):
+                runs[-1] = (runs[-1][0] + character, runs[-1][1])
+            else:
+                runs.append((character, re.sub("card(sheet|plan)", "", name)))
+            last = (name, int(row), int(column))
+        return runs
+
+    def node_colours(self, name: str, text: str) -> list[tuple[str, str]]:
+        """The runs that the patterns match, the first that begins earliest, as an editor takes them."""
+        script = """
+        const [patterns, text] = JSON.parse(require('fs').readFileSync(0, 'utf8'));
+        const found = [];
+        for (const line of text.split('\\n')) {
+          let at = 0;
+          for (;;) {
+            let best = null;
+            for (const {name, match} of patterns) {
+              const sought = new RegExp(match, 'g');
+              sought.lastIndex = at;
+              const here = sought.exec(line);
+              if (here && (!best || here.index < best.index)) best = {name, index: here.index, text: here[0]};
+            }
+            if (!best) break;
+            found.push([best.text, best.name]);
+            at = best.index + best.text.length;
+          }
+        }
+        console.log(JSON.stringify(found));
+        """
+        given = json.dumps([grammar(name), text])
+        ran = subprocess.run(["node", "-e", script], input=given, capture_output=True, text=True, check=True, timeout=60)
+        return [(run, SCOPES[scope.rpartition(".")[0]]) for run, scope in json.loads(ran.stdout)]
+
+    @unittest.skipUnless(shutil.which("vim"), "no Vim on the path")
+    def test_vim(self) -> None:
+        self.assertEqual(self.vim_colours("a.sheet", SHEET), SHEET_COLOURS)
+        self.assertEqual(self.vim_colours("a.plan", PLAN), PLAN_COLOURS)
+
+    @unittest.skipUnless(shutil.which("node"), "no Node.js on the path")
+    def test_vscode(self) -> None:
+        self.assertEqual(self.node_colours("cardsheet", SHEET), SHEET_COLOURS)
+        self.assertEqual(self.node_colours("cardplan", PLAN), PLAN_COLOURS)
+
+
+class Extension(unittest.TestCase):
+    def test_its_files_are_there(self) -> None:
+        contributes = json.loads((VSCODE / "package.json").read_text("ascii"))["contributes"]
+        for entry in contributes["languages"]:
+            self.assertTrue((VSCODE / entry["configuration"]).is_file())
+        for entry in contributes["grammars"]:
+            told = json.loads((VSCODE / entry["path"]).read_text("ascii"))
+            self.assertEqual(told["scopeName"], entry["scopeName"])
+        json.loads((VSCODE / "language-configuration.json").read_text("ascii"))
+
+
+if __name__ == "__main__":
+    unittest.main()
