@@ -238,11 +238,12 @@ class Explanations(unittest.TestCase):
     def test_each_refusal_on_the_pages_is_explained(self) -> None:
         frames = read_frames(ROOT / "cases/language")
         refused = [case for page in PAGES for case in read_page(page, frames) if " at " in case.expected]
-        self.assertGreater(len(refused), 60)
+        self.assertGreater(len(refused), 90)
         for case in refused:
             with self.subTest(case.row.text):
                 kind, _, at = case.expected.partition(" at ")
-                where, above, below, *said = explanation(f"sheet {kind} {at}", case.source.encode(), ["sheet"])
+                note = f"{kind} {at}" if kind.startswith("plan") else f"sheet {kind} {at}"
+                where, above, below, *said = explanation(note, case.source.encode(), [*case.words])
                 self.assertTrue(where.startswith("line 1, column "), where)
                 self.assertEqual(above[below.index("^")], case.source[int(at)])
                 self.assertTrue(said)
