@@ -62,27 +62,19 @@ def lists_around(source: bytes, at: int) -> list[int]:
     return around
 
 
-def words_before(source: bytes, begin: int, at: int) -> list[str]:
+def parts_before(source: bytes, begin: int, at: int) -> list[Token]:
     """The parts of the list that begins at a place, before another place in it: atoms, and `(` for a list."""
-    words: list[str] = []
+    parts: list[Token] = []
     depth = 0
     for token in tokens(source, begin):
         if token.at >= at:
             break
         if depth == 1 and token.text != ")":
-            words.append(token.text)
+            parts.append(token)
         depth += {"(": 1, ")": -1}.get(token.text, 0)
-    return words
+    return parts
 
 
 def word_at(source: bytes, at: int) -> str:
     """The parenthesis or the atom at a place; nothing at the end of the source."""
     return next((token.text for token in tokens(source, at)), "")
-
-
-def head_of(source: bytes, at: int) -> str:
-    """The first word of the list that begins at a place; nothing where no list does, or where it begins with none."""
-    if source[at : at + 1] != b"(":
-        return ""
-    word = word_at(source, at + 1)
-    return "" if word in ("(", ")") else word
