@@ -407,9 +407,12 @@ def is_form_of(parts: list[str], words: list[str], goes_on: bool) -> bool:
 class Program(unittest.TestCase):
     """The program by itself and explained ends alike, but for what is said below its line."""
 
-    def setUp(self) -> None:
+    @classmethod
+    def setUpClass(cls) -> None:
         if not PROGRAM.exists():
-            self.skipTest("the program isn't built")
+            reason = "the program isn't built"
+            print(f"\n{cls.__module__}.{cls.__qualname__} is skipped: {reason}", file=sys.stderr)
+            raise unittest.SkipTest(reason)
 
     def run_both(self, words: list[str], source: bytes) -> tuple[int, str, str]:
         alone = subprocess.run([PROGRAM, *words], input=source, capture_output=True)
