@@ -8,7 +8,7 @@ from faults.places import place_of
 LOC, NUM = "(HOLDER KIND NAME)", "(HOLDER sto NAME)"
 EQUATIONS = ("(= SIDE SIDE)", "(!= SIDE SIDE)")
 
-# What is said of each sort of thing, and what takes a thing of that sort.
+# How each sort of thing is called, and what a place takes where a variable may stand.
 SORTS = {
     "player": "a player",
     "card": "a card",
@@ -17,8 +17,14 @@ SORTS = {
     "value": "a value of an attribute",
     "team": "a team",
 }
-TAKEN = {"PLAYER": "a player", "OWNER": "a player", "HOLDER": "a player", "CARD": "a card", "COLL": "a collection of cards"}
-TAKEN["DOMAIN"] = TAKEN["COLL"]
+TAKEN = {
+    "PLAYER": "a player",
+    "OWNER": "a player",
+    "HOLDER": "a player",
+    "CARD": "a card",
+    "COLL": "a collection of cards",
+    "DOMAIN": "a collection of cards",
+}
 
 
 def sentence_on_wrong_kind(part: Part) -> str | None:
@@ -56,7 +62,7 @@ def sort_of(part: Part) -> str | None:
 def bound(part: Part) -> tuple[str | None, int]:
     """The sort of a variable, and where the list begins that binds it."""
     for it in reversed(part.around):
-        if it.before and it.before[0].text == "scoring" and part.word == "'SELF":
+        if "(scoring BEST INT)" in it.forms and part.word == "'SELF":
             return "player", it.begin
         if len(it.before) < 3 or it.before[2].text != part.word or not any(parts_of(form)[2:3] == ["'V"] for form in it.forms):
             continue
