@@ -1,7 +1,7 @@
 """A sentence on each kind of fault, with what would mend it."""
 
+from faults.causes import cause_of
 from faults.parts import Part
-from faults.wrong_kinds import sentence_on_wrong_kind
 
 # Faults of a text or of a sheet.
 SHEET = {
@@ -199,6 +199,7 @@ def sentence_on(kind: str, part: Part) -> str | None:
         return MISSING[part.what]
     if part.what == "plan":
         return PLAN.get(kind)
-    exact = sentence_on_wrong_kind(part) if kind == "WrongKind" else None
+    cause = cause_of(kind, part)
     sentences = (EXACT.get((kind, look)) for look in looks(part))
-    return exact or next((sentence for sentence in sentences if sentence), SHEET.get(kind))
+    rule = next((sentence for sentence in sentences if sentence), SHEET.get(kind))
+    return f"{cause} {rule}" if cause and kind == "Unseen" else cause or rule

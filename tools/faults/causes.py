@@ -1,4 +1,4 @@
-"""Sentences on what is of another kind than its place takes, by what the text around it and before it says."""
+"""Sentences on the cause of a fault whose kind has several: what the text before the part and around it shows."""
 
 from faults.forms import forms_of, parts_of
 from faults.mentions import STORED, Mention, mention_at, mentions
@@ -27,8 +27,27 @@ TAKEN = {
 }
 
 
-def sentence_on_wrong_kind(part: Part) -> str | None:
-    """What is wrong with a part of the wrong kind, if the text tells it."""
+def cause_of(kind: str, part: Part) -> str | None:
+    """What is wrong with a part, if the text tells it."""
+    if kind == "WrongKind":
+        return on_wrong_kind(part)
+    return on_sight(part) if kind == "Unseen" else None
+
+
+def on_sight(part: Part) -> str | None:
+    """On a location that the player who chooses may not see."""
+    mention = mention_at(part.source, part.at)
+    if not mention or mention.kind not in ("hloc", "iloc"):
+        return None
+    if mention.kind == "hloc":
+        return "Nobody sees the cards of an `hloc`."
+    if mention.holder == "game":
+        return "Nobody sees the cards of an `iloc` of the game."
+    return f"By the way `{mention.holder}` is written it may be another than the player who chooses, or his team."
+
+
+def on_wrong_kind(part: Part) -> str | None:
+    """On a part of another kind than its place takes."""
     said = [on_side(part)] if any(part.is_in(form) for form in EQUATIONS) else []
     if part.word.startswith("'"):
         said.append(on_variable(part))

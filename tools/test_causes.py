@@ -126,6 +126,20 @@ class Sides(Told):
         self.item("Number", "(do (repeat ^many (cycle reverse)))", "A whole number in the range of its place")
 
 
+class Sight(Told):
+    def test_why_a_location_isnt_seen(self) -> None:
+        for location, told in (
+            ("(game hloc S)", "Nobody sees the cards of an `hloc`."),
+            ("(game iloc B)", "Nobody sees the cards of an `iloc` of the game."),
+            ("('P iloc H)", "By the way `'P` is written it may be another than the player who chooses"),
+            ("((current team) iloc H)", "By the way `(current team)` is written"),
+            ("((team of 'P) iloc H)", "By the way `(team of 'P)` is written"),
+        ):
+            text = f"(stage player (end (= 0 1)) (choice (any player 'P (any ^{location} 'C (do (forget 'C))))))"
+            self.item("Unseen", text, told)
+            self.item("Unseen", text, "What a choice offers may not depend on cards that its player doesn't see")
+
+
 class NamesLikeWords(Told):
     """Attributes and values may be called as the lists of the language begin."""
 
