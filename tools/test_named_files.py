@@ -51,6 +51,10 @@ class Named(unittest.TestCase):
         named = {name for page in PAGES for name in quoted(page) if NAMED.fullmatch(name)}
         self.check(NAMED, {name for name in named if (ROOT / name).exists()})
 
+    def test_each_example_is_named(self) -> None:
+        examples = {sheet.stem for sheet in (ROOT / "examples").glob("*.sheet")}
+        self.assertEqual(examples - quoted(ROOT / "docs/LANGUAGE.md"), set())
+
     def test_files_of_crates(self) -> None:
         paths = [str(file.relative_to(ROOT / "crates")) for file in sources()]
         ends = {"/".join(parts[at:]) for parts in (path.split("/") for path in paths) for at in range(len(parts))}
