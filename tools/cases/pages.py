@@ -22,7 +22,7 @@ def read_page(page: Path, frames: Frames) -> Iterator[Case]:
     turn: str = ""
     titles: list[str] = []
     for row in numbered_lines(page):
-        heading = re.match(r"##+ (?:The|Of a) (first|second|third|plan)\b", row.text)
+        heading = re.match(r"##+ (?:The|Of a|Of the) (first|second|third|plan|text)\b", row.text)
         turn = heading[1] if heading else turn
         cells = cells_of(row.text)
         if not cells or not titles:
