@@ -290,7 +290,9 @@ class Places(unittest.TestCase):
         self.assertEqual([end_of(b" (a (b)) (c)", lists) for lists in (1, 2, 3)], [8, 12, 12])
 
     def test_lists_around(self) -> None:
-        self.assertEqual(lists_around(b"(a (b) (c ; (\n d", 15), [0, 7])
+        found = [(begin, [(part.text, part.at) for part in parts]) for begin, parts in lists_around(b"(a (b) (c ; (\n d", 15)]
+        self.assertEqual(found, [(0, [("a", 1), ("(", 3)]), (7, [("c", 8)])])
+        self.assertEqual(lists_around(b") (a) ) b", 8), [])
 
 
 # What the grammar calls the places that the words in capitals stand for, or the forms that are parts of others.

@@ -5,7 +5,7 @@ from functools import cached_property
 from itertools import islice, takewhile
 
 from faults.forms import forms_of, forms_with, meant_behind
-from faults.tokens import Token, lists_around, parts_before, tokens, word_at
+from faults.tokens import Token, lists_around, tokens, word_at
 
 
 @dataclass(frozen=True)
@@ -46,14 +46,13 @@ class Part:
     @cached_property
     def around(self) -> list[Enclosing]:
         """The lists around the place, the innermost last."""
-        begins = lists_around(self.source, self.at)
         found: list[Enclosing] = []
         meant = [self.what.upper()]
-        for begin, inside in zip(begins, [*begins[1:], self.at]):
-            before = parts_before(self.source, begin, inside)
-            words = [token.text for token in before]
-            head = self.word if inside == self.at else "("
-            found.append(Enclosing(begin, forms_with(words or [head], meant), before))
+        lists = lists_around(self.source, self.at)
+        for depth, (begin, parts) in enumerate(lists, 1):
+            head = self.word if depth == len(lists) else "("
+            words = [token.text for token in parts]
+            found.append(Enclosing(begin, forms_with(words or [head], meant), parts))
             meant = meant_behind(words, found[-1].forms)
         return found
 

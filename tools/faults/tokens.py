@@ -49,30 +49,20 @@ def rest_of(source: bytes, lists: int) -> int:
     return gap_end(source, end_of(source, lists))
 
 
-def lists_around(source: bytes, at: int) -> list[int]:
-    """Where the lists begin that are open at a place, the innermost last."""
-    around: list[int] = []
+def lists_around(source: bytes, at: int) -> list[tuple[int, list[Token]]]:
+    """Where the lists begin that are open at a place, the innermost last, each with its parts before the place: atoms, and `(` for
+    a list."""
+    around: list[tuple[int, list[Token]]] = []
     for token in tokens(source):
         if token.at >= at:
             break
         if token.text == "(":
-            around.append(token.at)
-        elif token.text == ")" and around:
-            around.pop()
+            around.append((token.at, []))
+        elif around:
+            part = Token("(", around.pop()[0]) if token.text == ")" else token
+            if around:
+                around[-1][1].append(part)
     return around
-
-
-def parts_before(source: bytes, begin: int, at: int) -> list[Token]:
-    """The parts of the list that begins at a place, before another place in it: atoms, and `(` for a list."""
-    parts: list[Token] = []
-    depth = 0
-    for token in tokens(source, begin):
-        if token.at >= at:
-            break
-        if depth == 1 and token.text != ")":
-            parts.append(token)
-        depth += {"(": 1, ")": -1}.get(token.text, 0)
-    return parts
 
 
 def word_at(source: bytes, at: int) -> str:
