@@ -131,9 +131,9 @@ class Sight(Told):
         for location, told in (
             ("(game hloc S)", "Nobody sees the cards of an `hloc`."),
             ("(game iloc B)", "Nobody sees the cards of an `iloc` of the game."),
-            ("('P iloc H)", "By the way `'P` is written it may be another than the player who chooses"),
-            ("((current team) iloc H)", "By the way `(current team)` is written"),
-            ("((team of 'P) iloc H)", "By the way `(team of 'P)` is written"),
+            ("('P iloc H)", "`'P` may be another player than the one who chooses."),
+            ("((current team) iloc H)", "`(current team)` may be another team than that of the player who chooses."),
+            ("((team of 'P) iloc H)", "`(team of 'P)` may be another team than that of the player who chooses."),
         ):
             text = f"(stage player (end (= 0 1)) (choice (any player 'P (any ^{location} 'C (do (forget 'C))))))"
             self.item("Unseen", text, told)

@@ -43,7 +43,8 @@ def on_sight(part: Part) -> str | None:
         return "Nobody sees the cards of an `hloc`."
     if mention.holder == "game":
         return "Nobody sees the cards of an `iloc` of the game."
-    return f"By the way `{mention.holder}` is written it may be another than the player who chooses, or his team."
+    other = "player than the one" if mention.owners() == "players" else "team than that of the player"
+    return f"`{mention.holder}` may be another {other} who chooses."
 
 
 def on_wrong_kind(part: Part) -> str | None:
