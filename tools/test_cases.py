@@ -9,6 +9,7 @@ from pathlib import Path
 from unittest.mock import patch
 
 from cases import checking, tricks
+from cases.expected import KINDS, PLAN_FAULTS, PLAN_KINDS
 from cases.pages import frame_of, read_page
 from cases.plays import Play, lines_match, read_play, read_plays
 from cases.rows import Mistake, Row, copied, is_limit, marked, only_last_marker, read_groups, read_rows, unescaped
@@ -16,6 +17,7 @@ from cases.running import End, fault_case, run
 from cases.sheets import read_frames, read_sheets
 from cases.texts import altered, read_texts
 from cases.words import UNBUILT, USAGE, words_case
+from faults import kinds
 
 ROW = Row(Path("file.cases"), 7, "")
 
@@ -97,8 +99,13 @@ class Sheets(InFolder):
 
     def test_faults_of_plans(self) -> None:
         cases = self.cases("[f]\n(@)\n", "[f: plan Seats]\n^a\n[f: play Stray]\n^b\n[f: no fault of plan]\nc\n")
-        self.assertEqual(cases, [(("play",), "(a)", "plan Seats at 1"), (("play",), "(b)", "play Stray at 1"),
-                                 (("play",), "(c)", "no fault of plan")])
+        self.assertEqual(cases, [(("play",), "(a)", "plan Seats at 1"), (("check",), "(a)", "plan Seats at 1"),
+                                 (("play",), "(b)", "play Stray at 1"), (("check",), "(b)", "play Stray at 1"),
+                                 (("play",), "(c)", "no fault of plan"), (("check",), "(c)", "text 1")])
+
+    def test_what_follows_a_plan_is_a_fault_for_play_alone(self) -> None:
+        cases = self.cases("[f]\n(@)\n", "[f: plan Rest]\n^a\n")
+        self.assertEqual(cases, [(("play",), "(a)", "plan Rest at 1"), (("check",), "(a)", "text 1")])
 
     def test_mistakes(self) -> None:
         self.mistake("no frame 'g'", lambda: self.cases("[f]\n(@)\n", "[g: no fault]\na\n"))
@@ -145,7 +152,10 @@ class Plays(InFolder):
 
     def test_other_refusals(self) -> None:
         self.assertEqual(self.plays("[one]\na: 1\nb: 2\ntoo long\n"), [(("play",), "(game 1 2)", "too long")])
-        self.assertEqual(self.plays("[one]\na: ^1\nb: 2\nplan Seats\n"), [(("play",), "(game 1 2)", "plan Seats at 6")])
+        self.assertEqual(
+            self.plays("[one]\na: ^1\nb: 2\nplan Seats\n"),
+            [((command,), "(game 1 2)", "plan Seats at 6") for command in ("play", "check")],
+        )
 
     def test_mistakes(self) -> None:
         self.mistake("lines, or one refusal", lambda: self.plays("[one]\na: 1\nb: 2\n"))
@@ -176,7 +186,8 @@ class Texts(InFolder):
 
 
 class Pages(InFolder):
-    FRAMES = {"EFFECT": ["<@>"], "first EFFECT": ["1 @"], "second LINE": ["2 @"], "second EFFECT": ["3 @"]}
+    FRAMES = {"EFFECT": ["<@>"], "first EFFECT": ["1 @"], "second LINE": ["2 @"], "second EFFECT": ["3 @"],
+              "plan PLAN": ["4 @"]}
 
     def test_tables(self) -> None:
         page = self.write(
@@ -185,11 +196,12 @@ class Pages(InFolder):
             "### The first round: shapes\n\n| EFFECT | line | since |\n|---|---|---|\n| `(a)` | `sheet Shape 2` | so |\n\n"
             "## The second round\n\n| LINE or EFFECT | line | since |\n|---|---|---|\n"
             "| `(create a)` | `sheet Twice 2` | so |\n| `(b)` | `sheet Unknown 3` | so |\n\n"
+            "## Of a plan\n\n| PLAN | line | since |\n|---|---|---|\n| `(c)` | `plan Seats 3` | so |\n\n"
             "| other | table |\n|---|---|\n| `x` | `y` |\n",
         )
         cases = [(case.source, case.expected) for case in read_page(page, self.FRAMES)]
         self.assertEqual(cases, [("<(y)>", "no fault of shape"), ("1 (a)", "Shape at 2"), ("2 (create a)", "Twice at 2"),
-                                 ("3 (b)", "Unknown at 3")])
+                                 ("3 (b)", "Unknown at 3"), *[("4 (c)", "plan Seats at 3")] * 2])
 
     def test_where_a_part_stands(self) -> None:
         self.assertEqual(frame_of("second", "EFFECT, LINE or ITEM", "(choice (do))"), "second ITEM")
@@ -324,8 +336,17 @@ class Tricks(unittest.TestCase):
 
 
 class Files(unittest.TestCase):
+    def setUp(self) -> None:
+        self.cases = [case for of_file in checking.read_all().values() for case in of_file]
+
     def test_all_files_of_cases_can_be_read(self) -> None:
-        self.assertGreater(sum(map(len, checking.read_all().values())), 4600)
+        self.assertGreater(len(self.cases), 5000)
+
+    def test_each_kind_of_fault_and_each_reason_is_expected_somewhere(self) -> None:
+        expected = {case.expected.partition(" at ")[0] for case in self.cases}
+        self.assertEqual(KINDS | PLAN_FAULTS, expected & (KINDS | PLAN_FAULTS))
+        reasons = {told.split()[2] for told in expected if told.startswith("illegal ")}
+        self.assertEqual((KINDS, PLAN_KINDS, reasons), (kinds.SHEET.keys(), kinds.PLAN.keys(), kinds.ILLEGAL.keys()))
 
 
 if __name__ == "__main__":

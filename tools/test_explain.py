@@ -9,6 +9,7 @@ import subprocess
 import sys
 import tempfile
 import unittest
+from collections.abc import Iterator
 from dataclasses import dataclass
 from pathlib import Path
 
@@ -16,7 +17,7 @@ from cases.pages import read_page
 from cases.sheets import read_frames
 from faults import kinds
 from faults.explaining import explanation
-from faults.forms import MEANINGS, PLAN_FORMS, SHEET_FORMS, forms_with, is_fixed, is_plural, meant_behind, parts_of
+from faults.forms import FORMS, MEANINGS, forms_of, forms_with, is_fixed, is_plural, meant_behind, parts_of
 from faults.places import picture, place_of, shown
 from faults.tokens import end_of, lists_around, rest_of
 
@@ -181,15 +182,16 @@ class Explanations(unittest.TestCase):
 
     def test_lists_without_a_fixed_word(self) -> None:
         for line, fault, shown in (
-            ("(create deck (game hloc S) (deck ((R) (A))))", "(R)", ["    (deck GROUP+)", "GROUP is `(ATTR (BRANCH+))`"]),
-            ("(put points W ((R (A))))", "(R (A))", ["    (put points MAP (ENTRY+))", "(ENTRY+) is a list of entries"]),
-            ("(create teams ((0)))", "(0)", ["    (create teams (N+)+)", "(N+) is a team"]),
+            ("(create deck (game hloc S) (deck ((R) (A))))", "(R)", ["    (ATTR (BRANCH+))", "Here belongs ATTR."]),
+            ("(create deck (game hloc S) (deck (R A)))", "A)", ["    (ATTR (BRANCH+))", "Here belongs (BRANCH+)."]),
+            ("(put points W ((R (A))))", "(R (A))", ["    (ATTR (VALUE+) N)", "    (ENTRY+)", "ENTRY is `(ATTR (VALUE+) N)`"]),
+            ("(create teams ((0)))", "(0)", ["    (N+)", "Here belongs N."]),
         ):
             source = f"(game (setup (create players 1) {line}) (do (cycle reverse)) (scoring max 0))"
             said = explanation(f"sheet Shape {source.index(fault)}", source.encode(), ["sheet"])
             for it in shown:
                 self.assertTrue([found for found in said if found.startswith(it)], said)
-            self.assertFalse([found for found in said if found.startswith(("Here belongs", "No list"))], said)
+            self.assertFalse([found for found in said if found.startswith("No list")], said)
 
     def test_names_that_arent_known(self) -> None:
         source = items("(do (if (is 'C COLOR RED) (forget 'C)))")
@@ -238,11 +240,12 @@ class Explanations(unittest.TestCase):
     def test_each_refusal_on_the_pages_is_explained(self) -> None:
         frames = read_frames(ROOT / "cases/language")
         refused = [case for page in PAGES for case in read_page(page, frames) if " at " in case.expected]
-        self.assertGreater(len(refused), 60)
+        self.assertGreater(len(refused), 90)
         for case in refused:
             with self.subTest(case.row.text):
                 kind, _, at = case.expected.partition(" at ")
-                where, above, below, *said = explanation(f"sheet {kind} {at}", case.source.encode(), ["sheet"])
+                note = f"{kind} {at}" if kind.startswith("plan") else f"sheet {kind} {at}"
+                where, above, below, *said = explanation(note, case.source.encode(), [*case.words])
                 self.assertTrue(where.startswith("line 1, column "), where)
                 self.assertEqual(above[below.index("^")], case.source[int(at)])
                 self.assertTrue(said)
@@ -287,66 +290,114 @@ class Places(unittest.TestCase):
         self.assertEqual([end_of(b" (a (b)) (c)", lists) for lists in (1, 2, 3)], [8, 12, 12])
 
     def test_lists_around(self) -> None:
-        self.assertEqual(lists_around(b"(a (b) (c ; (\n d", 15), [0, 7])
+        found = [(begin, [(part.text, part.at) for part in parts]) for begin, parts in lists_around(b"(a (b) (c ; (\n d", 15)]
+        self.assertEqual(found, [(0, [("a", 1), ("(", 3)]), (7, [("c", 8)])])
+        self.assertEqual(lists_around(b") (a) ) b", 8), [])
+
+
+# What the grammar calls the places that the words in capitals stand for, or the forms that are parts of others.
+PLACES = {
+    "Sheet": "SHEET",
+    "Setup": "(setup LINE+)",
+    "Line": "LINE",
+    "Deck": "(deck GROUP+)",
+    "Group": "GROUP",
+    "Branches": "(BRANCH+)",
+    "Branch": "BRANCH",
+    "Entries": "(ENTRY+)",
+    "Entry": "ENTRY",
+    "Values": "(VALUE+)",
+    "Team": "(N+)",
+    "Scoring": "(scoring BEST INT)",
+    "Item": "ITEM",
+    "End": "(end BOOL)",
+    "Alternative": "ALT",
+    "Domain": "DOMAIN",
+    "Effect": "EFFECT",
+    "Spot": "SPOT",
+    "Location": "LOC",
+    "Counter": "NUM",
+    "Holder": "HOLDER",
+    "Owner": "OWNER",
+    "Player": "PLAYER",
+    "Card": "CARD",
+    "Collection": "COLL",
+    "Members": "COLL",
+    "Integer": "INT",
+    "Test": "BOOL",
+    "Side": "SIDE",
+}
 
 
 class Forms(unittest.TestCase):
     """The forms are those of the table of the grammar."""
 
-    def table(self) -> dict[str, list[tuple[list[str], bool]]]:
-        """The forms by their head: each part that is a fixed word, or nothing, and whether more may follow."""
+    def setUp(self) -> None:
         specs = ROOT / "crates/rc_grammar/specs"
-        words = dict(re.findall(r'^text_of keyword\.(\w+) = codes "(.+)"$', (specs / "Keyword.antt").read_text(), re.MULTILINE))
+        self.words = dict(re.findall(r'^text_of keyword\.(\w+) = codes "(.+)"$', (specs / "Keyword.antt").read_text(), re.MULTILINE))
         grammar = (specs / "Grammar.antt").read_text()
-        more = dict(re.findall(r"^more_of rule\.(\w+) = (.+)$", grammar, re.MULTILINE))
-        by_head: dict[str, list[tuple[list[str], bool]]] = {}
-        for rule, front in re.findall(r"^front_of rule\.(\w+) = (.+)$", grammar, re.MULTILINE):
-            parts = [words.get(part.removeprefix("place.Word keyword."), "") for part in front.split(" ∷ ")[:-1]]
-            # `game` holds two more parts in its list than its row has: items, and the scoring behind them.
-            if parts and parts[0]:
-                by_head.setdefault(parts[0], []).append((parts, more[rule] != "None"))
-        return by_head
+        rows = re.findall(r"^(\w+)_of (?:place|rule)\.(\w+) = (.+)$", grammar, re.MULTILINE)
+        self.table = {(what, name): cells.removesuffix("[]").split(" ∷ ")[:-1] for what, name, cells in rows}
+        self.more = {name: cells != "None" for what, name, cells in rows if what == "more"}
 
-    def test_heads_are_those_of_the_grammar(self) -> None:
-        heads = {form[1:].rstrip(")").split(" ")[0] for form in SHEET_FORMS}
-        self.assertEqual(heads, self.table().keys())
+    def fronts(self, rule: str) -> Iterator[tuple[list[str], bool]]:
+        """The first parts of a form of the grammar, each a fixed word or nothing, and whether more may follow. Members are the
+        word `player` or a collection."""
+        places = self.table["front", rule]
+        for members in {"player", ""} if "place.Members" in places else {""}:
+            known = {"place.Members": members}
+            yield [known.get(it) or self.words.get(it.removeprefix("place.Word keyword."), "") for it in places], self.more[rule]
 
-    def test_words_and_numbers_of_parts_are_those_of_the_grammar(self) -> None:
-        for head, rules in self.table().items():
-            written = [parts_of(form) for form in forms_with(head, SHEET_FORMS)]
-            for words, goes_on in rules:
-                if head == "game":
-                    continue
-                with self.subTest(head=head, words=words):
-                    self.assertTrue(any(is_form_of(parts, words, goes_on) for parts in written), written)
+    def test_each_place_has_the_lists_of_the_grammar(self) -> None:
+        places = {name: rules for (what, name), rules in self.table.items() if what == "forms" and rules}
+        self.assertEqual(places.keys(), PLACES.keys())
+        for name, rules in places.items():
+            written = [parts_of(form) for form in forms_of(PLACES[name])]
+            fronts = [front for rule in rules for front in self.fronts(rule.removeprefix("rule."))]
+            # A sheet holds two more parts than its row has: items, and the scoring behind them.
+            if name == "Sheet":
+                written = [parts[:2] + parts[-2:-1] for parts in written]
+            with self.subTest(name):
+                self.assertTrue(all(any(is_form_of(parts, *front) for front in fronts) for parts in written), written)
+                self.assertTrue(all(any(is_form_of(parts, *front) for parts in written) for front in fronts), fronts)
 
     def test_what_belongs_in_a_place(self) -> None:
-        for words, meant in (
-            (["shuffle"], ["LOC"]),
-            (["all"], ["player", "COLL"]),
-            (["all", "player", "'P"], ["EFFECT", "BOOL"]),
-            (["max", "("], ["using"]),
-            (["cycle"], ["next", "reverse"]),
-            (["cycle", "next"], ["OWNER"]),
-            (["cycle", "reverse"], []),
-            (["and", "(", "(", "("], ["BOOL"]),
-            (["move"], ["CARD", "all"]),
-            (["+", "1"], ["INT"]),
+        for words, place, meant in (
+            (["shuffle"], "EFFECT", ["LOC"]),
+            (["all"], "EFFECT", ["player", "COLL"]),
+            (["all", "player", "'P"], "EFFECT", ["EFFECT"]),
+            (["all", "player", "'P"], "BOOL", ["BOOL"]),
+            (["all", "players", "'P"], "BOOL", []),
+            (["any"], "ALT", ["DOMAIN"]),
+            (["top"], "SPOT", ["LOC"]),
+            (["top"], "CARD", ["COLL"]),
+            (["max", "("], "CARD", ["using"]),
+            (["cycle"], "EFFECT", ["next", "reverse"]),
+            (["cycle", "next"], "EFFECT", ["OWNER"]),
+            (["cycle", "reverse"], "EFFECT", []),
+            (["and", "(", "(", "("], "BOOL", ["BOOL"]),
+            (["move"], "EFFECT", ["CARD", "all"]),
+            (["move", "all"], "EFFECT", ["COLL"]),
+            (["move", "'C"], "EFFECT", ["SPOT"]),
+            (["+", "1"], "INT", ["INT"]),
+            (["game"], "LOC", ["KIND"]),
+            (["game"], "SIDE", ["sto"]),
+            (["'P", "iloc"], "LOC", ["NAME"]),
+            (["size"], "GROUP", ["(BRANCH+)"]),
+            (["game", "(", "("], "SHEET", ["ITEM", "(scoring BEST INT)"]),
+            (["matches"], "(matches MATCH+)", ["MATCH"]),
+            (["from"], "MATCH", ["DEAL"]),
+            (["0"], "MATCH", ["SEATS"]),
         ):
-            with self.subTest(words):
-                self.assertEqual(meant_behind(words, forms_with(words[0], SHEET_FORMS)), meant)
-        self.assertEqual(meant_behind(["game", "(", "(", "("], list(SHEET_FORMS[:1])), ["ITEM", "(scoring BEST INT)"])
-        self.assertEqual(meant_behind(["matches"], forms_with("matches", PLAN_FORMS)), ["(DEAL SEATS)", "(from DEAL SEATS COUNT)"])
+            with self.subTest(words=words, place=place):
+                self.assertEqual(meant_behind(words, forms_with(words, [place])), meant)
 
     def test_words_in_capitals_have_a_meaning(self) -> None:
-        words = {word for form in SHEET_FORMS for word in re.findall(r"'V|[A-Z]{2,}", form)}
+        forms = [form for of_place in FORMS.values() for form in of_place]
+        words = {word for form in forms for word in re.findall(r"'V|[A-Z]+", form)}
         cited = r"\b(?:COLL|LOC|NUM|INT|CARD|OWNER|PLAYER)\b"
         words |= {word for meaning in MEANINGS.values() for word in re.findall(cited, meaning)}
-        self.assertEqual(words - MEANINGS.keys(), {"ENTRY"})
-
-    def test_plans(self) -> None:
-        for head in ("plan", "seats", "script", "random", "rollout", "matches", "from", "turns"):
-            self.assertTrue(forms_with(head, PLAN_FORMS))
+        self.assertEqual(words - MEANINGS.keys(), set())
 
 
 def is_form_of(parts: list[str], words: list[str], goes_on: bool) -> bool:
@@ -358,9 +409,12 @@ def is_form_of(parts: list[str], words: list[str], goes_on: bool) -> bool:
 class Program(unittest.TestCase):
     """The program by itself and explained ends alike, but for what is said below its line."""
 
-    def setUp(self) -> None:
+    @classmethod
+    def setUpClass(cls) -> None:
         if not PROGRAM.exists():
-            self.skipTest("the program isn't built")
+            reason = "the program isn't built"
+            print(f"\n{cls.__module__}.{cls.__qualname__} is skipped: {reason}", file=sys.stderr)
+            raise unittest.SkipTest(reason)
 
     def run_both(self, words: list[str], source: bytes) -> tuple[int, str, str]:
         alone = subprocess.run([PROGRAM, *words], input=source, capture_output=True)

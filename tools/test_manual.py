@@ -3,6 +3,7 @@
 import re
 import shutil
 import subprocess
+import sys
 import unittest
 from pathlib import Path
 
@@ -65,8 +66,12 @@ class Manual(unittest.TestCase):
             self.assertTrue((ROOT / name).is_file(), name)
 
     def lint(self, command: list[str]) -> None:
+        """Formats the page without a warning. Where there is no such command, the reason is printed, since unittest prints a letter
+        alone for a test that is skipped."""
         if not shutil.which(command[0]):
-            self.skipTest(f"no '{command[0]}' on the path")
+            reason = f"no '{command[0]}' on the path"
+            print(f"\n{self.id()} is skipped: {reason}", file=sys.stderr)
+            self.skipTest(reason)
         ran = subprocess.run([*command, MANUAL], capture_output=True, text=True, timeout=60)
         self.assertEqual((ran.returncode, ran.stderr), (0, ""))
         self.formatted = ran.stdout

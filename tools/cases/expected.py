@@ -15,7 +15,8 @@ LATER_KINDS: dict[str, set[str]] = {
 }
 NO_FAULT_OF_PLAN = "no fault of plan"
 
-# What `play` is expected to tell of a source with a plan: a fault of the plan, or one of the sheet that `sheet` needn't tell.
+# What `play` and `check` are expected to tell of a source with a plan: a fault of the plan, or one of the sheet that `sheet`
+# needn't tell.
 PLAN_FAULTS = {f"plan {kind}" for kind in PLAN_KINDS}
 PLAY_FAULTS = {f"play {kind}" for kind in KINDS}
 TOLD = KINDS | PLAN_FAULTS | PLAY_FAULTS

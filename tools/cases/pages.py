@@ -1,12 +1,12 @@
-"""The tables of the pages on the language: examples of parts of a sheet, and parts that are refused."""
+"""The tables of the pages on the language: examples of parts of a sheet, and parts of sheets and plans that are refused."""
 
 import re
 from collections.abc import Iterator
 from pathlib import Path
 
 from cases.rows import ROOT, Row, numbered_lines
-from cases.running import Case, fault_case
-from cases.sheets import Frames, sheet_case
+from cases.running import Case, fault_case, told_cases
+from cases.sheets import Frames, framed_cases
 
 # The second page is read where it is there.
 PAGES = (ROOT / "docs/LANGUAGE.md", ROOT / "docs/REFUSALS.md")
@@ -22,7 +22,7 @@ def read_page(page: Path, frames: Frames) -> Iterator[Case]:
     turn: str = ""
     titles: list[str] = []
     for row in numbered_lines(page):
-        heading = re.match(r"##+ The (\w+) round", row.text)
+        heading = re.match(r"##+ (?:The|Of a|Of the) (first|second|third|plan|text)\b", row.text)
         turn = heading[1] if heading else turn
         cells = cells_of(row.text)
         if not cells or not titles:
@@ -38,7 +38,7 @@ def example_cases(row: Row, frames: Frames, cells: dict[str, str], title: str) -
     kind = cells[title].partition(":")[0] if title == "form" else title
     fragment = re.fullmatch(r"`(.+)`", cells["example"])
     if fragment:
-        yield sheet_case(row, frames[kind.partition(" ")[0]][0], fragment[1], "no fault of shape")
+        yield from framed_cases(row, frames[kind.partition(" ")[0]][0], fragment[1], "no fault of shape")
 
 
 def frame_of(turn: str, title: str, part: str) -> str:
@@ -51,8 +51,12 @@ def frame_of(turn: str, title: str, part: str) -> str:
 
 
 def refusal_cases(row: Row, frames: Frames, turn: str, title: str, part: str, told: str) -> Iterator[Case]:
-    """The case of a part that is refused, in the frame of its round."""
-    fragment, fault = re.fullmatch(r"`(.+)`", part), re.fullmatch(r"`sheet (\w+) (\d+)`", told)
-    if fragment and fault:
-        source = frames[frame_of(turn, title, fragment[1])][0].replace("@", fragment[1])
-        yield fault_case(row, "sheet", source, (fault[1], int(fault[2])))
+    """The cases of a part that is refused, in the frame of its round or of plans."""
+    fragment, fault = re.fullmatch(r"`(.+)`", part), re.fullmatch(r"`(sheet|plan) (\w+) (\d+)`", told)
+    if not fragment or not fault:
+        return
+    source = frames[frame_of(turn, title, fragment[1])][0].replace("@", fragment[1])
+    if fault[1] == "plan":
+        yield from told_cases(row, source, int(fault[3]), f"plan {fault[2]}")
+    else:
+        yield fault_case(row, "sheet", source, (fault[2], int(fault[3])))

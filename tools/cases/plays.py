@@ -7,7 +7,7 @@ from pathlib import Path
 
 from cases.expected import KINDS, REFUSALS, REFUSED, TOLD
 from cases.rows import Group, Row, copied, marked, read_groups, unescaped
-from cases.running import Case, End, ends_as, fault_case, told_case
+from cases.running import Case, End, ends_as, fault_case, told_cases
 from cases.texts import judged_case
 
 
@@ -58,7 +58,7 @@ def play_cases(heading: Row, text: str, play: Play) -> Iterator[Case]:
         for command in ("sheet", "play", "check"):
             yield fault_case(heading, command, source, (first, at))
     elif first in TOLD:
-        yield told_case(heading, source, at, first)
+        yield from told_cases(heading, source, at, first)
     elif first in REFUSALS:
         yield Case(heading, ("play",), source, first, ends_as(End(REFUSALS[first], "", f"{first}\n")))
     else:

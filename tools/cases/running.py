@@ -2,7 +2,7 @@
 
 import re
 import subprocess
-from collections.abc import Callable
+from collections.abc import Callable, Iterator
 from dataclasses import dataclass
 
 from cases.rows import ROOT, Mistake, Row
@@ -78,11 +78,20 @@ def fault_case(row: Row, command: str, source: str, fault: tuple[str, int]) -> C
     return Case(row, (command,), source, "{} at {}".format(*fault), lambda end: end.fault() == fault)
 
 
-def told_case(row: Row, source: str, at: int, expected: str) -> Case:
-    """The case of a source of which `play` tells a fault, of its plan or of its sheet."""
+def told_cases(row: Row, source: str, at: int, expected: str) -> Iterator[Case]:
+    """The cases of a source of which `play` and `check` tell a fault, of its plan or of its sheet. What follows the plan is a
+    fault for `play` alone."""
     what, kind = expected.split()
     told = End.plan_fault if what == "plan" else End.fault
-    return Case(row, ("play",), source, f"{expected} at {at}", lambda end: told(end) == (kind, at))
+    for command in ("play",) if kind == "Rest" else ("play", "check"):
+        yield Case(row, (command,), source, f"{expected} at {at}", lambda end: told(end) == (kind, at))
+    if kind == "Rest":
+        yield untold_case(row, source)
+
+
+def untold_case(row: Row, source: str) -> Case:
+    """The case of a plan without a fault, behind which `check` finds no line of a transcript."""
+    return Case(row, ("check",), source, "text 1", ends_as(End(4, "", "text 1\n")))
 
 
 def build() -> None:

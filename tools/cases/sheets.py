@@ -5,9 +5,9 @@ from collections.abc import Callable, Iterator
 from itertools import product
 from pathlib import Path
 
-from cases.expected import KINDS, LATER_KINDS, NO_FAULT_OF_PLAN, PLAN_FAULTS, TOLD
+from cases.expected import KINDS, LATER_KINDS, NO_FAULT_OF_PLAN, PLAN_FAULTS, PLAY_FAULTS, TOLD
 from cases.rows import Group, Row, copied, is_limit, marked, only_last_marker, read_groups, unescaped
-from cases.running import Case, End, fault_case, told_case
+from cases.running import Case, End, fault_case, told_cases, untold_case
 
 # The texts of each frame by its name, with `@` where a fragment goes.
 Frames = dict[str, list[str]]
@@ -42,23 +42,30 @@ def no_fault(expected: str) -> Callable[[End], bool]:
     return lambda end: (end.status == 0 and not end.notes) or (end.fault() or ("",))[0] in later
 
 
-def sheet_case(row: Row, frame: str, fragment: str, expected: str) -> Case:
-    """The case of a fragment in a frame, of which this is expected."""
-    source, at = marked(frame.replace("@", only_last_marker(fragment)))
+def sheet_case(row: Row, source: str, at: int, expected: str) -> Case:
+    """The case of a source whose sheet is read, of which this is expected."""
     if expected in KINDS:
         return fault_case(row, "sheet", source, (expected, at))
-    if expected in TOLD:
-        return told_case(row, source, at, expected)
-    if expected == NO_FAULT_OF_PLAN:
-        return Case(row, ("play",), source, expected, lambda end: end.status == 0)
     if expected in LATER_KINDS:
         return Case(row, ("sheet",), source, expected, no_fault(expected))
     text = (source if expected == "prints itself" else expected.removeprefix("prints ")) + "\n"
     return Case(row, ("sheet",), source, expected, lambda end: (end.status, end.out, end.notes) == (0, text, ""))
 
 
+def framed_cases(row: Row, frame: str, fragment: str, expected: str) -> Iterator[Case]:
+    """The cases of a fragment in a frame, of which this is expected."""
+    source, at = marked(frame.replace("@", only_last_marker(fragment)))
+    if expected in PLAN_FAULTS | PLAY_FAULTS:
+        yield from told_cases(row, source, at, expected)
+    elif expected == NO_FAULT_OF_PLAN:
+        yield Case(row, ("play",), source, expected, lambda end: end.status == 0)
+        yield untold_case(row, source)
+    else:
+        yield sheet_case(row, source, at, expected)
+
+
 def sheet_cases(row: Row, frames: list[str], expected: str) -> Iterator[Case]:
-    """The cases of a row: one for each text of its frame, and where it tells a limit one more for each."""
+    """The cases of a row: those of each text of its frame, and where it tells a limit more for each."""
     fragment = unescaped(row, row.text)
     wanted = 1 if expected in TOLD else 0
     if fragment.count("^") != wanted:
@@ -66,8 +73,8 @@ def sheet_cases(row: Row, frames: list[str], expected: str) -> Iterator[Case]:
     for frame in frames:
         if is_limit(fragment):
             fine = NO_FAULT_OF_PLAN if expected in PLAN_FAULTS else "no fault of meaning"
-            yield sheet_case(row, frame, copied(fragment).replace("^", ""), fine)
-        yield sheet_case(row, frame, copied(fragment, 1), expected)
+            yield from framed_cases(row, frame, copied(fragment).replace("^", ""), fine)
+        yield from framed_cases(row, frame, copied(fragment, 1), expected)
 
 
 def is_expectable(expected: str) -> bool:

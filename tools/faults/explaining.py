@@ -6,9 +6,10 @@ import textwrap
 from collections.abc import Callable
 
 from faults import kinds
-from faults.forms import MEANINGS, PLAN_FORMS, SHEET_FORMS, forms_with, is_fixed, meant_behind
+from faults.forms import MEANINGS, is_fixed
+from faults.parts import Part
 from faults.places import Place, line_at, picture, place_of
-from faults.tokens import end_of, head_of, lists_around, rest_of, word_at, words_before
+from faults.tokens import end_of, rest_of
 
 WIDTH = 100
 
@@ -38,8 +39,8 @@ def wrapped(sentence: str | None) -> list[str]:
 
 def on_part(what: str, kind: str, at: int, source: bytes) -> list[str]:
     """On a fault of a sheet or a plan: its place, its line, a sentence, and where its shape is wrong how it is written."""
-    part = part_at(what, at, source)
-    said = kinds.sentence_on(what, kind, part)
+    part = Part(what, source, at)
+    said = kinds.sentence_on(kind, part)
     if said is None:
         return []
     place = place_of(source, at)
@@ -55,48 +56,22 @@ def behind_sheet(source: bytes, place: Place) -> str:
     return f" (line {line} behind the sheet)" if line > 0 else ""
 
 
-def part_at(what: str, at: int, source: bytes) -> kinds.Part:
-    """What stands at a place, and what belongs there by the list around it."""
-    around = lists_around(source, at)
-    word = word_at(source, at) if at < len(source) else ""
-    head = head_of(source, at)
-    head_around = head_of(source, around[-1]) if around else ""
-    forms = tuple(forms_by(what, head, len(around)))
-    return kinds.Part(word, head, head_around, forms, place_by(what, at, source, around))
-
-
-def place_by(what: str, at: int, source: bytes, around: list[int]) -> kinds.Setting:
-    """How the nearest list around a place is written that begins with a fixed word, and what belongs there. In such a list stand
-    lists without one, such as those of the teams, the values and the entries."""
-    for depth in reversed(range(len(around))):
-        begin = around[depth]
-        forms = forms_by(what, head_of(source, begin), depth)
-        if forms:
-            is_near = begin == around[-1]
-            before = words_before(source, begin, at)
-            meant = meant_behind(before if is_near else before[:-1], forms)
-            return kinds.Setting(is_near, tuple(forms), tuple(it for it in meant if it != word_at(source, at)))
-    return kinds.Setting()
-
-
-def forms_by(what: str, head: str, depth: int) -> list[str]:
-    """How a list with this head is written in so many lists. A `game` list is the sheet at the top, and else a location."""
-    forms = forms_with(head, PLAN_FORMS if what == "plan" else SHEET_FORMS)
-    return [form for form in forms if head != "game" or form.startswith("(game (setup") == (depth == 0)]
-
-
-def written(part: kinds.Part) -> list[str]:
-    """How a list with this head is written, and the list around it, and what belongs in this place of that."""
-    setting = part.setting
-    around = "The list around it" if setting.is_near else "A list around it"
+def written(part: Part) -> list[str]:
+    """How a list with this head is written in its place, and the list around it, and what belongs in this place of that."""
     lines = [f"No list begins with `{part.head}` here."] if part.is_head_unknown() else []
-    for forms, told in ((part.forms, "A list that begins with this word"), (setting.forms, around)):
-        lines += [f"{told} is written:", *(f"    {form}" for form in forms)] if forms else []
-    if setting.is_near and setting.meant:
-        lines += wrapped(f"Here belongs {' or '.join(f'`{it}`' if is_fixed(it) else it for it in setting.meant)}.")
-    for it in setting.meant:
+    lines += with_title("This list is written:", part.forms)
+    if not part.around:
+        return lines
+    lines += with_title("The list around it is written:", part.around[-1].forms)
+    if part.meant:
+        lines += wrapped(f"Here belongs {' or '.join(f'`{it}`' if is_fixed(it) else it for it in part.meant)}.")
+    for it in part.meant:
         lines += wrapped(f"{it} is {MEANINGS[it]}.") if it in MEANINGS else []
     return lines
+
+
+def with_title(title: str, forms: list[str]) -> list[str]:
+    return [title, *(f"    {form}" for form in forms)] if forms else []
 
 
 def on_line(number: int, said: str | None, source: bytes) -> list[str]:

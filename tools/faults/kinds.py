@@ -1,6 +1,7 @@
 """A sentence on each kind of fault, with what would mend it."""
 
-from dataclasses import dataclass
+from faults.causes import cause_of
+from faults.parts import Part
 
 # Faults of a text or of a sheet.
 SHEET = {
@@ -105,21 +106,43 @@ WHOLE = {
     ),
 }
 
-# More exact sentences, for kinds that come in many places: what the faulty part is, or begins with, decides.
-BY_HEAD = {
-    ("Shape", "(setup"): (
+ATTRIBUTES = "There are more than 256 different attributes: make do with fewer."
+VALUES = "There are more than 256 different values: make do with fewer."
+BOUND = "The variable that is bound here is bound around it already: take another name."
+FOUR_BOUND = "Four variables are bound around this place, and more can't be: bind one less."
+
+# More exact sentences, for kinds that come in many places: how the list that stands there is written or the one that the part
+# is in, what belongs there, or how the part begins decides.
+EXACT = {
+    ("Shape", "(setup LINE+)"): (
         "The setup stands once, right behind `game`, and one of its lines begins with `create players`: add what is "
         "missing."
     ),
-    ("Twice", "(create"): "This line stands in the setup already, and only once: take one of the two out.",
-    ("Twice", "(put"): "There is a point map of this name already: take another name, or put all entries into one map.",
-    ("Twice", "(any"): "The variable that is bound here is bound around it already: take another name.",
-    ("Twice", "(all"): "The variable that is bound here is bound around it already: take another name.",
-    ("Twice", "(filter"): "The variable that is bound here is bound around it already: take another name.",
-    ("Twice", "("): (
+    ("Number", "in (create players N)"): "How many players there are is a number from 1 to 8.",
+    ("Number", "in (N+)"): "A player in a team is a number from 0 to 7.",
+    ("Number", "SIDE"): (
+        "A word beside `=` or `!=` is a variable or a number from -1000000000 to 1000000000; whether a card has a value is "
+        "asked by `(is CARD ATTR VALUE)`."
+    ),
+    ("Number", "'"): (
+        "A variable stands for a player, a card or a group, and is no number: write a number from -1000000000 to 1000000000, "
+        "or what makes one, such as `(points 'C using WORTH)`."
+    ),
+    ("Twice", "GROUP"): (
         "The cards of this group have this attribute already, by a group around it or before it: take another attribute."
     ),
-    ("Twice", ""): "This player is in a team already: write each player once.",
+    ("Twice", "N"): "This player is in a team already: write each player once.",
+    ("Twice", "(create"): "This line stands in the setup already, and only once: take one of the two out.",
+    ("Twice", "(put"): "There is a point map of this name already: take another name, or put all entries into one map.",
+    ("Twice", "(any"): BOUND,
+    ("Twice", "(all"): BOUND,
+    ("Twice", "(filter"): BOUND,
+    ("Unknown", "ATTR"): "No deck and no points have this attribute: mend its name, or give it to the cards in the setup.",
+    ("Unknown", "VALUE"): "No deck and no points have this value: mend its name, or give it to the cards in the setup.",
+    ("Unknown", "MAP"): "No point map has this name: mend it, or add `(put points MAP (ENTRY+))` to the setup.",
+    ("Unknown", "N"): (
+        "There is no player of this number: players are counted from 0, so the last one is the number of players less one."
+    ),
     ("Unknown", "'"): (
         "Nothing binds this variable here: bind it by `any`, `all` or `filter` around this place, behind the list that it "
         "goes over, or mend its name; `'SELF` stands in `scoring` alone."
@@ -133,32 +156,25 @@ BY_HEAD = {
         "No stage of the owner's kind is around this: put it inside a `(stage player ..)` or a `(stage team ..)`."
     ),
     ("Unknown", "(create"): "The teams leave a player out: write each player from 0 on in one of them.",
-    ("Unknown", ""): (
-        "There is no player of this number: players are counted from 0, so the last one is the number of players less one."
+    ("TooMany", "(HOLDER KIND NAME)"): (
+        "There are more than 256 locations, each counted once for each owner: make do with fewer."
     ),
-    ("WrongKind", "("): (
-        "A location or a stored number has one kind, and owners of one kind, in the whole sheet; a deck begins in one of "
-        "the game for cards, `remember` takes a `mem`, and what is moved or shuffled lies in none."
+    ("TooMany", "(HOLDER sto NAME)"): (
+        "There are more than 256 stored numbers, each counted once for each owner: make do with fewer."
     ),
-    ("WrongKind", "'"): (
-        "This variable stands for another sort of thing than belongs here: `player` binds players, a collection binds "
-        "cards, and a `partition` binds groups."
-    ),
-    ("TooMany", "("): (
-        "There are more than 256 different attributes, or more than 256 locations or stored numbers, each counted once for "
-        "each owner: make do with fewer."
-    ),
+    ("TooMany", "GROUP"): ATTRIBUTES,
+    ("TooMany", "ENTRY"): ATTRIBUTES,
+    ("TooMany", "BRANCH"): VALUES,
+    ("TooMany", "VALUE"): VALUES,
     ("TooMany", "(create"): "The decks have more than 512 cards: make fewer.",
     ("TooMany", "(put"): "There are more than 256 point maps: make fewer.",
     ("TooMany", "(stage"): "There are more than 256 stages: make do with fewer.",
     ("TooMany", "(choice"): "There are more than 64 choices: make do with fewer, or join them as alternatives of one.",
     ("TooMany", "(repeat"): "Two repeats stand around this one, and more can't be: take one out.",
-    ("TooMany", "(any"): "Four variables are bound around this place, and more can't be: bind one less.",
-    ("TooMany", "(all"): "Four variables are bound around this place, and more can't be: bind one less.",
-    ("TooMany", "(filter"): "Four variables are bound around this place, and more can't be: bind one less.",
-    ("TooMany", ""): "There are more than 256 different values: make do with fewer.",
+    ("TooMany", "(any"): FOUR_BOUND,
+    ("TooMany", "(all"): FOUR_BOUND,
+    ("TooMany", "(filter"): FOUR_BOUND,
 }
-
 
 # What stands at the end of a source, where a list is missing.
 MISSING = {
@@ -169,60 +185,21 @@ MISSING = {
     ),
 }
 
-# What isn't known by its place.
-NAMES = {
-    ("ATTR",): "No deck and no points have this attribute: mend its name, or give it to the cards in the setup.",
-    ("VALUE",): "No deck and no points have this value: mend its name, or give it to the cards in the setup.",
-    ("MAP",): "No point map has this name: mend it, or add `(put points MAP (ENTRY+))` to the setup.",
-}
 
-SIDES = (
-    "Both sides of an equation are of one sort, two numbers, cards, values by `attr`, players or teams, and a group of "
-    "cards is none of these; and a stored number has owners of one kind in the whole sheet."
-)
+def looks(part: Part) -> list[str]:
+    """What tells the sentence on a part, from the most exact to the least."""
+    around = [f"in {form}" for it in part.around[-1:] for form in it.forms]
+    begins = f"({part.head}" if part.word == "(" else part.word[:1]
+    return [*part.forms, *around, *part.meant, begins]
 
 
-@dataclass(frozen=True)
-class Setting:
-    """How a list around a part is written, what belongs there, and whether it is the list right around the part."""
-
-    is_near: bool = False
-    forms: tuple[str, ...] = ()
-    meant: tuple[str, ...] = ()
-
-
-@dataclass(frozen=True)
-class Part:
-    """A part of a source: its word, or `(` and the head of its list; the head of the list around it; and how lists with this head
-    are written, and where it stands."""
-
-    word: str
-    head: str
-    around: str
-    forms: tuple[str, ...] = ()
-    setting: Setting = Setting()
-
-    def is_head_unknown(self) -> bool:
-        """Whether a list begins with a word of the designer's own where a fixed word belongs. Groups begin with such a word."""
-        is_own = self.head[:1] not in ("", "'") and not self.forms
-        return is_own and self.around != "deck" and self.setting.is_near
-
-    def looks(self) -> list[str]:
-        """What the part looks like, from the most exact to the least: `(head`, `(`, `'` or nothing."""
-        if self.word == "(":
-            return [f"({self.head}", "("]
-        return ["'"] if self.word.startswith("'") else [""]
-
-
-def sentence_on(what: str, kind: str, part: Part) -> str | None:
-    """The sentence on a fault of this kind of a sheet or a plan, if it is known."""
+def sentence_on(kind: str, part: Part) -> str | None:
+    """The sentence on a fault of this kind, if it is known."""
     if kind == "Shape" and not part.word:
-        return MISSING[what]
-    if what == "plan":
+        return MISSING[part.what]
+    if part.what == "plan":
         return PLAN.get(kind)
-    if kind == "WrongKind" and part.around in ("=", "!="):
-        return SIDES
-    if kind == "Unknown" and part.setting.is_near and part.setting.meant in NAMES:
-        return NAMES[part.setting.meant]
-    exact = (BY_HEAD.get((kind, look)) for look in part.looks())
-    return next((sentence for sentence in exact if sentence), SHEET.get(kind))
+    cause = cause_of(kind, part)
+    sentences = (EXACT.get((kind, look)) for look in looks(part))
+    rule = next((sentence for sentence in sentences if sentence), SHEET.get(kind))
+    return f"{cause} {rule}" if cause and kind == "Unseen" else cause or rule

@@ -49,40 +49,22 @@ def rest_of(source: bytes, lists: int) -> int:
     return gap_end(source, end_of(source, lists))
 
 
-def lists_around(source: bytes, at: int) -> list[int]:
-    """Where the lists begin that are open at a place, the innermost last."""
-    around: list[int] = []
+def lists_around(source: bytes, at: int) -> list[tuple[int, list[Token]]]:
+    """Where the lists begin that are open at a place, the innermost last, each with its parts before the place: atoms, and `(` for
+    a list."""
+    around: list[tuple[int, list[Token]]] = []
     for token in tokens(source):
         if token.at >= at:
             break
         if token.text == "(":
-            around.append(token.at)
-        elif token.text == ")" and around:
-            around.pop()
+            around.append((token.at, []))
+        elif around:
+            part = Token("(", around.pop()[0]) if token.text == ")" else token
+            if around:
+                around[-1][1].append(part)
     return around
-
-
-def words_before(source: bytes, begin: int, at: int) -> list[str]:
-    """The parts of the list that begins at a place, before another place in it: atoms, and `(` for a list."""
-    words: list[str] = []
-    depth = 0
-    for token in tokens(source, begin):
-        if token.at >= at:
-            break
-        if depth == 1 and token.text != ")":
-            words.append(token.text)
-        depth += {"(": 1, ")": -1}.get(token.text, 0)
-    return words
 
 
 def word_at(source: bytes, at: int) -> str:
     """The parenthesis or the atom at a place; nothing at the end of the source."""
     return next((token.text for token in tokens(source, at)), "")
-
-
-def head_of(source: bytes, at: int) -> str:
-    """The first word of the list that begins at a place; nothing where no list does, or where it begins with none."""
-    if source[at : at + 1] != b"(":
-        return ""
-    word = word_at(source, at + 1)
-    return "" if word in ("(", ")") else word
