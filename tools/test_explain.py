@@ -23,7 +23,7 @@ from faults.tokens import end_of, lists_around, rest_of
 
 ROOT = Path(__file__).resolve().parent.parent
 PROGRAM = ROOT / "crates/rc_main/out/rc_main"
-PAGES = [page for page in (ROOT / "docs/LANGUAGE.md", ROOT / "docs/REFUSALS.md", ROOT / "docs/FORMATS.md") if page.exists()]
+PAGES = [ROOT / "docs/LANGUAGE.md", ROOT / "docs/REFUSALS.md", ROOT / "docs/FORMATS.md"]
 
 # A sheet of three lines, with more lines of the setup in the second and the items in the third.
 SHEET = "(game (setup (create players 1)\n(create deck (game hloc S) (deck (R (A)))){})\n{} (scoring max 0))\n"

@@ -21,9 +21,6 @@ IN_CRATE = re.compile(r"rc_\w+/[\w./-]+|[\w./-]+\.(?:antt|rt)")
 NAME = re.compile(r"(?:\w+::)+\w+|[A-Za-z]\w*_\w+")
 TYPE = re.compile(r"[A-Z][a-z]\w+")
 
-# The page that cases/README.md names as one that may be there.
-OPTIONAL = {"docs/REFUSALS.md"}
-
 
 def quoted(page: Path) -> set[str]:
     """What a page has between backquotes."""
@@ -42,7 +39,7 @@ class Named(unittest.TestCase):
     def check(self, pattern: re.Pattern[str], known: set[str], pages: list[Path] = PAGES, parts: str = "\n") -> None:
         """Each text of the pages between backquotes that is written so is known, in each of its parts."""
         for page in pages:
-            for name in quoted(page) - OPTIONAL:
+            for name in quoted(page):
                 if pattern.fullmatch(name):
                     with self.subTest(page=page.name, name=name):
                         self.assertEqual(set(name.split(parts)) - known, set())

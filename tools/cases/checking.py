@@ -37,7 +37,7 @@ def read_folder(folder: Path) -> Iterator[tuple[Path, list[Case]]]:
 def read_all() -> dict[Path, list[Case]]:
     """The cases of all files, by file."""
     frames = read_frames(HERE / "language")
-    cases = {page: list(read_page(page, frames)) for page in PAGES if page.exists()}
+    cases = {page: list(read_page(page, frames)) for page in PAGES}
     cases[TRICKS] = list(read_bench(TRICKS))
     cases[HERE / "words.rows"] = list(read_words(HERE / "words.rows"))
     for folder in sorted(path for path in HERE.iterdir() if path.is_dir()):

@@ -8,7 +8,6 @@ from cases.rows import ROOT, Row, numbered_lines
 from cases.running import Case, fault_case, told_cases
 from cases.sheets import Frames, framed_cases
 
-# The second page is read where it is there.
 PAGES = (ROOT / "docs/LANGUAGE.md", ROOT / "docs/REFUSALS.md")
 
 
