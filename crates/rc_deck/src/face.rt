@@ -1,5 +1,5 @@
 //! What a card shows.
-ghost use Rattle.std.specs.Prelude.{◌≡◌, ◌≢◌, ◌++◌, ◌∷◌, [], ℕ, All, IfOk, IsNone, ◌↔◌};
+ghost use Rattle.std.specs.Prelude.{◌≡◌, ◌≢◌, ◌++◌, ◌∷◌, [], All, IfOk, IsNone, ◌↔◌};
 ghost use Rattle.rc_model.specs.Deck.{value_at};
 
 use crate::Memory;

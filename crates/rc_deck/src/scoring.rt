@@ -1,5 +1,5 @@
 //! What faces are worth.
-ghost use Rattle.std.specs.Prelude.{◌≡◌, ◌==◌, ◌&&◌, All, pos, neg_ℤ, ◌≤ℤ◌};
+ghost use Rattle.std.specs.Prelude.{◌≡◌, ◌==◌, ◌&&◌, All};
 ghost use Rattle.rc_model.specs.Deck.{points_of, fits_entry};
 ghost use Rattle.rc_model.specs.Clamp.{IsWithinClamp};
 ghost use Rattle.rc_deck.specs.Points.{entries_of, entry_of, points_added};

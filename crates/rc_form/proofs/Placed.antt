@@ -12,7 +12,7 @@ use Rattle.rc_form.specs.declared.form.Form.{Form}
 use Rattle.rc_form.proofs.Ascending.{Ascends, Ascends-lower, Ascends-room, Ascends-tokens_from}
 
 -- what rises from a number on rises from a lower one on
-Rise-lower : (low from high : ℕ) (numbers : List ℕ) → low ≤ from → Rise from high numbers → Rise low high numbers
+pub Rise-lower : (low from high : ℕ) (numbers : List ℕ) → low ≤ from → Rise from high numbers → Rise low high numbers
 Rise-lower low from high [] below rise = omega arith
 Rise-lower low from high (n ∷ numbers) below rise = (let above = rise.0 in omega arith, rise.1)
 

@@ -8,7 +8,6 @@ use Rattle.rc_form.specs.Lexer.{tokens_at}
 use Rattle.rc_model.specs.Tree.{Tree, spelling}
 use Rattle.rc_model.specs.Spelled.{Spelled, next_offset}
 use Rattle.rc_form.specs.Read.{Reading, read}
-use Rattle.rc_form.specs.declared.fault.FormFault.{FormFault}
 use Rattle.rc_form.proofs.Ascending.{Ascends-tokens_from}
 use Rattle.rc_form.proofs.SpelledIsRead.{AreEnough, read-lists}
 use Rattle.rc_form.proofs.ReadIsSpelled.{IsSpelled, Spells, read-spelled}
@@ -55,10 +54,3 @@ Spelled-unique text want forms later rest is_read behind others end spelled =
     let same : ◌≡◌ {A = Reading} (Ok (others, spelled.later)) (Ok (forms, later)) = sym (read-Spelled text want others end spelled) ∙ is_read in
     let pair : (others, spelled.later) ≡ (forms, later) = ap (result_or (forms, later)) same in
     (ap (λ r. r.0) pair, spelled.behind ∙ ap (λ r. next_offset r.1 (length text)) pair ∙ sym behind)
-
--- nothing is spelled where there is a fault
-pub Spelled-none : (text : List ℕ) (want : ℕ) (fault : FormFault) → read want [] [] (tokens text) ≡ Err fault
-    → (forms : List Tree) (rest : ℕ) → Spelled text want forms rest → ⊥
-Spelled-none text want fault is_fault forms rest spelled =
-    let is_read = read-Spelled text want forms rest spelled in
-    cc

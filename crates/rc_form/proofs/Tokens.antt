@@ -3,7 +3,7 @@ use Rattle.std.proofs.Common.{◌≡◌, ℕ, ◌+◌, ◌-◌, ◌<◌, ◌≢�
 use Rattle.std.specs.List.{list_all}
 use Rattle.std.proofs.lemmas.List.{drop_more}
 use Rattle.std.proofs.lemmas.List.{drop-drop}
-use Rattle.std.proofs.lemmas.Bool.{cases_Bool, ne_eqb}
+use Rattle.std.proofs.lemmas.Bool.{cases_Bool, ne_eqb, or_parts}
 use Rattle.rc_model.specs.Token.{opening, closing, atom, odd, is_part, atom_front, tokens_from, between, in_atom, is_blank}
 use Rattle.rc_form.specs.Lexer.{tokens_at, begins_token}
 
@@ -54,11 +54,6 @@ by_not : (b : Bool) → IsTrue (not b) → b ≡ false
 by_not true holds = search rules
 by_not false holds = refl
 
--- where neither is true the second is false
-second_false : (a b : Bool) → (a || b) ≡ false → b ≡ false
-second_false true b neither = cc
-second_false false b neither = neither
-
 -- the bytes of an atom behind its first give no tokens of their own
 pub tokens_from-in_atom : (at : ℕ) (bytes : List ℕ)
     → tokens_from in_atom at bytes ≡ tokens_from between (at + length (atom_front bytes)) (drop (length (atom_front bytes)) bytes)
@@ -100,5 +95,5 @@ tokens_at-odd text at inside begins no_part no_opening no_closing =
     let unlike_opening : eqb byte 40 ≡ false = ne_eqb byte 40 no_opening in
     let unlike_closing : eqb byte 41 ≡ false = ne_eqb byte 41 no_closing in
     let no_gap : (is_blank byte || eqb byte 59) ≡ false = by_not (is_blank byte || eqb byte 59) begins in
-    let no_comment : eqb byte 59 ≡ false = second_false (is_blank byte) (eqb byte 59) no_gap in
+    let no_comment : eqb byte 59 ≡ false = (or_parts (is_blank byte) (eqb byte 59) no_gap).1 in
     rw (whole, no_part, unlike_opening, unlike_closing, no_gap, no_comment)

@@ -6,6 +6,7 @@ use Rattle.std.proofs.lemmas.List.{append_assoc, append-nil}
 use Rattle.std.proofs.lemmas.List.Elements.{All-nil, All-cons, All-weaker}
 use Rattle.rc_model.specs.Tree.{Tree, word, list, Trees, nil, cons}
 use Rattle.rc_model.specs.Placed.{starts, all_starts, Rise, IsPlaced}
+use Rattle.rc_form.proofs.Placed.{Rise-lower}
 use Rattle.rc_grammar.specs.FirstOf.{ComesBefore, IsFirstOf}
 use Rattle.rc_grammar.specs.Faults.{first, faults, faults_at, place_at, faults_in, told_faults, fault_place, first_start, start_of, atom_kind, some_form_fits, fits, lacks_players, count, rule_of, shape}
 use Rattle.rc_grammar.specs.declared.fault.SheetKind.{SheetKind}
@@ -52,11 +53,6 @@ Ordered-first low (here ∷ faults) fault ordered is =
           (All-weaker (λ other. here.at + 1 ≤ other.at) (λ other. ComesBefore other here → ⊥)
           (λ other behind. none_before here other (omega arith)) faults (All-ordered (here.at + 1) faults ordered.1));
     })
-
--- what rises from a number on rises from a lower one on
-Rise-lower : (low from high : ℕ) (numbers : List ℕ) → low ≤ from → Rise from high numbers → Rise low high numbers
-Rise-lower low from high [] below rise = omega arith
-Rise-lower low from high (n ∷ numbers) below rise = (let above = rise.0 in omega arith, rise.1)
 
 -- the numbers behind some rise too
 Rise-behind : (before numbers : List ℕ) (low high : ℕ) → Rise low high (before ++ numbers) → Rise low high numbers

@@ -1,7 +1,7 @@
 -- At most one form of a place has a head and a word behind it.
-use Rattle.std.proofs.Common.{◌≡◌, ℕ, ◌≤◌, Bool, true, false, not, cond, ◌&&◌, ◌||◌, ◌⊎◌, inl, inr, ⊎_elim, List, [], ◌∷◌, length, Option, Some, None, is_none, bytes_eq, refl, sym, ap, ◌∙◌, subst, arith}
+use Rattle.std.proofs.Common.{◌≡◌, ℕ, ◌≤◌, Bool, true, false, not, cond, ◌&&◌, ◌||◌, ⊎_elim, List, [], ◌∷◌, length, Option, Some, None, is_none, bytes_eq, refl, sym, ap, ◌∙◌, subst, arith}
 use Rattle.std.specs.List.{filter, list_all}
-use Rattle.std.proofs.lemmas.Bool.{false_from_ne_true}
+use Rattle.std.proofs.lemmas.Bool.{false_from_ne_true, and_parts, or_cases}
 use Rattle.std.proofs.lemmas.Slice.Eq.{bytes_eq-Decides}
 use Rattle.rc_model.specs.Tree.{Tree, word, list, Trees, nil, cons}
 use Rattle.rc_grammar.specs.Keyword.{text_of}
@@ -223,27 +223,19 @@ table_apart place.Side = refl
 abbrev Tells : (Rule → Bool) → Type 0
 Tells test = (r s : Rule) → apart r s ≡ true → test r ≡ true → test s ≡ true → ⊥
 
-both : (a b : Bool) → (a && b) ≡ true → (a ≡ true) × (b ≡ true)
-both true b is = (refl, is)
-both false b is = absurd cc
-
-either : (a b : Bool) → (a || b) ≡ true → (a ≡ true) ⊎ (b ≡ true)
-either true b is = inl refl
-either false b is = inr is
-
 -- no form passes behind one that does, where it is told apart from all of them
 none_other : (test : Rule → Bool) → Tells test → (r : Rule) (rules : List Rule) → list_all (apart r) rules ≡ true → test r ≡ true
     → filter test rules ≡ []
 none_other test tells r [] are is = refl
 none_other test tells r (s ∷ rules) are is =
-    let parts = both (apart r s) (list_all (apart r) rules) are in
+    let parts = and_parts (apart r s) (list_all (apart r) rules) are in
     let fails : test s ≡ false = false_from_ne_true (test s) (λ passes. tells r s parts.0 is passes) in
     ap (λ b. cond b (s ∷ filter test rules) (filter test rules)) fails ∙ none_other test tells r rules parts.1 is
 
 one_at_most : (test : Rule → Bool) → Tells test → (rules : List Rule) → all_apart rules ≡ true → length (filter test rules) ≤ 1
 one_at_most test tells [] are = omega arith
 one_at_most test tells (r ∷ rules) are =
-    let parts = both (list_all (apart r) rules) (all_apart rules) are in
+    let parts = and_parts (list_all (apart r) rules) (all_apart rules) are in
     by_first (test r) refl (λ passes. none_other test tells r rules parts.0 passes) (one_at_most test tells rules parts.1)
   where
     by_first : (b : Bool) → test r ≡ b → (test r ≡ true → filter test rules ≡ []) → length (filter test rules) ≤ 1
@@ -254,19 +246,19 @@ one_at_most test tells (r ∷ rules) are =
 -- the two tests of the forms of a place
 tells_told : (head : Tree) (parts : Trees) → Tells (λ rule. begins head rule && is_told (second_word rule) parts)
 tells_told head parts r s is first second =
-    let of_r = both (begins head r) (is_told (second_word r) parts) first in
-    let of_s = both (begins head s) (is_told (second_word s) parts) second in
+    let of_r = and_parts (begins head r) (is_told (second_word r) parts) first in
+    let of_s = and_parts (begins head s) (is_told (second_word s) parts) second in
     ⊎_elim (λ heads. never_two_heads (front_of r) (front_of s) head heads of_r.0 of_s.0)
     (λ words. never_told_twice (second_word r) (second_word s) parts words of_r.1 of_s.1)
-    (either (heads_apart (front_of r) (front_of s)) (seconds_apart (second_word r) (second_word s)) is)
+    (or_cases (heads_apart (front_of r) (front_of s)) (seconds_apart (second_word r) (second_word s)) is)
 
 tells_plain : (head : Tree) → Tells (λ rule. begins head rule && is_none (second_word rule))
 tells_plain head r s is first second =
-    let of_r = both (begins head r) (is_none (second_word r)) first in
-    let of_s = both (begins head s) (is_none (second_word s)) second in
+    let of_r = and_parts (begins head r) (is_none (second_word r)) first in
+    let of_s = and_parts (begins head s) (is_none (second_word s)) second in
     ⊎_elim (λ heads. never_two_heads (front_of r) (front_of s) head heads of_r.0 of_s.0)
     (λ words. never_plain_twice (second_word r) (second_word s) words of_r.1 of_s.1)
-    (either (heads_apart (front_of r) (front_of s)) (seconds_apart (second_word r) (second_word s)) is)
+    (or_cases (heads_apart (front_of r) (front_of s)) (seconds_apart (second_word r) (second_word s)) is)
 
 pub one_told : (p : Place) (head : Tree) (parts : Trees) → length (told_forms p head parts) ≤ 1
 one_told p head parts = one_at_most _ (tells_told head parts) (forms_of p) (table_apart p)

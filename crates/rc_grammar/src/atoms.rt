@@ -1,5 +1,5 @@
 //! Atoms at the places of a sheet.
-ghost use Rattle.std.specs.Prelude.{◌≡◌, Some, is_none};
+ghost use Rattle.std.specs.Prelude.{◌≡◌, Some};
 ghost use Rattle.rc_model.specs.Literal as literal;
 ghost use Rattle.rc_grammar.specs.Faults as spec;
 

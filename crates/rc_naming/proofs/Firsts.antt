@@ -1,5 +1,5 @@
 -- Names that are added one by one are the different ones, in the order of their first mention.
-use Rattle.std.proofs.Common.{◌≡◌, ℕ, Bool, true, false, ◌||◌, cond, List, [], ◌∷◌, ◌++◌, inl, inr, map, bytes_eq, Option, Some, None, option_map, option_to_list, refl, sym, ap, ◌∙◌, append_assoc}
+use Rattle.std.proofs.Common.{◌≡◌, ℕ, Bool, true, false, ◌||◌, cond, List, [], ◌∷◌, ◌++◌, inl, inr, map, bytes_eq, refl, sym, ap, ◌∙◌, append_assoc}
 use Rattle.std.specs.List.{list_any}
 use Rattle.std.proofs.lemmas.Bool.{cases_Bool, cond-true, cond-false}
 use Rattle.std.proofs.lemmas.List.{append-nil, map-append, map-id}
@@ -106,8 +106,3 @@ seen_added f name known (x ∷ xs) =
           ∙ ap (λ all. with_firsts name all (map f xs)) (map-append f known (x ∷ []))
           ∙ sym (ap (λ all. with_firsts name all (map f xs)) (cond-false _ _ _ (among ∙ new)))
     ]
-
-pub seen_option : {X Y : Type 0} (f : X → Y) (found : Option X) →
-    map f (option_to_list found) ≡ option_to_list (option_map f found)
-seen_option f None = refl
-seen_option f (Some x) = refl

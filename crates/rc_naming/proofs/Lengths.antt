@@ -5,13 +5,10 @@ use Rattle.rc_model.specs.Tree.{Tree, word, list, nil, cons, count}
 use Rattle.rc_form.specs.declared.form.Form.{Form}
 use Rattle.rc_form.specs.Form.{tree_of, trees_of, packed}
 use Rattle.rc_grammar.specs.declared.keyword.Keyword.{Keyword}
+use Rattle.rc_grammar.proofs.Counts.{count_packed}
 use Rattle.rc_sheet_model.specs.FormMentions.{attr_word, value_word, map_word, setup_lines, body, deck_groups, points_map, points_entries, bound_words, var_words, all_var_words}
 use Rattle.rc_naming.specs.Mentions.{loc_mention, num_mention}
 use Rattle.rc_naming.specs.Known.{parts_in, begins_by, third_part}
-
-count_packed : (forms : List Form) → count (packed (trees_of forms)) ≡ length forms
-count_packed [] = refl
-count_packed (form ∷ forms) = let rest = count_packed forms in omega arith
 
 -- as many as the forms that are found
 counted : (tree : Tree) (forms : List Form) → packed (trees_of forms) ≡ parts_in tree → count (parts_in tree) ≡ length forms

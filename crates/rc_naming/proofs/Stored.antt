@@ -1,5 +1,5 @@
 -- What is stored, and what is seen of it.
-use Rattle.std.proofs.Common.{◌≡◌, ℕ, false, List, [], ◌∷◌, map, bytes_eq, Option, Some, None, is_some, Result, Ok, Err, OnOk, IfOk, refl, ap, ◌∙◌}
+use Rattle.std.proofs.Common.{◌≡◌, ℕ, false, List, bytes_eq, Option, Some, None, is_some, Result, Ok, Err, IfOk, refl, ◌∙◌}
 use Rattle.std.specs.List.{list_any}
 use Rattle.std.specs.Map.{keys_of}
 use Rattle.std.specs.HashMap.{HashMap, get_by}
@@ -7,10 +7,6 @@ use Rattle.std.proofs.lemmas.Map.Made.{is_some-lookup}
 use Rattle.rc_names.specs.contracts.word.WordPartialEq.TheImpl.{eq-value}
 use Rattle.rc_setup.proofs.WordLemmas.{list_any_word}
 use Rattle.rc_naming.proofs.Firsts.{list_any-map}
-
-pub on_ok : {T E P Q : Type 0} (result : Result T E) → OnOk result P → (P → Q) → OnOk result Q
-on_ok (Ok value) holds follows = follows holds
-on_ok (Err error) holds follows = tt
 
 pub if_ok : {T E : Type 0} {P Q : T → Type 0} (result : Result T E) → IfOk result P
     → ((value : T) → P value → Q value) → IfOk result Q
@@ -20,10 +16,6 @@ if_ok (Err error) holds follows = tt
 pub none_from : {T : Type 0} (found : Option T) → is_some found ≡ false → found ≡ None
 none_from None is = refl
 none_from (Some x) is = absurd cc
-
-pub map-map : {A B C : Type 0} (f : A → B) (g : B → C) (xs : List A) → map g (map f xs) ≡ map (λ x. g (f x)) xs
-map-map f g [] = refl
-map-map f g (x ∷ xs) = ap (λ rest. g (f x) ∷ rest) (map-map f g xs)
 
 -- a word is a key where an entry has it
 pub key_told : {V S : Type 0} (entries : HashMap (List ℕ) V S) (word : List ℕ) →

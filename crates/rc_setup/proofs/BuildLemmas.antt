@@ -8,8 +8,7 @@ use Rattle.rc_deck.specs.declared.tree.Branch.{Branch as DeckBranch}
 use Rattle.rc_deck.specs.declared.scoring.PointEntry.{PointEntry}
 use Rattle.rc_deck.specs.Tree.{attr_of, branches_of, value_of, inner_of, groups_in, branches_in}
 use Rattle.rc_deck.specs.Points.{entry_of}
-use Rattle.rc_setup.specs.Naming.{number_of}
-use Rattle.rc_setup.specs.Reading.{Group, Branch, read_group, read_groups, read_branch, read_branches, read_entry, read_all_entries, read_values}
+use Rattle.rc_setup.specs.Reading.{Group, Branch, read_group, read_groups, read_branch, read_branches, read_entry, read_all_entries}
 use Rattle.rc_setup.proofs.LoopLemmas.{Reads}
 
 abbrev pub seen_group : DeckGroup → Group
@@ -75,14 +74,5 @@ reads_entries names = record {
   pushes = λ read next rest. ap (λ front. front ++ rest) (map-append entry_of read (next ∷ [])) ∙ append_assoc (map entry_of read) (entry_of next ∷ []) rest;
 }
 
-abbrev pub same_number : ℕ → ℕ
-same_number value = value
-
 abbrev pub onto_values : List ℕ → List ℕ → List ℕ
 onto_values values rest = values ++ rest
-
-pub reads_values : (names : DeckNames) → Reads (number_of names.values) (read_values names) ◌∷◌ same_number onto_values
-reads_values names = record {
-  splits = λ tree trees. refl;
-  pushes = λ read next rest. append_assoc read (next ∷ []) rest;
-}

@@ -1,7 +1,8 @@
 -- What a form of two parts is read as, and what a list of branches is.
-use Rattle.std.proofs.Common.{◌≡◌, ℕ, zero, suc, ◌<◌, List, [], ◌∷◌, length, get_or, Vec, true, refl, sym, ap, ◌∙◌, arith}
+use Rattle.std.proofs.Common.{◌≡◌, List, ◌∷◌, length, get_or, Vec, true, sym, ap, ◌∙◌, arith}
 use Rattle.std.specs.Prelude.{codes}
 use Rattle.std.proofs.lemmas.Bool.{cond-true}
+use Rattle.std.proofs.lemmas.List.{get_or_default}
 use Rattle.std.specs.Global.{Global}
 use Rattle.rc_setup.specs.Naming.{DeckNames}
 use Rattle.rc_form.specs.declared.form.Form.{Form}
@@ -12,12 +13,6 @@ use Rattle.rc_setup.specs.Naming.{number_of}
 use Rattle.rc_setup.specs.Reading.{both, read_group, read_group_parts, read_branch_list, read_branches, read_branch, read_branch_parts, read_groups, read_deck, read_deck_parts, is_word, unless_nil, entry_with, read_entry, read_entry_parts, read_value_list, read_points, read_entries, read_all_entries}
 use Rattle.rc_setup.proofs.FormLemmas.{tree_of_list}
 use Rattle.rc_setup.proofs.SliceLemmas.{two, three, unless_nil_some}
-
--- a place within a list has one item, whatever stands past the end
-pub get_or-any : {X : Type 0} (xs : List X) (i : ℕ) (d e : X) → i < length xs → get_or xs i d ≡ get_or xs i e
-get_or-any [] i d e lt = absurd (omega arith)
-get_or-any (x ∷ xs) zero d e lt = refl
-get_or-any (x ∷ xs) (suc i) d e lt = get_or-any xs i d e (omega arith)
 
 pub read_group_with : (names : DeckNames) (form : Form) (items : Vec Form Global) (span : Span) (head second : Form) →
     form ≡ ListOf items span → length items.items ≡ 2 → head ≡ get_or items.items 0 head → second ≡ get_or items.items 1 second →
@@ -33,7 +28,7 @@ pub read_group_of : (names : DeckNames) (form : Form) (items : Vec Form Global) 
     × (read_group names (tree_of form) ≡ both (λ attr branches. (attr, branches)) (number_of names.attrs (tree_of head)) (read_branch_list names (tree_of second)))
 read_group_of names form items span head is long is-head =
     let second = get_or items.items 1 head in
-    let is-second : second ≡ get_or items.items 1 second = get_or-any items.items 1 head second (omega arith) in
+    let is-second : second ≡ get_or items.items 1 second = get_or_default items.items 1 head second (omega arith) in
     (second, read_group_with names form items span head second is long is-head is-second)
 
 pub read_branch_list_of : (names : DeckNames) (form : Form) (items : Vec Form Global) (span : Span) (parts : List Form) →

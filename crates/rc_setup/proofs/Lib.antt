@@ -4,5 +4,4 @@ pub mod SliceLemmas
 pub mod LoopLemmas
 pub mod BuildLemmas
 pub mod GroupLemmas
-pub mod OptionLemmas
 pub mod PointLemmas

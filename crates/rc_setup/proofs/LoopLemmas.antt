@@ -36,13 +36,6 @@ module _ {X Y V : Type 0} {one : Tree → Option X} {all : Trees → Option Y} {
       ∙ ap (λ o. option_map (onto read) (both add o rest)) found
       ∙ ap (option_map (onto read)) (sym (left_splits forms i form lt is))
 
-  -- a form is refused
-  pub read_none : (forms : List Form) (i : ℕ) (form : Form) (read : List V) → i < length forms → form ≡ get_or forms i form →
-      None ≡ one (tree_of form) → None ≡ option_map (onto read) (all (packed (trees_of (drop i forms))))
-  read_none forms i form read lt is refused =
-      let rest = all (packed (trees_of (drop (i + 1) forms))) in
-      ap (λ o. option_map (onto read) (both add o rest)) refused ∙ ap (option_map (onto read)) (sym (left_splits forms i form lt is))
-
 -- nothing is left
 pub read_end : {Y : Type 0} (all : Trees → Option Y) (onto : Y → Y) (none : Y) (forms : List Form) (i : ℕ) → all nil ≡ Some none → length forms ≤ i →
     option_map onto (all (packed (trees_of (drop i forms)))) ≡ Some (onto none)

@@ -1,5 +1,5 @@
 -- Points that are read are within the clamp.
-use Rattle.std.proofs.Common.{◌≡◌, ℕ, Bool, Option, Some, None, ℤ, inl, inr, refl, sym, subst, ◌∙◌}
+use Rattle.std.proofs.Common.{◌≡◌, Option, Some, None, ℤ, inl, inr, sym, subst, ◌∙◌}
 use Rattle.std.specs.Option.{option_and_then}
 use Rattle.std.specs.Int.Signed.{le_z_yes}
 use Rattle.std.proofs.lemmas.Bool.{cases_Bool, and_parts, cond-true, cond-false}

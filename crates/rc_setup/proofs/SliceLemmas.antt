@@ -1,14 +1,9 @@
 -- Slices of two or three parts.
-use Rattle.std.proofs.Common.{◌≡◌, ℕ, ◌<◌, ◌≤◌, List, [], ◌∷◌, length, get_or, None, Option, refl, sym, ap, ◌∙◌, arith}
+use Rattle.std.proofs.Common.{◌≡◌, List, [], ◌∷◌, length, get_or, None, Option, refl, sym, ap, ◌∙◌, arith}
 use Rattle.rc_setup.specs.Naming.{DeckNames}
 use Rattle.rc_form.specs.declared.form.Form.{Form}
 use Rattle.rc_form.specs.Form.{trees_of, packed}
 use Rattle.rc_setup.specs.Reading.{read_group_parts, read_entry_parts, unless_nil}
-
-pub two_up : {X : Type 0} (xs : List X) (a b : X) → 2 ≤ length xs → a ≡ get_or xs 0 a → b ≡ get_or xs 1 b → (rest : List X) × (xs ≡ a ∷ b ∷ rest)
-two_up [] a b le is-a is-b = absurd (omega arith)
-two_up (x ∷ []) a b le is-a is-b = absurd (omega arith)
-two_up (x ∷ y ∷ rest) a b le is-a is-b = (rest, ap (λ z. z ∷ y ∷ rest) (sym is-a) ∙ ap (λ z. a ∷ z ∷ rest) (sym is-b))
 
 pub two : {X : Type 0} (xs : List X) (a b : X) → length xs ≡ 2 → a ≡ get_or xs 0 a → b ≡ get_or xs 1 b → xs ≡ a ∷ b ∷ []
 two [] a b long is-a is-b = absurd (omega arith)
@@ -42,7 +37,3 @@ read_entry_other names (a ∷ b ∷ c ∷ d ∷ forms) other = refl
 pub unless_nil_some : {A : Type 0} (forms : List Form) (found : Option A) → (length forms ≡ 0 → ⊥) → unless_nil (packed (trees_of forms)) found ≡ found
 unless_nil_some [] found some = absurd (some refl)
 unless_nil_some (form ∷ forms) found some = refl
-
-pub unless_nil_none : {A : Type 0} (forms : List Form) (found : Option A) → length forms ≡ 0 → unless_nil (packed (trees_of forms)) found ≡ None
-unless_nil_none [] found none = refl
-unless_nil_none (form ∷ forms) found none = absurd (omega arith)

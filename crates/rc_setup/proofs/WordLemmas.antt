@@ -1,10 +1,10 @@
 -- Words are equal where their bytes are.
-use Rattle.std.proofs.Common.{◌≡◌, ℕ, ◌-◌, ◌&&◌, Bool, eqb, List, [], ◌∷◌, ◌++◌, length, get_or, take, replicate, refl, sym, ap, subst, ◌∙◌}
-use Rattle.std.specs.List.{list_any, position, position_or_len}
+use Rattle.std.proofs.Common.{◌≡◌, ℕ, ◌-◌, ◌&&◌, Bool, eqb, List, [], ◌∷◌, ◌++◌, length, take, replicate, refl, sym, ap, ◌∙◌}
+use Rattle.std.specs.List.{list_any}
 use Rattle.std.specs.Bool.{Decides, one_answer}
 use Rattle.std.specs.Str.{bytes_eq}
 use Rattle.std.proofs.Math.Seq.{take-append_seam}
-use Rattle.std.proofs.lemmas.Bool.{and_parts, and_from, eqb-true, eq-eqb, false≢true}
+use Rattle.std.proofs.lemmas.Bool.{and_parts, and_from, eqb-true, eq-eqb}
 use Rattle.std.proofs.lemmas.Slice.Eq.{bytes_eq-Decides}
 use Rattle.rc_names.specs.contracts.word.WordPartialEq.TheImpl.{eq-value}
 
@@ -31,13 +31,6 @@ list_any-alike : {X : Type 0} (p q : X → Bool) → ((x : X) → p x ≡ q x) �
 list_any-alike p q alike [] = refl
 list_any-alike p q alike (x ∷ xs) = rw (alike x, list_any-alike p q alike xs) refl
 
-position_or_len-alike : {X : Type 0} (p q : X → Bool) → ((x : X) → p x ≡ q x) → (xs : List X) → position_or_len p xs ≡ position_or_len q xs
-position_or_len-alike p q alike [] = refl
-position_or_len-alike p q alike (x ∷ xs) = rw (alike x, position_or_len-alike p q alike xs) refl
-
 -- the look-ups of a set of words, by their bytes
 pub list_any_word : (word : List ℕ) (words : List (List ℕ)) → list_any (eq-value.it word) words ≡ list_any (bytes_eq word) words
 list_any_word word words = list_any-alike _ _ (word_eq word) words
-
-pub position_word : (word : List ℕ) (words : List (List ℕ)) → position (eq-value.it word) words ≡ position (bytes_eq word) words
-position_word word words = rw (position_or_len-alike _ _ (word_eq word) words) refl

@@ -1,6 +1,6 @@
 //! Point maps, read from forms.
 ghost use Rattle.std.specs.Prelude.{◌≡◌, Some, None, IfOk, option_map};
-ghost use Rattle.rc_form.specs.Form.{tree_of, trees_of, packed};
+ghost use Rattle.rc_form.specs.Form.{tree_of};
 ghost use Rattle.rc_deck.specs.Points.{entry_of, entries_of as entries_seen};
 ghost use Rattle.rc_setup.specs.Naming.{AreFew};
 ghost use Rattle.rc_setup.specs.Reading as reading;

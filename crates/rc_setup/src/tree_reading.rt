@@ -1,5 +1,5 @@
 //! Deck trees, read from forms.
-ghost use Rattle.std.specs.Prelude.{◌≡◌, Some, None, IfOk, option_map, codes};
+ghost use Rattle.std.specs.Prelude.{◌≡◌, Some, None, IfOk, option_map};
 ghost use Rattle.rc_form.specs.Form.{tree_of, trees_of, packed};
 ghost use Rattle.rc_deck.specs.Tree.{groups_of, groups_in, branches_in, attr_of, branches_of, value_of, inner_of};
 ghost use Rattle.rc_setup.specs.Naming.{AreFew, number_of};

@@ -12,7 +12,8 @@ use Rattle.rc_grammar.specs.declared.grammar.Rule.{Rule}
 use Rattle.rc_grammar.specs.declared.grammar.Rule.TheVariants as rule
 use Rattle.rc_semantics.specs.declared.role.Role.{Role}
 use Rattle.rc_semantics.specs.declared.role.Role.TheVariants.{No as no_role, UsedAttribute as used_attribute, UsedValue as used_value, UsedMap as used_map, GivenValue as given_value}
-use Rattle.rc_semantics.specs.SecondParts.{front_roles, role_in, Standing, around_in, above_in}
+use Rattle.rc_semantics.specs.SecondParts.{front_roles, role_in, Standing}
+pub use Rattle.rc_semantics.proofs.Learned.{standing_at}
 use Rattle.rc_sheet.proofs.Shapes.{rule_holds, refuses}
 
 -- no place of the setup
@@ -135,11 +136,6 @@ unused_fits : (p : Place) (role : Role) → is_used role ≡ false → fits_role
 unused_fits place.Name role is = refl
 unused_fits p role is = ap not is
 
--- the roles of each form fit its places
-roles_of : (r : Rule) → fit_roles (front_of r) (front_roles r) ≡ true
-roles_of rule.Game = refl
-roles_of r = refl
-
 role_fits_place : (places : List Place) (roles : List Role) (i : ℕ) (behind : Option Place) (q : Place)
     → fit_roles places roles ≡ true → or_behind (slice_get places i) behind ≡ Some q
     → fits_role q (slice_index_or roles i no_role) ≡ true
@@ -172,17 +168,6 @@ role_in_fits rule.Branches outer n i q unused body is = unused_fits q given_valu
 role_in_fits rule.Values outer n i q unused body is = unused_fits q given_value refl
 role_in_fits r outer n i q unused body is =
     role_fits_place (front_of r) (front_roles r) i (behind_front r (i + 1 == n)) q refl is
-
--- where a part of a form stands that has this place
-abbrev pub standing_at : Standing → Rule → Trees → ℕ → Place → Standing
-standing_at outer r parts index place =
-    record {
-      place = place;
-      role = role_in outer.role r index;
-      beside = parts;
-      around = around_in outer.around r parts index;
-      above = above_in outer.above r parts index;
-    }
 
 -- a part of a form behind the setup stands there too
 pub body_inner : (at : Standing) (r : Rule) (parts : Trees) (i : ℕ) (q : Place) → IsBody at → rule_of at.place parts ≡ Some r

@@ -16,7 +16,7 @@ pub mod Faultless
 mod Agreed
 pub mod Found
 mod Bound
-mod Room
+pub mod Room
 pub mod Fine
 mod AllFine
 pub mod FewNames

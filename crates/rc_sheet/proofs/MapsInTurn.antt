@@ -22,7 +22,8 @@ use Rattle.rc_sheet.proofs.Shapes.{none_in_both}
 use Rattle.rc_sheet.proofs.Faultless.{IsFaultless, faultless}
 use Rattle.rc_sheet.proofs.Lines.{in_lines}
 use Rattle.rc_sheet.proofs.Whole.{sheet_only, maps_give}
-use Rattle.rc_sheet.proofs.Fine.Lines.{OfLines, is_no_line}
+use Rattle.rc_sheet.proofs.SetupCounts.{is_below}
+use Rattle.rc_sheet.proofs.Fine.Lines.{OfLines}
 
 -- the map of a line of points has the number of the lines of points before it
 abbrev pub IsInTurn : List (List ℕ) → List Part → Part → Type 0
@@ -56,7 +57,7 @@ line_in_turn maps earlier at parts from to here told are =
 pub maps_of_lines : OfLines maps_in
 maps_of_lines = record { atoms = λ at bytes from. refl; forms = of_form }
   where
-    of_form : (at : Standing) (r : Rule) (parts : Trees) (from : ℕ) → is_no_line r ≡ true → maps_in (form at r parts from) ≡ []
+    of_form : (at : Standing) (r : Rule) (parts : Trees) (from : ℕ) → is_below r ≡ true → maps_in (form at r parts from) ≡ []
     of_form at rule.PutPoints parts from is = absurd cc
     of_form at r parts from is = refl
 

@@ -4,6 +4,7 @@ use Rattle.std.proofs.lemmas.Option.{slice_get-get_or}
 use Rattle.std.proofs.lemmas.List.Quantifiers.{position-Some}
 use Rattle.rc_grammar.specs.Faults.{fits}
 use Rattle.rc_grammar.specs.declared.grammar.Rule.{Rule}
+use Rattle.rc_setup.specs.Reading.{both as both_read}
 use Rattle.rc_reading.specs.ReadNames.{◌>>=◌, both, ensure, sized}
 
 -- P holds of what was read
@@ -95,3 +96,11 @@ pub paired : {A B C : Type 0} {P : A → Type 0} {Q : B → Type 0} {R : C → T
 paired None second f p q more = nothing
 paired (Some a) None f p q more = nothing
 paired (Some a) (Some b) f p q more = something (f a b) (more a b p.holds q.holds)
+
+-- what is made of two that are read
+pub made_of : {A B C : Type 0} {P : A → Type 0} {Q : B → Type 0} {R : C → Type 0} (make : A → B → C) (first : Option A)
+    (second : Option B) → Means first P → Means second Q → ((a : A) (b : B) → P a → Q b → R (make a b))
+    → Means (both_read make first second) R
+made_of make None second p q more = nothing
+made_of make (Some a) None p q more = nothing
+made_of make (Some a) (Some b) p q more = something (make a b) (more a b p.holds q.holds)

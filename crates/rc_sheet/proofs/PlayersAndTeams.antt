@@ -1,5 +1,5 @@
 -- A sheet that is read has the players and teams that the parts of its form count, and no more players than it may have.
-use Rattle.std.proofs.Common.{◌≡◌, ℕ, ◌-◌, ◌≤◌, suc, true, ◌&&◌, nat_le, List, [], ◌∷◌, ◌++◌, length, map, flat_map, slice_index_or, option_map, Option, Some, None, is_none, ℤ, pos, negsuc, refl, sym, ap, ap₂, ◌∙◌, arith}
+use Rattle.std.proofs.Common.{◌≡◌, ℕ, ◌-◌, ◌≤◌, suc, true, ◌&&◌, nat_le, List, [], ◌∷◌, ◌++◌, length, map, flat_map, slice_index_or, option_map, option_to_list, Option, Some, None, is_none, ℤ, pos, negsuc, refl, sym, ap, ap₂, ◌∙◌, arith}
 use Rattle.std.specs.Prelude.{nat_abs, unwrap_or}
 use Rattle.std.proofs.lemmas.Bool.{leb-true, and_parts}
 use Rattle.std.proofs.lemmas.List.{append-nil, map-append}
@@ -19,7 +19,7 @@ use Rattle.rc_reading.specs.ReadNames.{ensure}
 use Rattle.rc_reading.specs.ReadSetup.{Lines, within, count_at, team_at, teams_at, deck_at, points_at, players_line, teams_line, deck_line, points_line, line_rule}
 use Rattle.rc_reading.specs.ReadSheet.{sheet_at}
 use Rattle.rc_sheet.proofs.Means.{Means, nothing, something, means_if, means_so, behind, either, ensured, paired, anything}
-use Rattle.rc_sheet.proofs.ReadOff.Setup.{listed, none_listed}
+use Rattle.rc_sheet.proofs.ReadOff.Setup.{none_listed}
 use Rattle.rc_sheet.proofs.SetupCounts.{is_below, is_line_rule, sheet_adds}
 
 -- a number in a range
@@ -62,7 +62,7 @@ teams_counted (cons part parts) =
 -- PLAYERS
 
 abbrev players_known : Lines → List ℕ
-players_known lines = listed lines.players
+players_known lines = option_to_list lines.players
 
 no_players : (at : Standing) (r : Rule) (parts : Trees) (from : ℕ) → is_below r ≡ true → players_in (form at r parts from) ≡ []
 no_players at rule.CreatePlayers parts from quiet = absurd cc
@@ -109,7 +109,7 @@ abbrev team_sizes : Part → List ℕ
 team_sizes part = map line_long (teams_in part)
 
 abbrev teams_known : Lines → List ℕ
-teams_known lines = listed (option_map length lines.teams)
+teams_known lines = option_to_list (option_map length lines.teams)
 
 no_teams : (at : Standing) (r : Rule) (parts : Trees) (from : ℕ) → is_below r ≡ true → team_sizes (form at r parts from) ≡ []
 no_teams at rule.CreateTeams parts from quiet = absurd cc
@@ -118,7 +118,7 @@ no_teams at r parts from quiet = refl
 teams_kept : (before : Lines) → teams_known before ++ [] ≡ teams_known before
 teams_kept before = append-nil (teams_known before)
 
-none_known : (teams : Option Teams) → is_none teams ≡ true → listed (option_map length teams) ≡ []
+none_known : (teams : Option Teams) → is_none teams ≡ true → option_to_list (option_map length teams) ≡ []
 none_known None is = refl
 none_known (Some teams) is = absurd cc
 
@@ -148,7 +148,7 @@ teams_added naming before at r parts from = nothing
 
 sizes_are : (naming : Naming) (tree : Tree)
     → Means (sheet_at naming tree)
-    (λ sheet. flat_map team_sizes (parts_of tree) ≡ listed (option_map length sheet.teams))
+    (λ sheet. flat_map team_sizes (parts_of tree) ≡ option_to_list (option_map length sheet.teams))
 sizes_are naming tree =
     sheet_adds ℕ team_sizes teams_known naming refl (λ at bytes from. refl) (λ at parts from. refl) (λ at parts from. refl)
     no_teams (teams_added naming) tree
@@ -160,7 +160,7 @@ sizes_of (part ∷ parts) =
     ap (λ l. team_sizes part ++ l) (sizes_of parts) ∙ sym (map-append line_long (teams_in part) (flat_map teams_in parts))
 
 teams_same : (sheet : Sheet) (lines : List Trees) (teams : Option Teams)
-    → map line_long lines ≡ listed (option_map length teams) → teams_by sheet.players lines ≡ team_count sheet teams
+    → map line_long lines ≡ option_to_list (option_map length teams) → teams_by sheet.players lines ≡ team_count sheet teams
 teams_same sheet [] None is = refl
 teams_same sheet [] (Some teams) is = absurd cc
 teams_same sheet (parts ∷ lines) None is = absurd cc

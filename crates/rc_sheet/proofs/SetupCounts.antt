@@ -42,12 +42,12 @@ is_below rule.CreateDeck = false
 is_below rule.PutPoints = false
 is_below r = true
 
-below_lawful : (p : Place) → below_lines p ≡ true → list_all (λ r. is_below r && lies_in below_lines r) (forms_of p) ≡ true
+pub below_lawful : (p : Place) → below_lines p ≡ true → list_all (λ r. is_below r && lies_in below_lines r) (forms_of p) ≡ true
 below_lawful place.Sheet inside = absurd cc
 below_lawful p inside = cc
 
 -- what stands behind the setup does so
-body_below : (p : Place) → is_body p ≡ true → below_lines p ≡ true
+pub body_below : (p : Place) → is_body p ≡ true → below_lines p ≡ true
 body_below place.Sheet is = absurd cc
 body_below place.Setup is = absurd cc
 body_below place.Line is = absurd cc
@@ -74,7 +74,7 @@ is_line_rule rule.CreateDeck = true
 is_line_rule rule.PutPoints = true
 is_line_rule r = false
 
-line_parts : (r : Rule) → is_line_rule r ≡ true → (n j : ℕ) (q : Place) → place_at r n j ≡ Some q → below_lines q ≡ true
+pub line_parts : (r : Rule) → is_line_rule r ≡ true → (n j : ℕ) (q : Place) → place_at r n j ≡ Some q → below_lines q ≡ true
 line_parts rule.CreatePlayers line n j q is = front_below (front_of rule.CreatePlayers) None j q refl refl is
 line_parts rule.CreateTeams line n j q is = front_below (front_of rule.CreateTeams) (Some place.Team) j q refl refl is
 line_parts rule.CreateDeck line n j q is = front_below (front_of rule.CreateDeck) None j q refl refl is

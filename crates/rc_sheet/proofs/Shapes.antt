@@ -80,12 +80,6 @@ behind_some : (r : Rule) (last : Bool) (more : Place) → more_of r ≡ Some mor
 behind_some rule.Game true more is = (place.Scoring, refl)
 behind_some r last more is = (more, is)
 
--- within a list there is an item
-within_some : {A : Type 0} (xs : List A) (i : ℕ) → i < length xs → (x : A) × (slice_get xs i ≡ Some x)
-within_some [] i less = absurd (omega (arith, less))
-within_some (x ∷ xs) zero less = (x, refl)
-within_some (x ∷ xs) (suc i) less = within_some xs i (omega (arith, less))
-
 -- an item of the front, or else a place behind it
 place_or : (found behind : Option Place) → ((found ≡ None) → (p : Place) × (behind ≡ Some p))
     → (p : Place) × (or_behind found behind ≡ Some p)

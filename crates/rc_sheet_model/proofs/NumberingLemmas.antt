@@ -1,5 +1,5 @@
 -- Names that are numbered one by one are numbered by their first mention.
-use Rattle.std.proofs.Common.{◌≡◌, ◌≢◌, ℕ, ◌+◌, ◌≤◌, ◌<◌, true, false, List, [], ◌∷◌, ◌++◌, inl, inr, ⊎_elim, length, get_or, drop, map, bytes_eq, nat_lt, sym, ap, ◌∙◌, subst, arith}
+use Rattle.std.proofs.Common.{◌≡◌, ◌≢◌, ℕ, ◌+◌, ◌≤◌, ◌<◌, true, false, List, [], ◌∷◌, inl, inr, ⊎_elim, length, get_or, drop, map, bytes_eq, nat_lt, sym, ap, ◌∙◌, subst, arith}
 use Rattle.std.specs.List.{list_any, AllPairs}
 use Rattle.std.proofs.lemmas.Bool.{cond-true, cond-false, lt-ltb, le-ltb, or_left, or_right, or_from, false_from_ne_true, cases_lt}
 use Rattle.std.proofs.lemmas.List.{at_drop_more, drop_all}
@@ -12,14 +12,6 @@ pub Extends-le : (before : ℕ) (ns : List ℕ) (after : ℕ) → Extends before
 Extends-le before [] after is = omega (arith, is)
 Extends-le before (n ∷ ns) after (inl old) = Extends-le before ns after old.1
 Extends-le before (n ∷ ns) after (inr new) = let le = Extends-le (before + 1) ns after new.1 in omega arith
-
--- mentions, and more behind them
-pub Extends-append : (before : ℕ) (ns ms : List ℕ) (between after : ℕ) → Extends before ns between → Extends between ms after →
-    Extends before (ns ++ ms) after
-Extends-append before [] ms between after is more = subst (λ k. Extends k ms after) (sym is) more
-Extends-append before (n ∷ ns) ms between after (inl old) more = inl (old.0, Extends-append before ns ms between after old.1 more)
-Extends-append before (n ∷ ns) ms between after (inr new) more =
-    inr (new.0, Extends-append (before + 1) ns ms between after new.1 more)
 
 module _ (words : List (List ℕ)) (apart : AllPairs ◌≢◌ words) where
   abbrev word_at : ℕ → List ℕ

@@ -57,9 +57,6 @@ no_short b bs e = rw e refl
 abbrev waiting_at : Held → Text → Walk
 waiting_at held id = record { held = held; waiting = option id; position = 1; is_trailing = false; stopped = None }
 
-abbrev pending : Text → Held
-pending id = record { rows = []; pending = Some (id, []); skip = 0 }
-
 is_met : (rules : List Rule) (held : Held) (id : Text) (b : ℕ) (bs : Text) → (b == 45) ≡ false
     → word_met rules [] false (option id) 1 (b ∷ bs) held ≡ plain_word rules (option id) (b ∷ bs) held
 is_met rules held id b bs e =

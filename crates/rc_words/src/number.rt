@@ -1,5 +1,5 @@
 //! Numbers in words.
-ghost use Rattle.std.specs.Prelude.{ℕ, ◌≤◌, IfSome, IfNone};
+ghost use Rattle.std.specs.Prelude.{ℕ, IfSome, IfNone};
 ghost use Rattle.rc_words.specs.Words.{IsNumber};
 
 use rc_form::natural;

@@ -22,11 +22,10 @@ use Rattle.rc_naming.specs.Naming.{naming_of}
 use Rattle.rc_reading.specs.ReadNames.{loc_at}
 use Rattle.rc_reading.specs.ReadSetup.{face_words, home_of, deck_at}
 use Rattle.rc_reading.specs.ReadSheet.{setup_form_at, sheet_at}
-use Rattle.rc_sheet.proofs.Means.{Means, nothing, something, means_so, weaker, mapped, behind, either, anything}
+use Rattle.rc_sheet.proofs.Means.{Means, nothing, something, means_so, weaker, mapped, behind, either, made_of, anything}
 use Rattle.rc_sheet.proofs.Fine.Counts.{IsWatched, stays_within, watched_part}
 use Rattle.rc_sheet.proofs.Faultless.{each_faultless}
 use Rattle.rc_sheet.proofs.Whole.{sheet_only}
-use Rattle.rc_sheet.proofs.Fine.Points.{made_of}
 use Rattle.rc_sheet.proofs.Fine.Lines.{setup_in, whole_form, cards_of_lines, line_adds, adds_none, setup_keeps}
 use Rattle.rc_sheet.proofs.SheetSetup.{by_setup}
 

@@ -23,9 +23,11 @@ use Rattle.rc_grammar.specs.declared.grammar.Place.TheVariants as place
 use Rattle.rc_grammar.specs.declared.grammar.Rule.{Rule}
 use Rattle.rc_grammar.specs.declared.grammar.Rule.TheVariants as rule
 use Rattle.rc_semantics.specs.declared.role.Role.TheVariants.{DeckLocation as deck_role}
+use Rattle.rc_semantics.specs.Groups.{attributes_in}
 use Rattle.rc_semantics.specs.SecondParts.{Standing, standing_in, word_in, part_at, front, attributes_of, attributes_below, attributes_among, inner_attributes}
 use Rattle.rc_semantics.specs.SecondNames.{is_named, mention_of}
 use Rattle.rc_semantics.specs.SecondFaults.{is_game, is_misplaced, second_faults}
+use Rattle.rc_semantics.proofs.GroupLemmas.{below_more}
 use Rattle.rc_setup.specs.Naming.{DeckNames}
 use Rattle.rc_setup.specs.Naming.{number_of}
 use Rattle.rc_setup.specs.Reading.{unless_nil, plain, read_groups, read_group, read_branch_list, read_branches, read_branch, read_deck}
@@ -35,14 +37,14 @@ use Rattle.rc_naming.specs.Naming.{naming_of}
 use Rattle.rc_reading.specs.ReadNames.{loc_at}
 use Rattle.rc_reading.specs.ReadSetup.{Setup, face_words, home_of, deck_at}
 use Rattle.rc_reading.specs.ReadSheet.{setup_form_at, sheet_at, sheet_with}
-use Rattle.rc_sheet.proofs.Means.{Means, nothing, something, means_if, means_so, weaker, mapped, behind, either, place_passes, anything}
+use Rattle.rc_sheet.proofs.Means.{Means, nothing, something, means_if, means_so, weaker, mapped, behind, either, place_passes, anything, made_of}
 use Rattle.rc_sheet.proofs.ReadOff.Names.{loc_means}
 use Rattle.rc_sheet.proofs.Bodies.{standing_at}
 use Rattle.rc_sheet.proofs.Given.Faces.{branch_behind, deck_behind}
 use Rattle.rc_sheet.proofs.Fine.Common.{Given, given_of}
 use Rattle.rc_sheet.proofs.GoodParts.{IsGood, GoodAt, AreGood, only_form}
 use Rattle.rc_sheet.proofs.Fine.Names.{kind_tells}
-use Rattle.rc_sheet.proofs.Fine.Points.{made_of, all_and_one}
+use Rattle.rc_sheet.proofs.Room.{all_both}
 use Rattle.rc_sheet.proofs.Fine.Cards.{unless_none}
 use Rattle.rc_sheet.proofs.Fine.Teams.{not_both, both_hold}
 use Rattle.rc_sheet.proofs.Fine.Lines.{setup_in, setup_keeps}
@@ -230,15 +232,6 @@ some_group names tree rest =
     made_of (λ first rest. group first.0 first.1 rest) (read_group names tree) (read_groups names rest) (anything _) (anything _)
     (λ first rest u v. omega arith)
 
--- the attributes of a branch
-abbrev branch_words : Tree → List (List ℕ)
-branch_words (word bytes from to) = []
-branch_words (list groups from to) = attributes_among groups
-
-below_first : (tree : Tree) (trees : Trees) → attributes_below (cons tree trees) ≡ branch_words tree ++ attributes_below trees
-below_first (word bytes from to) trees = refl
-below_first (list groups from to) trees = refl
-
 -- the next index
 pub next_front : (index : ℕ) (all : Trees) (tree : Tree) (rest : Trees) → behind_at index all ≡ cons tree rest
     → (behind_at (index + 1) all ≡ rest)
@@ -349,16 +342,16 @@ module _ (given : Given) (naming : Naming) where
         (branches_fit at all (index + 1) trees before good.1 covers)
         (λ first rest one are. (
           (one.0, are.0),
-          subst (Covers attrs (group_attrs first.1 ++ branch_attrs rest)) (sym (below_first tree trees))
-              (covers_both attrs (group_attrs first.1) (branch_attrs rest) (branch_words tree ++ attributes_below trees)
-              (covers_left attrs (group_attrs first.1) (branch_words tree) (attributes_below trees) one.1)
-              (covers_right attrs (branch_attrs rest) (branch_words tree) (attributes_below trees) are.1)),
+          subst (Covers attrs (group_attrs first.1 ++ branch_attrs rest)) (sym (below_more tree trees))
+              (covers_both attrs (group_attrs first.1) (branch_attrs rest) (attributes_in tree ++ attributes_below trees)
+              (covers_left attrs (group_attrs first.1) (attributes_in tree) (attributes_below trees) one.1)
+              (covers_right attrs (branch_attrs rest) (attributes_in tree) (attributes_below trees) are.1)),
         ))
 
     branch_fits : (at : Standing) → at.place ≡ place.Branch → (tree : Tree) (before : List ℕ) → IsGood given naming at tree
         → Covers attrs before at.above
         → Means (read_branch (face_words naming) tree)
-        (λ found. AreGroups before found.1 × Covers attrs (group_attrs found.1) (branch_words tree))
+        (λ found. AreGroups before found.1 × Covers attrs (group_attrs found.1) (attributes_in tree))
     branch_fits at here (word bytes from to) before good covers =
         mapped (number_of naming.names.values (word bytes from to)) plain (anything _) (λ value u. (tt, λ n is. absurd cc))
     branch_fits at here (list nil from to) before good covers = nothing
@@ -428,10 +421,12 @@ decks_are_fine tree shaped sound =
         teams = λ said earlier at create second parts from to all line first is q. q;
         decks = λ said earlier at create second loc inner from to deck line is q.
             let parts = cons create (cons second (cons loc (cons inner nil))) in
-            all_and_one (IsDeckOf (given_of tree) (naming_of tree)) said.decks deck q
-            (means_so _ deck (deck_line_fits (given_of tree) (naming_of tree)
-            (standing_at at rule.CreateDeck parts 2 place.Location) (standing_at at rule.CreateDeck parts 3 place.Deck) loc inner
-            refl refl line.good.good.1.1.0 refl line.good.good.1.1.1.0) is);
+            all_both (IsDeckOf (given_of tree) (naming_of tree)) said.decks (deck ∷ []) q (
+              means_so _ deck (deck_line_fits (given_of tree) (naming_of tree)
+                  (standing_at at rule.CreateDeck parts 2 place.Location) (standing_at at rule.CreateDeck parts 3 place.Deck) loc inner
+                  refl refl line.good.good.1.1.0 refl line.good.good.1.1.1.0) is,
+              tt,
+            );
         points = λ said earlier at put second map inner from to entries line is q. q;
       },
       λ parts start. tt,

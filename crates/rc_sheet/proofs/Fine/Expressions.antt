@@ -1,6 +1,7 @@
 -- What a form's fine parts say is found and well formed: cards, lists of cards, numbers, sides and tests.
 use Rattle.std.proofs.Common.{◌≡◌, ℕ, zero, suc, ◌≤◌, Bool, true, false, ◌&&◌, ◌||◌, cond, List, [], ◌∷◌, length, ℤ, pos, neg_ℤ, int_le, Option, Some, None, slice_get, option_map, refl, sym, subst, ap, ◌∙◌, arith}
 use Rattle.std.specs.List.{list_any}
+use Rattle.std.proofs.Math.Bool.{and-false}
 use Rattle.std.proofs.lemmas.Bool.{and_parts, not-false, true≢false}
 use Rattle.std.proofs.lemmas.Int.{ints}
 use Rattle.rc_model.specs.Literal.{integer}
@@ -45,11 +46,6 @@ integer_finds bytes is = by (integer bytes) is
         let most = both.1 in
         finds z (omega (arith, ints, least), omega (arith, ints, most))
 
--- nothing is told by a second word
-untold : (b : Bool) → (b && false) ≡ false
-untold true = refl
-untold false = refl
-
 -- the first of three forms that a head may begin is no fourth
 card_form : (h f u p : Bool) (found : Rule)
     → cond (h && true) (Some rule.Location) (cond (f && true) (Some rule.Filter) (cond (u && true) (Some rule.Union) None))
@@ -70,8 +66,8 @@ no_groups (cons head parts) found is =
     let f = may_begin (place.Word keyword.Filter) head in
     let u = may_begin (place.Word keyword.Union) head in
     let p = may_begin (place.Word keyword.Partition) head in
-    let is' : plain_rule place.Collection head ≡ Some found = rw (untold h, untold f, untold u) at is in
-    rw (untold h, untold f, untold u, untold p) (card_form h f u p found is')
+    let is' : plain_rule place.Collection head ≡ Some found = rw (and-false h, and-false f, and-false u) at is in
+    rw (and-false h, and-false f, and-false u, and-false p) (card_form h f u p found is')
 
 -- the sort of a side, and of an owner of this class
 abbrev pub side_of_class : Class → SideSort

@@ -1,6 +1,5 @@
 -- What holds of the lines that are read, where each line of a form without a fault keeps it.
-use Rattle.std.proofs.Common.{◌≡◌, ℕ, zero, suc, ◌+◌, ◌≤◌, Bool, true, false, List, [], ◌∷◌, ◌++◌, length, Option, Some, None, is_none, ◌&&◌, ◌==◌, slice_get, option_map, flat_map, append_assoc, append-nil, refl, sym, subst, ap, ◌∙◌, arith}
-use Rattle.std.specs.List.{list_all}
+use Rattle.std.proofs.Common.{◌≡◌, ℕ, ◌+◌, ◌≤◌, true, List, [], ◌∷◌, ◌++◌, length, Option, Some, None, is_none, option_map, flat_map, append_assoc, append-nil, refl, sym, subst, ap, ◌∙◌, arith}
 use Rattle.std.proofs.lemmas.List.Elements.{recursion_from_All}
 use Rattle.std.proofs.lemmas.Option.{same_Some}
 use Rattle.std.proofs.lemmas.Grind.{flat_map-append}
@@ -10,10 +9,8 @@ use Rattle.rc_sheet_model.specs.Sheet.{Teams, DeckLine}
 use Rattle.rc_model.specs.Limits.{most_players}
 use Rattle.rc_sheet_model.specs.Naming.{Naming}
 use Rattle.rc_grammar.specs.Keyword.{text_of}
-use Rattle.rc_grammar.specs.Grammar.{forms_of, front_of}
-use Rattle.rc_grammar.specs.Faults.{faults, faults_at, faults_in, rule_of, behind_front, or_behind, place_at, count}
+use Rattle.rc_grammar.specs.Faults.{faults, faults_at, faults_in, rule_of, place_at, count}
 use Rattle.rc_grammar.specs.declared.keyword.Keyword.TheVariants as keyword
-use Rattle.rc_grammar.specs.declared.grammar.Place.{Place}
 use Rattle.rc_grammar.specs.declared.grammar.Place.TheVariants as place
 use Rattle.rc_grammar.specs.declared.grammar.Rule.{Rule}
 use Rattle.rc_grammar.specs.declared.grammar.Rule.TheVariants as rule
@@ -26,13 +23,14 @@ use Rattle.rc_reading.specs.ReadSetup.{Setup, Lines, no_line, count_at, teams_at
 use Rattle.rc_reading.specs.ReadSheet.{setup_rule, setup_form_at}
 use Rattle.rc_sheet.proofs.Means.{Means, nothing, something, means_if, weaker, behind, ensured, sized_is}
 use Rattle.rc_sheet.proofs.Shapes.{none_in_both, shape_of, line_place}
-use Rattle.rc_sheet.proofs.Bodies.{standing_at, all_pass}
-use Rattle.rc_sheet.proofs.Silent.{lies_in, tree_silent, row_none}
+use Rattle.rc_sheet.proofs.Bodies.{standing_at}
+use Rattle.rc_sheet.proofs.Silent.{tree_silent, row_none}
 use Rattle.rc_sheet.proofs.Lands.{never, never_roles}
+use Rattle.rc_sheet.proofs.SetupCounts.{below_lines, is_below, below_lawful, body_below, is_line_rule, line_parts}
 use Rattle.rc_sheet.proofs.Fine.Common.{Given, given_of, IsFine}
 use Rattle.rc_sheet.proofs.GoodParts.{IsGood, GoodAt, AreGood, IsGoodForm, good_form, are_good, all_of_both}
 use Rattle.rc_sheet.proofs.AllFine.{all_fine}
-use Rattle.rc_sheet.proofs.Whole.{setup_of as setup_tree, parts_with, IsSheetForm, sheet_only}
+use Rattle.rc_sheet.proofs.Whole.{setup_of as setup_tree, game_body, parts_with, IsSheetForm, sheet_only}
 
 -- the faults of parts and of others behind them
 pub faults_of_both : (whole earlier first second : List Part) → faults_behind whole earlier (first ++ second) ≡ []
@@ -193,77 +191,18 @@ module _ (a b c d e f from to : ℕ) (lines rest : Trees) where
   abbrev pub behind_lines : List Part
   behind_lines = parts_in standing_alone rule.Game all_parts 2 rest
 
-  whole_parts : parts_of whole_form ≡ before_lines ++ (of_lines ++ behind_lines)
-  whole_parts = refl
-
 -- PARTS THAT SAY NOTHING OF A SETUP
-
--- the places below a line, and behind the setup
-abbrev below_line : Place → Bool
-below_line place.Sheet = false
-below_line place.Setup = false
-below_line place.Line = false
-below_line p = true
-
--- forms that are no line
-abbrev pub is_no_line : Rule → Bool
-is_no_line rule.Game = false
-is_no_line rule.Setup = false
-is_no_line rule.CreatePlayers = false
-is_no_line rule.CreateTeams = false
-is_no_line rule.CreateDeck = false
-is_no_line rule.PutPoints = false
-is_no_line r = true
-
-no_line_below : (p : Place) → below_line p ≡ true → list_all (λ r. is_no_line r && lies_in below_line r) (forms_of p) ≡ true
-no_line_below place.Sheet inside = absurd cc
-no_line_below place.Setup inside = absurd cc
-no_line_below place.Line inside = absurd cc
-no_line_below p inside = refl
 
 -- what only lines give, of which there is nothing below them
 pub record OfLines {X : Type 0} (gives : Part → List X) : Type 0 where
   pub atoms : (at : Standing) (bytes : List ℕ) (from : ℕ) → gives (atom at bytes from) ≡ []
-  pub forms : (at : Standing) (r : Rule) (parts : Trees) (from : ℕ) → is_no_line r ≡ true → gives (form at r parts from) ≡ []
+  pub forms : (at : Standing) (r : Rule) (parts : Trees) (from : ℕ) → is_below r ≡ true → gives (form at r parts from) ≡ []
 
 pub below_silent : {X : Type 0} (gives : Part → List X) → OfLines gives → (at : Standing) (tree : Tree)
-    → below_line at.place ≡ true → flat_map gives (parts_at (Some at) tree) ≡ []
+    → below_lines at.place ≡ true → flat_map gives (parts_at (Some at) tree) ≡ []
 below_silent gives of_lines at tree inside =
-    tree_silent gives below_line is_no_line never no_line_below refl (never_roles is_no_line)
+    tree_silent gives below_lines is_below never below_lawful refl (never_roles is_below)
     (λ at bytes from quiet. of_lines.atoms at bytes from) of_lines.forms at tree inside refl
-
--- a place there, or none
-abbrev below_or_none : Option Place → Bool
-below_or_none None = true
-below_or_none (Some p) = below_line p
-
--- a line
-abbrev pub is_line_rule : Rule → Bool
-is_line_rule rule.CreatePlayers = true
-is_line_rule rule.CreateTeams = true
-is_line_rule rule.CreateDeck = true
-is_line_rule rule.PutPoints = true
-is_line_rule r = false
-
--- the places of the parts of a form
-line_inner : (r : Rule) (n j : ℕ) (q : Place) → place_at r n j ≡ Some q → list_all below_line (front_of r) ≡ true
-    → below_or_none (behind_front r (j + 1 == n)) ≡ true → below_line q ≡ true
-line_inner r n j q is front more = by (slice_get (front_of r) j) (behind_front r (j + 1 == n)) is
-    (λ p found. all_pass below_line (front_of r) j p front found) more
-  where
-    by : (found behind : Option Place) → or_behind found behind ≡ Some q → ((p : Place) → found ≡ Some p → below_line p ≡ true)
-        → below_or_none behind ≡ true → below_line q ≡ true
-    by (Some p) behind is first more = subst (λ p. below_line p ≡ true) (same_Some p q is) (first p refl)
-    by None (Some p) is first more = subst (λ p. below_line p ≡ true) (same_Some p q is) more
-    by None None is first more = absurd cc
-
--- of a line
-inner_below : (r : Rule) (n j : ℕ) (q : Place) → is_line_rule r ≡ true → place_at r n j ≡ Some q → below_line q ≡ true
-inner_below rule.CreatePlayers n j q line is = line_inner rule.CreatePlayers n j q is refl refl
-inner_below rule.CreateTeams n j q line is = line_inner rule.CreateTeams n j q is refl refl
-inner_below rule.CreateDeck n j q line is = line_inner rule.CreateDeck n j q is refl refl
-inner_below rule.PutPoints n j q line is = line_inner rule.PutPoints n j q is refl refl
-inner_below r n j q line is = absurd cc
 
 -- a line's form gives what there is
 pub line_gives : {X : Type 0} (gives : Part → List X) → OfLines gives → (at : Standing) (r : Rule) (parts : Trees) (from to : ℕ)
@@ -275,7 +214,7 @@ line_gives gives of_lines at r parts from to here told line =
     ∙ ap (λ l. gives (form at r parts from) ++ l)
     (row_none gives at r parts 0 0 parts (omega arith)
     (λ j q tree above is. below_silent gives of_lines (standing_at at r parts j q) tree
-    (inner_below r (count parts) j q line is)))
+    (line_parts r line (count parts) j q is)))
     ∙ append-nil (gives (form at r parts from))
 
 -- the parts of a line, from one on, give nothing that lines give
@@ -283,7 +222,7 @@ pub inner_silent : {X : Type 0} (gives : Part → List X) → OfLines gives → 
     (trees : Trees) → is_line_rule r ≡ true → flat_map gives (parts_in at r all index trees) ≡ []
 inner_silent gives of_lines at r all index trees line =
     row_none gives at r all 0 index trees (omega arith)
-    (λ j q tree above is. below_silent gives of_lines (standing_at at r all j q) tree (inner_below r (count all) j q line is))
+    (λ j q tree above is. below_silent gives of_lines (standing_at at r all j q) tree (line_parts r line (count all) j q is))
 
 -- what a line adds to what is said before it
 pub line_adds : {X : Type 0} {given : Given} {naming : Naming} {whole earlier : List Part} {at : Standing} {r : Rule}
@@ -303,35 +242,25 @@ pub adds_none : {X : Type 0} {given : Given} {naming : Naming} {whole earlier : 
 adds_none {earlier = earlier} gives of_lines line is none =
     line_adds gives of_lines line is ∙ ap (λ l. flat_map gives earlier ++ l) none ∙ append-nil (flat_map gives earlier)
 
--- behind a setup
-behind_below : (n j : ℕ) (q : Place) → 2 ≤ j → place_at rule.Game n j ≡ Some q → below_line q ≡ true
-behind_below n zero q above is = absurd (omega (arith, above))
-behind_below n (suc zero) q above is = absurd (omega (arith, above))
-behind_below n (suc (suc j)) q above is = by (suc (suc j) + 1 == n) is
-  where
-    by : (last : Bool) → behind_front rule.Game last ≡ Some q → below_line q ≡ true
-    by true is = subst (λ o. below_or_none o ≡ true) is refl
-    by false is = subst (λ o. below_or_none o ≡ true) is refl
-
 -- players, teams and cards are said by lines
 pub players_of_lines : OfLines players_in
 players_of_lines = record { atoms = λ at bytes from. refl; forms = of_form }
   where
-    of_form : (at : Standing) (r : Rule) (parts : Trees) (from : ℕ) → is_no_line r ≡ true → players_in (form at r parts from) ≡ []
+    of_form : (at : Standing) (r : Rule) (parts : Trees) (from : ℕ) → is_below r ≡ true → players_in (form at r parts from) ≡ []
     of_form at rule.CreatePlayers parts from is = absurd cc
     of_form at r parts from is = refl
 
 pub teams_of_lines : OfLines teams_in
 teams_of_lines = record { atoms = λ at bytes from. refl; forms = of_form }
   where
-    of_form : (at : Standing) (r : Rule) (parts : Trees) (from : ℕ) → is_no_line r ≡ true → teams_in (form at r parts from) ≡ []
+    of_form : (at : Standing) (r : Rule) (parts : Trees) (from : ℕ) → is_below r ≡ true → teams_in (form at r parts from) ≡ []
     of_form at rule.CreateTeams parts from is = absurd cc
     of_form at r parts from is = refl
 
 pub cards_of_lines : OfLines cards_in
 cards_of_lines = record { atoms = λ at bytes from. refl; forms = of_form }
   where
-    of_form : (at : Standing) (r : Rule) (parts : Trees) (from : ℕ) → is_no_line r ≡ true → cards_in (form at r parts from) ≡ []
+    of_form : (at : Standing) (r : Rule) (parts : Trees) (from : ℕ) → is_below r ≡ true → cards_in (form at r parts from) ≡ []
     of_form at rule.CreateDeck parts from is = absurd cc
     of_form at r parts from is = refl
 
@@ -362,7 +291,7 @@ pub behind_silent : {X : Type 0} (gives : Part → List X) → OfLines gives →
 behind_silent gives of_lines all rest =
     row_none gives standing_alone rule.Game all 2 2 rest (omega arith)
     (λ j q tree above is. below_silent gives of_lines (standing_at standing_alone rule.Game all j q) tree
-    (behind_below (count all) j q above is))
+    (body_below q (game_body all j q above is).placed))
 
 -- what is said before parts that say nothing is all that is said
 pub all_said : {X : Type 0} (gives : Part → List X) (seen behind : List Part) → flat_map gives behind ≡ []

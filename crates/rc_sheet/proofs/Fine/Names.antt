@@ -95,7 +95,7 @@ no_keyword (b ∷ bytes) is =
     )
 
 -- either word is the other
-same_either_way : (xs ys : List ℕ) → bytes_eq xs ys ≡ false → bytes_eq ys xs ≡ false
+pub same_either_way : (xs ys : List ℕ) → bytes_eq xs ys ≡ false → bytes_eq ys xs ≡ false
 same_either_way xs ys is =
     false_from_ne_true (bytes_eq ys xs)
     (λ same. true≢false (sym ((bytes_eq-Decides xs ys).1 (sym (same_bytes ys xs same))) ∙ is))

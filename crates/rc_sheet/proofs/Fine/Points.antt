@@ -1,5 +1,5 @@
 -- The points that a setup says: each has an entry, and each entry a value and points that are in range.
-use Rattle.std.proofs.Common.{◌≡◌, ℕ, ◌≤◌, List, [], ◌∷◌, ◌++◌, length, ℤ, pos, Option, Some, None, ◌==◌, subst, arith}
+use Rattle.std.proofs.Common.{◌≡◌, ℕ, ◌≤◌, List, [], ◌∷◌, length, ℤ, pos, Option, Some, None, ◌==◌, subst, arith}
 use Rattle.std.specs.Prelude.{int_le, neg_ℤ}
 use Rattle.std.specs.List.{All, AllByRecursion}
 use Rattle.std.specs.Option.{option_and_then}
@@ -24,17 +24,10 @@ use Rattle.rc_sheet_model.specs.Naming.{Naming}
 use Rattle.rc_reading.specs.ReadNames.{ensure, name_at}
 use Rattle.rc_reading.specs.ReadSetup.{face_words, points_at}
 use Rattle.rc_reading.specs.ReadSheet.{setup_form_at, sheet_at}
-use Rattle.rc_sheet.proofs.Means.{Means, nothing, something, means_so, weaker, behind, either, anything}
+use Rattle.rc_sheet.proofs.Means.{Means, nothing, something, means_so, weaker, behind, either, made_of, anything}
 use Rattle.rc_sheet.proofs.Fine.Lines.{setup_in, setup_keeps}
 use Rattle.rc_sheet.proofs.SheetSetup.{by_setup}
-
--- what is made of two that are read
-pub made_of : {A B C : Type 0} {P : A → Type 0} {Q : B → Type 0} {R : C → Type 0} (make : A → B → C) (first : Option A)
-    (second : Option B) → Means first P → Means second Q → ((a : A) (b : B) → P a → Q b → R (make a b))
-    → Means (both_read make first second) R
-made_of make None second p q more = nothing
-made_of make (Some a) None p q more = nothing
-made_of make (Some a) (Some b) p q more = something (make a b) (more a b p.holds q.holds)
+use Rattle.rc_sheet.proofs.Room.{all_both}
 
 -- a number within the clamp is in range
 unclamped_fits : (found : Option ℤ) → Means (option_and_then unclamped found) IsWithinClamp
@@ -101,12 +94,6 @@ map_fits naming number map entries =
     behind (name_at naming.names.maps map) _ (anything _)
     (λ found u. behind (ensure (found == number)) _ (anything _) (λ u u'. entries_fit (face_words naming) entries))
 
--- one more at the end
-pub all_and_one : {A : Type 0} (P : A → Type 0) (all : List A) (a : A) → AllByRecursion P all → P a
-    → AllByRecursion P (all ++ a ∷ [])
-all_and_one P [] a each here = (here, tt)
-all_and_one P (x ∷ all) a each here = (each.0, all_and_one P all a each.1 here)
-
 -- THE LAW: the points of the setup that is read have entries, which have values and points in range.
 pub points_are_fine : (tree : Tree) → faults place.Sheet tree ≡ [] → second_faults tree ≡ []
     → Means (setup_form_at (naming_of tree) (setup_in tree)) (λ s. AllByRecursion ArePoints s.points)
@@ -118,8 +105,8 @@ points_are_fine tree shaped sound =
         teams = λ said earlier at create second parts from to all line first is q. q;
         decks = λ said earlier at create second loc tree from to deck line is q. q;
         points = λ said earlier at put second map inner from to entries line is q.
-            all_and_one ArePoints said.points entries q
-            (means_so _ entries (map_fits (naming_of tree) (length said.points) map inner) is);
+            all_both ArePoints said.points (entries ∷ []) q
+            (means_so _ entries (map_fits (naming_of tree) (length said.points) map inner) is, tt);
       },
       λ parts start. tt,
     ))

@@ -1,5 +1,5 @@
 -- The teams of a form without a fault: each has a player, and each player stands in one of them, once.
-use Rattle.std.proofs.Common.{◌≡◌, ℕ, zero, suc, ◌+◌, ◌<◌, ◌≤◌, ◌==◌, Bool, true, false, not, ◌&&◌, ◌||◌, nat_le, nat_eq, List, [], ◌∷◌, ◌++◌, length, flat_map, ℤ, pos, negsuc, Option, Some, None, is_none, option_map, refl, sym, subst, ap, ap₂, ◌∙◌, arith, leb-false, eqb-true, eq-eqb, ne_eqb}
+use Rattle.std.proofs.Common.{◌≡◌, ℕ, zero, suc, ◌+◌, ◌<◌, ◌≤◌, ◌==◌, Bool, true, false, not, ◌&&◌, ◌||◌, nat_le, nat_eq, List, [], ◌∷◌, ◌++◌, length, flat_map, ℤ, pos, negsuc, Option, Some, None, option_map, option_to_list, refl, sym, subst, ap, ap₂, ◌∙◌, arith, leb-false, eqb-true, eq-eqb, ne_eqb}
 use Rattle.std.specs.Prelude.{unwrap_or, nat_abs, slice_index_or}
 use Rattle.std.specs.List.{list_any, list_all, range_with_len}
 use Rattle.std.proofs.lemmas.Bool.{or_parts, and_parts, or_right, eqb-false, not-false}
@@ -32,6 +32,7 @@ use Rattle.rc_sheet.proofs.Given.Faces.{sole}
 use Rattle.rc_sheet.proofs.GoodForms.{from_two}
 use Rattle.rc_sheet.proofs.Faultless.{IsFaultless, faultless}
 use Rattle.rc_sheet_model.specs.Naming.{Naming}
+use Rattle.rc_sheet.proofs.ReadOff.Setup.{none_listed}
 use Rattle.rc_sheet.proofs.Fine.Common.{Given, given_of}
 use Rattle.rc_sheet.proofs.TeamNumbers.{Differ, AreAllBelow, as_many, each_once}
 use Rattle.rc_sheet.proofs.Fine.Lines.{IsLine, faults_of_both, inner_silent, below_silent, teams_of_lines, players_of_lines, line_adds, adds_none, setup_in, setup_keeps}
@@ -316,25 +317,16 @@ both_hold (Some a) p q = something a (p.holds, q.holds)
 
 -- THE PLAYERS
 
--- one of a kind, or none
-abbrev said_once : Option ℕ → List ℕ
-said_once None = []
-said_once (Some n) = n ∷ []
-
-none_said : (found : Option ℕ) → is_none found ≡ true → said_once found ≡ []
-none_said None is = refl
-none_said (Some n) is = absurd cc
-
 -- THE LAW: the setup that is read has as many players as its form counts.
 pub players_are_counted : (tree : Tree) → faults place.Sheet tree ≡ [] → second_faults tree ≡ []
     → Means (setup_form_at (naming_of tree) (setup_in tree)) (λ s. s.players ≡ player_count (parts_of tree))
 players_are_counted tree shaped sound =
     weaker _
-    (setup_keeps (λ said seen. said_once said.players ≡ flat_map players_in seen) tree shaped sound (
+    (setup_keeps (λ said seen. option_to_list said.players ≡ flat_map players_in seen) tree shaped sound (
       record {
         players = λ said earlier at create second last from to n line first is q.
             sym (line_adds players_in players_of_lines line refl
-            ∙ ap₂ (λ l m. l ++ m ∷ []) (sym q ∙ none_said said.players first)
+            ∙ ap₂ (λ l m. l ++ m ∷ []) (sym q ∙ none_listed said.players first)
             (means_so _ n (count_is 1 most_players last) is));
         teams = λ said earlier at create second parts from to all line first is q.
             q ∙ sym (adds_none players_in players_of_lines line refl refl);
@@ -345,7 +337,7 @@ players_are_counted tree shaped sound =
       },
       λ parts start. sym start.players,
     ))
-    (λ s is. ap (λ l. slice_index_or l 0 0) (ap said_once (sym is.players) ∙ is.is ∙ sym is.all.players))
+    (λ s is. ap (λ l. slice_index_or l 0 0) (ap option_to_list (sym is.players) ∙ is.is ∙ sym is.all.players))
 
 -- THE LAW: the teams of the setup that is read part its players.
 pub teams_are_fine : (tree : Tree) → faults place.Sheet tree ≡ [] → second_faults tree ≡ []

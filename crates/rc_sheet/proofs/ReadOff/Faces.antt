@@ -14,16 +14,8 @@ use Rattle.rc_setup.specs.Naming.{number_of}
 use Rattle.rc_setup.specs.Reading.{both, unless_nil, plain, read_groups, read_group, read_branch_list, read_branches, read_branch, is_word, read_deck, unclamped, read_values, read_value_list, read_points, entry_with, read_entry, read_all_entries, read_entries}
 use Rattle.rc_reading.specs.ReadSetup.{face_words}
 use Rattle.rc_reading.proofs.Faces.{number_of_name}
-use Rattle.rc_sheet.proofs.Means.{Means, nothing, something, weaker, mapped, either}
+use Rattle.rc_sheet.proofs.Means.{Means, nothing, something, weaker, mapped, either, made_of}
 use Rattle.rc_sheet.proofs.ReadOff.Names.{name_means}
-
--- what two parts make
-made : {A B C : Type 0} {P : A → Type 0} {Q : B → Type 0} {R : C → Type 0} (make : A → B → C) (first : Option A)
-    (second : Option B)
-    → Means first P → Means second Q → ((a : A) (b : B) → P a → Q b → R (make a b)) → Means (both make first second) R
-made make None second p q more = nothing
-made make (Some a) None p q more = nothing
-made make (Some a) (Some b) p q more = something (make a b) (more a b p.holds q.holds)
 
 -- a part is some part
 pub some_part : (tree : Tree) (trees : Trees) → nat_le 1 (count (cons tree trees)) ≡ true
@@ -71,7 +63,7 @@ mutual
       → Means (read_groups (face_words naming) trees) (λ groups. StandsGroups naming groups trees)
   groups_mean naming nil = something no_group tt
   groups_mean naming (cons tree trees) =
-      made (λ first rest. group first.0 first.1 rest) (read_group (face_words naming) tree)
+      made_of (λ first rest. group first.0 first.1 rest) (read_group (face_words naming) tree)
       (read_groups (face_words naming) trees)
       (group_means naming tree) (groups_mean naming trees) (λ first rest stands later. (stands, later))
 
@@ -82,7 +74,7 @@ mutual
   group_means naming (list nil from to) = nothing
   group_means naming (list (cons head nil) from to) = nothing
   group_means naming (list (cons head (cons second nil)) from to) =
-      made (λ attr branches. (attr, branches)) (number_of naming.names.attrs head) (read_branch_list (face_words naming) second)
+      made_of (λ attr branches. (attr, branches)) (number_of naming.names.attrs head) (read_branch_list (face_words naming) second)
       (number_means naming.names.attrs head) (branch_list_means naming second)
       (λ attr branches named stands. (named, (stands, tt)))
   group_means naming (list (cons head (cons second (cons third others))) from to) = nothing
@@ -99,7 +91,7 @@ mutual
       → Means (read_branches (face_words naming) trees) (λ branches. StandsBranches naming branches trees)
   branches_mean naming nil = something no_branch tt
   branches_mean naming (cons tree trees) =
-      made (λ first rest. branch first.0 first.1 rest) (read_branch (face_words naming) tree)
+      made_of (λ first rest. branch first.0 first.1 rest) (read_branch (face_words naming) tree)
       (read_branches (face_words naming) trees)
       (branch_means naming tree) (branches_mean naming trees)
       (λ first rest stands later. branch_first naming first.0 first.1 rest tree trees stands later)
@@ -112,7 +104,7 @@ mutual
       (λ value named. named)
   branch_means naming (list nil from to) = nothing
   branch_means naming (list (cons head groups) from to) =
-      made (λ number inner. (number, inner)) (number_of naming.names.values head)
+      made_of (λ number inner. (number, inner)) (number_of naming.names.values head)
       (unless_nil groups (read_groups (face_words naming) groups)) (number_means naming.names.values head)
       (full (StandsGroups naming) groups (read_groups (face_words naming) groups) (groups_mean naming groups))
       (λ value inner named stand. branch_with naming value inner head groups from to named stand)
@@ -139,7 +131,7 @@ values_mean : (naming : Naming) (trees : Trees)
     → Means (read_values (face_words naming) trees) (λ values. StandValues naming values trees)
 values_mean naming nil = something [] tt
 values_mean naming (cons tree trees) =
-    made ◌∷◌ (number_of naming.names.values tree) (read_values (face_words naming) trees)
+    made_of ◌∷◌ (number_of naming.names.values tree) (read_values (face_words naming) trees)
     (number_means naming.names.values tree) (values_mean naming trees) (λ value values named stand. (named, stand))
 
 -- `(VALUE+)`
@@ -160,7 +152,7 @@ points_mean (word bytes from to) = unclamped_means (integer bytes)
 points_mean (list parts from to) = nothing
 
 -- `(ATTR (VALUE+) n)`
-abbrev StandsEntry : Naming → Entry → Tree → Type 0
+abbrev pub StandsEntry : Naming → Entry → Tree → Type 0
 StandsEntry naming entry =
     Row (Named naming.names.attrs entry.attr ▸ Row (Full (StandValues naming entry.values)) ▸ Literal entry.points ▸ End)
 
@@ -172,10 +164,10 @@ entry_means naming (list nil from to) = nothing
 entry_means naming (list (cons head nil) from to) = nothing
 entry_means naming (list (cons head (cons second nil)) from to) = nothing
 entry_means naming (list (cons head (cons second (cons third nil))) from to) =
-    made entry_with (number_of naming.names.attrs head)
+    made_of entry_with (number_of naming.names.attrs head)
     (both (λ values points. (values, points)) (read_value_list (face_words naming) second) (read_points third))
     (number_means naming.names.attrs head)
-    (made {R = λ worth. Row (Full (StandValues naming worth.0)) second × Literal worth.1 third}
+    (made_of {R = λ worth. Row (Full (StandValues naming worth.0)) second × Literal worth.1 third}
     (λ values points. (values, points))
     (read_value_list (face_words naming) second) (read_points third)
     (value_list_means naming second) (points_mean third) (λ values points stand is. (stand, is)))
@@ -187,7 +179,7 @@ all_entries_mean : (naming : Naming) (trees : Trees)
     → Means (read_all_entries (face_words naming) trees) (λ entries. StandEntries naming entries trees)
 all_entries_mean naming nil = something [] tt
 all_entries_mean naming (cons tree trees) =
-    made ◌∷◌ (read_entry (face_words naming) tree) (read_all_entries (face_words naming) trees)
+    made_of ◌∷◌ (read_entry (face_words naming) tree) (read_all_entries (face_words naming) trees)
     (entry_means naming tree) (all_entries_mean naming trees) (λ entry entries stands stand. (stands, stand))
 
 -- `(ENTRY+)`

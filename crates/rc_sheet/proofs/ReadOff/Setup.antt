@@ -1,6 +1,6 @@
 -- What is read stands for its form: the setup of a sheet.
 use Prim.Native.String.{String}
-use Rattle.std.proofs.Common.{◌≡◌, ℕ, ◌+◌, Bool, true, false, cond, ◌&&◌, ◌||◌, ◌==◌, nat_le, List, [], ◌∷◌, ◌++◌, length, ℤ, pos, negsuc, Option, Some, None, is_none, bytes_eq, refl, sym, subst, ap, ap₂, ◌∙◌, arith, eqb-true, append_assoc}
+use Rattle.std.proofs.Common.{◌≡◌, ℕ, ◌+◌, Bool, true, false, cond, ◌&&◌, ◌||◌, ◌==◌, nat_le, List, [], ◌∷◌, ◌++◌, length, ℤ, pos, negsuc, Option, Some, None, is_none, option_to_list, bytes_eq, refl, sym, subst, ap, ap₂, ◌∙◌, arith, eqb-true, append_assoc}
 use Rattle.std.specs.Prelude.{codes}
 use Rattle.std.specs.List.{AllZip, zip, range_with_len}
 use Rattle.std.proofs.lemmas.List.{append-nil}
@@ -104,25 +104,20 @@ map_means naming number map entries =
     (λ u same. weaker (read_entries (face_words naming) entries) (entries_mean naming entries)
     (λ all stand. (subst (λ n. Named naming.names.maps n map) (eqb-true found number same) named, stand))))
 
--- one of a kind, or none
-abbrev pub listed : {A : Type 0} → Option A → List A
-listed None = []
-listed (Some a) = a ∷ []
-
 -- None is listed where there is none.
-pub none_listed : {A : Type 0} (found : Option A) → is_none found ≡ true → listed found ≡ []
+pub none_listed : {A : Type 0} (found : Option A) → is_none found ≡ true → option_to_list found ≡ []
 none_listed None is = refl
 none_listed (Some a) is = absurd cc
 
 -- the teams of a sheet
-teams_listed : (teams : Option Teams) → listed teams ≡ team_lines teams
+teams_listed : (teams : Option Teams) → option_to_list teams ≡ team_lines teams
 teams_listed None = refl
 teams_listed (Some teams) = refl
 
 -- What lines say stands for these lines of each of the four kinds.
 record Stand (naming : Naming) (said : Lines) (players teams decks points : List Tree) : Type 0 where
-  of_players : AllZip StandsPlayers (listed said.players) players
-  of_teams : AllZip StandsTeams (listed said.teams) teams
+  of_players : AllZip StandsPlayers (option_to_list said.players) players
+  of_teams : AllZip StandsTeams (option_to_list said.teams) teams
   of_decks : AllZip (StandsDeck naming) said.decks decks
   of_points : AllZip (StandsMap naming) (numbered said.points) points
 
@@ -133,7 +128,7 @@ one_more R as' bs a b all here = AllZip-append R as' (a ∷ []) bs (b ∷ []) al
 
 -- the first of a kind
 first_one : {A B : Type 0} (R : A → B → Type 0) (found : Option A) (bs : List B) (a : A) (b : B) → is_none found ≡ true
-    → AllZip R (listed found) bs → R a b → AllZip R (a ∷ []) (bs ++ b ∷ [])
+    → AllZip R (option_to_list found) bs → R a b → AllZip R (a ∷ []) (bs ++ b ∷ [])
 first_one R found bs a b is all here =
     one_more R [] bs a b (subst (λ as'. AllZip R as' bs) (none_listed found is) all) here
 
@@ -296,8 +291,8 @@ same_lines : (naming : Naming) (said : Lines) (a b c d a' b' c' d' : List Tree) 
     → Stand naming said a b c d → Stand naming said a' b' c' d'
 same_lines naming said a b c d a' b' c' d' ea eb ec ed stand =
     record {
-      of_players = subst (λ lines. AllZip StandsPlayers (listed said.players) lines) ea stand.of_players;
-      of_teams = subst (λ lines. AllZip StandsTeams (listed said.teams) lines) eb stand.of_teams;
+      of_players = subst (λ lines. AllZip StandsPlayers (option_to_list said.players) lines) ea stand.of_players;
+      of_teams = subst (λ lines. AllZip StandsTeams (option_to_list said.teams) lines) eb stand.of_teams;
       of_decks = subst (λ lines. AllZip (StandsDeck naming) said.decks lines) ec stand.of_decks;
       of_points = subst (λ lines. AllZip (StandsMap naming) (numbered said.points) lines) ed stand.of_points;
     }
@@ -339,7 +334,7 @@ finished : (naming : Naming) (lines : Trees) (all : Lines) (n : ℕ) (sheet : Sh
 finished naming lines all n sheet is same alone stand =
     let players : AllZip StandsPlayers (sheet.players ∷ []) (lines_with "create" "players" lines) =
     subst (λ ps. AllZip StandsPlayers ps (lines_with "create" "players" lines))
-    (ap listed is ∙ ap (λ (setup : Setup). setup.players ∷ []) (sym same)) stand.of_players in (
+    (ap option_to_list is ∙ ap (λ (setup : Setup). setup.players ∷ []) (sym same)) stand.of_players in (
       some_line sheet.players lines players,
       record {
         lines_alone = alone;

@@ -1,5 +1,5 @@
 //! Laws of reading: what is read off a form stands for it. No function here does anything.
-ghost use Rattle.std.specs.Prelude.{◌≡◌, ℕ, List, Option, Some};
+ghost use Rattle.std.specs.Prelude.{◌≡◌, ℕ, List, Some};
 ghost use Rattle.rc_model.specs.Tree.{Tree, word, list, Trees};
 ghost use Rattle.rc_sheet_model.specs.Sheet as sheet;
 ghost use Rattle.rc_sheet_model.specs.Rows.{◌▸◌, End, AtLeast, Row, Atom, Some as Full};

@@ -345,10 +345,6 @@ module _ (sheet : Sheet) (told : Naming) where
   agree_append [] ys all more = more
   agree_append (x ∷ xs) ys all more = (all.0, agree_append xs ys all.1 more)
 
-  pub agree_parts : (xs ys : List Mention) → Agree (xs ++ ys) → Agree xs × Agree ys
-  agree_parts [] ys all = (tt, all)
-  agree_parts (x ∷ xs) ys all = let parts = agree_parts xs ys all.1 in ((all.0, parts.0), parts.1)
-
   -- if anything is read it is this, and all agree at what it mentions
   abbrev pub Only : {A : Type 0} → A → List Mention → Option A → Type 0
   Only a mentions found = Means found (λ b. (b ≡ a) × Agree mentions)

@@ -14,6 +14,7 @@ use Rattle.rc_reading.specs.ReadSetup.{setup_in}
 use Rattle.rc_reading.specs.ReadSheet.{setup_form_at, sheet_with}
 use Rattle.rc_sheet.proofs.Means.{weaker}
 use Rattle.rc_sheet.proofs.ReadOff.Sheet.{setup_form_means}
+use Rattle.rc_sheet.proofs.ReadOff.Faces.{StandsEntry}
 use Rattle.rc_sheet_laws.proofs.One.Rows.{three_parts}
 use Rattle.rc_sheet_laws.proofs.One.Names.{Differ, named_once, kinds_agree, along, Agrees, Agree, agree_append, Only}
 
@@ -109,10 +110,6 @@ module _ (sheet : Sheet) (told : Naming) (differ : Differ sheet.names) where
       → Row (Full (StandValues (along sheet told) values')) tree → values ≡ values'
   value_list_once values values' (word bytes from to) is is' = absurd is
   value_list_once values values' (list parts from to) is is' = values_once values values' parts is.1 is'.1
-
-  abbrev StandsEntry : Naming → Entry → Tree → Type 0
-  StandsEntry naming entry =
-      Row (Named naming.names.attrs entry.attr ▸ Row (Full (StandValues naming entry.values)) ▸ Literal entry.points ▸ End)
 
   entry_once : (entry entry' : Entry) (tree : Tree) → StandsEntry (sheet_naming sheet) entry tree
       → StandsEntry (along sheet told) entry' tree → entry ≡ entry'

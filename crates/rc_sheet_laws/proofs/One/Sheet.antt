@@ -1,8 +1,10 @@
 -- A form of which a sheet can be read is the form of no other well formed sheet.
-use Rattle.std.proofs.Common.{◌≡◌, ℕ, zero, suc, ◌+◌, ◌<◌, List, [], ◌∷◌, ◌++◌, inl, inr, length, get_or, map, flat_map, Option, Some, None, slice_get, bytes_eq, refl, sym, subst, ap, ap₂, ◌∙◌, arith, append_assoc}
+use Rattle.std.proofs.Common.{◌≡◌, ℕ, suc, ◌<◌, List, [], ◌∷◌, ◌++◌, inl, inr, length, get_or, map, flat_map, Option, Some, None, slice_get, bytes_eq, refl, sym, subst, ap, ap₂, ◌∙◌, arith, append_assoc}
 use Rattle.std.specs.Prelude.{codes, slice_index_or}
-use Rattle.std.specs.List.{IsDistinct, range_with_len}
+use Rattle.std.specs.List.{IsDistinct}
 use Rattle.std.proofs.lemmas.Option.{same_Some, slice_get-get_or, get_or_from_slice_get}
+use Rattle.std.proofs.lemmas.List.{length-map}
+use Rattle.std.proofs.lemmas.List.FromFn.{length-range_with_len}
 use Rattle.rc_model.specs.Tree.{Tree, word, cons}
 use Rattle.rc_sheet_model.specs.Sheet.{Names, LocName, NumName, Sheet}
 use Rattle.rc_sheet_model.specs.Mentions.{Mention, attr_name, value_name, map_name, loc_name, num_name, var_name, in_setup, in_items, in_int, mentions, loc_of, num_of}
@@ -161,19 +163,11 @@ nums_same (x ∷ xs) (y ∷ ys) names each =
     ap₂ ◌∷◌ first (nums_same xs ys later (λ n within. each (suc n) (omega (arith, within))))
 
 -- as many as are numbered
-pub length_below : (start n : ℕ) → length (range_with_len start n) ≡ n
-length_below start zero = refl
-length_below start (suc n) = ap suc (length_below (start + 1) n)
-
-length_names : {A : Type 0} (f : A → ℕ) (xs : List A) → length (map f xs) ≡ length xs
-length_names f [] = refl
-length_names f (x ∷ xs) = ap suc (length_names f xs)
-
 within_names : {A : Type 0} (f : A → ℕ) (xs : List A) (k n : ℕ) → map f xs ≡ below k → n < length xs → n < k
 within_names f xs k n is within =
-    let a = length_names f xs in
+    let a = length-map xs f in
     let b = ap length is in
-    let c = length_below 0 k in omega (arith, a, b, c, within)
+    let c = length-range_with_len 0 k in omega (arith, a, b, c, within)
 
 -- the tables of two numberings with the same names that agree at what is mentioned
 tables_same : (sheet : Sheet) (told : Naming) → IsNumbered sheet → told.names ≡ sheet.names

@@ -205,7 +205,8 @@ kept : (b : Bool) (line : Tree) (lines : List Tree) → AllByRecursion LineShape
 kept true line lines all = (λ is. all.0, all.1)
 kept false line lines all = (λ is. absurd cc, all)
 
-one_of_four : {R : Type 0} (a b c d : Bool) → (a || b || c || d) ≡ true → (a ≡ true → R) → (b ≡ true → R) → (c ≡ true → R)
+-- one of four tests that holds
+pub one_of_four : {R : Type 0} (a b c d : Bool) → (a || b || c || d) ≡ true → (a ≡ true → R) → (b ≡ true → R) → (c ≡ true → R)
     → (d ≡ true → R) → R
 one_of_four true b c d is p q r s = p refl
 one_of_four false true c d is p q r s = q refl

@@ -1,11 +1,12 @@
 -- Forms that stand for the players and the teams have the shape of their place: where each player stands in one team, no team
 -- has another number.
-use Rattle.std.proofs.Common.{◌≡◌, ℕ, zero, suc, ◌+◌, ◌<◌, ◌≤◌, nat_le, Bool, true, false, ◌&&◌, ◌||◌, cond, List, [], ◌∷◌, ◌++◌, length, map, flat_map, nat_eq, pos, Some, refl, sym, subst, ap, ap₂, ◌∙◌, arith, eqb-true, eq-eqb, ne_eqb, lt-ltb, leb-true, le-leb}
+use Rattle.std.proofs.Common.{◌≡◌, ℕ, zero, suc, ◌+◌, ◌<◌, ◌≤◌, nat_le, Bool, true, false, ◌&&◌, ◌||◌, cond, List, [], ◌∷◌, length, map, flat_map, nat_eq, pos, Some, refl, sym, subst, ap, ap₂, ◌∙◌, arith, eqb-true, eq-eqb, ne_eqb, lt-ltb, leb-true, le-leb}
 use Rattle.std.specs.Prelude.{codes, count_by, replicate}
 use Rattle.std.specs.List.{AllByRecursion, range_with_len}
 use Rattle.std.proofs.lemmas.Bool.{cond-true, cond-false, or_left, or_right, eqb-false}
 use Rattle.std.proofs.Math.Nat.{lt_of_not-le}
 use Rattle.std.proofs.lemmas.Map.Steps.{le-length_from_below}
+use Rattle.std.proofs.lemmas.List.{length-map}
 use Rattle.rc_model.specs.Literal.{integer}
 use Rattle.rc_model.specs.Tree.{Tree, word, list, Trees, nil, cons, count}
 use Rattle.rc_sheet_model.specs.Sheet.{Teams}
@@ -17,6 +18,7 @@ use Rattle.rc_grammar.specs.Grammar.{front_of, more_of}
 use Rattle.rc_grammar.specs.Faults.{is_within, faults, rule_of, fits}
 use Rattle.rc_sheet_laws.proofs.One.Rows.{row_words, row_word_part}
 use Rattle.rc_sheet.proofs.TeamNumbers.{none_counted}
+use Rattle.rc_sheet.proofs.GoodParts.{all_of_both}
 use Rattle.rc_sheet_laws.proofs.Shaped.Common.{AllShaped, AreShaped, is_plain, form_shaped, row_shaped, more_fit_two, accepted, atom_shaped}
 use Rattle.rc_grammar.specs.declared.fault.SheetKind.TheVariants.{Number}
 use Rattle.rc_grammar.specs.declared.grammar.Place.{Place}
@@ -47,7 +49,7 @@ ones_at f start (suc n) is q low high =
     by false other later = let apart = eqb-false q start other in later (omega (arith, low, apart))
 
 -- what is counted once stands there
-counted_among : (q : ℕ) (ns : List ℕ) → count_by (nat_eq q) ns ≡ 1 → is_among q ns ≡ true
+pub counted_among : (q : ℕ) (ns : List ℕ) → count_by (nat_eq q) ns ≡ 1 → is_among q ns ≡ true
 counted_among q ns once = by (is_among q ns) refl
   where
     by : (b : Bool) → is_among q ns ≡ b → is_among q ns ≡ true
@@ -68,16 +70,12 @@ renamed_among f q (x ∷ ns) is = by (nat_eq q x) refl is (λ later. renamed_amo
         or_left (nat_eq (f q) (f x)) (is_among (f q) (map f ns)) (eq-eqb (f q) (f x) (ap f (eqb-true q x same)))
     by false other is later = or_right (nat_eq (f q) (f x)) (is_among (f q) (map f ns)) (later is)
 
-renamed_length : (f : ℕ → ℕ) (ns : List ℕ) → length (map f ns) ≡ length ns
-renamed_length f [] = refl
-renamed_length f (n ∷ ns) = ap (λ (n : ℕ). suc n) (renamed_length f ns)
-
 -- n numbers among which are all those below n are below it: another one could be n itself, and then there were more
 none_above : (n : ℕ) (ns : List ℕ) → length ns ≡ n → ((q : ℕ) → q < n → is_among q ns ≡ true)
     → (m : ℕ) → is_among m ns ≡ true → n ≤ m → ⊥
 none_above n ns many all m is above =
     let more = le-length_from_below (map (in_place m n) ns) (n + 1) (λ q less. each q less) in
-    let same = renamed_length (in_place m n) ns in
+    let same = length-map ns (in_place m n) in
     omega (arith, more, same, many)
   where
     each : (q : ℕ) → q < n + 1 → is_among q (map (in_place m n) ns) ≡ true
@@ -162,11 +160,6 @@ team_shaped (m ∷ team) nil stands few = absurd stands
 team_shaped (m ∷ team) (cons tree trees) stands few =
     (member_shaped m tree stands.0 few.0, team_shaped team trees stands.1 few.1)
 
-all_parts : {A : Type 0} (P : A → Type 0) (xs ys : List A) → AllByRecursion P (xs ++ ys)
-    → AllByRecursion P xs × AllByRecursion P ys
-all_parts P [] ys all = (tt, all)
-all_parts P (x ∷ xs) ys all = let later = all_parts P xs ys all.1 in ((all.0, later.0), later.1)
-
 -- (p+) ..
 teams_shaped_each : (teams : Teams) (trees : Trees) → StandTeams teams trees
     → AllByRecursion (λ m. m < 8) (flat_map (λ team. team) teams) → AllShaped place.Team trees
@@ -175,7 +168,7 @@ teams_shaped_each [] (cons tree trees) stands few = absurd stands
 teams_shaped_each (team ∷ teams) nil stands few = absurd stands
 teams_shaped_each (team ∷ teams) (cons (word bytes from to) trees) stands few = absurd stands.0
 teams_shaped_each (team ∷ teams) (cons (list parts from to) trees) stands few =
-    let both = all_parts (λ m. m < 8) team (flat_map (λ team. team) teams) few in (
+    let both = all_of_both (λ m. m < 8) team (flat_map (λ team. team) teams) few in (
       loose_shaped place.Team rule.Team parts from to (λ a rest. refl) (λ a rest. lt-ltb 0 (suc (count rest)) (omega arith)) refl
           stands.0.0 (team_shaped team parts stands.0.1 both.0),
       teams_shaped_each teams trees stands.1 both.1,

@@ -24,10 +24,7 @@ use Rattle.rc_sheet_laws.proofs.Sound.Names.{fixed}
 use Rattle.rc_sheet_laws.proofs.Sound.Rows.{then}
 use Rattle.rc_sheet_laws.proofs.Sound.Expressions.{int_sound, test_sound}
 use Rattle.rc_sheet_laws.proofs.Sound.Effects.{effects_sound, do_sound, alt_sound}
-
--- what is around an item: whether a stage of players is, and one of teams
-abbrev within : Bool → Bool → Around
-within players teams = record outside { player_stage = players; team_stage = teams }
+use Rattle.rc_sheet_laws.proofs.One.Items.{within_stages as within}
 
 -- behind the setup stand items, and the scoring last
 pub stands_last : (whole : Trees) (k : ℕ) → count whole ≡ suc (suc k) + 1

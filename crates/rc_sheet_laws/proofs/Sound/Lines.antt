@@ -2,7 +2,7 @@
 use Rattle.std.proofs.Common.{◌≡◌, ℕ, suc, Bool, true, false, not, ◌||◌, cond, List, [], ◌∷◌, ◌++◌, inl, inr, Option, Some, None, option_map, slice_get, pos, refl, sym, subst, ap, ◌∙◌, arith}
 use Rattle.std.specs.Prelude.{codes}
 use Rattle.std.specs.List.{AllByRecursion, AllZip}
-use Rattle.std.proofs.lemmas.Bool.{and_parts}
+use Rattle.std.proofs.lemmas.Bool.{and_parts, or_from}
 use Rattle.std.proofs.lemmas.List.Elements.{recursion_from_All}
 use Rattle.rc_model.specs.Tree.{Tree, word, list, Trees, nil, cons, start_of}
 use Rattle.rc_model.specs.Deck.{Entry}
@@ -21,7 +21,8 @@ use Rattle.rc_sheet.proofs.Among.{Among, one_of_all}
 use Rattle.rc_sheet.proofs.GoodParts.{Each}
 use Rattle.rc_sheet_laws.proofs.One.Rows.{behind_word, row_words, row_word_part, two_parts}
 use Rattle.rc_sheet_laws.proofs.One.Names.{Alone, none_apart, loc_rule_alone}
-use Rattle.rc_sheet_laws.proofs.Sound.Parts.{standing, all_join, AllSound, Sound, sound_alone, plain_atom, list_sound, sound_list, rest_sound, none_of_two}
+use Rattle.rc_sheet_laws.proofs.Sound.Parts.{standing, all_join, AllSound, Sound, sound_alone, plain_atom, list_sound, sound_list, rest_sound}
+use Rattle.rc_sheet_laws.proofs.Shaped.Setup.{one_of_four}
 use Rattle.rc_sheet_laws.proofs.Sound.Names.{fixed, Takes, loc_sound}
 use Rattle.rc_sheet_laws.proofs.Sound.Effects.{mem_told}
 use Rattle.rc_sheet_laws.proofs.Sound.Faces.{Worded, worded_none, literal_sound, groups_sound, entries_sound}
@@ -34,14 +35,6 @@ taken : (P : Tree → Type 0) (b : Bool) (tree : Tree) (rest : List Tree) → Al
     → (b ≡ true → P tree) × AllByRecursion P rest
 taken P true tree rest each = (λ is. each.0, each.1)
 taken P false tree rest each = (λ is. absurd cc, each)
-
-one_of_four : {X : Type 0} (a b c d : Bool) → (a || b || c || d) ≡ true → (a ≡ true → X) → (b ≡ true → X) → (c ≡ true → X)
-    → (d ≡ true → X) → X
-one_of_four true b c d is first second third fourth = first refl
-one_of_four false true c d is first second third fourth = second refl
-one_of_four false false true d is first second third fourth = third refl
-one_of_four false false false true is first second third fourth = fourth refl
-one_of_four false false false false is first second third fourth = absurd cc
 
 -- what holds of the lines of each kind holds of each line
 pub each_line : (P : Tree → Type 0) (lines : Trees) → are_lines lines ≡ true
@@ -151,7 +144,7 @@ module _ (sheet : Sheet) (all : List Part) where
   takes_deck : (loc : Loc) (line : DeckLine) → loc.name ≡ line.loc → loc.who ≡ game → IsDeck sheet line
       → Takes sheet all deck_location loc
   takes_deck loc line name who is mention kind class =
-      none_of_two sheet all _ _
+      or_from _ _
       (ap (λ c. not (is_game c)) (class ∙ ap class_of who))
       (mem_told (slice_get sheet.locs loc.name) mention.kind false kind
       (ap (λ n. option_map (λ l. is_mem l.kind) (slice_get sheet.locs n)) name ∙ is.3))

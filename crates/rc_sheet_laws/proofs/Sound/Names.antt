@@ -2,7 +2,7 @@
 use Rattle.std.proofs.Common.{◌≡◌, ℕ, zero, suc, Bool, true, false, not, cond, List, [], ◌∷◌, ◌++◌, Some, is_none, option_map, slice_get, bytes_eq, refl, sym, subst, ap, ◌∙◌, arith}
 use Rattle.std.specs.Prelude.{codes}
 use Rattle.std.proofs.lemmas.Option.{same_Some}
-use Rattle.std.proofs.lemmas.Bool.{cond-true}
+use Rattle.std.proofs.lemmas.Bool.{cond-true, or_from}
 use Rattle.std.proofs.lemmas.Slice.Eq.{bytes_eq-Decides}
 use Rattle.rc_model.specs.Tree.{Tree, word, list, Trees, nil, cons}
 use Rattle.rc_sheet_model.specs.Sheet.{Sort, player_sort, Who, game, current_player, current_team, team_of_current, team_of_var, who_var, Loc, Num, Sheet}
@@ -25,7 +25,7 @@ use Rattle.rc_semantics.specs.SecondFaults.{sorts_at, variable_in, is_unnamed, i
 use Rattle.rc_sheet_laws.proofs.One.Rows.{three_parts}
 use Rattle.rc_sheet_laws.proofs.One.Names.{Apart, TakesHeld, variable_word, owner_forms, rule_told}
 use Rattle.rc_sheet_laws.proofs.One.Expressions.{last_false}
-use Rattle.rc_sheet_laws.proofs.Sound.Parts.{standing, all_join, none_of_two, IsSound, AllSound, Sound, sound_alone, atom_sound, plain_atom, constant_atom, list_sound, sound_list, easy_sound}
+use Rattle.rc_sheet_laws.proofs.Sound.Parts.{standing, all_join, IsSound, AllSound, Sound, sound_alone, atom_sound, plain_atom, constant_atom, list_sound, sound_list, easy_sound}
 
 -- VARIABLES
 
@@ -236,7 +236,7 @@ module _ (sheet : Sheet) (all : List Part) where
           (record {
             once = refl;
             known = refl;
-            kind_fits = none_of_two sheet all (is_misplaced role (mention_of parts))
+            kind_fits = or_from (is_misplaced role (mention_of parts))
                 (is_other_side (standing q around role beside above) role)
                 (takes (mention_of parts) k (holder_class around.scope loc.who holder holds)) other;
             shallow = refl;

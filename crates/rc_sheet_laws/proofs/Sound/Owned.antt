@@ -1,10 +1,11 @@
 -- The form of a sheet has as many locations and stored numbers of all owners as the sheet.
-use Rattle.std.proofs.Common.{◌≡◌, ℕ, zero, suc, ◌+◌, Bool, true, false, cond, List, [], ◌∷◌, length, map, flat_map, Option, Some, None, slice_get, option_map, refl, sym, subst, ap, ap₂, ◌∙◌, arith}
+use Rattle.std.proofs.Common.{◌≡◌, ℕ, suc, ◌+◌, Bool, true, false, cond, List, [], ◌∷◌, length, map, flat_map, Option, Some, None, slice_get, option_map, refl, sym, subst, ap, ap₂, ◌∙◌, arith}
 use Rattle.std.specs.Prelude.{sum_by}
 use Rattle.std.specs.List.{AllByRecursion}
 use Rattle.std.proofs.lemmas.List.{length-map}
 use Rattle.std.proofs.lemmas.List.Sums.{sum_by-cons}
-use Rattle.std.proofs.lemmas.Option.{same_Some}
+use Rattle.std.proofs.lemmas.Option.{same_Some, slice_get-map}
+use Rattle.std.proofs.lemmas.List.FromFn.{length-range_with_len}
 use Rattle.rc_model.specs.Tree.{Tree}
 use Rattle.rc_sheet_model.specs.Sheet.{Class, LocName, NumName, Sheet}
 use Rattle.rc_sheet_model.specs.Naming.{loc_class, num_class, sheet_naming}
@@ -20,7 +21,7 @@ use Rattle.rc_semantics.specs.SecondParts.{Part, parts_of}
 use Rattle.rc_semantics.specs.SecondNames.{is_named, locations_in, numbers_of, firsts_from, owned, OwnedMention}
 use Rattle.rc_sheet.proofs.Found.Names.{name_of, names_different, loc_names_are, num_names_are}
 use Rattle.rc_sheet_laws.proofs.One.Names.{Differ, all_at}
-use Rattle.rc_sheet_laws.proofs.One.Sheet.{length_below, names_are}
+use Rattle.rc_sheet_laws.proofs.One.Sheet.{names_are}
 use Rattle.rc_sheet.proofs.OwnedNames.{locations_are}
 use Rattle.rc_sheet.proofs.Whole.{gives_mentions}
 use Rattle.rc_sheet_laws.proofs.Sound.Parts.{IsLocSaid, IsNumSaid, AllSound}
@@ -37,13 +38,6 @@ of_firsts P seen (m ∷ ms) all =
         → AllByRecursion P (cond old (firsts_from seen ms) (m ∷ firsts_from (m.name ∷ seen) ms))
     by true kept new = kept
     by false kept new = (all.0, new)
-
--- an item of a list that is made of another
-get_map : {A B : Type 0} (f : A → B) (xs : List A) (i : ℕ) (a : A) → slice_get xs i ≡ Some a
-    → slice_get (map f xs) i ≡ Some (f a)
-get_map f [] i a is = absurd cc
-get_map f (x ∷ xs) zero a is = ap Some (ap f (same_Some x a is))
-get_map f (x ∷ xs) (suc i) a is = get_map f xs i a is
 
 -- sums of two lists whose items count the same, place by place
 same_sum : {A B : Type 0} (f : A → ℕ) (g : B → ℕ) (xs : List A) (ys : List B) → length xs ≡ length ys
@@ -79,14 +73,14 @@ module _ (sheet : Sheet) (all : List Part) (differ : Differ sheet.names) (number
         let b = ap length names in
         let c = length-map sheet.locs (λ (loc : LocName). loc.name) in
         let d = ap length numbered.loc_numbers in
-        let e = length_below 0 (length sheet.names.locs) in
+        let e = length-range_with_len 0 (length sheet.names.locs) in
         same_sum (λ (m : OwnedMention). owner_count_by players teams m.class) (λ (loc : LocName). owner_count sheet loc.class) ms
         sheet.locs
         (omega (arith, a, b, c, d, e))
         (λ i m is.
         let known = all_at (IsLocSaid sheet all) ms i m said is in
         let here : slice_get sheet.names.locs i ≡ Some m.name =
-        subst (λ l. slice_get l i ≡ Some m.name) names (get_map name_of ms i m is) in
+        subst (λ l. slice_get l i ≡ Some m.name) names (slice_get-map name_of ms i ∙ ap (option_map name_of) is) in
         let same : known.number ≡ i = differ.locs known.number i m.name known.named here in
         known_class (λ (loc : LocName). loc.class) (slice_get sheet.locs i) m.class (owner_count_by players teams)
         (owner_count sheet)
@@ -101,14 +95,14 @@ module _ (sheet : Sheet) (all : List Part) (differ : Differ sheet.names) (number
         let b = ap length names in
         let c = length-map sheet.nums (λ (num : NumName). num.name) in
         let d = ap length numbered.num_numbers in
-        let e = length_below 0 (length sheet.names.nums) in
+        let e = length-range_with_len 0 (length sheet.names.nums) in
         same_sum (λ (m : OwnedMention). owner_count_by players teams m.class) (λ (num : NumName). owner_count sheet num.class) ms
         sheet.nums
         (omega (arith, a, b, c, d, e))
         (λ i m is.
         let known = all_at (IsNumSaid sheet all) ms i m said is in
         let here : slice_get sheet.names.nums i ≡ Some m.name =
-        subst (λ l. slice_get l i ≡ Some m.name) names (get_map name_of ms i m is) in
+        subst (λ l. slice_get l i ≡ Some m.name) names (slice_get-map name_of ms i ∙ ap (option_map name_of) is) in
         let same : known.number ≡ i = differ.nums known.number i m.name known.named here in
         known_class (λ (num : NumName). num.class) (slice_get sheet.nums i) m.class (owner_count_by players teams)
         (owner_count sheet)

@@ -2,6 +2,7 @@
 use Rattle.std.proofs.Common.{◌≡◌, ℕ, suc, ◌+◌, Bool, true, false, ◌&&◌, ◌||◌, not, List, [], ◌∷◌, ◌++◌, flat_map, Option, Some, option_map, slice_get, refl, sym, subst}
 use Rattle.std.specs.Prelude.{codes}
 use Rattle.std.specs.List.{AllByRecursion}
+use Rattle.std.proofs.lemmas.Bool.{or_from}
 use Rattle.rc_model.specs.Tree.{Tree, word, list, Trees, nil, cons}
 use Rattle.rc_sheet_model.specs.Sheet.{Sheet}
 use Rattle.rc_sheet_model.specs.Naming.{loc_class, num_class, sheet_naming}
@@ -19,17 +20,12 @@ use Rattle.rc_semantics.specs.SecondParts.{Standing, Part, atom, form, is_binder
 use Rattle.rc_semantics.specs.SecondNames.{some_of, is_named, attributes_in, values_in, maps_in, mention_of, OwnedMention}
 use Rattle.rc_semantics.specs.SecondFaults.{is_player_again, sorts_at, is_unbound, is_unnamed, is_no_player, is_misused, is_other_side, is_misplaced, is_twice, is_unknown, is_wrong_kind, is_too_deep}
 use Rattle.rc_sheet.proofs.GoodParts.{Each}
+use Rattle.rc_sheet.proofs.Room.{all_both}
 
 -- a place, with what is around it
 abbrev pub standing : Place → Around → Role → Trees → List (List ℕ) → Standing
 standing place around role beside above =
     record { place = place; role = role; beside = beside; around = around; above = above }
-
--- what holds of parts and of those behind them holds of all of them
-pub all_both : {A : Type 0} (P : A → Type 0) (xs ys : List A) → AllByRecursion P xs → AllByRecursion P ys
-    → AllByRecursion P (xs ++ ys)
-all_both P [] ys first second = second
-all_both P (x ∷ xs) ys first second = (first.0, all_both P xs ys first.1 second)
 
 -- nothing can be wrong with a form of this rule by itself, and it mentions no name with an owner
 abbrev pub is_easy : Rule → Bool
@@ -133,9 +129,6 @@ module _ (sheet : Sheet) (all : List Part) where
   none_of_three a b c is is' is'' = subst (λ x. (x || b || c) ≡ false) (sym is)
       (subst (λ y. (false || y || c) ≡ false) (sym is') is'')
 
-  pub none_of_two : (a b : Bool) → a ≡ false → b ≡ false → (a || b) ≡ false
-  none_of_two a b is is' = subst (λ x. (x || b) ≡ false) (sym is) is'
-
   pub atom_sound : (at : Standing) (bytes : List ℕ) (from : ℕ) → is_unbound at bytes ≡ false
       → is_unnamed all at.role bytes ≡ false → is_misused at bytes ≡ false → is_other_side at at.role ≡ false
       → IsSound (atom at bytes from)
@@ -144,7 +137,7 @@ module _ (sheet : Sheet) (all : List Part) where
         once = no_player_again at.place bytes;
         known = none_of_three (is_unbound at bytes) (is_unnamed all at.role bytes) (is_no_player all [] at.place bytes)
             bound named (known_player at.place bytes);
-        kind_fits = none_of_two (is_misused at bytes) (is_other_side at at.role) used other;
+        kind_fits = or_from (is_misused at bytes) (is_other_side at at.role) used other;
         shallow = refl;
         said = tt;
       }

@@ -1,7 +1,7 @@
 -- A form that stands for a well formed sheet has no fault of the second round where its shape has none, and so none at all.
-use Rattle.std.proofs.Common.{◌≡◌, ℕ, suc, ◌+◌, ◌<◌, ◌≤◌, List, [], ◌∷◌, length, map, flat_map, Option, Some, None, true, not, nat_eq, bytes_eq, refl, sym, subst, ap, ap₂, ◌∙◌, arith}
+use Rattle.std.proofs.Common.{◌≡◌, ℕ, suc, ◌<◌, ◌≤◌, List, [], ◌∷◌, length, map, flat_map, Option, Some, None, true, not, nat_eq, bytes_eq, refl, sym, subst, ap, ap₂, ◌∙◌, arith}
 use Rattle.std.specs.Prelude.{codes, sum, sum_by, slice_index_or}
-use Rattle.std.proofs.lemmas.List.Sums.{sum_by-cons}
+use Rattle.std.proofs.lemmas.List.Sums.{sum-map}
 use Rattle.std.specs.List.{list_all, AllByRecursion, IsDistinct}
 use Rattle.rc_model.specs.Tree.{Tree, word, Trees, cons}
 use Rattle.rc_sheet_model.specs.Sheet.{Teams, Class, game_class, player_class, team_class, DeckLine, Sheet}
@@ -94,12 +94,6 @@ unfolding IsDistinct
 teams_fine players None are = (tt, tt)
 teams_fine players (Some teams) are = partition_differs players teams are
 
--- and the sum of it
-sum_made : {A : Type 0} (f : A → ℕ) (xs : List A) → sum (map f xs) ≡ sum_by f xs
-sum_made f [] = refl
-sum_made f (x ∷ xs) =
-    sum_by-cons (λ n. n) (f x) (map f xs) ∙ ap (λ n. f x + n) (sum_made f xs) ∙ sym (sum_by-cons f x xs)
-
 module _ (sheet : Sheet) (tree : Tree) (stands : Stands sheet tree) (well : IsWellFormed sheet)
     (shaped : faults place.Sheet tree ≡ [])
   where
@@ -180,7 +174,7 @@ module _ (sheet : Sheet) (tree : Tree) (stands : Stands sheet tree) (well : IsWe
     few_cards : card_count all ≤ most_cards
     few_cards =
         let few = well.limits.cards in
-        let same = ap sum cards_are ∙ sum_made (λ (line : DeckLine). face_count line.groups) sheet.decks in
+        let same = ap sum cards_are ∙ sum-map (λ (line : DeckLine). face_count line.groups) sheet.decks in
         omega (arith, few, same)
 
     -- the stages and the choices

@@ -1,11 +1,10 @@
 -- The members of the teams in the form of a sheet are those of the sheet: players, who differ, and no player is left out.
-use Rattle.std.proofs.Common.{◌≡◌, ℕ, zero, suc, ◌+◌, ◌<◌, Bool, true, false, ◌||◌, ◌&&◌, cond, List, [], ◌∷◌, ◌++◌, ◌⊎◌, inl, inr, ⊎_elim, length, map, flat_map, nat_eq, nat_lt, refl, sym, subst, ap, ap₂, ◌∙◌, arith, append_assoc, eqb-true, ltb-true, ltb-false}
+use Rattle.std.proofs.Common.{◌≡◌, ℕ, zero, suc, ◌+◌, ◌<◌, Bool, true, false, ◌||◌, ◌&&◌, List, [], ◌∷◌, ◌++◌, ◌⊎◌, inl, inr, ⊎_elim, length, map, flat_map, nat_eq, nat_lt, refl, sym, subst, ap, ap₂, ◌∙◌, arith, append_assoc, eqb-true, ltb-true, ltb-false}
 use Rattle.std.specs.Prelude.{count_by, replicate}
 use Rattle.std.specs.List.{list_all, AllByRecursion, range_with_len, IsDistinct}
 use Rattle.std.proofs.lemmas.Bool.{or_parts}
 use Rattle.std.proofs.lemmas.List.{length-append}
 use Rattle.std.proofs.lemmas.List.Folds.{list_any-append}
-use Rattle.std.proofs.lemmas.List.Sums.{sum_by-cons}
 use Rattle.std.proofs.lemmas.Map.Steps.{le-length_from_below}
 use Rattle.rc_model.specs.Tree.{word, list, Trees, nil, cons}
 use Rattle.rc_sheet_model.specs.Sheet.{Teams}
@@ -14,6 +13,7 @@ use Rattle.rc_sheet_model.specs.StandsSetup.{StandsTeam, StandTeams}
 use Rattle.rc_sheet_model.specs.WellFormed.{is_among, ArePartition}
 use Rattle.rc_semantics.specs.SecondNames.{numbers_in, team_players}
 use Rattle.rc_sheet_laws.proofs.Sound.Counts.{number_said}
+use Rattle.rc_sheet_laws.proofs.Shaped.Teams.{counted_among}
 use Rattle.rc_sheet.proofs.TeamNumbers.{none_equal}
 
 -- WHO STANDS IN A LINE
@@ -36,18 +36,6 @@ players_listed (team ∷ teams) (cons (list parts from to) trees) stands =
 
 -- NONE IS LEFT OUT
 
--- a number that is counted once stands there
-counted_there : (n : ℕ) (ns : List ℕ) → count_by (nat_eq n) ns ≡ 1 → is_among n ns ≡ true
-counted_there n [] is = absurd cc
-counted_there n (m ∷ ns) is = by (nat_eq n m) refl (counted_there n ns)
-  where
-    by : (b : Bool) → nat_eq n m ≡ b → (count_by (nat_eq n) ns ≡ 1 → is_among n ns ≡ true) → (b || is_among n ns) ≡ true
-    by true same later = refl
-    by false other later =
-        let same : count_by (nat_eq n) (m ∷ ns) ≡ 0 + count_by (nat_eq n) ns =
-        sum_by-cons (λ x. cond (nat_eq n x) 1 0) m ns ∙ ap (λ (a : ℕ). a + count_by (nat_eq n) ns) (ap (λ b. cond b 1 0) other) in
-        later (omega (arith, is, same))
-
 -- so where each is counted once
 each_there : (flat ns : List ℕ) (k : ℕ) → map (λ n. count_by (nat_eq n) flat) ns ≡ replicate k 1
     → list_all (λ n. is_among n flat) ns ≡ true
@@ -56,7 +44,7 @@ each_there flat (n ∷ ns) zero is = absurd cc
 each_there flat (n ∷ ns) (suc k) is =
     let here : count_by (nat_eq n) flat ≡ 1 = cc in
     let later : map (λ n. count_by (nat_eq n) flat) ns ≡ replicate k 1 = cc in
-    ap₂ ◌&&◌ (counted_there n flat here) (each_there flat ns k later)
+    ap₂ ◌&&◌ (counted_among n flat here) (each_there flat ns k later)
 
 pub none_missing : (players : ℕ) (teams : Teams) → ArePartition players teams
     → list_all (λ n. is_among n (flat_map (λ team. team) teams)) (below players) ≡ true

@@ -4,7 +4,7 @@ use Rattle.std.proofs.Common.{◌≡◌, ℕ, suc, ◌<◌, ◌≤◌, Bool, tru
 use Rattle.std.specs.Prelude.{sum, sum_by}
 use Rattle.std.specs.List.{list_any, AllByRecursion, IsDistinct}
 use Rattle.std.proofs.lemmas.Option.{same_Some}
-use Rattle.std.proofs.lemmas.Bool.{or_parts, lt-leb}
+use Rattle.std.proofs.lemmas.Bool.{or_parts, lt-leb, and_right, or_from}
 use Rattle.std.proofs.lemmas.List.Sums.{sum_by-append}
 use Rattle.std.proofs.lemmas.List.{length-append}
 use Rattle.std.proofs.lemmas.Grind.{flat_map-append}
@@ -30,8 +30,10 @@ use Rattle.rc_sheet.proofs.Among.{Among, among_left}
 use Rattle.rc_sheet.proofs.ReadOff.Names.{class_same}
 use Rattle.rc_sheet.proofs.Faultless.{IsFaultless}
 use Rattle.rc_sheet.proofs.FewNames.{no_more_different}
+use Rattle.rc_sheet.proofs.GoodParts.{all_of_both}
+use Rattle.rc_sheet.proofs.Fine.Names.{same_either_way}
 use Rattle.rc_sheet_laws.proofs.One.Names.{Differ}
-use Rattle.rc_sheet_laws.proofs.Sound.Parts.{none_of_two, IsLocSaid, IsNumSaid, IsSound, AllSound}
+use Rattle.rc_sheet_laws.proofs.Sound.Parts.{IsLocSaid, IsNumSaid, IsSound, AllSound}
 
 -- NO FAULT
 
@@ -119,16 +121,11 @@ module _ (sheet : Sheet) (all : List Part) (differ : Differ sheet.names) where
 
 -- LIMITS
 
--- two tests, of which the last fails
-last_off : (a b : Bool) → b ≡ false → (a && b) ≡ false
-last_off true b is = is
-last_off false b is = refl
-
 -- a count that never falls doesn't pass a limit that it keeps at the end
 not_passed : (most : ℕ) (count : List Part → ℕ) (earlier : List Part) (part : Part)
     → count (earlier ++ part ∷ []) ≤ most → passes most count earlier part ≡ false
 not_passed most count earlier part le =
-    last_off (nat_le (count earlier) most) (nat_lt most (count (earlier ++ part ∷ [])))
+    and_right (nat_le (count earlier) most) (nat_lt most (count (earlier ++ part ∷ [])))
     (lt-leb (suc most) (count (earlier ++ part ∷ [])) (omega (arith, le)))
 
 -- what parts and others behind them give
@@ -199,18 +196,8 @@ apart_before : {A : Type 0} (eq : A → A → Bool) (symmetric : (a b : A) → e
 unfolding IsDistinct
 apart_before eq symmetric [] w ys differ = refl
 apart_before eq symmetric (x ∷ xs) w ys differ =
-    either_off (eq w x) (list_any (eq w) xs) (symmetric x w (of_one (λ y. eq x y ≡ false) xs w ys differ.0))
+    or_from (eq w x) (list_any (eq w) xs) (symmetric x w (of_one (λ y. eq x y ≡ false) xs w ys differ.0))
     (apart_before eq symmetric xs w ys differ.1)
-  where
-    either_off : (a b : Bool) → a ≡ false → b ≡ false → (a || b) ≡ false
-    either_off a b is is' = subst (λ x. (x || b) ≡ false) (sym is) is'
-
-words_differ : (x y : List ℕ) → bytes_eq x y ≡ false → bytes_eq y x ≡ false
-words_differ x y other = by (bytes_eq y x) refl
-  where
-    by : (b : Bool) → bytes_eq y x ≡ b → b ≡ false
-    by true same = let equal = (bytes_eq-Decides x y).1 (sym ((bytes_eq-Decides y x).0 same)) in absurd cc
-    by false same = refl
 
 numbers_differ : (x y : ℕ) → nat_eq x y ≡ false → nat_eq y x ≡ false
 numbers_differ x y other = by (nat_eq y x) refl
@@ -218,10 +205,6 @@ numbers_differ x y other = by (nat_eq y x) refl
     by : (b : Bool) → nat_eq y x ≡ b → b ≡ false
     by true same = let equal = eq-eqb x y (sym (eqb-true y x same)) in absurd cc
     by false same = refl
-
-of_first : {A : Type 0} (P : A → Type 0) (xs ys : List A) → AllByRecursion P (xs ++ ys) → AllByRecursion P xs
-of_first P [] ys each = tt
-of_first P (x ∷ xs) ys each = (each.0, of_first P xs ys each.1)
 
 -- what parts before a part give, what it gives and what others give
 given_around : {X : Type 0} (f : Part → List X) (earlier : List Part) (part : Part) (later : List Part) (x : X)
@@ -260,9 +243,6 @@ pub record IsTogether (all : List Part) : Type 0 where
   pub few_numbers : number_count all all ≤ most_numbers
 
 module _ (sheet : Sheet) (all : List Part) (differ : Differ sheet.names) (together : IsTogether all) where
-  off : (a b : Bool) → a ≡ false → b ≡ false → (a || b) ≡ false
-  off a b is is' = none_of_two sheet all a b is is'
-
   -- a member
   member_fresh : (before later : List Part) (at : Standing) (bytes : List ℕ) (from : ℕ) → at.place ≡ place.Member
       → all ≡ before ++ (atom at bytes from ∷ later)
@@ -281,7 +261,7 @@ module _ (sheet : Sheet) (all : List Part) (differ : Differ sheet.names) (togeth
   once_again before later (atom at bytes from) is sound = by at.place refl
     where
       by : (q : Place) → at.place ≡ q → is_player_again before q bytes ≡ false
-      by place.Member here = last_off _ _ (member_fresh before later at bytes from here is).0
+      by place.Member here = and_right _ _ (member_fresh before later at bytes from here is).0
       by q here = refl
   once_again before later (form at rule.CreatePlayers parts from) is sound =
       none_before players_in before (form at rule.CreatePlayers parts from) later _ refl
@@ -290,7 +270,7 @@ module _ (sheet : Sheet) (all : List Part) (differ : Differ sheet.names) (togeth
       none_before teams_in before (form at rule.CreateTeams parts from) later _ refl
       (subst (λ l. length (flat_map teams_in l) ≤ 1) is together.teams_once)
   once_again before later (form at rule.PutPoints parts from) is sound =
-      apart_before bytes_eq words_differ (flat_map maps_in before) (word_in 2 parts) (flat_map maps_in later)
+      apart_before bytes_eq same_either_way (flat_map maps_in before) (word_in 2 parts) (flat_map maps_in later)
       (subst (IsDistinct bytes_eq) (ap (flat_map maps_in) is
       ∙ given_around maps_in before (form at rule.PutPoints parts from) later (word_in 2 parts) refl) together.maps_once)
   once_again before later (form at r parts from) is sound = sound.once
@@ -298,15 +278,15 @@ module _ (sheet : Sheet) (all : List Part) (differ : Differ sheet.names) (togeth
   all_known : (before later : List Part) (part : Part) → all ≡ before ++ (part ∷ later) → IsSound sheet all part
       → is_unknown all before part ≡ false
   all_known before later (atom at bytes from) is sound =
-      off (is_unbound at bytes || is_unnamed all at.role bytes) (is_no_player all before at.place bytes)
+      or_from (is_unbound at bytes || is_unnamed all at.role bytes) (is_no_player all before at.place bytes)
       (or_parts (is_unbound at bytes || is_unnamed all at.role bytes) (is_no_player all [] at.place bytes) sound.known).0
       (by at.place refl)
     where
       by : (q : Place) → at.place ≡ q → is_no_player all before q bytes ≡ false
       by place.Member here =
-          last_off _ _ (lt-leb (player_count all) (number_by bytes) (member_fresh before later at bytes from here is).1)
+          and_right _ _ (lt-leb (player_count all) (number_by bytes) (member_fresh before later at bytes from here is).1)
       by q here = refl
-  all_known before later (form at rule.CreateTeams parts from) is sound = last_off _ _ sound.known
+  all_known before later (form at rule.CreateTeams parts from) is sound = and_right _ _ sound.known
   all_known before later (form at r parts from) is sound = sound.known
 
   kinds_fit : (before : List Part) (part : Part) → AllSound sheet all before → IsSound sheet all part
@@ -314,13 +294,13 @@ module _ (sheet : Sheet) (all : List Part) (differ : Differ sheet.names) (togeth
   kinds_fit before (atom at bytes from) earlier sound = sound.kind_fits
   kinds_fit before (form at rule.Location parts from) earlier sound =
       let both = or_parts (is_misplaced at.role (mention_of parts)) (is_other_side at at.role) sound.kind_fits in
-      off (is_other_mention (flat_map locations_in before) (mention_of parts) || is_misplaced at.role (mention_of parts))
+      or_from (is_other_mention (flat_map locations_in before) (mention_of parts) || is_misplaced at.role (mention_of parts))
       (is_other_side at at.role)
-      (off (is_other_mention (flat_map locations_in before) (mention_of parts)) (is_misplaced at.role (mention_of parts))
+      (or_from (is_other_mention (flat_map locations_in before) (mention_of parts)) (is_misplaced at.role (mention_of parts))
       (no_other sheet all differ (IsLocSaid sheet all) (same_loc sheet all differ) (mention_of parts)
       (flat_map locations_in before) sound.said (locs_said sheet all differ before earlier)) both.0) both.1
   kinds_fit before (form at rule.Counter parts from) earlier sound =
-      off (is_other_mention (flat_map numbers_of before) (mention_of parts)) (is_other_side at at.role)
+      or_from (is_other_mention (flat_map numbers_of before) (mention_of parts)) (is_other_side at at.role)
       (no_other sheet all differ (IsNumSaid sheet all) (same_num sheet all differ) (mention_of parts)
       (flat_map numbers_of before) sound.said (nums_said sheet all differ before earlier)) sound.kind_fits
   kinds_fit before (form at r parts from) earlier sound = sound.kind_fits
@@ -329,8 +309,8 @@ module _ (sheet : Sheet) (all : List Part) (differ : Differ sheet.names) (togeth
   one_count : (most : ℕ) (count : List Part → ℕ) (before : List Part) (part : Part) → count (before ++ part ∷ []) ≤ most
       → is_too_deep part ≡ false → ((passes most count before part || false) || is_too_deep part) ≡ false
   one_count most count before part le shallow =
-      off (passes most count before part || false) (is_too_deep part)
-      (off (passes most count before part) false (not_passed most count before part le) refl) shallow
+      or_from (passes most count before part || false) (is_too_deep part)
+      (or_from (passes most count before part) false (not_passed most count before part le) refl) shallow
 
   are_few : (before later : List Part) (part : Part) → all ≡ before ++ (part ∷ later) → IsSound sheet all part
       → is_too_many all before part ≡ false
@@ -393,7 +373,7 @@ module _ (sheet : Sheet) (all : List Part) (differ : Differ sheet.names) (togeth
       (λ before later part is.
       let each = subst (AllSound sheet all) is sound in
       let here = of_one (IsSound sheet all) before part later each in
-      let earlier = of_first (IsSound sheet all) before (part ∷ later) each in
+      let earlier = (all_of_both (IsSound sheet all) before (part ∷ later) each).0 in
       record {
         once = once_again before later part is here;
         known = all_known before later part is here;

@@ -1,15 +1,19 @@
-use Rattle.std.proofs.Common.{◌≡◌, ◌∙◌, ap, sym, Some, None, option_map, get_or, w64, arith, rules}
+use Rattle.std.proofs.Common.{◌≡◌, ◌∙◌, ap, sym, Option, Some, None, option_map, get_or, refl, w64, arith, rules}
 use Rattle.std.proofs.Math.Facts.{to_z-of_z}
 use Rattle.std.proofs.lemmas.Int.{ints}
+use Rattle.std.proofs.lemmas.List.{get_or_default}
 use mir.Val.{SFits}
 use Rattle.rc_form.specs.Form.{tree_of}
 use Rattle.rc_setup.specs.Reading.{both, entry_with, read_entry, read_value_list, read_points}
 use Rattle.rc_setup.proofs.FormLemmas.{tree_of_list}
-use Rattle.rc_setup.proofs.OptionLemmas.{both_none}
 use Rattle.rc_setup.proofs.PointLemmas.{points_within}
 use Rattle.rc_setup.proofs.SliceLemmas.{read_entry_other}
-use Rattle.rc_setup.proofs.GroupLemmas.{get_or-any, read_entry_of}
+use Rattle.rc_setup.proofs.GroupLemmas.{read_entry_of}
 use Rattle.rc_setup.proofs.points_reading.read_entry.Goals as goal
+
+both_none : {A B C : Type 0} (make : A → B → C) (first : Option A) → both make first None ≡ None
+both_none make None = refl
+both_none make (Some a) = refl
 
 pub returns-then-len-ne3 : goal.returns-then-len-ne3
 returns-then-len-ne3 g c =
@@ -24,7 +28,7 @@ returns-in_default-attr_number g c =
     let second = get_or items 1 head in
     let third = get_or items 2 head in
     let e = read_entry_of names c.args.form.now c.in-List.items c.in-List.span head second third c.in-List.is (omega arith) c.index.ensures
-    (get_or-any items 1 head second (omega arith)) (get_or-any items 2 head third (omega arith)) in
+    (get_or_default items 1 head second (omega arith)) (get_or_default items 2 head third (omega arith)) in
     ap (λ o. both entry_with o (both (λ values points. (values, points)) (read_value_list names (tree_of second)) (read_points (tree_of third)))) c.in_default-attr_number.ensures
     ∙ sym e
 
@@ -36,7 +40,7 @@ returns-in_default-read_points g c =
     let second = get_or items 1 head in
     let third = c.index-2.result.now in
     let e = read_entry_of names c.args.form.now c.in-List.items c.in-List.span head second third c.in-List.is (omega arith) c.index.ensures
-    (get_or-any items 1 head second (omega arith)) c.index-2.ensures in
+    (get_or_default items 1 head second (omega arith)) c.index-2.ensures in
     let list = read_value_list names (tree_of second) in
     ap (both entry_with (Some c.in-Some.attr)) (sym (both_none (λ values points. (values, points)) list))
     ∙ ap (λ o. both entry_with (Some c.in-Some.attr) (both (λ values points. (values, points)) list o)) c.in_default-read_points.ensures
