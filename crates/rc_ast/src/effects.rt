@@ -7,14 +7,14 @@ ghost use Rattle.rc_ast.specs.Effects.{effect_seen, effects_seen};
 use crate::{CardExpr, CollExpr, Domain, IntExpr, Loc, Num, Test, Who};
 
 /// An end of a location's list.
-#[derive(Clone, Copy, PartialEq, Eq, Debug)]
+#[derive(Clone, Copy)]
 pub enum End {
     Top,
     Bottom,
 }
 
 /// An effect. `Each` runs over players or cards; the number beside the domain is that of its variable's word.
-#[derive(Debug, Drop)]
+#[derive(Drop)]
 pub enum Effect {
     Move(CardExpr, End, Loc),
     MoveAll(CollExpr, End, Loc),

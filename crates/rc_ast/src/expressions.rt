@@ -4,7 +4,7 @@ ghost use Rattle.rc_sheet_model.specs.Sheet.{union_of, and_of, or_of};
 ghost use Rattle.rc_ast.specs.Expressions.{coll_seen, colls_seen, test_seen, tests_seen};
 
 /// An owner. A variable is its place among the variables in scope, the outermost being 0.
-#[derive(Clone, Copy, PartialEq, Eq, Debug)]
+#[derive(Clone, Copy)]
 pub enum Who {
     Game,
     CurrentPlayer,
@@ -15,7 +15,7 @@ pub enum Who {
 }
 
 /// A location, with the offset of its form.
-#[derive(Clone, Copy, PartialEq, Eq, Debug)]
+#[derive(Clone, Copy)]
 pub struct Loc {
     pub who: Who,
     pub name: u16,
@@ -23,7 +23,7 @@ pub struct Loc {
 }
 
 /// A number that the game keeps.
-#[derive(Clone, Copy, PartialEq, Eq, Debug)]
+#[derive(Clone, Copy)]
 pub struct Num {
     pub who: Who,
     pub name: u16,
@@ -31,7 +31,7 @@ pub struct Num {
 
 /// A card, or nothing. `Max` and `Min` go by the points of a map.
 #[cycle(expressions)]
-#[derive(Debug, Drop)]
+#[derive(Drop)]
 pub enum CardExpr {
     Var(u8),
     Top(Box<CollExpr>),
@@ -42,7 +42,7 @@ pub enum CardExpr {
 
 /// A list of cards. The number beside a binder is that of its variable's word.
 #[cycle(expressions)]
-#[derive(Debug, Drop)]
+#[derive(Drop)]
 pub enum CollExpr {
     Var(u8),
     Loc(Loc),
@@ -52,7 +52,7 @@ pub enum CollExpr {
 
 /// A number.
 #[cycle(expressions)]
-#[derive(Debug, Drop)]
+#[derive(Drop)]
 pub enum IntExpr {
     Lit(i64),
     Num(Num),
@@ -66,7 +66,7 @@ pub enum IntExpr {
 
 /// A test. `All` and `Any` run over players or cards. `Ne` holds one of the four tests for equality.
 #[cycle(expressions)]
-#[derive(Debug, Drop)]
+#[derive(Drop)]
 pub enum Test {
     EqInt(Box<IntExpr>, Box<IntExpr>),
     EqCard(Box<CardExpr>, Box<CardExpr>),
@@ -87,7 +87,7 @@ pub enum Test {
 
 /// What a variable runs over: the players, the cards of a list, or the groups of its cards with equal values.
 #[cycle(expressions)]
-#[derive(Debug, Drop)]
+#[derive(Drop)]
 pub enum Domain {
     Players,
     Coll(CollExpr),

@@ -7,7 +7,7 @@ ghost use Rattle.rc_ast.specs.Items.{item_seen, items_seen};
 use crate::{Class, Domain, Effect, Test};
 
 /// An alternative of a choice.
-#[derive(Debug, Drop)]
+#[derive(Drop)]
 pub enum Alt {
     Do(Vec<Effect>),
     If(Box<Test>, Vec<Effect>),
@@ -15,7 +15,7 @@ pub enum Alt {
 }
 
 /// A part of a game. Stages and choice sites are numbered in the order of the text.
-#[derive(Debug, Drop)]
+#[derive(Drop)]
 pub enum SheetItem {
     Do(Vec<Effect>),
     Stage {

@@ -2,29 +2,30 @@
 
 use crate::{IntExpr, LocName, Names, NumName, SheetItem};
 use rc_deck::{DeckTree, PointMap};
+use std::fmt;
 
 /// The teams, each the list of its players.
-#[derive(Debug, Drop)]
+#[derive(Drop)]
 pub struct Teams {
     pub list: Vec<Vec<u8>>,
 }
 
 /// Which scores are best.
-#[derive(Clone, Copy, PartialEq, Eq, Debug)]
+#[derive(Clone, Copy)]
 pub enum Best {
     Max,
     Min,
 }
 
 /// A deck, and the location that its cards begin in.
-#[derive(Debug, Drop)]
+#[derive(Drop)]
 pub struct DeckLine {
     pub loc: u16,
     pub tree: DeckTree,
 }
 
 /// A game's sheet. Without teams each player is one alone.
-#[derive(Debug, Drop)]
+#[derive(Drop)]
 pub struct Sheet {
     pub players: u8,
     pub teams: Option<Teams>,
@@ -36,4 +37,13 @@ pub struct Sheet {
     pub items: Vec<SheetItem>,
     pub best: Best,
     pub score: IntExpr,
+}
+
+/// Only the number of players stands there: a whole sheet is printed by `print_sheet`.
+impl fmt::Debug for Sheet {
+    fn fmt<W: fmt::Write>(&self, f: &mut fmt::Formatter<W>) -> fmt::Result {
+        f.debug_struct("Sheet")
+            .field("players", &self.players)
+            .finish_non_exhaustive()
+    }
 }

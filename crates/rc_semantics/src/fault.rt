@@ -6,7 +6,7 @@ use rc_grammar::{SheetFault, SheetKind};
 use std::alloc::{AllocError, AllocFailed};
 
 /// Why no sheet is made of a form.
-#[derive(Clone, Copy, PartialEq, Eq, Debug)]
+#[derive(Clone, Copy, Debug)]
 pub enum SheetFail {
     /// The form is no sheet.
     Fault(SheetFault),

@@ -143,9 +143,15 @@ fn contains_word(words: &[&[u8]], word: &[u8]) -> bool
 }
 
 /// Different words of a form, in the order in which they came first. Contracts see the list of them.
-#[derive(Drop)]
 pub struct DifferentNames<'a> {
     words: IndexSet<&'a [u8]>,
+}
+
+impl Drop for DifferentNames<'_> {
+    // a derived drop is proved again wherever such names are dropped, and this one once
+    fn drop(self) {
+        let DifferentNames { words: _words } = self;
+    }
 }
 
 impl<'a> Model for DifferentNames<'a> {
