@@ -7,7 +7,7 @@ ghost use Rattle.rc_view.specs.Seen.{sight_seen};
 
 use rc_deck::Memory;
 use rc_play_model::seen_places_take_the_smallest;
-use rc_table::{Shape, have_same_face};
+use rc_table::{Shape, face_number};
 use rc_view::Sight;
 use std::alloc::Global;
 
@@ -53,7 +53,7 @@ pub(crate) fn taken_for(alloc: Global, shape: &Shape, faces: &[u16]) -> Result<T
     for face in faces {
         // the first card of a face gives it its number
         let mut id = *face;
-        while marks[id as usize] || !have_same_face(shape, *face, id) {
+        while marks[id as usize] || face_number(shape, id) != *face {
             id += 1;
         }
         marks[id as usize] = true;

@@ -33,14 +33,15 @@ pub fn shape_of(alloc: Global, sheet: &Sheet) -> Result<Shape, Memory>
     let places = place_list(alloc, sheet)?;
     let faces = face_list(alloc, sheet)?;
     let home = home_list(alloc, sheet)?;
-    Ok(Shape::new(
+    Shape::new(
+        alloc,
         sheet.players,
         team_of,
         places,
         number_count(sheet),
         faces,
         home,
-    ))
+    )
 }
 
 // Each player's team.

@@ -3,3 +3,4 @@ pub mod Held
 pub mod ByLocation
 pub mod Orders
 pub mod Homes
+pub mod FaceNumbers

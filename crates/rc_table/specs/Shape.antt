@@ -1,11 +1,12 @@
 -- What a shape keeps: its parts are within the limits, each player has a team, owners are players and teams that are there, and
 -- each card begins in a location of cards.
 use Rattle.std.specs.Prelude.{◌≡◌, ℕ, ◌<◌, ◌≤◌, true, length, map, List, Option, Some, None, [], All}
+use Rattle.std.specs.List.{position_or_len}
 use Rattle.rc_model.specs.Deck.{Face}
 use Rattle.rc_model.specs.Limits.{most_players, most_cards, most_locations, most_numbers}
 use Rattle.rc_sheet_model.specs.Sheet.{Class, game_class, player_class, team_class}
 use Rattle.rc_sheet_model.specs.WellFormed.{is_among}
-use Rattle.rc_play_model.specs.Shape.{Place as PurePlace, Shape as PureShape}
+use Rattle.rc_play_model.specs.Shape.{Place as PurePlace, Shape as PureShape, face_eq}
 use Rattle.rc_play_model.specs.Bound.{HasHomes}
 use Rattle.rc_table.specs.Places.{place_seen}
 use Rattle.rc_table.specs.declared.place.Place.{Place}
@@ -30,6 +31,10 @@ pub record IsShape (shape : PureShape) : Type 0 where
 abbrev pub shape_of_parts : ℕ → List ℕ → List Place → ℕ → List Face → List ℕ → PureShape
 shape_of_parts players team_of places numbers faces home =
     record { players = players; team_of = team_of; places = map place_seen places; numbers = numbers; faces = faces; home = home }
+
+-- the number of each face: the place of the first one that equals it
+abbrev pub face_numbers_of : List Face → List ℕ
+face_numbers_of faces = map (λ face. position_or_len (face_eq face) faces) faces
 
 -- the face that was found, or none
 abbrev pub face_or_none : Option Face → Face

@@ -7,8 +7,8 @@ ghost use Rattle.rc_play_model.specs.Bound.{HoldsCards, HoldsReferences};
 ghost use Rattle.rc_play_model.specs.Table.{list_at, put_top, put_bottom, remember_top, remember_bottom, without_face, forget_in, set_number, taken, reorder};
 ghost use Rattle.rc_table.specs.Laid.{relaid};
 
+use crate::faces::have_same_face;
 use crate::shape::Shape;
-use crate::sight::have_same_face;
 use crate::table::{LONGEST_LIST, Table};
 use rc_play_model::edits_keep_tables_sound;
 

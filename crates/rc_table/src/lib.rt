@@ -8,14 +8,16 @@
 
 mod arena;
 mod edits;
+mod faces;
 mod finding;
 mod place;
 mod shape;
 mod sight;
 mod table;
 
+pub use faces::{face_number, have_same_face};
 pub use place::{Owner, Place};
 pub use rc_names::LocKind as Kind;
 pub use shape::Shape;
-pub use sight::{face_number, have_same_face, sees};
+pub use sight::sees;
 pub use table::Table;

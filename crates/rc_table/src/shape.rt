@@ -1,13 +1,15 @@
 //! The shape of a sheet.
-ghost use Rattle.std.specs.Prelude.{◌≡◌, length, slice_get, slice_index_or, option_map};
+ghost use Rattle.std.specs.Prelude.{◌≡◌, length, slice_get, slice_index_or, option_map, IfOk};
 ghost use Rattle.rc_play_model.specs.Shape.{team_at, face_at, holds_references};
 ghost use Rattle.rc_table.specs.Laid.{most_held};
 ghost use Rattle.rc_table.specs.Places.{place_seen};
-ghost use Rattle.rc_table.specs.Shape.{IsShape, shape_of_parts, face_or_none};
+ghost use Rattle.rc_table.specs.Shape.{IsShape, shape_of_parts, face_numbers_of, face_or_none};
 
+use crate::faces::face_numbers_of;
 use crate::place::Place;
-use rc_deck::Face;
+use rc_deck::{Face, Memory};
 use rc_names::LocKind;
+use std::alloc::Global;
 use std::marker::Model;
 
 /// The most references in one `mem`.
@@ -28,6 +30,8 @@ pub struct Shape {
     places: Vec<Place>,
     numbers: u16,
     faces: Vec<Face>,
+    // the number of each card's face
+    face_numbers: Vec<u16>,
     home: Vec<u16>,
 }
 
@@ -39,34 +43,39 @@ impl Model for Shape {
 
     ghost coded = { Prim.hlevel codes };
 
-    ghost use Rattle.rc_table.specs.Shape.{IsShape, shape_of_parts};
+    ghost use Rattle.std.specs.Prelude.{◌≡◌};
+    ghost use Rattle.rc_table.specs.Shape.{IsShape, shape_of_parts, face_numbers_of};
 
     ghost view = { λ s. shape_of_parts s.players s.team_of.items s.places.items s.numbers s.faces.items s.home.items };
 
-    ghost invariant = { λ s. IsShape (shape_of_parts s.players s.team_of.items s.places.items s.numbers s.faces.items s.home.items) };
+    ghost invariant = { λ s. IsShape (shape_of_parts s.players s.team_of.items s.places.items s.numbers s.faces.items s.home.items)
+        × (s.face_numbers.items ≡ face_numbers_of s.faces.items) };
 }
 
 impl Shape {
-    /// A shape of these parts.
+    /// A shape of these parts. It finds the number of each card's face, by which later calls tell faces.
     pub fn new(
+        alloc: Global,
         players: u8,
         team_of: Vec<u8>,
         places: Vec<Place>,
         numbers: u16,
         faces: Vec<Face>,
         home: Vec<u16>,
-    ) -> Shape
+    ) -> Result<Shape, Memory>
         requires { IsShape (shape_of_parts players team_of.items places.items numbers faces.items home.items) }
-        ensures { result ≡ shape_of_parts players team_of.items places.items numbers faces.items home.items }
+        ensures { IfOk result (λ shape. shape ≡ shape_of_parts players team_of.items places.items numbers faces.items home.items) }
     {
-        Shape {
+        let face_numbers = face_numbers_of(alloc, &faces)?;
+        Ok(Shape {
             players,
             team_of,
             places,
             numbers,
             faces,
+            face_numbers,
             home,
-        }
+        })
     }
 
     /// How many players there are.
@@ -133,6 +142,13 @@ impl Shape {
         ensures { face_at self.now id ≡ face_or_none (option_map (λ face. face.now) result) }
     {
         self.faces.get(id as usize)
+    }
+
+    /// The number of each card's face: the smallest id of a card with that face.
+    pub(crate) fn face_numbers(&self) -> &[u16]
+        ensures { result.now ≡ face_numbers_of self.now.faces }
+    {
+        &self.face_numbers
     }
 
     /// The location that a card begins in, or 0 where there is no such card.

@@ -1,8 +1,8 @@
-use Rattle.std.proofs.Common.{◌≡◌, ℕ, Bool, true, false, ◌&&◌, ◌==◌, [], ◌∷◌, refl, ap, ap₂, ◌∙◌}
+use Rattle.std.proofs.Common.{◌≡◌, ℕ, Bool, true, false, ◌&&◌, ◌==◌, [], ◌∷◌, refl, ap, ◌∙◌}
 use Rattle.std.specs.Cmp.Lexicographic.{pointwise}
 use Rattle.rc_model.specs.Deck.{Face}
 use Rattle.rc_play_model.specs.Shape.{face_eq}
-use Rattle.rc_table.proofs.sight.have_same_face.Goals as goal
+use Rattle.rc_table.proofs.faces.are_equal.Goals as goal
 
 abbrev pair_eq : ℕ × ℕ → ℕ × ℕ → Bool
 pair_eq x y = (x.0 == y.0) && (x.1 == y.1)
@@ -19,5 +19,4 @@ pair_by_pair (p ∷ left) (q ∷ right) =
     ap (λ b. pair_eq p q && b) (pair_by_pair left right) ∙ regrouped (p.0 == q.0) (p.1 == q.1) (face_eq left right)
 
 pub returns : goal.returns
-returns c =
-    c.eq.ensures ∙ pair_by_pair c.pairs_of.result.now c.pairs_of-2.result.now ∙ ap₂ face_eq c.pairs_of.ensures c.pairs_of-2.ensures
+returns c = c.eq.ensures ∙ pair_by_pair c.args.left.now c.args.right.now
