@@ -20,10 +20,18 @@ pub fn values_in(scene: &Scene, cards: &Collection, name: u16) -> Values
     ensures { result.items ≡ firsts (filter_map (attr_value (scene_seen scene.now) name) cards.now) }
 {
     let mut values = Values::new();
-    for place in 0..cards.len() {
-        note(&mut values, attr_of(scene, Some(cards.at(place)), name));
-    }
+    note_values(scene, cards, name, &mut values);
     values
+}
+
+/// Writes them into an empty list.
+pub fn note_values(scene: &Scene, cards: &Collection, name: u16, values: &mut Values)
+    requires empty { values.old.items ≡ [] }
+    ensures { values.new.items ≡ firsts (filter_map (attr_value (scene_seen scene.now) name) cards.now) }
+{
+    for place in 0..cards.len() {
+        note(values, attr_of(scene, Some(cards.at(place)), name));
+    }
 }
 
 /// The value at a place.
@@ -58,12 +66,20 @@ pub fn group_with(scene: &Scene, cards: &Collection, name: u16, value: u16) -> C
     ensures { values_seen result.items ≡ filter (λ c. both nat_same (attr_value (scene_seen scene.now) name c) (Some value)) cards.now }
 {
     let mut group = Cards::new();
+    regroup(scene, cards, name, value, &mut group);
+    group
+}
+
+/// Writes them into a list, whatever it held before.
+pub fn regroup(scene: &Scene, cards: &Collection, name: u16, value: u16, group: &mut Cards)
+    ensures { values_seen group.new.items ≡ filter (λ c. both nat_same (attr_value (scene_seen scene.now) name c) (Some value)) cards.now }
+{
+    group.clear();
     for place in 0..cards.len() {
         let card = cards.at(place);
         let has = has_value(scene, card, name, value);
-        put(&mut group, card, has);
+        put(group, card, has);
     }
-    group
 }
 
 fn has_value(scene: &Scene, card: Card, name: u16, value: u16) -> bool

@@ -22,7 +22,7 @@ pub use collection::Collection;
 pub use current::{Current, current_of};
 pub use expressions::{bare, card_of, coll_of, int_of, test_of};
 pub use groups::{Values, group_with, value_at, values_in};
-pub use menu::menu_of;
+pub use menu::{fill_menu, menu_of};
 pub use places::{loc_at, num_at, who_of};
 pub use scene::Scene;
 pub use scope::{Bind, Scope};
