@@ -21,7 +21,7 @@ pub use cards::{Card, Cards};
 pub use collection::Collection;
 pub use current::{Current, current_of};
 pub use expressions::{bare, card_of, coll_of, int_of, test_of};
-pub use groups::{Values, group_with, value_at, values_in};
+pub use groups::{Values, note_values, regroup, value_at};
 pub use menu::{fill_menu, menu_of};
 pub use places::{loc_at, num_at, who_of};
 pub use scene::Scene;
