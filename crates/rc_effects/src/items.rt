@@ -20,7 +20,7 @@ use crate::members::{bind_of, member_at};
 use rc_ast::{Alt, Domain};
 use rc_rules::{About, Dealer, Frames, Item};
 use rc_table::Table;
-use rc_value::{Scope, current_of};
+use rc_value::{Cards, Scope, current_of};
 
 /// Does the effects of an item of a menu, with its variables bound. It takes no memory.
 ///
@@ -108,8 +108,9 @@ fn do_any<D: Dealer>(
     match spots.split_first() {
         None => do_alt(context, inner, spots, table, frames, dealer),
         Some((spot, rest)) => {
-            let member = member_at(context, domain, *spot, &*table, &*frames);
-            let scope = context.scope.with(bind_of(&member));
+            let mut room = Cards::new();
+            let member = member_at(context, domain, *spot, &*table, &*frames, &mut room);
+            let scope = context.scope.with(bind_of(member, &room));
             let within = Context {
                 about: context.about,
                 scope: &scope,

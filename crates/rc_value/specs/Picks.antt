@@ -1,5 +1,6 @@
--- What is taken of a collection.
-use Rattle.std.specs.Prelude.{length, List, ℤ, pos, int_lt, Option}
+-- Collections that are gathered, and what is taken of a collection.
+use Rattle.std.specs.Prelude.{length, Bool, true, false, List, ℤ, pos, int_lt, Option}
+use Rattle.rc_sheet_model.specs.Sheet.{CollExpr, group_var, cards_in, filtered, union_of}
 use Rattle.rc_play_model.specs.Value.{Scene, best_of, int_more, worth, sum_worth}
 use Rattle.rc_play_model.specs.Ends.{first_of, last_of}
 use Rattle.rc_play_model.specs.Scene.{CardValue}
@@ -7,6 +8,13 @@ use Rattle.rc_value.specs.declared.loops.Pick.{Pick}
 use Rattle.rc_value.specs.declared.loops.Pick.TheVariants.{Top, Bottom, Max, Min}
 use Rattle.rc_value.specs.declared.loops.Measure.{Measure}
 use Rattle.rc_value.specs.declared.loops.Measure.TheVariants.{Size, Sum}
+
+-- whether the cards are gathered from others, and not those of one location or variable
+abbrev pub is_gathered : CollExpr → Bool
+is_gathered (group_var var) = false
+is_gathered (cards_in loc) = false
+is_gathered (filtered cards bound t) = true
+is_gathered (union_of parts) = true
 
 abbrev pub picked_of : Scene CardValue → Pick → List CardValue → Option CardValue
 picked_of scene Top cards = last_of cards

@@ -1,5 +1,5 @@
 //! The values of expressions.
-ghost use Rattle.std.specs.Prelude.{◌≡◌, ◌+◌, ◌<◌, ◌≤◌, ◌++◌, ◌∷◌, [], map, filter, length, option_map, IfSome, true};
+ghost use Rattle.std.specs.Prelude.{◌≡◌, ◌+◌, ◌<◌, ◌≤◌, ◌++◌, ◌∷◌, [], map, filter, length, option_map, MatchOption, true};
 ghost use Rattle.std.specs.List.{list_all, list_any};
 ghost use Rattle.rc_model.specs.Numbers.{below};
 ghost use Rattle.rc_play_model.specs.Value.{card_value, coll_value, colls_value, int_value, test_value, tests_value, card_bound, player_bound, cut};
@@ -7,7 +7,7 @@ ghost use Rattle.rc_ast.specs.Expressions.{coll_seen, colls_seen, int_seen, test
 ghost use Rattle.rc_ast.specs.Expressions.{card_seen};
 ghost use Rattle.rc_value.specs.Cards.{value_seen, values_seen};
 ghost use Rattle.rc_value.specs.Depth.{card_depth, coll_depth, colls_depth, int_depth, test_depth, tests_depth, runs_over_cards};
-ghost use Rattle.rc_value.specs.Picks.{picked_of, measured_of};
+ghost use Rattle.rc_value.specs.Picks.{is_gathered, picked_of, measured_of};
 ghost use Rattle.rc_value.specs.Scene.{scene_seen};
 
 use crate::arithmetic::{clamped_difference, clamped_product, clamped_sum};
@@ -22,7 +22,7 @@ use rc_ast::{CardExpr, CollExpr, Domain, IntExpr, Test};
 
 /// The cards of a location or of a variable, which need no list of their own. None for another expression.
 pub fn bare<'a>(scene: &'a Scene, scope: &'a Scope, expr: &CollExpr) -> Option<Collection<'a>>
-    ensures { IfSome result (λ cards. cards ≡ coll_value (scene_seen scene.now) scope.now (coll_seen expr.now)) }
+    ensures { MatchOption result (is_gathered (coll_seen expr.now) ≡ true) (λ cards. cards ≡ coll_value (scene_seen scene.now) scope.now (coll_seen expr.now)) }
 {
     match expr {
         CollExpr::Var(var) => Some(scope.group(*var)),
@@ -226,11 +226,11 @@ fn over_built(scene: &Scene, scope: &Scope, expr: &Test) -> bool
     requires fits { length scope.now + test_depth (test_seen expr.now) ≤ 5 }
     ensures { result ≡ test_value (scene_seen scene.now) scope.now (test_seen expr.now) }
 {
+    let mut room = Cards::new();
     match expr {
         Test::All(domain, _, inner) => match domain {
             Domain::Players => unreachable!(),
             Domain::Coll(cards) => {
-                let mut room = Cards::new();
                 coll_of(scene, scope, cards, &mut room);
                 all_cards(scene, scope, &Collection::built(room.as_slice()), inner)
             }
@@ -239,7 +239,6 @@ fn over_built(scene: &Scene, scope: &Scope, expr: &Test) -> bool
         Test::Any(domain, _, inner) => match domain {
             Domain::Players => unreachable!(),
             Domain::Coll(cards) => {
-                let mut room = Cards::new();
                 coll_of(scene, scope, cards, &mut room);
                 any_card(scene, scope, &Collection::built(room.as_slice()), inner)
             }

@@ -15,15 +15,14 @@ use arrayvec::ArrayVec;
 /// Values of an attribute.
 pub type Values = ArrayVec<u16, 512>;
 
-/// The different values that cards have for an attribute, in order of first appearance.
-pub fn values_in(scene: &Scene, cards: &Collection, name: u16) -> Values
-    ensures { result.items ≡ firsts (filter_map (attr_value (scene_seen scene.now) name) cards.now) }
+/// Writes the different values that cards have for an attribute into an empty list, in order of first appearance.
+pub fn note_values(scene: &Scene, cards: &Collection, name: u16, values: &mut Values)
+    requires empty { values.old.items ≡ [] }
+    ensures { values.new.items ≡ firsts (filter_map (attr_value (scene_seen scene.now) name) cards.now) }
 {
-    let mut values = Values::new();
     for place in 0..cards.len() {
-        note(&mut values, attr_of(scene, Some(cards.at(place)), name));
+        note(values, attr_of(scene, Some(cards.at(place)), name));
     }
-    values
 }
 
 /// The value at a place.
@@ -53,17 +52,16 @@ fn is_known(values: &Values, value: u16) -> bool
     values.as_slice().iter().any(|other| value == *other)
 }
 
-/// The cards that have this value of the attribute.
-pub fn group_with(scene: &Scene, cards: &Collection, name: u16, value: u16) -> Cards
-    ensures { values_seen result.items ≡ filter (λ c. both nat_same (attr_value (scene_seen scene.now) name c) (Some value)) cards.now }
+/// Writes the cards that have this value of the attribute into a list, whatever it held before.
+pub fn regroup(scene: &Scene, cards: &Collection, name: u16, value: u16, group: &mut Cards)
+    ensures { values_seen group.new.items ≡ filter (λ c. both nat_same (attr_value (scene_seen scene.now) name c) (Some value)) cards.now }
 {
-    let mut group = Cards::new();
+    group.clear();
     for place in 0..cards.len() {
         let card = cards.at(place);
         let has = has_value(scene, card, name, value);
-        put(&mut group, card, has);
+        put(group, card, has);
     }
-    group
 }
 
 fn has_value(scene: &Scene, card: Card, name: u16, value: u16) -> bool

@@ -16,7 +16,7 @@ ghost use Rattle.rc_value.specs.Menu.{extended};
 use crate::Cards;
 use crate::collection::Collection;
 use crate::expressions::{bare, coll_of, test_of};
-use crate::groups::{group_with, value_at, values_in};
+use crate::groups::{Values, note_values, regroup, value_at};
 use crate::scene::Scene;
 use crate::scope::{Bind, Scope};
 use rc_ast::{Alt, CollExpr, Domain};
@@ -192,16 +192,19 @@ fn offer_parts(
     let mut room = Cards::new();
     coll_of(scene, scope, cards, &mut room);
     let all = Collection::built(room.as_slice());
-    let values = values_in(scene, &all, name);
+    let mut values = Values::new();
+    note_values(scene, &all, name, &mut values);
+    let mut group = Cards::new();
     for place in 0..values.len() {
         if menu.is_full() {
             return;
         }
+        regroup(scene, &all, name, value_at(&values, place), &mut group);
         offer_group(
             scene,
             scope,
             inner,
-            &group_with(scene, &all, name, value_at(&values, place)),
+            &group,
             &with_spot(item, place as u16),
             menu,
         );
@@ -240,21 +243,32 @@ pub fn menu_of(scene: &Scene, site: u8, alts: &[Alt]) -> Menu
     ensures is { menu_seen result.items ≡ pure_menu_of (scene_seen scene.now) site }
     ensures alike { EqualAtAlike scene.now site (menu_seen result.items) }
 {
-    alike_states_have_equal_menus();
-    menu_from(scene, alts)
+    let mut menu = Menu::new();
+    fill_menu(scene, site, alts, &mut menu);
+    menu
 }
 
-// What alternatives offer.
-fn menu_from(scene: &Scene, alts: &[Alt]) -> Menu
-    requires few { All (BindsFew 0) (alts_seen alts.now) }
-    ensures { menu_seen result.items ≡ pure_menu_from (scene_seen scene.now) (alts_seen alts.now) }
+/// The same, written into a menu, whatever it held before.
+pub fn fill_menu(scene: &Scene, site: u8, alts: &[Alt], menu: &mut Menu)
+    requires site { alts_seen alts.now ≡ alts_at (scene_seen scene.now).known.sheet site }
+    ensures is { menu_seen menu.new.items ≡ pure_menu_of (scene_seen scene.now) site }
+    ensures alike { EqualAtAlike scene.now site (menu_seen menu.new.items) }
 {
-    let mut menu = Menu::new();
+    alike_states_have_equal_menus();
+    menu.clear();
+    offer_all(scene, alts, menu);
+}
+
+// Puts what alternatives offer into an empty menu.
+fn offer_all(scene: &Scene, alts: &[Alt], menu: &mut Menu)
+    requires few { All (BindsFew 0) (alts_seen alts.now) }
+    requires empty { menu.old.items ≡ [] }
+    ensures { menu_seen menu.new.items ≡ pure_menu_from (scene_seen scene.now) (alts_seen alts.now) }
+{
     let scope = Scope::empty();
     for number in 0..alts.len() {
-        offer(scene, &scope, &alts[number], &first_item(number), &mut menu);
+        offer(scene, &scope, &alts[number], &first_item(number), menu);
     }
-    menu
 }
 
 // An alternative that binds nothing yet.

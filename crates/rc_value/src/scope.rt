@@ -62,12 +62,22 @@ impl<'g> Scope<'g> {
         }
     }
 
+    // What a variable stands for, if there is one.
+    fn bind(&self, var: u8) -> Option<Bind<'g>>
+        ensures { option_map bind_seen result ≡ slice_get self.now var }
+    {
+        match self.binds[..self.count].get(var as usize) {
+            Some(bind) => Some(*bind),
+            None => None,
+        }
+    }
+
     /// The player that a variable stands for, or 0.
     pub fn player(&self, var: u8) -> u8
         ensures { result ≡ player_of (slice_get self.now var) }
     {
-        match self.binds[..self.count].get(var as usize) {
-            Some(Bind::Player(player)) => *player,
+        match self.bind(var) {
+            Some(Bind::Player(player)) => player,
             _ => 0,
         }
     }
@@ -76,8 +86,8 @@ impl<'g> Scope<'g> {
     pub fn group(&self, var: u8) -> Collection<'g>
         ensures { result ≡ cut (group_of (slice_get self.now var)) }
     {
-        match self.binds[..self.count].get(var as usize) {
-            Some(Bind::Group(cards)) => Collection::part(*cards),
+        match self.bind(var) {
+            Some(Bind::Group(cards)) => Collection::part(cards),
             _ => Collection::built(&[]),
         }
     }
@@ -86,8 +96,8 @@ impl<'g> Scope<'g> {
     pub fn card(&self, var: u8) -> Option<Card>
         ensures { option_map value_seen result ≡ card_of (slice_get self.now var) }
     {
-        match self.binds[..self.count].get(var as usize) {
-            Some(Bind::Card(card)) => Some(*card),
+        match self.bind(var) {
+            Some(Bind::Card(card)) => Some(card),
             _ => None,
         }
     }

@@ -177,6 +177,24 @@ pass-returns t c =
     ∙ pass_end (λ x. test_value (scene_seen c.args.scene.now) (c.args.scope.now ++ card_bound x ∷ []) (test_seen c.args.test.now)) (values_seen c.args.out.now.items) _ (values_seen c.loop-place.out.items) c.loop-place.kept c.loop-place.place c.loop-place.invariant.told
     (omega (arith, c.len-place-end.ensures.value))
 
+pub test_of-returns-in-Some : goal.test_of-returns-in-Some
+test_of-returns-in-Some t c =
+    let e : test_seen c.args.expr.now ≡ all_of (each_card (coll_seen c.in-Coll.cards)) c.in-All.field-1 (test_seen c.in-All.inner.value) =
+    ap test_seen c.in-All.is ∙ ap (λ d. all_of (domain_seen d) c.in-All.field-1 (test_seen c.in-All.inner.value)) c.in-Coll.is in
+    c.all_cards.ensures
+    ∙ ap (λ x. list_all (λ m. test_value (scene_seen c.args.scene.now) (c.args.scope.now ++ m ∷ []) (test_seen x)) (map (λ k. card_bound k) c.in-Some.cards)) c.deref-in-Some.ensures
+    ∙ ap (λ xs. list_all (λ m. test_value (scene_seen c.args.scene.now) (c.args.scope.now ++ m ∷ []) (test_seen c.in-All.inner.value)) (map (λ k. card_bound k) xs)) c.in-Some.ensures
+    ∙ ap (test_value (scene_seen c.args.scene.now) c.args.scope.now) (sym e)
+
+pub test_of-returns-in-Some-bare : goal.test_of-returns-in-Some-bare
+test_of-returns-in-Some-bare t c =
+    let e : test_seen c.args.expr.now ≡ any_of (each_card (coll_seen c.in-Coll-domain.cards)) c.in-Any.field-1 (test_seen c.in-Any.inner.value) =
+    ap test_seen c.in-Any.is ∙ ap (λ d. any_of (domain_seen d) c.in-Any.field-1 (test_seen c.in-Any.inner.value)) c.in-Coll-domain.is in
+    c.any_card.ensures
+    ∙ ap (λ x. list_any (λ m. test_value (scene_seen c.args.scene.now) (c.args.scope.now ++ m ∷ []) (test_seen x)) (map (λ k. card_bound k) c.in-Some-bare.cards)) c.deref-in-Some-bare.ensures
+    ∙ ap (λ xs. list_any (λ m. test_value (scene_seen c.args.scene.now) (c.args.scope.now ++ m ∷ []) (test_seen c.in-Any.inner.value)) (map (λ k. card_bound k) xs)) c.in-Some-bare.ensures
+    ∙ ap (test_value (scene_seen c.args.scene.now) c.args.scope.now) (sym e)
+
 pub over_built-returns-in-Coll : goal.over_built-returns-in-Coll
 over_built-returns-in-Coll t c =
     let e : test_seen c.args.expr.now ≡ all_of (each_card (coll_seen c.in-Coll.cards)) c.in-All.field-1 (test_seen c.in-All.inner.value) =

@@ -3,7 +3,7 @@ use Rattle.rc_play_model.specs.Menu.{spots_of, from_each, item_of}
 use Rattle.rc_ast.specs.Items.{alts_seen}
 use Rattle.rc_rules.specs.Menu.{menu_seen}
 use Rattle.rc_value.specs.Scene.{scene_seen}
-use Rattle.rc_value.proofs.menu.menu_from.Given as goal
+use Rattle.rc_value.proofs.menu.offer_all.Given as goal
 
 abbrev pub invariant-loop-number : goal.invariant-loop-number
 invariant-loop-number l = record {

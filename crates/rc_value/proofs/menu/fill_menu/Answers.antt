@@ -5,20 +5,19 @@ use Rattle.rc_play_model.specs.Scene.{scene_of}
 use Rattle.rc_ast.specs.Sheet.{sheet_seen}
 use Rattle.rc_value.specs.Binding.{BindsFew}
 use Rattle.rc_value.specs.Scene.{scene_seen}
-use Rattle.rc_value.proofs.menu.menu_of.Goals as goal
+use Rattle.rc_value.proofs.menu.fill_menu.Goals as goal
 
-pub menu_from-requires : goal.menu_from-requires
+pub offer_all-requires-clause-few : goal.offer_all-requires-clause-few
 unfolding scene_seen
-menu_from-requires c =
-    record { few = subst (All (BindsFew 0)) (sym c.requires.site) (c.args.scene.now.readable.choices c.args.site) }
+offer_all-requires-clause-few c = subst (All (BindsFew 0)) (sym c.requires.site) (c.args.scene.now.readable.choices c.args.site)
 
 pub returns-clause-is : goal.returns-clause-is
-returns-clause-is c = c.menu_from.ensures ∙ ap (pure_menu_from (scene_seen c.args.scene.now)) c.requires.site
+returns-clause-is c = c.offer_all.ensures ∙ ap (pure_menu_from (scene_seen c.args.scene.now)) c.requires.site
 
 pub returns-clause-alike : goal.returns-clause-alike
 unfolding scene_seen
 returns-clause-alike c same sight control table' control' frames alike =
     let s = c.args.scene.now in
-    c.menu_from.ensures ∙ ap (pure_menu_from (scene_seen s)) c.requires.site
+    c.offer_all.ensures ∙ ap (pure_menu_from (scene_seen s)) c.requires.site
     ∙ ap (λ f. pure_menu_of (scene_of (sheet_seen s.sheet.now) s.table.now.shape s.table.now.table f) c.args.site) (sym frames)
     ∙ c.alike_states_have_equal_menus.ensures (sheet_seen s.sheet.now) s.table.now.shape s.table.now.table table' control control' c.args.site same sight alike

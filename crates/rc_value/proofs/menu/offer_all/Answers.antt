@@ -7,7 +7,7 @@ use Rattle.rc_value.specs.Binding.{BindsFew}
 use Rattle.rc_value.specs.Menu.{extended}
 use Rattle.rc_value.specs.Scene.{scene_seen}
 use Rattle.rc_value.proofs.Offers.{begun, offered_alt, offered_alts, cut_few, map_here, each_here}
-use Rattle.rc_value.proofs.menu.menu_from.Goals as goal
+use Rattle.rc_value.proofs.menu.offer_all.Goals as goal
 
 pub offer-requires-clause-fits : goal.offer-requires-clause-fits
 offer-requires-clause-fits c =

@@ -4,7 +4,7 @@ use Rattle.rc_value.specs.Cards.{value_seen}
 use Rattle.rc_value.specs.Scene.{scene_seen}
 use Rattle.rc_value.specs.Groups.{noted_in}
 use Rattle.rc_value.proofs.Firsts.{firsts_step, firsts_end}
-use Rattle.rc_value.proofs.groups.values_in.Goals as goal
+use Rattle.rc_value.proofs.groups.note_values.Goals as goal
 
 pub loop-place-preserved : goal.loop-place-preserved
 loop-place-preserved c =
