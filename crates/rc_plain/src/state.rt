@@ -3,7 +3,7 @@ ghost use Rattle.std.specs.Prelude.{◌≡◌, ◌+◌, ◌<◌, ◌≤◌, ◌^
 ghost use Rattle.rc_sheet_model.specs.WellFormed.{Around, IsTest, owner_count as pure_owner_count};
 ghost use Rattle.rc_play_model.specs.Value.{test_value};
 ghost use Rattle.rc_play_model.specs.Menu.{alts_at};
-ghost use Rattle.rc_play_model.specs.About.{scene_at, menu_at};
+ghost use Rattle.rc_play_model.specs.About.{scene_at, menu_at as pure_menu_at};
 ghost use Rattle.rc_play_model.specs.Scores.{score_of, scores_of};
 ghost use Rattle.rc_play_model.specs.Decision.{with_choice};
 ghost use Rattle.rc_ast.specs.Expressions.{test_seen};
@@ -18,12 +18,14 @@ use rc_rules::{About, Control, Menu, Scores, owner_count};
 use rc_table::Table;
 use rc_value::{Bind, Scene, Scope, expressions_bind_few, int_of, menu_of, test_of};
 
-/// The table, the control, and the path to the item that is next.
+/// The table, the control, the path to the item that is next, and the menu of the decision at which the match stands. Where it
+/// stands at none, the menu is any.
 #[derive(Drop)]
 pub struct State {
     pub table: Table,
     pub control: Control,
     pub path: Path,
+    pub menu: Menu,
 }
 
 impl State {
@@ -36,16 +38,6 @@ impl State {
         expressions_bind_few();
         let scene = Scene::new(about.sheet(), &self.table, self.control.frames.as_slice());
         test_of(&scene, &Scope::empty(), end)
-    }
-
-    /// What the choice with this site offers, whose alternatives these are.
-    pub fn menu(&self, about: &About, site: u8, alts: &[Alt]) -> Menu
-        requires laid { self.now.table.shape ≡ about.now.shape }
-        requires alts { alts_seen alts.now ≡ alts_at about.now.sheet site }
-        ensures { menu_seen result.items ≡ menu_at about.now site self.now.table.table (control_seen self.now.control) }
-    {
-        let scene = Scene::new(about.sheet(), &self.table, self.control.frames.as_slice());
-        menu_of(&scene, site, alts)
     }
 
     /// Each player's score.
@@ -71,6 +63,16 @@ impl State {
         let empty = Scope::empty();
         int_of(&scene, &empty.with(Bind::Player(player)), &sheet.score)
     }
+}
+
+/// What the choice with this site offers, whose alternatives these are.
+pub fn menu_at(about: &About, table: &Table, control: &Control, site: u8, alts: &[Alt]) -> Menu
+    requires laid { table.now.shape ≡ about.now.shape }
+    requires alts { alts_seen alts.now ≡ alts_at about.now.sheet site }
+    ensures { menu_seen result.items ≡ pure_menu_at about.now site table.now.table (control_seen control.now) }
+{
+    let scene = Scene::new(about.sheet(), table, control.frames.as_slice());
+    menu_of(&scene, site, alts)
 }
 
 /// The control at the start of a match.
