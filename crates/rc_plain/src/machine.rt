@@ -12,7 +12,7 @@ ghost use Rattle.rc_plain.specs.Plain.{config_of, CanDecide};
 use crate::decisions::copy_of;
 use crate::path::Path;
 use crate::site::{path_of, site_of};
-use crate::state::{State, menu_at, new_control};
+use crate::state::{State, fill_menu_at, new_control};
 use rc_deck::Memory;
 use rc_flow::Checked;
 use rc_play_model::sites_fix_choices;
@@ -129,7 +129,8 @@ impl PlainMachine {
         let _sheet = about.sheet();
         let site = site_of(&control);
         let path = path_of(&about, site);
-        let menu = menu_at(&about, &table, &control, site, path.alts(&about));
+        let mut menu = Menu::new();
+        fill_menu_at(&about, &table, &control, site, path.alts(&about), &mut menu);
         PlainMachine {
             about,
             state: State {

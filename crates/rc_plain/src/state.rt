@@ -3,7 +3,7 @@ ghost use Rattle.std.specs.Prelude.{◌≡◌, ◌+◌, ◌<◌, ◌≤◌, ◌^
 ghost use Rattle.rc_sheet_model.specs.WellFormed.{Around, IsTest, owner_count as pure_owner_count};
 ghost use Rattle.rc_play_model.specs.Value.{test_value};
 ghost use Rattle.rc_play_model.specs.Menu.{alts_at};
-ghost use Rattle.rc_play_model.specs.About.{scene_at, menu_at as pure_menu_at};
+ghost use Rattle.rc_play_model.specs.About.{scene_at, menu_at};
 ghost use Rattle.rc_play_model.specs.Scores.{score_of, scores_of};
 ghost use Rattle.rc_play_model.specs.Decision.{with_choice};
 ghost use Rattle.rc_ast.specs.Expressions.{test_seen};
@@ -16,7 +16,7 @@ use arrayvec::ArrayVec;
 use rc_ast::{Alt, Class, Test};
 use rc_rules::{About, Control, Menu, Scores, owner_count};
 use rc_table::Table;
-use rc_value::{Bind, Scene, Scope, expressions_bind_few, int_of, menu_of, test_of};
+use rc_value::{Bind, Scene, Scope, expressions_bind_few, fill_menu, int_of, test_of};
 
 /// The table, the control, the path to the item that is next, and the menu of the decision at which the match stands. Where it
 /// stands at none, the menu is any.
@@ -65,14 +65,21 @@ impl State {
     }
 }
 
-/// What the choice with this site offers, whose alternatives these are.
-pub fn menu_at(about: &About, table: &Table, control: &Control, site: u8, alts: &[Alt]) -> Menu
+/// Writes what the choice with this site offers, whose alternatives these are, into a menu, whatever it held before.
+pub fn fill_menu_at(
+    about: &About,
+    table: &Table,
+    control: &Control,
+    site: u8,
+    alts: &[Alt],
+    menu: &mut Menu,
+)
     requires laid { table.now.shape ≡ about.now.shape }
     requires alts { alts_seen alts.now ≡ alts_at about.now.sheet site }
-    ensures { menu_seen result.items ≡ pure_menu_at about.now site table.now.table (control_seen control.now) }
+    ensures { menu_seen menu.new.items ≡ menu_at about.now site table.now.table (control_seen control.now) }
 {
     let scene = Scene::new(about.sheet(), table, control.frames.as_slice());
-    menu_of(&scene, site, alts)
+    fill_menu(&scene, site, alts, menu);
 }
 
 /// The control at the start of a match.

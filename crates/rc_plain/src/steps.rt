@@ -12,7 +12,7 @@ ghost use Rattle.rc_plain.specs.Paths.{item_at};
 ghost use Rattle.rc_plain.specs.State.{KeepsMenu, IsReady, config_at, next_seen, LeadsTo};
 
 use crate::frames;
-use crate::state::{State, members, menu_at};
+use crate::state::{State, fill_menu_at, members};
 use rc_ast::{Alt, Class, Effect, SheetItem, Test};
 use rc_effects::do_effects;
 use rc_play_model::{sites_fix_choices, stops_stay};
@@ -52,7 +52,14 @@ impl State {
     {
         sites_fix_choices();
         let _sheet = about.sheet();
-        self.menu = menu_at(about, &self.table, &self.control, site, alts);
+        fill_menu_at(
+            about,
+            &self.table,
+            &self.control,
+            site,
+            alts,
+            &mut self.menu,
+        );
         if self.menu.is_empty() {
             self.path.pass();
             return None;

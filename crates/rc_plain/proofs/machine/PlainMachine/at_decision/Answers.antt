@@ -21,8 +21,8 @@ path_of-path-requires c =
     some_alts about c.args.table.table control.frames (alts_at about.sheet c.site_of-site.result)
     (subst (λ n. 0 < length (menu_at about n c.args.table.table control)) site decides.some)
 
-pub menu_at-menu-requires-clause-alts : goal.menu_at-menu-requires-clause-alts
-menu_at-menu-requires-clause-alts c =
+pub fill_menu_at-requires-clause-alts : goal.fill_menu_at-requires-clause-alts
+fill_menu_at-requires-clause-alts c =
     let found = c.path_of-path.ensures in
     c.alts.ensures.alts c.site_of-site.result found.alts found.there
     ∙ sym (c.sites_fix_choices.ensures.alternatives c.args.about.sheet c.site_of-site.result found.alts c.path_of-path.result c.sheet-sheet.ensures.well.numbered.sites found.here found.there)
@@ -49,7 +49,7 @@ invariant_of-result c =
               ∙ ap (λ alts. Some (choice site alts)) (sym (c.sites_fix_choices.ensures.alternatives about.sheet site found.alts c.path_of-path.result sites found.here found.there));
           some = subst (λ n. 0 < length (menu_at about n c.args.table.table control)) same decides.some;
         };
-        menu = c.menu_at-menu.ensures;
+        menu = c.fill_menu_at.ensures;
       });
     }
 

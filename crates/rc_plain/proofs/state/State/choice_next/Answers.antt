@@ -28,7 +28,7 @@ returns-then-is_empty-clause-leads c =
     λ dealing k.
     skip_leads m dealing k c.args.site alts here c.requires.here
     (ap (λ xs. length (menu_from (scene_at about m.table m.control.frames) xs)) (sym same)
-    ∙ ap length (sym c.menu_at-self.ensures) ∙ length-map c.menu_at-self.result.items item_seen ∙ none)
+    ∙ ap length (sym c.fill_menu_at.ensures) ∙ length-map c.fill_menu_at.new.menu.items item_seen ∙ none)
     ∙ ap (λ path. goes k (config_of (moved m path m.table m.control))) (sym c.pass.ensures)
 
 pub returns-then-is_empty-clause-ready : goal.returns-then-is_empty-clause-ready
@@ -45,8 +45,8 @@ returns-then-is_empty-clause-ready c =
           let offered = (c.requires.ready.kept other is).offered in
           let some = offered.some in
           let same = ap (λ site. length (menu_at about site m.table m.control)) (one_site m c.args.site other _ c.requires.here offered) in
-          let none = ap length c.menu_at-self.ensures in
-          let empty = length-map c.menu_at-self.result.items item_seen in
+          let none = ap length c.fill_menu_at.ensures in
+          let empty = length-map c.fill_menu_at.new.menu.items item_seen in
           let zero = eqb-true _ _ (sym c.is_empty.ensures ∙ c.if-is_empty.true) in
           absurd (omega (arith, some, same, none, empty, zero));
     }
@@ -62,7 +62,7 @@ decide-requires-clause-ready c =
           let offered = (c.requires.ready.kept other is).offered in
           record {
             offered = offered;
-            menu = c.menu_at-self.ensures ∙ ap (λ site. menu_at about site m.table m.control) (one_site m c.args.site other _ c.requires.here offered);
+            menu = c.fill_menu_at.ensures ∙ ap (λ site. menu_at about site m.table m.control) (one_site m c.args.site other _ c.requires.here offered);
           };
     }
 
@@ -72,13 +72,13 @@ decide-requires-clause-here c =
     let m = plain_of about c.args.self.now in
     let here = not_round about.sheet m.path c.requires.ready.play.stands (ap stage_in c.requires.here) in
     let same = c.sites_fix_choices.ensures.alternatives about.sheet c.args.site _ m.path c.sheet-sheet.ensures.well.numbered.sites here c.requires.here in
-    let many = ap length c.menu_at-self.ensures in
-    let all = length-map c.menu_at-self.result.items item_seen in
+    let many = ap length c.fill_menu_at.ensures in
+    let all = length-map c.fill_menu_at.new.menu.items item_seen in
     let not_zero = eqb-false _ _ (sym c.is_empty.ensures ∙ c.if-is_empty.false) in
     record {
       offered = record {
         there = c.requires.here ∙ ap (λ alts. Some (choice c.args.site alts)) (sym same);
         some = omega (arith, many, all, not_zero);
       };
-      menu = c.menu_at-self.ensures;
+      menu = c.fill_menu_at.ensures;
     }
