@@ -4,6 +4,7 @@ pub mod OwnerLemmas
 pub mod PathLemmas
 pub mod StepCases
 pub mod PlayLemmas
+pub mod KeptLemmas
 pub mod SiteLemmas
 pub mod ScoreLemmas
 pub mod MachineLemmas

@@ -1,6 +1,6 @@
 -- Machines at the start, at a site, and at a decision.
-use Rattle.std.proofs.Common.{◌≡◌, ℕ, zero, suc, ◌≤◌, ◌<◌, Bool, true, false, List, [], ◌∷◌, ◌++◌, map, length, get_or, replicate, ◌⊎◌, inl, inr, Option, Some, None, refl, sym, ap, ◌∙◌, subst, append-nil, arith}
-use Rattle.std.specs.Prelude.{unwrap_or, slice_index_or}
+use Rattle.std.proofs.Common.{◌≡◌, ℕ, zero, suc, ◌≤◌, ◌<◌, Bool, true, false, List, [], ◌∷◌, ◌++◌, map, length, replicate, ◌⊎◌, inl, inr, Option, Some, None, refl, sym, ap, ◌∙◌, subst, append-nil, arith}
+use Rattle.std.specs.Prelude.{unwrap_or}
 use Rattle.std.specs.List.{AllByRecursion, AllZip}
 use Rattle.std.proofs.lemmas.List.Elements.{All-from_recursion}
 use Rattle.rc_sheet_model.specs.Sheet.{Alt, SheetItem, choice, Sheet}
@@ -8,10 +8,7 @@ use Rattle.rc_sheet_model.specs.Lists.{item_list}
 use Rattle.rc_play_model.specs.Control.{Frame, Control}
 use Rattle.rc_play_model.specs.Table.{Table, opening}
 use Rattle.rc_play_model.specs.About.{About, scene_at}
-use Rattle.rc_play_model.specs.Menu.{Item, alts_at, menu_from}
-use Rattle.rc_rules.specs.declared.menu.Item.{Item as RealItem}
-use Rattle.rc_rules.specs.Menu.{item_seen, menu_seen}
-use Rattle.std.proofs.lemmas.List.{length-map, get_or-map}
+use Rattle.rc_play_model.specs.Menu.{alts_at, menu_from}
 use Rattle.rc_sheet_model.specs.WellFormed.{IsWellFormed}
 use Rattle.rc_play_model.specs.Step.{Stage, Part, todo, round, turn, todos, Stop, decide, is_done, is_limit, start}
 use Rattle.rc_play_model.specs.Path.{Path}
@@ -174,13 +171,3 @@ start_ready about path table control path_is table_is control_is =
 -- the site of a control is one
 pub same_site : (o : Option ℕ) (site other : ℕ) → o ≡ Some site → o ≡ Some other → site ≡ other
 same_site o site other is is' = ap (λ p. unwrap_or p 0) (sym is ∙ is')
-
--- the item of the menu at a place
-pub offered_here : (items : List RealItem) (menu : List Item) (n : ℕ) → menu_seen items ≡ menu → n < length menu → n < length items
-offered_here items menu n is lt =
-    let same = ap length is in let count = length-map items item_seen in omega (arith, lt, same, count)
-
-pub chosen_here : (items : List RealItem) (x : RealItem) (menu : List Item) (n : ℕ) (d : Item) → menu_seen items ≡ menu → n < length items → x ≡ get_or items n x →
-    slice_index_or menu n d ≡ item_seen x
-chosen_here items x menu n d is lt at =
-    ap (λ xs. slice_index_or xs n d) (sym is) ∙ get_or-map item_seen items n x d lt ∙ ap item_seen (sym at)

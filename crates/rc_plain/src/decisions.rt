@@ -7,31 +7,16 @@ ghost use Rattle.rc_ast.specs.Items.{alts_seen};
 ghost use Rattle.rc_rules.specs.Machine.{StandsAtDecision, menu_here};
 ghost use Rattle.rc_rules.specs.Menu.{item_seen, menu_seen};
 ghost use Rattle.rc_plain.specs.Paths.{item_at};
-ghost use Rattle.rc_plain.specs.Plain.{chosen_item};
+ghost use Rattle.rc_plain.specs.Plain.{IsInPlay, chosen_item};
 ghost use Rattle.rc_plain.specs.State.{IsReady, plain_of, config_at};
 
 use crate::state::{State, count_decision};
 use rc_ast::{Alt, Class};
 use rc_effects::do_item;
-use rc_play_model::sites_fix_choices;
-use rc_rules::{About, Dealer, Item, Menu, current_in};
+use rc_rules::{About, Dealer, Item, Menu, Spots, current_in};
 
 impl State {
-    /// What the mover may pick at the decision that is next.
-    pub fn menu_here(&self, about: &About) -> Menu
-        requires ready { IsReady about.now self.now }
-        requires decision { StandsAtDecision about.now (config_at about.now self.now) }
-        ensures { menu_seen result.items ≡ menu_here about.now (config_at about.now self.now) }
-    {
-        sites_fix_choices();
-        let _sheet = about.sheet();
-        match self.control.site {
-            Some(site) => self.menu(about, site, self.path.alts(about)),
-            None => unreachable!(),
-        }
-    }
-
-    /// Takes an item of the menu at the decision that is next, and does its effects.
+    /// Takes an item out of the menu of the decision that is next, and does its effects.
     pub fn apply<D: Dealer>(&mut self, about: &About, item: u16, dealer: &mut D)
         requires ready { IsReady about.now self.old }
         requires decision { StandsAtDecision about.now (config_at about.now self.old) }
@@ -41,16 +26,15 @@ impl State {
         ensures ready { IsReady about.now self.new }
         ensures dealing { D.dealing dealer.new ≡ D.dealing dealer.old }
     {
-        sites_fix_choices();
-        let _sheet = about.sheet();
-        let menu = self.menu_here(about);
         let alts = self.path.alts(about);
-        self.choose(about, alts, &menu.as_slice()[item as usize], dealer);
+        let item = self.menu.swap_remove(item as usize);
+        self.choose(about, alts, &item, dealer);
     }
 
     /// Takes this item of the menu at the choice that is next, and does its effects.
     fn choose<D: Dealer>(&mut self, about: &About, alts: &[Alt], item: &Item, dealer: &mut D)
-        requires ready { IsReady about.now self.old }
+        requires laid { self.old.table.shape ≡ about.now.shape }
+        requires play { IsInPlay (plain_of about.now self.old) }
         requires here { (site : ℕ) × (item_at about.now.sheet self.old.path ≡ Some (choice site (alts_seen alts.now))) }
         requires fits { self.old.path.next + 1 < 2 ^ 64 }
         requires below { self.old.control.turn < about.now.turns }
@@ -73,5 +57,29 @@ impl State {
         );
         count_decision(&mut self.control, seat);
         self.path.pass();
+    }
+}
+
+/// The same menu once more.
+pub fn copy_of(menu: &Menu) -> Menu
+    ensures { menu_seen result.items ≡ menu_seen menu.now.items }
+{
+    let mut copy = Menu::new();
+    let _fits = menu.len();
+    for item in menu.as_slice() {
+        copy.push(item_of(item));
+    }
+    copy
+}
+
+// The same item once more.
+fn item_of(item: &Item) -> Item
+    ensures { item_seen result ≡ item_seen item.now }
+{
+    let mut spots = Spots::new();
+    let _fits = spots.try_extend_from_slice(item.spots.as_slice());
+    Item {
+        alt: item.alt,
+        spots,
     }
 }

@@ -1,5 +1,5 @@
 //! The machine.
-ghost use Rattle.std.specs.Prelude.{◌≡◌, ◌<◌, false, length, Some, is_err, IfOk, OnOk, IsOk};
+ghost use Rattle.std.specs.Prelude.{◌≡◌, ◌<◌, ◌≤◌, false, length, Some, is_err, IfOk, OnOk, IsOk};
 ghost use Rattle.rc_play_model.specs.Shape.{shape_of};
 ghost use Rattle.rc_play_model.specs.Step.{goes, start};
 ghost use Rattle.rc_play_model.specs.Stop.{stop_of};
@@ -9,9 +9,10 @@ ghost use Rattle.rc_rules.specs.Control.{control_seen, stop_seen};
 ghost use Rattle.rc_rules.specs.Machine.{StandsAtDecision, StandsWhereItStops, menu_here};
 ghost use Rattle.rc_plain.specs.Plain.{config_of, CanDecide};
 
+use crate::decisions::copy_of;
 use crate::path::Path;
-use crate::site::path_of;
-use crate::state::{State, new_control};
+use crate::site::{path_of, site_of};
+use crate::state::{State, fill_menu_at, new_control};
 use rc_deck::Memory;
 use rc_flow::Checked;
 use rc_play_model::sites_fix_choices;
@@ -112,6 +113,7 @@ impl PlainMachine {
                 table,
                 control,
                 path: Path::start(),
+                menu: Menu::new(),
             },
         }
     }
@@ -125,15 +127,28 @@ impl PlainMachine {
     {
         sites_fix_choices();
         let _sheet = about.sheet();
-        let path = path_of(&about, &control);
+        let site = site_of(&control);
+        let path = path_of(&about, site);
+        let mut menu = Menu::new();
+        fill_menu_at(&about, &table, &control, site, path.alts(&about), &mut menu);
         PlainMachine {
             about,
             state: State {
                 table,
                 control,
                 path,
+                menu,
             },
         }
+    }
+
+    /// How many items the mover may pick. `menu` copies them; this copies nothing.
+    pub fn menu_size(&self) -> usize
+        requires decision { StandsAtDecision self.now.about (config_of self.now) }
+        ensures is { result ≡ length (menu_here self.now.about (config_of self.now)) }
+        ensures few { result ≤ 256 }
+    {
+        self.state.menu.len()
     }
 }
 
@@ -169,7 +184,7 @@ impl Machine for PlainMachine {
     }
 
     fn menu(&self) -> Menu {
-        self.state.menu_here(&self.about)
+        copy_of(&self.state.menu)
     }
 
     fn apply<D: Dealer>(&mut self, item: u16, dealer: &mut D) -> Result<(), Memory>

@@ -1,5 +1,5 @@
 //! The path to a choice.
-ghost use Rattle.std.specs.Prelude.{◌≡◌, ℕ, ◌+◌, ◌<◌, ◌≤◌, [], length, Some, IfSome, IfNone};
+ghost use Rattle.std.specs.Prelude.{◌≡◌, ℕ, ◌+◌, ◌<◌, ◌≤◌, [], length, Some, IsSome, IfSome, IfNone};
 ghost use Rattle.rc_play_model.specs.Menu.{alts_at};
 ghost use Rattle.rc_play_model.specs.Path.{items_depth};
 ghost use Rattle.rc_ast.specs.Items.{items_seen};
@@ -11,16 +11,24 @@ use rc_ast::SheetItem;
 use rc_play_model::few_stages_are_open;
 use rc_rules::{About, Control};
 
-/// The path to the choice with the control's site, where there is one.
-pub fn path_of(about: &About, control: &Control) -> Path
-    requires { (site : ℕ) × (control.now.site ≡ Some site) × (0 < length (alts_at about.now.sheet site)) }
-    ensures { (site : ℕ) → control.now.site ≡ Some site → IsPathTo about.now.sheet site result }
+/// The site of a control that has one.
+pub fn site_of(control: &Control) -> u8
+    requires { IsSome control.now.site }
+    ensures { control.now.site ≡ Some result }
 {
     match control.site {
-        Some(site) => match path_to(about, site) {
-            Some(path) => path,
-            None => unreachable!(),
-        },
+        Some(site) => site,
+        None => unreachable!(),
+    }
+}
+
+/// The path to the choice with this site, where there is one.
+pub fn path_of(about: &About, site: u8) -> Path
+    requires { 0 < length (alts_at about.now.sheet site) }
+    ensures { IsPathTo about.now.sheet site result }
+{
+    match path_to(about, site) {
+        Some(path) => path,
         None => unreachable!(),
     }
 }

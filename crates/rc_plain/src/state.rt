@@ -16,14 +16,16 @@ use arrayvec::ArrayVec;
 use rc_ast::{Alt, Class, Test};
 use rc_rules::{About, Control, Menu, Scores, owner_count};
 use rc_table::Table;
-use rc_value::{Bind, Scene, Scope, expressions_bind_few, int_of, menu_of, test_of};
+use rc_value::{Bind, Scene, Scope, expressions_bind_few, fill_menu, int_of, test_of};
 
-/// The table, the control, and the path to the item that is next.
+/// The table, the control, the path to the item that is next, and the menu of the decision at which the match stands. Where it
+/// stands at none, the menu is any.
 #[derive(Drop)]
 pub struct State {
     pub table: Table,
     pub control: Control,
     pub path: Path,
+    pub menu: Menu,
 }
 
 impl State {
@@ -36,16 +38,6 @@ impl State {
         expressions_bind_few();
         let scene = Scene::new(about.sheet(), &self.table, self.control.frames.as_slice());
         test_of(&scene, &Scope::empty(), end)
-    }
-
-    /// What the choice with this site offers, whose alternatives these are.
-    pub fn menu(&self, about: &About, site: u8, alts: &[Alt]) -> Menu
-        requires laid { self.now.table.shape ≡ about.now.shape }
-        requires alts { alts_seen alts.now ≡ alts_at about.now.sheet site }
-        ensures { menu_seen result.items ≡ menu_at about.now site self.now.table.table (control_seen self.now.control) }
-    {
-        let scene = Scene::new(about.sheet(), &self.table, self.control.frames.as_slice());
-        menu_of(&scene, site, alts)
     }
 
     /// Each player's score.
@@ -71,6 +63,23 @@ impl State {
         let empty = Scope::empty();
         int_of(&scene, &empty.with(Bind::Player(player)), &sheet.score)
     }
+}
+
+/// Writes what the choice with this site offers, whose alternatives these are, into a menu, whatever it held before.
+pub fn fill_menu_at(
+    about: &About,
+    table: &Table,
+    control: &Control,
+    site: u8,
+    alts: &[Alt],
+    menu: &mut Menu,
+)
+    requires laid { table.now.shape ≡ about.now.shape }
+    requires alts { alts_seen alts.now ≡ alts_at about.now.sheet site }
+    ensures { menu_seen menu.new.items ≡ menu_at about.now site table.now.table (control_seen control.now) }
+{
+    let scene = Scene::new(about.sheet(), table, control.frames.as_slice());
+    fill_menu(&scene, site, alts, menu);
 }
 
 /// The control at the start of a match.

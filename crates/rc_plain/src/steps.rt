@@ -9,10 +9,10 @@ ghost use Rattle.rc_ast.specs.Items.{item_seen, alts_seen};
 ghost use Rattle.rc_rules.specs.Control.{stop_seen};
 ghost use Rattle.rc_rules.specs.Machine.{StandsWhereItStops};
 ghost use Rattle.rc_plain.specs.Paths.{item_at};
-ghost use Rattle.rc_plain.specs.State.{IsOffered, IsReady, plain_of, config_at, next_seen, LeadsTo};
+ghost use Rattle.rc_plain.specs.State.{KeepsMenu, IsReady, config_at, next_seen, LeadsTo};
 
 use crate::frames;
-use crate::state::{State, members};
+use crate::state::{State, fill_menu_at, members};
 use rc_ast::{Alt, Class, Effect, SheetItem, Test};
 use rc_effects::do_effects;
 use rc_play_model::{sites_fix_choices, stops_stay};
@@ -42,7 +42,7 @@ impl State {
         self.path.pass();
     }
 
-    /// Passes over the choice that is next where it offers nothing; else its mover decides.
+    /// Passes over the choice that is next where it offers nothing; else its mover decides, and its menu is kept.
     fn choice_next(&mut self, about: &About, site: u8, alts: &[Alt]) -> Option<Stop>
         requires ready { IsReady about.now self.old }
         requires here { item_at about.now.sheet self.old.path ≡ Some (choice site (alts_seen alts.now)) }
@@ -52,7 +52,15 @@ impl State {
     {
         sites_fix_choices();
         let _sheet = about.sheet();
-        if self.menu(about, site, alts).is_empty() {
+        fill_menu_at(
+            about,
+            &self.table,
+            &self.control,
+            site,
+            alts,
+            &mut self.menu,
+        );
+        if self.menu.is_empty() {
             self.path.pass();
             return None;
         }
@@ -62,7 +70,7 @@ impl State {
     /// Stops at the choice that is next, where the turn limit isn't met.
     fn decide(&mut self, about: &About, site: u8) -> Option<Stop>
         requires ready { IsReady about.now self.old }
-        requires here { IsOffered (plain_of about.now self.old) site }
+        requires here { KeepsMenu about.now self.old site }
         ensures leads { LeadsTo about.now (config_at about.now self.old) result (config_at about.now self.new) }
         ensures ready { IsReady about.now self.new }
     {

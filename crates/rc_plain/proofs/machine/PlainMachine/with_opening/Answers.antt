@@ -1,4 +1,5 @@
 use Rattle.std.proofs.Common.{ap}
+use Rattle.rc_play_model.specs.Control.{Control}
 use Rattle.rc_table.specs.Laid.{Laid}
 use Rattle.rc_rules.specs.Control.{control_seen}
 use Rattle.rc_plain.proofs.MachineLemmas.{start_ready}
@@ -8,4 +9,8 @@ pub invariant_of-result : goal.invariant_of-result
 invariant_of-result c =
     let ready = start_ready c.args.about c.start.result c.args.table.table (control_seen c.new_control-control.result) c.start.ensures
     (ap (λ (t : Laid). t.table) c.requires) c.new_control-control.ensures in
-    record { laid = ap (λ (t : Laid). t.shape) c.requires; play = ready.0 }
+    record {
+      laid = ap (λ (t : Laid). t.shape) c.requires;
+      play = ready.0;
+      kept = λ site is. absurd (let none = ap (λ (control : Control). control.site) c.new_control-control.ensures in cc);
+    }

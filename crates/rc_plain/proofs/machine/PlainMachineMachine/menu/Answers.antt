@@ -1,7 +1,12 @@
-use Rattle.std.proofs.Common.{ap, ◌∙◌}
-use Rattle.rc_rules.specs.Machine.{menu_here}
+use Rattle.std.proofs.Common.{ap, ◌∙◌, sym, subst}
+use Rattle.rc_rules.specs.Machine.{StandsAtDecision, menu_here}
 use Rattle.rc_plain.specs.Plain.{Plain, config_of}
+use Rattle.rc_plain.proofs.KeptLemmas.{kept_here}
 use Rattle.rc_plain.proofs.machine.PlainMachineMachine.menu.Goals as goal
 
 pub returns : goal.returns
-returns c = c.menu_here.ensures ∙ ap (λ (m : Plain). menu_here m.about (config_of m)) c.self.view_is
+returns c =
+    c.copy_of.ensures
+    ∙ kept_here c.self.inside.about c.self.inside.state c.self.invariant
+    (subst (λ (m : Plain). StandsAtDecision m.about (config_of m)) (sym c.self.view_is) c.requires.decision)
+    ∙ ap (λ (m : Plain). menu_here m.about (config_of m)) c.self.view_is

@@ -38,7 +38,7 @@ returns-clause-leads g c =
     ∙ ap (λ frames. mover about.sheet (frames_seen frames)) c.as_slice.ensures.value in
     λ x chosen.
     choose_leads m dealing k x c.requires.here.0 seat alts after
-    (not_round about.sheet m.path c.requires.ready.play.stands (ap stage_in c.requires.here.1)) c.requires.here.1
+    (not_round about.sheet m.path c.requires.play.stands (ap stage_in c.requires.here.1)) c.requires.here.1
     (ap (λ (i : Item). does about dealing (bindings_of scene [] (alt_in alts i.alt) i.spots) (effects_of (alt_in alts i.alt)) before) chosen
     ∙ c.do_item.ensures.does) moves
     ∙ ap (λ control. goes after.dealer (config_of (moved m (past m.path) after.table control))) (sym c.count_decision.ensures)
@@ -48,7 +48,7 @@ pub returns-clause-ready : goal.returns-clause-ready
 returns-clause-ready g c =
     let about = c.args.about.now in
     let m = plain_of about c.args.self.now in
-    let play = c.requires.ready.play in
+    let play = c.requires.play in
     let seat = c.current_in-seat.result in
     let below = c.requires.below in
     record {
@@ -60,4 +60,5 @@ returns-clause-ready g c =
           (subst (λ (control : Control). All (λ n. n ≤ control.turn) control.made) (sym c.count_decision.ensures)
           (one_decision_counts m.control.turn seat m.control.made play.counts))
           (returns-clause-leads g c c.requires.offered.0 c.requires.offered.1);
+      kept = λ site is. absurd (let none = ap (λ (control : Control). control.site) c.count_decision.ensures in cc);
     }

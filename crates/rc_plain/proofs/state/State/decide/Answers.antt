@@ -1,5 +1,6 @@
 use Rattle.std.proofs.Common.{ap, ◌∙◌, ◌<◌, ◌≤◌, subst}
 use Rattle.rc_play_model.specs.Owners.{mover}
+use Rattle.rc_play_model.specs.Menu.{alts_at}
 use Rattle.rc_play_model.specs.Path.{stage_in}
 use Rattle.rc_rules.specs.Control.{frames_seen}
 use Rattle.rc_plain.specs.State.{plain_of}
@@ -11,18 +12,18 @@ pub returns-then-self-turns-clause-leads : goal.returns-then-self-turns-clause-l
 returns-then-self-turns-clause-leads c =
     let about = c.args.about.now in
     let m = plain_of about c.args.self.now in
-    let offered = c.requires.here in
+    let offered = c.requires.here.offered in
     λ dealing k.
-    full_leads m dealing k c.args.site offered.alts (not_round about.sheet m.path c.requires.ready.play.stands (ap stage_in offered.there))
+    full_leads m dealing k c.args.site (alts_at about.sheet c.args.site) (not_round about.sheet m.path c.requires.ready.play.stands (ap stage_in offered.there))
     offered.there offered.some (subst (λ n. n ≤ m.control.turn) c.turns.ensures c.if-self-turns.true)
 
 pub returns-clause-leads : goal.returns-clause-leads
 returns-clause-leads c =
     let about = c.args.about.now in
     let m = plain_of about c.args.self.now in
-    let offered = c.requires.here in
+    let offered = c.requires.here.offered in
     λ dealing k.
-    decide_leads m dealing k c.args.site c.current_in-seat.result offered.alts
+    decide_leads m dealing k c.args.site c.current_in-seat.result (alts_at about.sheet c.args.site)
     (not_round about.sheet m.path c.requires.ready.play.stands (ap stage_in offered.there))
     offered.there offered.some (subst (λ n. m.control.turn < n) c.turns.ensures c.if-self-turns.false)
     (c.current_in-seat.ensures ∙ ap (λ sheet. mover sheet (frames_seen c.as_slice.result.now)) c.sheet.ensures.same

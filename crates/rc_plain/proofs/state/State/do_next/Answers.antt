@@ -12,6 +12,7 @@ use Rattle.rc_plain.specs.State.{plain_of}
 use Rattle.rc_plain.proofs.PathLemmas.{item_outside, not_round}
 use Rattle.rc_plain.proofs.StepCases.{moved, do_leads}
 use Rattle.rc_plain.proofs.PlayLemmas.{goes_on, past_is_path}
+use Rattle.rc_plain.proofs.KeptLemmas.{not_offered}
 use Rattle.rc_plain.proofs.state.State.do_next.Goals as goal
 
 pub do_effects-requires-clause-well : goal.do_effects-requires-clause-well
@@ -46,4 +47,5 @@ returns-clause-ready g c =
       play = goes_on m play c.pass.new.self c.do_effects.new.table.table (with_frames m.control (frames_seen c.do_effects.new.frames.items))
           (g.D.Dealer.dealing c.args.dealer.now) (g.D.Dealer.state c.args.dealer.now) (g.D.Dealer.state c.do_effects.new.dealer)
           (subst (IsPath c.args.about.now.sheet) (sym c.pass.ensures) (past_is_path m play)) play.turn play.counts (returns-clause-leads g c);
+      kept = λ site is. absurd (not_offered m site _ (c.requires.ready.kept site is).offered c.requires.here refl);
     }

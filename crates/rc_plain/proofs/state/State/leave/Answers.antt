@@ -1,4 +1,4 @@
-use Rattle.std.proofs.Common.{ap, sym, ◌∙◌, subst}
+use Rattle.std.proofs.Common.{ap, sym, ◌∙◌, subst, refl}
 use Rattle.rc_sheet_model.specs.Lists.{item_list}
 use Rattle.rc_sheet_model.specs.WellFormed.{owner_count}
 use Rattle.rc_play_model.specs.Step.{with_frames, passed}
@@ -9,6 +9,7 @@ use Rattle.rc_plain.specs.State.{plain_of}
 use Rattle.rc_plain.proofs.PathLemmas.{not_round, past_end}
 use Rattle.rc_plain.proofs.StepCases.{end_leads, turn_leads}
 use Rattle.rc_plain.proofs.PlayLemmas.{goes_on, left_stage, still}
+use Rattle.rc_plain.proofs.KeptLemmas.{not_offered}
 use Rattle.rc_plain.proofs.state.State.leave.Goals as goal
 
 pub returns-then-not-leave-clause-leads : goal.returns-then-not-leave-clause-leads
@@ -48,4 +49,5 @@ returns-clause-ready c =
       laid = c.requires.ready.laid;
       play = goes_on m play path m.table (with_frames m.control (frames_seen c.pass.new.frames.items)) still 0 0
           back.0 play.turn play.counts (returns-clause-leads c still 0);
+      kept = λ site is. absurd (not_offered m site _ (c.requires.ready.kept site is).offered c.requires.end refl);
     }

@@ -10,6 +10,7 @@ use Rattle.rc_plain.specs.State.{plain_of}
 use Rattle.rc_plain.proofs.PathLemmas.{item_outside, end_outside}
 use Rattle.rc_plain.proofs.StepCases.{moved, close_leads, round_leads}
 use Rattle.rc_plain.proofs.PlayLemmas.{goes_on, past_is_path, into_is_path, few_places, one_turn_counts, still}
+use Rattle.rc_plain.proofs.KeptLemmas.{not_offered}
 use Rattle.rc_plain.proofs.state.State.round_next.Goals as goal
 
 pub ends-requires-clause-well : goal.ends-requires-clause-well
@@ -34,6 +35,7 @@ returns-then-ends-clause-ready c =
           (subst (IsPath about.sheet) (sym c.pass.ensures) (past_is_path m play)) play.turn play.counts
           (close_leads m still 0 s frames c.requires.round (ap stage_in here.3) (sym c.ends.ensures ∙ c.if-ends.true) (sym c.close.ensures)
           ∙ ap (λ path. goes 0 (config_of (moved m path m.table (with_frames m.control frames)))) (sym c.pass.ensures));
+      kept = λ site is. absurd (not_offered m site _ (c.requires.ready.kept site is).offered here.3 refl);
     }
 
 pub enter-requires : goal.enter-requires
@@ -64,4 +66,5 @@ returns-clause-ready c =
       play = goes_on m play c.enter.new.self m.table (one_turn_more m.control) still 0 0
           (subst (IsPath about.sheet) (sym c.enter.ensures) (into_is_path m play s (ap stage_in here.3)))
           (omega (arith, below)) (one_turn_counts m.control.turn m.control.made play.counts) (returns-clause-leads c still 0);
+      kept = λ site is. absurd (not_offered m site _ (c.requires.ready.kept site is).offered here.3 refl);
     }

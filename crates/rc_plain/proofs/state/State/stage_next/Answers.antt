@@ -1,4 +1,4 @@
-use Rattle.std.proofs.Common.{ap, sym, ◌∙◌, subst, arith}
+use Rattle.std.proofs.Common.{ap, sym, ◌∙◌, subst, refl, arith}
 use Rattle.std.proofs.lemmas.List.{length-map}
 use Rattle.rc_sheet_model.specs.Sheet.{stage}
 use Rattle.rc_play_model.specs.Step.{Stage, goes, with_frames, opened}
@@ -10,6 +10,7 @@ use Rattle.rc_plain.specs.Plain.{config_of}
 use Rattle.rc_plain.specs.State.{plain_of}
 use Rattle.rc_plain.proofs.StepCases.{moved, open_leads}
 use Rattle.rc_plain.proofs.PlayLemmas.{goes_on, mark_is_path, few_frames, still}
+use Rattle.rc_plain.proofs.KeptLemmas.{not_offered}
 use Rattle.rc_plain.proofs.state.State.stage_next.Goals as goal
 
 pub open-requires : goal.open-requires
@@ -44,4 +45,5 @@ returns-clause-ready c =
       play = goes_on m play c.open-2.new.self m.table (with_frames m.control (frames_seen c.open.new.frames.items)) still 0 0
           (subst (IsPath about.sheet) (sym c.open-2.ensures) (mark_is_path m play s (ap stage_in c.requires.here.1))) play.turn play.counts
           (returns-clause-leads c still 0);
+      kept = λ site is. absurd (not_offered m site _ (c.requires.ready.kept site is).offered c.requires.here.1 refl);
     }
