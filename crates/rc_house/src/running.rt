@@ -155,8 +155,9 @@ fn run_command<S: Source, O: Sink, N: Sink, L: Ledger>(
 }
 
 /// Runs a command with one worker; where its words name more, they are none of a command's. It waits for nobody and always
-/// returns. Each playout is a step. In what is played, two decisions of one seat with one strategy and one seed of the seats, at
-/// states that are alike to that seat, have the same item, in whatever matches they stand.
+/// returns. Each playout is a step. The clause `alike` hands on a law and refuses no body: in what is played, two decisions of one
+/// seat with one strategy and one seed of the seats, at states that are alike to that seat, have the same item, in whatever matches
+/// they stand.
 pub fn run_alone<S: Source, O: Sink, N: Sink, L: Ledger>(
     alloc: Global,
     words: &[String],
