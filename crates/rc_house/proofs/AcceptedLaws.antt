@@ -71,7 +71,7 @@ in_sight_or_not sheet = by (unseen_locs sheet) refl
         )
 
 -- a form without a fault of its parts has none
-no_part_fault : (form : Tree) (kind : SourceKind) (at : ℕ) → sheet_fault form ≡ None → HasPartFault kind at form → ⊥
+no_part_fault : (form : Tree) (kind : SourceKind) (at : ℕ) → sheet_fault form ≡ None → HasPartFault form kind at → ⊥
 no_part_fault form kind at none has = let found = has.1 in absurd cc
 
 same_fault : (kind other : SourceKind) (at offset : ℕ) → other ≡ kind → offset ≡ at → refusal.Sheet other offset ≡ refusal.Sheet kind at
@@ -79,7 +79,7 @@ same_fault kind other at offset is same = cc
 
 -- a form has one first fault
 one_first_fault : (form : Tree) (kind other : SourceKind) (at offset : ℕ)
-    → HasFirstFault kind at form → HasFirstFault other offset form
+    → HasFirstFault form kind at → HasFirstFault form other offset
     → refusal.Sheet other offset ≡ refusal.Sheet kind at
 one_first_fault form kind other at offset (inl has) (inl has') =
     let same : has'.0 ≡ has.0 = some_is (sym has'.1 ∙ has.1) in
@@ -94,7 +94,7 @@ one_first_fault form kind other at offset (inr has) (inr has') =
     (one_unseen has.1 at offset has.3 (subst (λ sheet. IsUnseen sheet offset) same has'.3))
 
 -- a form that is accepted has no fault
-accepted_has_no_fault : (form : Tree) (sheet : Sheet) (kind : SourceKind) (at : ℕ) → IsAccepted form sheet → HasFirstFault kind at form → ⊥
+accepted_has_no_fault : (form : Tree) (sheet : Sheet) (kind : SourceKind) (at : ℕ) → IsAccepted form sheet → HasFirstFault form kind at → ⊥
 accepted_has_no_fault form sheet kind at is (inl has) = no_part_fault form kind at is.of_form.faultless has
 accepted_has_no_fault form sheet kind at is (inr has) =
     let same = one_sheet form sheet has.1 is.of_form has.2 in
@@ -102,14 +102,14 @@ accepted_has_no_fault form sheet kind at is (inr has) =
 
 -- lists that were read have one first fault of the sheet
 pub one_sheet_fault : (lists : List Tree) (rest : ℕ) (kind other : SourceKind) (at offset : ℕ)
-    → HasSheetFault kind at lists rest → HasSheetFault other offset lists rest → refusal.Sheet other offset ≡ refusal.Sheet kind at
+    → HasSheetFault lists rest kind at → HasSheetFault lists rest other offset → refusal.Sheet other offset ≡ refusal.Sheet kind at
 one_sheet_fault [] rest kind other at offset has has' =
     same_fault kind other at offset (has'.0 ∙ sym has.0) (has'.1 ∙ sym has.1)
 one_sheet_fault (form ∷ others) rest kind other at offset has has' = one_first_fault form kind other at offset has has'
 
 -- lists of which the first is accepted have none
 pub accepted_no_fault : (P : Sheet → List Tree → Type 0) (lists : List Tree) (rest : ℕ) (kind : SourceKind) (at : ℕ)
-    → IsAcceptedWith P lists → HasSheetFault kind at lists rest → ⊥
+    → IsAcceptedWith P lists → HasSheetFault lists rest kind at → ⊥
 accepted_no_fault P [] rest kind at is has = absurd is
 accepted_no_fault P (form ∷ others) rest kind at is has = accepted_has_no_fault form is.0 kind at is.1 has
 

@@ -62,7 +62,7 @@ missing_answer task source (form ∷ others) rest none spelled = absurd (omega (
 
 -- The first fault of the first list refuses the source.
 pub refused_answer : (task : Task) (source : List ℕ) (lists : List Tree) (form : Tree) (others : List Tree) (rest : ℕ)
-    (kind : SourceKind) (at : ℕ) → lists ≡ form ∷ others → Spelled source (wanted task) lists rest → HasFirstFault kind at form
+    (kind : SourceKind) (at : ℕ) → lists ≡ form ∷ others → Spelled source (wanted task) lists rest → HasFirstFault form kind at
     → HasAnswer task source (refused (refusal.Sheet kind at))
 refused_answer task source lists form others rest kind at same spelled is =
     sheet_faulty (reading source _ (form ∷ others) rest (subst (λ lists. Spelled source (wanted task) lists rest) same spelled)) kind at is refl
@@ -139,7 +139,7 @@ judged_answers source lists rest sheet plan steps (Ok answer) spelled is behind 
 -- A plan that fails as it is read is refused for its first fault.
 unread_answer : (source : List ℕ) (lists : List Tree) (rest : ℕ) (sheet : Sheet) (steps : ℕ) (fail : PlanFail) (answer : Stored)
     → Spelled source (wanted Check) lists rest → IsAcceptedWith (λ other _. other ≡ sheet) lists
-    → IfPlanFault fail (λ fault. IsFaultyBehind sheet.players fault.kind fault.at lists rest) → IsPlanRefusal fail answer
+    → IfPlanFault fail (λ fault. IsFaultyBehind sheet.players lists rest fault.kind fault.at) → IsPlanRefusal fail answer
     → IsAnswerTo Check source steps steps answer
 unread_answer source lists rest sheet steps fails.Memory answer spelled is fault refusal_so = absurd refusal_so
 unread_answer source lists rest sheet steps (fails.Fault found) answer spelled is fault refusal_so =
@@ -148,7 +148,7 @@ unread_answer source lists rest sheet steps (fails.Fault found) answer spelled i
 
 pub unread_answers : (source : List ℕ) (lists : List Tree) (rest : ℕ) (sheet : Sheet) (steps : ℕ) (fail : PlanFail) {E : Type 0} (result : Result Stored E)
     → Spelled source (wanted Check) lists rest → IsAcceptedWith (λ other _. other ≡ sheet) lists
-    → IfPlanFault fail (λ fault. IsFaultyBehind sheet.players fault.kind fault.at lists rest)
+    → IfPlanFault fail (λ fault. IsFaultyBehind sheet.players lists rest fault.kind fault.at)
     → IfOk result (IsPlanRefusal fail) → IfOk result (IsAnswerTo Check source steps steps)
 unread_answers source lists rest sheet steps fail (Err error) spelled is fault refusal_so = tt
 unread_answers source lists rest sheet steps fail (Ok answer) spelled is fault refusal_so =
@@ -157,7 +157,7 @@ unread_answers source lists rest sheet steps fail (Ok answer) spelled is fault r
 -- A plan that fails is refused for its first fault.
 failed_answer : (source : List ℕ) (lists : List Tree) (rest : ℕ) (sheet : Sheet) (steps : ℕ) (fail : PlanFail) (answer : Stored)
     → Spelled source (wanted Play) lists rest → IsAcceptedWith (λ other _. other ≡ sheet) lists
-    → IfPlanFault fail (λ fault. IsPlanFaulty source sheet.players fault.kind fault.at lists rest) → IsPlanRefusal fail answer
+    → IfPlanFault fail (λ fault. IsPlanFaulty source sheet.players lists rest fault.kind fault.at) → IsPlanRefusal fail answer
     → IsAnswerTo Play source steps steps answer
 failed_answer source lists rest sheet steps fails.Memory answer spelled is fault refusal_so = absurd refusal_so
 failed_answer source lists rest sheet steps (fails.Fault found) answer spelled is fault refusal_so =
@@ -166,7 +166,7 @@ failed_answer source lists rest sheet steps (fails.Fault found) answer spelled i
 
 pub failed_answers : (source : List ℕ) (lists : List Tree) (rest : ℕ) (sheet : Sheet) (steps : ℕ) (fail : PlanFail) {E : Type 0} (result : Result Stored E)
     → Spelled source (wanted Play) lists rest → IsAcceptedWith (λ other _. other ≡ sheet) lists
-    → IfPlanFault fail (λ fault. IsPlanFaulty source sheet.players fault.kind fault.at lists rest)
+    → IfPlanFault fail (λ fault. IsPlanFaulty source sheet.players lists rest fault.kind fault.at)
     → IfOk result (IsPlanRefusal fail) → IfOk result (IsAnswerTo Play source steps steps)
 failed_answers source lists rest sheet steps fail (Err error) spelled is fault refusal_so = tt
 failed_answers source lists rest sheet steps fail (Ok answer) spelled is fault refusal_so =

@@ -25,7 +25,7 @@ no_forms trees rest none one = omega (arith, ap length none, ap length one.1)
 
 -- a form that has no fault of a part, and whose sheet has none of sight, has none
 pub no_first_fault : (tree : Tree) (kind : SourceKind) (at : ℕ) → sheet_fault tree ≡ None
-    → ((sheet : Sheet) (at : ℕ) → IsSheetOf tree sheet → IsUnseen sheet at → ⊥) → HasFirstFault kind at tree → ⊥
+    → ((sheet : Sheet) (at : ℕ) → IsSheetOf tree sheet → IsUnseen sheet at → ⊥) → HasFirstFault tree kind at → ⊥
 no_first_fault tree kind at none sight (inl has) = let found = has.1 in absurd cc
 no_first_fault tree kind at none sight (inr has) = sight has.1 at has.2 has.3
 

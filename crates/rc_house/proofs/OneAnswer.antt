@@ -24,11 +24,11 @@ accepted_of P source want read other is =
 
 -- what is faulty of one reading is so of any
 faulty_of : (source : List ℕ) (want : ℕ) (read other : Reading source want) (kind : _) (at : ℕ)
-    → HasSheetFault kind at other.lists other.rest → HasSheetFault kind at read.lists read.rest
+    → HasSheetFault other.lists other.rest kind at → HasSheetFault read.lists read.rest kind at
 faulty_of source want read other kind at has =
     let same = one_reading source want read other in
-    subst (λ lists. HasSheetFault kind at lists read.rest) same.0
-    (subst (λ rest. HasSheetFault kind at other.lists rest) same.1 has)
+    subst (λ lists. HasSheetFault lists read.rest kind at) same.0
+    (subst (λ rest. HasSheetFault other.lists rest kind at) same.1 has)
 
 -- of an accepted sheet there is one answer
 one_accepted : (task : Task) (source : List ℕ) (sheet : sheets.Sheet) (others : List Tree) (rest : ℕ) (answer other : Answer)
@@ -61,7 +61,7 @@ one_plan_refusal Sheet source sheet others rest kind other at offset has has' = 
 
 -- a sheet that is accepted has no fault
 no_sheet_fault : (P : sheets.Sheet → List Tree → Type 0) (task : Task) (source : List ℕ) (kind : _) (at : ℕ)
-    (read other : Reading source (wanted task)) → IsAcceptedWith P read.lists → HasSheetFault kind at other.lists other.rest → ⊥
+    (read other : Reading source (wanted task)) → IsAcceptedWith P read.lists → HasSheetFault other.lists other.rest kind at → ⊥
 no_sheet_fault P task source kind at read other is fault =
     accepted_no_fault P read.lists read.rest kind at is (faulty_of source (wanted task) read other kind at fault)
 

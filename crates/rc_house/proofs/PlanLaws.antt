@@ -27,13 +27,13 @@ none_first form players kind at none is =
 
 -- a plan that is read has no fault
 pub read_no_fault : (players : ℕ) (others : List Tree) (rest : ℕ) (plan : Plan) (kind : PlanKind) (at : ℕ)
-    → IsPlanRead players others plan → HasPlanReadFault players kind at others rest → ⊥
+    → IsPlanRead players others plan → HasPlanReadFault players others rest kind at → ⊥
 read_no_fault players [] rest plan kind at is has = is
 read_no_fault players (form ∷ others) rest plan kind at is has = none_first form players kind at is.faultless has
 
 -- and so has one that is accepted
 pub accepted_no_plan_fault : (source : List ℕ) (players : ℕ) (others : List Tree) (rest : ℕ) (plan : Plan) (kind : PlanKind) (at : ℕ)
-    → IsPlanAccepted source players others rest plan → HasPlanFault source players kind at others rest → ⊥
+    → IsPlanAccepted source players others rest plan → HasPlanFault source players others rest kind at → ⊥
 accepted_no_plan_fault source players others rest plan kind at is (inl has) = read_no_fault players others rest plan kind at is.0 has
 accepted_no_plan_fault source players others rest plan kind at is (inr has) = has.2 is.1
 
@@ -52,7 +52,7 @@ one_accepted_plan source players others rest plan other is is' = one_read_plan p
 
 -- there is one first fault as it is read
 pub one_read_fault : (players : ℕ) (others : List Tree) (rest : ℕ) (kind other : PlanKind) (at offset : ℕ)
-    → HasPlanReadFault players kind at others rest → HasPlanReadFault players other offset others rest
+    → HasPlanReadFault players others rest kind at → HasPlanReadFault players others rest other offset
     → refusal.Plan other offset ≡ refusal.Plan kind at
 one_read_fault players [] rest kind other at offset has has' =
     same_fault kind other at offset (has'.0 ∙ sym has.0) (has'.1 ∙ sym has.1)
@@ -62,7 +62,7 @@ one_read_fault players (form ∷ others) rest kind other at offset has has' =
 
 -- and one where nothing may follow the plan
 pub one_plan_fault : (source : List ℕ) (players : ℕ) (others : List Tree) (rest : ℕ) (kind other : PlanKind) (at offset : ℕ)
-    → HasPlanFault source players kind at others rest → HasPlanFault source players other offset others rest
+    → HasPlanFault source players others rest kind at → HasPlanFault source players others rest other offset
     → refusal.Plan other offset ≡ refusal.Plan kind at
 one_plan_fault source players others rest kind other at offset (inl has) (inl has') = one_read_fault players others rest kind other at offset has has'
 one_plan_fault source players others rest kind other at offset (inl has) (inr has') = absurd (read_no_fault players others rest has'.0 kind at has'.1 has)
@@ -73,7 +73,7 @@ one_plan_fault source players others rest kind other at offset (inr has) (inr ha
 -- a plan is read, or it has a fault
 abbrev pub IsReadOrFault : ℕ → List Tree → ℕ → Type 0
 IsReadOrFault players others rest =
-    ((plan : Plan) × IsPlanRead players others plan) ⊎ ((kind : PlanKind) × (at : ℕ) × HasPlanReadFault players kind at others rest)
+    ((plan : Plan) × IsPlanRead players others plan) ⊎ ((kind : PlanKind) × (at : ℕ) × HasPlanReadFault players others rest kind at)
 
 pub read_or_fault : (players : ℕ) (others : List Tree) (rest : ℕ) → 1 ≤ players → players ≤ 8 → IsReadOrFault players others rest
 read_or_fault players [] rest some few = inr (Shape, rest, (refl, refl))
@@ -90,7 +90,7 @@ read_or_fault players (form ∷ others) rest some few = by (plan_faults players 
 -- the lists are accepted, or they have a fault
 abbrev pub IsPlanOrFault : List ℕ → ℕ → List Tree → ℕ → Type 0
 IsPlanOrFault source players others rest =
-    HasPlan source players others rest ⊎ ((kind : PlanKind) × (at : ℕ) × HasPlanFault source players kind at others rest)
+    HasPlan source players others rest ⊎ ((kind : PlanKind) × (at : ℕ) × HasPlanFault source players others rest kind at)
 
 pub plan_or_fault : (source : List ℕ) (players : ℕ) (others : List Tree) (rest : ℕ) → 1 ≤ players → players ≤ 8 → IsPlanOrFault source players others rest
 plan_or_fault source players others rest some few = by (read_or_fault players others rest some few) (cases_eq rest (length source))
@@ -116,7 +116,7 @@ others_are list forms plan form others is two item same =
 
 -- a fault of the plan as it is read is its first
 pub faulty_so : (source : List ℕ) (players : ℕ) (lists : List Tree) (rest : ℕ) (fail : PlanFail)
-    → IfPlanFault fail (λ fault. IsFaultyBehind players fault.kind fault.at lists rest)
-    → IfPlanFault fail (λ fault. IsPlanFaulty source players fault.kind fault.at lists rest)
+    → IfPlanFault fail (λ fault. IsFaultyBehind players lists rest fault.kind fault.at)
+    → IfPlanFault fail (λ fault. IsPlanFaulty source players lists rest fault.kind fault.at)
 faulty_so source players lists rest fails.Memory is = tt
 faulty_so source players lists rest (fails.Fault fault) is = λ form others same. inl (is form others same)

@@ -61,7 +61,7 @@ accepted Check source form others rest sheet spelled is =
     by_plan (inr fault) = (
       refused (refusal.Plan fault.0 fault.1),
       plan_answer Check source (form ∷ others) rest sheet fault.0 fault.1 spelled sheet_is
-          (λ first more same. subst (λ others. HasPlanReadFault sheet.players fault.0 fault.1 others rest) (behind first more same) fault.2),
+          (λ first more same. subst (λ others. HasPlanReadFault sheet.players others rest fault.0 fault.1) (behind first more same) fault.2),
     )
 accepted Play source form others rest sheet spelled is =
     by_plan (plan_or_fault source sheet.players others rest is.of_form.well.limits.some_players is.of_form.well.limits.players)
@@ -81,7 +81,7 @@ accepted Play source form others rest sheet spelled is =
     by_plan (inr fault) = (
       refused (refusal.Plan fault.0 fault.1),
       plan_answer Play source (form ∷ others) rest sheet fault.0 fault.1 spelled sheet_is
-          (λ first more same. subst (λ others. HasPlanFault source sheet.players fault.0 fault.1 others rest) (behind first more same) fault.2),
+          (λ first more same. subst (λ others. HasPlanFault source sheet.players others rest fault.0 fault.1) (behind first more same) fault.2),
     )
 
 -- one whose first list has no fault of its parts

@@ -13,17 +13,17 @@ use Rattle.rc_house.specs.declared.status.SourceKind.TheVariants.{Unseen}
 use Rattle.rc_house.specs.Status.{sheet_kind}
 
 -- the first fault of the parts of a form that is to be a sheet
-abbrev pub HasPartFault : SourceKind → ℕ → Tree → Type 0
-HasPartFault kind at form =
+abbrev pub HasPartFault : Tree → SourceKind → ℕ → Type 0
+HasPartFault form kind at =
     (found : SheetFault) × (sheet_fault form ≡ Some found) × (kind ≡ sheet_kind found.kind) × (at ≡ found.at)
 
 -- the first location that stands in a guard or a domain and is out of sight there
-abbrev pub HasSightFault : SourceKind → ℕ → Tree → Type 0
-HasSightFault kind at form = (kind ≡ Unseen) × (sheet : Sheet) × IsSheetOf form sheet × IsUnseen sheet at
+abbrev pub HasSightFault : Tree → SourceKind → ℕ → Type 0
+HasSightFault form kind at = (kind ≡ Unseen) × (sheet : Sheet) × IsSheetOf form sheet × IsUnseen sheet at
 
 -- the first fault of a form that is to be a sheet: of its parts, or else of sight
-abbrev pub HasFirstFault : SourceKind → ℕ → Tree → Type 0
-HasFirstFault kind at form = HasPartFault kind at form ⊎ HasSightFault kind at form
+abbrev pub HasFirstFault : Tree → SourceKind → ℕ → Type 0
+HasFirstFault form kind at = HasPartFault form kind at ⊎ HasSightFault form kind at
 
 -- what holds of a fault; nothing is said where memory ran out
 abbrev pub IfSourceFault : SourceFail → (SourceKind → ℕ → Type 0) → Type 0

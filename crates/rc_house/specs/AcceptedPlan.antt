@@ -24,9 +24,9 @@ IsPlanRead players (form ∷ others) plan = IsPlanOf players form plan
 
 -- The first fault of the plan, where these are the lists and the rest that were read behind the sheet: it is missing, or else it is
 -- the first fault of the first of them.
-abbrev pub HasPlanReadFault : ℕ → PlanKind → ℕ → List Tree → ℕ → Type 0
-HasPlanReadFault players kind at [] rest = (kind ≡ Shape) × (at ≡ rest)
-HasPlanReadFault players kind at (form ∷ others) rest = IsPlanFault form players kind at
+abbrev pub HasPlanReadFault : ℕ → List Tree → ℕ → PlanKind → ℕ → Type 0
+HasPlanReadFault players [] rest kind at = (kind ≡ Shape) × (at ≡ rest)
+HasPlanReadFault players (form ∷ others) rest kind at = IsPlanFault form players kind at
 
 -- It is read as this plan, and nothing follows it in the source.
 abbrev pub IsPlanAccepted : List ℕ → ℕ → List Tree → ℕ → Plan → Type 0
@@ -37,9 +37,9 @@ abbrev pub HasPlan : List ℕ → ℕ → List Tree → ℕ → Type 0
 HasPlan source players others rest = (plan : Plan) × IsPlanAccepted source players others rest plan
 
 -- The first fault of the plan where nothing may follow it: the first fault as it is read; or else something follows it.
-abbrev pub HasPlanFault : List ℕ → ℕ → PlanKind → ℕ → List Tree → ℕ → Type 0
-HasPlanFault source players kind at others rest =
-    HasPlanReadFault players kind at others rest
+abbrev pub HasPlanFault : List ℕ → ℕ → List Tree → ℕ → PlanKind → ℕ → Type 0
+HasPlanFault source players others rest kind at =
+    HasPlanReadFault players others rest kind at
     ⊎ ((plan : Plan) × IsPlanRead players others plan × (rest ≢ length source) × (kind ≡ Rest) × (at ≡ rest))
 
 -- Behind the first of these lists, the sheet, stands this plan, and it is accepted.
@@ -48,15 +48,15 @@ IsPlanned source players lists rest plan =
     (form : Tree) (others : List Tree) → lists ≡ form ∷ others → IsPlanAccepted source players others rest plan
 
 -- Behind the first of these lists stands a plan whose first fault is this.
-abbrev pub IsPlanFaulty : List ℕ → ℕ → PlanKind → ℕ → List Tree → ℕ → Type 0
-IsPlanFaulty source players kind at lists rest =
-    (form : Tree) (others : List Tree) → lists ≡ form ∷ others → HasPlanFault source players kind at others rest
+abbrev pub IsPlanFaulty : List ℕ → ℕ → List Tree → ℕ → PlanKind → ℕ → Type 0
+IsPlanFaulty source players lists rest kind at =
+    (form : Tree) (others : List Tree) → lists ≡ form ∷ others → HasPlanFault source players others rest kind at
 
 -- Behind the first of these lists stands this plan.
 abbrev pub IsBehind : ℕ → List Tree → Plan → Type 0
 IsBehind players lists plan = (form : Tree) (others : List Tree) → lists ≡ form ∷ others → IsPlanRead players others plan
 
 -- Behind the first of these lists stands a plan whose first fault, as it is read, is this.
-abbrev pub IsFaultyBehind : ℕ → PlanKind → ℕ → List Tree → ℕ → Type 0
-IsFaultyBehind players kind at lists rest =
-    (form : Tree) (others : List Tree) → lists ≡ form ∷ others → HasPlanReadFault players kind at others rest
+abbrev pub IsFaultyBehind : ℕ → List Tree → ℕ → PlanKind → ℕ → Type 0
+IsFaultyBehind players lists rest kind at =
+    (form : Tree) (others : List Tree) → lists ≡ form ∷ others → HasPlanReadFault players others rest kind at

@@ -62,8 +62,8 @@ IsAnswered Sheet source sheet others rest answer = answer ≡ text (line (printe
 
 -- The plan's first fault, where the command reads a plan.
 abbrev pub HasPlanRefusal : Task → List ℕ → sheet.Sheet → List Tree → ℕ → PlanKind → ℕ → Type 0
-HasPlanRefusal Play source sheet others rest kind at = HasPlanFault source sheet.players kind at others rest
-HasPlanRefusal Check source sheet others rest kind at = HasPlanReadFault sheet.players kind at others rest
+HasPlanRefusal Play source sheet others rest kind at = HasPlanFault source sheet.players others rest kind at
+HasPlanRefusal Check source sheet others rest kind at = HasPlanReadFault sheet.players others rest kind at
 HasPlanRefusal Sheet source sheet others rest kind at = ⊥
 
 -- The command has this answer to its source. To each source it has exactly one.
@@ -73,7 +73,7 @@ pub data HasAnswer (task : Task) (source : List ℕ) (answer : Answer) : Type 0 
       → answer ≡ refused (refusal.Sheet kind at)
       → HasAnswer task source answer
   -- the forms are read, and this is the sheet's first fault
-  sheet_faulty : (read : Reading source (wanted task)) (kind : SourceKind) (at : ℕ) → HasSheetFault kind at read.lists read.rest
+  sheet_faulty : (read : Reading source (wanted task)) (kind : SourceKind) (at : ℕ) → HasSheetFault read.lists read.rest kind at
       → answer ≡ refused (refusal.Sheet kind at)
       → HasAnswer task source answer
   -- the sheet is accepted, and this is the plan's first fault

@@ -23,9 +23,9 @@ HasFormFault source want kind at = (found : FormKind) × IsFormFault source want
 
 -- The first fault of the sheet, where these are the lists and the rest that were read: the sheet is missing, or else it is the
 -- first fault of the first list.
-abbrev pub HasSheetFault : SourceKind → ℕ → List Tree → ℕ → Type 0
-HasSheetFault kind at [] rest = (kind ≡ Shape) × (at ≡ rest)
-HasSheetFault kind at (form ∷ others) rest = HasFirstFault kind at form
+abbrev pub HasSheetFault : List Tree → ℕ → SourceKind → ℕ → Type 0
+HasSheetFault [] rest kind at = (kind ≡ Shape) × (at ≡ rest)
+HasSheetFault (form ∷ others) rest kind at = HasFirstFault form kind at
 
 -- The first list is accepted as a sheet, and this holds of the sheet and of the lists behind it.
 abbrev pub IsAcceptedWith : (Sheet → List Tree → Type 0) → List Tree → Type 0

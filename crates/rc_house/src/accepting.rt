@@ -27,7 +27,7 @@ pub fn accept(alloc: Global, form: &Form) -> Result<Checked, SourceFail>
     requires printable { IsPrintable (tree_of form.now) }
     requires of_atoms { IsOfAtoms (tree_of form.now) }
     ensures accepted { IfOk result (λ checked. IsAccepted (tree_of form.now) checked) }
-    ensures refused { IfErr result (λ fail. IfSourceFault fail (λ kind at. HasFirstFault kind at (tree_of form.now))) }
+    ensures refused { IfErr result (λ fail. IfSourceFault fail (HasFirstFault (tree_of form.now))) }
 {
     let sheet = match sheet_of(alloc, form) {
         Ok(sheet) => sheet,

@@ -24,7 +24,7 @@ pub fn read_plan(alloc: Global, source: &[u8], forms: &Forms, players: u8) -> Re
     ensures limits { IfOk result (λ plan. IsWithinLimits (plan_seen plan)) }
     ensures seats { IfOk result (λ plan. length (plan_seen plan).strategies ≡ players) }
     ensures fault { IfErr result (λ fail. IfPlanFault fail (λ fault.
-        IsPlanFaulty source.now players fault.kind fault.at (trees_of forms.now.list.items) forms.now.rest)) }
+        IsPlanFaulty source.now players (trees_of forms.now.list.items) forms.now.rest fault.kind fault.at)) }
 {
     let plan = match plan_behind(alloc, source, forms, players) {
         Ok(plan) => plan,
@@ -52,7 +52,7 @@ pub fn plan_behind(
     ensures limits { IfOk result (λ plan. IsWithinLimits (plan_seen plan)) }
     ensures seats { IfOk result (λ plan. length (plan_seen plan).strategies ≡ players) }
     ensures fault { IfErr result (λ fail. IfPlanFault fail (λ fault.
-        IsFaultyBehind players fault.kind fault.at (trees_of forms.now.list.items) forms.now.rest)) }
+        IsFaultyBehind players (trees_of forms.now.list.items) forms.now.rest fault.kind fault.at)) }
 {
     let Some(form) = forms.list.get(1) else {
         return Err(PlanFail::Fault(PlanFault {

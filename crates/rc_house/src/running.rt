@@ -155,8 +155,9 @@ fn run_command<S: Source, O: Sink, N: Sink, L: Ledger>(
 }
 
 /// Runs a command with one worker; where its words name more, they are none of a command's. It waits for nobody and always
-/// returns. Each playout is a step. In what is played, two decisions of one seat with one strategy and one seed of the seats, at
-/// states that are alike to that seat, have the same item, in whatever matches they stand.
+/// returns. Each playout is a step. The clause `alike` hands on a law and refuses no body: in what is played, two decisions of one
+/// seat with one strategy and one seed of the seats, at states that are alike to that seat, have the same item, in whatever matches
+/// they stand.
 pub fn run_alone<S: Source, O: Sink, N: Sink, L: Ledger>(
     alloc: Global,
     words: &[String],
@@ -188,23 +189,26 @@ pub fn run_alone<S: Source, O: Sink, N: Sink, L: Ledger>(
 /// Runs a command on a ledger that no type stands for yet.
 fn run_from<S: Source, O: Sink, N: Sink, L: Ledger>(
     alloc: Global,
-    words: &[String],
+    command: Command,
     source: &mut S,
     out: &mut O,
     notes: &mut N,
     blank: Blank,
 ) -> Status
+    requires command { (words : List (List ℕ)) × IsCommand words command }
     requires name { blank.name ≡ L.name }
     requires parts { blank.parts ≡ L.parts }
     requires some { 0 < blank.parts }
-    ensures ends { (playouts : ℕ) × Ends Usage (map string_bytes words.now)
+    ensures runs { (playouts : ℕ) × Runs command
         (moment (S.left source.old) (S.faults source.old) (O.written out.old) (O.faults out.old) (N.written notes.old) (N.faults notes.old))
         (moment (S.left source.new) (S.faults source.new) (O.written out.new) (O.faults out.new) (N.written notes.new) (N.faults notes.new))
         0 playouts result }
-    ensures alike { AlikeSamePicks }
+    ensures no_count_fell { NoCountFell
+        (moment (S.left source.old) (S.faults source.old) (O.written out.old) (O.faults out.old) (N.written notes.old) (N.faults notes.old))
+        (moment (S.left source.new) (S.faults source.new) (O.written out.new) (O.faults out.new) (N.written notes.new) (N.faults notes.new)) }
 {
     let mut steps = Steps::<L>::new(blank);
-    run_alone(alloc, words, source, out, notes, &mut steps)
+    run_command(alloc, command, source, out, notes, &mut steps)
 }
 
 /// Runs a command. It may wait for workers, and what it promises holds if it returns. More than one worker isn't built yet.
@@ -227,7 +231,7 @@ pub fn run<R: Threads + Wait + Sync, S: Source, O: Sink, N: Sink, G: Gate>(
     match command_of(alloc, words) {
         Ok(Some(command)) => {
             if command.workers() == 1 {
-                run_from::<S, O, N, Brand>(alloc, words, source, out, notes, Blank::new(1))
+                run_from::<S, O, N, Brand>(alloc, command, source, out, notes, Blank::new(1))
             } else {
                 refuse(notes, Status::Unbuilt)
             }

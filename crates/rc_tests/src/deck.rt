@@ -3,6 +3,7 @@ ghost use Rattle.std.specs.Prelude.{◌≡◌, All, IfOk, vec_len};
 ghost use Rattle.rc_model.specs.Clamp.{IsWithinClamp};
 ghost use Rattle.rc_deck.specs.Points.{entries_of};
 
+use crate::expect::expect_same;
 use rc_deck::{
     Branch, DeckTree, Face, Group, Memory, PointEntry, PointMap, attr, count_of, faces_of, points,
 };
@@ -99,29 +100,40 @@ fn ends_with_the_king_of_spades(faces: &[Face]) -> bool {
         && attr(last, SUIT) == Some(SPADES)
 }
 
+/// The faces of the French deck.
+fn french_faces(alloc: Global) -> Result<Vec<Face>, Memory> {
+    let tree = french_deck(alloc)?;
+    faces_of(alloc, &tree)
+}
+
+/// How many of these faces are hearts, by their points.
+fn hearts_among(alloc: Global, faces: &[Face]) -> Result<usize, Memory> {
+    let hearts = hearts(alloc)?;
+    Ok(
+        faces
+            .iter()
+            .filter(|face| points(&hearts, *face) == 1)
+            .count(),
+    )
+}
+
 #[test]
 fn a_french_deck_has_52_faces(rt: HostRuntime) -> Result<(), Fail> {
     let tree = french_deck(rt.alloc())?;
-    assert_eq!(rt; count_of(&tree, 1000), 52);
+    expect_same(&rt, count_of(&tree, 1000), 52);
     let faces = faces_of(rt.alloc(), &tree)?;
-    assert_eq!(rt; faces.len(), 52);
+    expect_same(&rt, faces.len(), 52);
     assert!(rt; ends_with_the_king_of_spades(&faces));
-    let hearts = hearts(rt.alloc())?;
-    let worths = faces
-        .iter()
-        .filter(|face| points(&hearts, *face) == 1)
-        .count();
-    assert_eq!(rt; worths, 13);
+    expect_same(&rt, hearts_among(rt.alloc(), &faces), Ok(13));
     Ok(())
 }
 
 #[test]
 fn faces_are_listed_with_the_first_group_slowest(rt: HostRuntime) -> Result<(), Fail> {
-    let tree = french_deck(rt.alloc())?;
-    let faces = faces_of(rt.alloc(), &tree)?;
+    let faces = french_faces(rt.alloc())?;
     assert!(rt; faces.len() >= FIRST.len());
     for (face, expected) in faces.iter().zip(FIRST.iter()) {
-        assert_eq!(rt; face.pairs(), expected.as_slice());
+        expect_same(&rt, face.pairs(), expected.as_slice());
     }
     Ok(())
 }
@@ -137,12 +149,16 @@ fn pairs_deck(alloc: Global, groups: u16) -> Result<DeckTree, Memory> {
     Ok(tree)
 }
 
+/// How many faces such a deck has.
+fn pairs_count(alloc: Global, groups: u16) -> Result<usize, Memory> {
+    let tree = pairs_deck(alloc, groups)?;
+    Ok(count_of(&tree, usize::MAX))
+}
+
 /// Nobody could list these faces.
 #[test]
 fn faces_of_many_groups_are_counted_at_once(rt: HostRuntime) -> Result<(), Fail> {
-    let tree = pairs_deck(rt.alloc(), 40)?;
-    assert_eq!(rt; count_of(&tree, usize::MAX), 1 << 40);
-    let tree = pairs_deck(rt.alloc(), 100)?;
-    assert_eq!(rt; count_of(&tree, usize::MAX), usize::MAX);
+    expect_same(&rt, pairs_count(rt.alloc(), 40)?, 1 << 40);
+    expect_same(&rt, pairs_count(rt.alloc(), 100)?, usize::MAX);
     Ok(())
 }

@@ -1,9 +1,13 @@
 //! Keys, and the orders that they give.
+ghost use Rattle.std.specs.Prelude.{◌≤◌, length};
+
+use crate::expect::expect_same;
 use rand::RngExt;
 use rand_chacha::ChaCha8Rng;
 use rand_core::SeedableRng;
 use rc_draw::{key32, shuffle_by};
 use rc_rules::{Dealer, MatchDealer};
+use std::alloc::{AllocError, Global};
 use std::process::Abort;
 use std::test::Fail;
 
@@ -13,19 +17,33 @@ fn a_key_has_its_numbers_with_the_lowest_bytes_first(rt: HostRuntime) {
         0u8, 0, 0, 0, 0, 0, 0, 0, 1, 0, 0, 0, 0, 0, 0, 0, 2, 0, 0, 0, 0, 0, 0, 0, 0, 0, 0, 0, 0, 0,
         0, 0,
     ];
-    assert_eq!(rt; key32(0, 1, 2, 0), expected);
+    expect_same(&rt, key32(0, 1, 2, 0), expected);
+}
+
+/// So many numbers, from 0 on.
+fn numbered(alloc: Global, size: u16) -> Result<Vec<u16>, AllocError> {
+    let mut list = Vec::new(alloc);
+    for item in 0..size {
+        list.push(item)?;
+    }
+    Ok(list)
+}
+
+/// A list as a key with this first number shuffles it, and then sorted.
+fn sorted_again(alloc: Global, initial: &[u16], first: u64) -> Result<Vec<u16>, AllocError>
+    requires { length initial.now ≤ 512 }
+{
+    let mut list = initial.to_vec(alloc)?;
+    shuffle_by(&key32(first, 0, 0, 0), &mut list);
+    list.sort()?;
+    Ok(list)
 }
 
 /// Fails unless a key with this first number permutes a list of so many numbers.
 fn expect_permutation(rt: &(impl AllocGlobal + Abort), first: u64, size: u16) -> Result<(), Fail> {
-    let mut list = Vec::new(rt.alloc());
-    for item in 0..size {
-        list.push(item)?;
-    }
-    let initial = list.clone()?;
-    assert!(rt; list.len() <= 512);
-    shuffle_by(&key32(first, 0, 0, 0), &mut list);
-    list.sort()?;
+    let initial = numbered(rt.alloc(), size)?;
+    assert!(rt; initial.len() <= 512);
+    let list = sorted_again(rt.alloc(), &initial, first)?;
     assert_eq!(rt; list.as_slice(), initial.as_slice(), "{first} {size}");
     Ok(())
 }
@@ -52,9 +70,9 @@ fn next_order<D: Dealer>(dealer: &mut D) -> [u16; 8] {
 #[test]
 fn a_match_has_an_order_for_each_shuffle(rt: HostRuntime) {
     let mut dealer = MatchDealer::new(7);
-    assert_eq!(rt; dealer.count(), 0);
-    assert_eq!(rt; next_order(&mut dealer), [2u16, 1, 3, 4, 5, 7, 6, 0]);
-    assert_eq!(rt; next_order(&mut dealer), [3u16, 2, 1, 6, 7, 0, 5, 4]);
-    assert_eq!(rt; next_order(&mut dealer), [0u16, 4, 3, 2, 1, 5, 6, 7]);
-    assert_eq!(rt; dealer.count(), 3);
+    expect_same(&rt, dealer.count(), 0);
+    expect_same(&rt, next_order(&mut dealer), [2, 1, 3, 4, 5, 7, 6, 0]);
+    expect_same(&rt, next_order(&mut dealer), [3, 2, 1, 6, 7, 0, 5, 4]);
+    expect_same(&rt, next_order(&mut dealer), [0, 4, 3, 2, 1, 5, 6, 7]);
+    expect_same(&rt, dealer.count(), 3);
 }

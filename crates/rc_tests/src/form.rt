@@ -1,4 +1,7 @@
 //! Forms of small texts, where two lists are wanted or the offsets count. The faults of one list's text are cases.
+ghost use Rattle.rc_form.specs.Form.{IsPrintable, tree_of};
+
+use crate::expect::expect_same;
 use rc_form::{Form, FormFail, FormFault, FormKind, Span, print_form, read_forms};
 use std::alloc::{AllocError, Global};
 use std::process::Abort;
@@ -18,26 +21,41 @@ fn push_spans(out: &mut Vec<Span>, form: &Form) -> Result<(), AllocError> {
     Ok(())
 }
 
+/// Where the forms of the text below stand.
+const SPANS: [Span; 5] = [
+    Span { from: 5, to: 19 },
+    Span { from: 6, to: 7 },
+    Span { from: 8, to: 14 },
+    Span { from: 9, to: 11 },
+    Span { from: 12, to: 13 },
+];
+
+/// Fails unless the form and its parts stand there.
+fn expect_spans(rt: &(impl AllocGlobal + Abort), form: &Form) -> Result<(), Fail> {
+    let mut spans = Vec::new(rt.alloc());
+    push_spans(&mut spans, form)?;
+    expect_same(rt, spans.as_slice(), SPANS.as_slice());
+    Ok(())
+}
+
+/// Fails unless this is printed of the form.
+fn expect_printed(rt: &(impl AllocGlobal + Abort), form: &Form, expected: &[u8]) -> Result<(), Fail>
+    requires { IsPrintable (tree_of form.now) }
+{
+    let printed = print_form(rt.alloc(), form).ok().ok_or("memory")?;
+    expect_same(rt, printed.as_slice(), expected);
+    Ok(())
+}
+
 #[test]
 fn a_form_has_the_offsets_of_its_bytes_and_is_printed(rt: HostRuntime) -> Result<(), Fail> {
     let forms = read_forms(rt.alloc(), b" ;(\r\n(a\t('b,c);)\r\n)z", 1)?;
     let [form] = forms.list.as_slice() else {
         return Err("there is one list".into());
     };
-    let mut spans = Vec::new(rt.alloc());
-    push_spans(&mut spans, form)?;
-    let expected = [
-        Span { from: 5, to: 19 },
-        Span { from: 6, to: 7 },
-        Span { from: 8, to: 14 },
-        Span { from: 9, to: 11 },
-        Span { from: 12, to: 13 },
-    ];
-    assert_eq!(rt; spans.as_slice(), expected.as_slice());
-    assert_eq!(rt; forms.rest, 19);
-    let printed = print_form(rt.alloc(), form).ok().ok_or("memory")?;
-    assert_eq!(rt; printed.as_slice(), b"(a ('b c))".as_slice());
-    Ok(())
+    expect_same(&rt, forms.rest, 19);
+    expect_spans(&rt, form)?;
+    expect_printed(&rt, form, b"(a ('b c))")
 }
 
 /// Texts, how many lists are wanted, how many there are, and where the rest begins.

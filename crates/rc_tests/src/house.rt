@@ -1,8 +1,9 @@
 //! Whole commands over sources and sinks that fail: how they end, and what is written and noted then.
 ghost use Rattle.std.specs.Prelude.{◌≡◌, ◌<◌};
 
+use crate::expect::expect_same;
 use rc_house::{SourceKind, Status, run_alone};
-use rc_outside::{Bytes, NoRoom, Room, Sink, Source};
+use rc_outside::{Bytes, Room, Sink, Source};
 use rc_steps::Steps;
 use std::alloc::{AllocError, Global};
 use std::marker::Brand;
@@ -41,6 +42,8 @@ score 1 3 0
 standing 1 strategy 0 points 2
 standing 2 strategy 1 points 0
 ";
+
+const PLAY: &[&str] = &["play"];
 
 /// How a command ends, and what is written and noted until then.
 #[derive(Clone, Copy)]
@@ -104,8 +107,22 @@ fn fails_of(alloc: Global, writes: Writes) -> Result<Vec<u64>, AllocError> {
     Ok(vec![in alloc; call]?)
 }
 
-fn room_for(alloc: Global, writes: Writes, fails: Vec<u64>) -> Result<Room, NoRoom> {
-    Room::new(alloc, writes.room, writes.chunk.max(1), fails)
+fn room_of(alloc: Global, writes: Writes) -> Result<Room, Fail> {
+    let fails = fails_of(alloc, writes)?;
+    Ok(Room::new(alloc, writes.room, writes.chunk.max(1), fails)?)
+}
+
+/// What a command writes and notes to.
+#[derive(Drop)]
+struct Sinks {
+    out: Room,
+    notes: Room,
+}
+
+fn sinks_of(alloc: Global, writes: (Writes, Writes)) -> Result<Sinks, Fail> {
+    let out = room_of(alloc, writes.0)?;
+    let notes = room_of(alloc, writes.1)?;
+    Ok(Sinks { out, notes })
 }
 
 /// Runs a command on a ledger of its own.
@@ -125,55 +142,59 @@ fn run_on<S: Source, O: Sink, N: Sink, L: Ledger>(
     run_alone(alloc, words, source, out, notes, &mut steps)
 }
 
-fn run_words(
-    alloc: Global,
-    words: &[&str],
-    source: &mut Bytes,
-    out: &mut Room,
-    notes: &mut Room,
-) -> Result<Status, AllocError> {
+fn owned(alloc: Global, words: &[&str]) -> Result<Vec<String>, AllocError> {
     let mut owned = Vec::new(alloc);
     for word in words {
         owned.push(String::from_str(alloc, *word)?)?;
     }
+    Ok(owned)
+}
+
+fn run_words(
+    alloc: Global,
+    words: &[&str],
+    source: &mut Bytes,
+    sinks: &mut Sinks,
+) -> Result<Status, AllocError> {
+    let words = owned(alloc, words)?;
+    let Sinks { out, notes } = sinks;
     let blank = Blank::new(1);
-    Ok(run_on::<Bytes, Room, Room, Brand>(alloc, owned.as_slice(), source, out, notes, blank))
+    Ok(run_on::<Bytes, Room, Room, Brand>(alloc, words.as_slice(), source, out, notes, blank))
 }
 
 /// A text in pieces of so many bytes, of which this read fails.
 fn pieces(alloc: Global, text: &[u8], chunk: usize, failing: u64) -> Result<Bytes, AllocError> {
     let fails = vec![in alloc; failing]?;
-    Ok(Bytes::new(text.to_vec(alloc)?, chunk.max(1), fails))
+    let text = text.to_vec(alloc)?;
+    Ok(Bytes::new(text, chunk.max(1), fails))
 }
 
 /// Fails unless a command on this source and these sinks ends so.
 fn expect_end(
     rt: &(impl AllocGlobal + Abort),
     words: &[&str],
-    mut source: Bytes,
-    sinks: (Writes, Writes),
+    source: &mut Bytes,
+    writes: (Writes, Writes),
     end: End,
 ) -> Result<(), Fail> {
-    let fails = fails_of(rt.alloc(), sinks.0)?;
-    let mut out = room_for(rt.alloc(), sinks.0, fails)?;
-    let fails = fails_of(rt.alloc(), sinks.1)?;
-    let mut notes = room_for(rt.alloc(), sinks.1, fails)?;
-    let status = run_words(rt.alloc(), words, &mut source, &mut out, &mut notes)?;
-    assert_eq!(rt; status, end.status);
-    assert_eq!(rt; out.written(), end.written);
-    assert_eq!(rt; notes.written(), end.noted);
+    let mut sinks = sinks_of(rt.alloc(), writes)?;
+    let status = run_words(rt.alloc(), words, source, &mut sinks)?;
+    expect_same(rt, status, end.status);
+    expect_same(rt, sinks.out.written(), end.written);
+    expect_same(rt, sinks.notes.written(), end.noted);
     Ok(())
 }
 
-/// Fails unless a play whose source comes in such pieces ends so.
+/// Fails unless a command on the game, which comes in such pieces, ends so.
 fn expect_pieces(
     rt: &(impl AllocGlobal + Abort),
+    words: &[&str],
     chunk: usize,
     failing: u64,
     end: End,
 ) -> Result<(), Fail> {
-    let source = pieces(rt.alloc(), GAME, chunk, failing)?;
-    expect_end(rt, &["play"], source, (WIDE, WIDE), end)
+    let mut source = pieces(rt.alloc(), GAME, chunk, failing)?;
+    expect_end(rt, words, &mut source, (WIDE, WIDE), end)
 }
 
 #[test]
@@ -181,9 +202,9 @@ fn a_source_in_pieces_is_played_unless_a_read_fails(rt: HostRuntime) -> Result<(
     // The 524 bytes of the source come in so many reads, of which the last finds the end.
     for (chunk, reads) in [(1, 525u64), (7, 76), (100, 7)] {
         for failing in 0..reads {
-            expect_pieces(&rt, chunk, failing, READ_FAULT)?;
+            expect_pieces(&rt, PLAY, chunk, failing, READ_FAULT)?;
         }
-        expect_pieces(&rt, chunk, reads, PLAYED)?;
+        expect_pieces(&rt, PLAY, chunk, reads, PLAYED)?;
     }
     Ok(())
 }
@@ -192,11 +213,11 @@ fn a_source_in_pieces_is_played_unless_a_read_fails(rt: HostRuntime) -> Result<(
 fn expect_sinks(
     rt: &(impl AllocGlobal + Abort),
     text: &[u8],
-    sinks: (Writes, Writes),
+    writes: (Writes, Writes),
     end: End,
 ) -> Result<(), Fail> {
-    let source = pieces(rt.alloc(), text, 4096, u64::MAX)?;
-    expect_end(rt, &["play"], source, sinks, end)
+    let mut source = pieces(rt.alloc(), text, 4096, u64::MAX)?;
+    expect_end(rt, PLAY, &mut source, writes, end)
 }
 
 /// Sinks of which a write fails or whose room is too small, and how much of the text they have taken then.
@@ -328,8 +349,7 @@ const WORDS: [&[&str]; 15] = [
 #[test]
 fn other_words_are_refused_and_nothing_is_read(rt: HostRuntime) -> Result<(), Fail> {
     for words in WORDS {
-        let source = pieces(rt.alloc(), GAME, 100, 0)?;
-        expect_end(&rt, words, source, (WIDE, WIDE), USAGE)?;
+        expect_pieces(&rt, words, 100, 0, USAGE)?;
     }
     Ok(())
 }
@@ -344,8 +364,7 @@ const OPTIONS: [&[&str]; 3] = [
 #[test]
 fn options_change_nothing_that_is_written(rt: HostRuntime) -> Result<(), Fail> {
     for words in OPTIONS {
-        let source = pieces(rt.alloc(), GAME, 100, 99)?;
-        expect_end(&rt, words, source, (WIDE, WIDE), PLAYED)?;
+        expect_pieces(&rt, words, 100, 99, PLAYED)?;
     }
     Ok(())
 }

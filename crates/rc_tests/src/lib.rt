@@ -7,6 +7,8 @@ mod deck;
 #[cfg(test)]
 mod draw;
 #[cfg(test)]
+mod expect;
+#[cfg(test)]
 mod form;
 #[cfg(test)]
 mod house;

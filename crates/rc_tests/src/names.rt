@@ -73,13 +73,26 @@ vars 'A 'B 'D 'E",
 ];
 
 /// The sheet of a form that was read.
-pub fn made(alloc: Global, form: &Form) -> Result<Sheet, SheetFail>
+fn made(alloc: Global, form: &Form) -> Result<Sheet, SheetFail>
     requires placed { (size : ℕ) × IsPlaced size (tree_of form.now) }
     requires printable { IsPrintable (tree_of form.now) }
     requires of_atoms { IsOfAtoms (tree_of form.now) }
     ensures { IfOk result (λ sheet. IsWellFormed (sheet_seen sheet)) }
 {
     sheet_of(alloc, form)
+}
+
+/// The sheet of a text.
+pub fn sheet_in(rt: &(impl AllocGlobal + Abort), text: &[u8]) -> Result<Sheet, Fail>
+    ensures { IfOk result (λ sheet. IsWellFormed (sheet_seen sheet)) }
+{
+    assert!(rt; text.len() <= 100_000);
+    let forms = read_forms(rt.alloc(), text, 1)?;
+    let form = forms.list.first().ok_or("the text has a list")?;
+    match made(rt.alloc(), form) {
+        Ok(sheet) => Ok(sheet),
+        Err(_) => Err("the text is a sheet".into()),
+    }
 }
 
 fn push_words(out: &mut Vec<u8>, head: &str, words: &[Word]) -> Result<(), AllocError> {
@@ -135,15 +148,15 @@ fn said(alloc: Global, sheet: &Sheet) -> Result<Vec<u8>, AllocError> {
     Ok(out)
 }
 
+/// What is said of the names of a text's sheet.
+fn said_in(rt: &(impl AllocGlobal + Abort), text: &str) -> Result<Vec<u8>, Fail> {
+    let sheet = sheet_in(rt, text.as_bytes())?;
+    Ok(said(rt.alloc(), &sheet)?)
+}
+
 /// Fails unless this is said of the names of a text's sheet.
 fn expect_names(rt: &(impl AllocGlobal + Abort), text: &str, expected: &str) -> Result<(), Fail> {
-    assert!(rt; text.len() <= 100_000);
-    let forms = read_forms(rt.alloc(), text.as_bytes(), 1)?;
-    let form = forms.list.first().ok_or("each text has a list")?;
-    let Ok(sheet) = made(rt.alloc(), form) else {
-        return Err("each text is a sheet".into());
-    };
-    let found = said(rt.alloc(), &sheet)?;
+    let found = said_in(rt, text)?;
     assert_eq!(rt; found.as_slice(), expected.as_bytes(), "{text}");
     Ok(())
 }

@@ -1,27 +1,40 @@
 //! Sources, sinks and a gate.
+use crate::expect::expect_same;
 use rc_outside::{
     Bytes, Gate, OpenGate, ReadFail, Room, StdSink, StdSource, WriteFault, read_all, write_all,
 };
+use std::alloc::Global;
 use std::io::{self, Read};
 use std::test::Fail;
 
 const TEXT: &[u8] = b"twenty bytes of text";
 
+/// What is read of the text in pieces of 3 bytes.
+fn read_in_pieces(alloc: Global) -> Result<Vec<u8>, Fail> {
+    let text = TEXT.to_vec(alloc)?;
+    let mut source = Bytes::new(text, 3, Vec::new(alloc));
+    Ok(read_all(alloc, &mut source, 20)?)
+}
+
 #[test]
 fn read_all_joins_pieces(rt: HostRuntime) -> Result<(), Fail> {
-    let mut source = Bytes::new(TEXT.to_vec(rt.alloc())?, 3, Vec::new(rt.alloc()));
-    let all = read_all(rt.alloc(), &mut source, 20)?;
-    assert_eq!(rt; all.as_slice(), TEXT);
+    let all = read_in_pieces(rt.alloc())?;
+    expect_same(&rt, all.as_slice(), TEXT);
     Ok(())
+}
+
+/// A sink with room for the text, which takes 8 bytes at once and whose third write fails.
+fn failing_sink(alloc: Global) -> Result<Room, Fail> {
+    let fails = vec![in alloc; 2]?;
+    Ok(Room::new(alloc, 20, 8, fails)?)
 }
 
 /// Each write is given all that is left, so the first two of at most 8 bytes take 16 of the 20.
 #[test]
 fn write_all_writes_what_is_left(rt: HostRuntime) -> Result<(), Fail> {
-    let fails = vec![in rt.alloc(); 2]?;
-    let mut sink = Room::new(rt.alloc(), 20, 8, fails)?;
-    assert_eq!(rt; write_all(&mut sink, TEXT), Err(WriteFault));
-    assert_eq!(rt; sink.written(), &TEXT[..16]);
+    let mut sink = failing_sink(rt.alloc())?;
+    expect_same(&rt, write_all(&mut sink, TEXT), Err(WriteFault));
+    expect_same(&rt, sink.written(), &TEXT[..16]);
     Ok(())
 }
 
@@ -46,8 +59,8 @@ impl Read for Torn {
 fn std_source_reads_a_reader(rt: HostRuntime) -> Result<(), Fail> {
     let mut source = StdSource::new(TEXT);
     let all = read_all(rt.alloc(), &mut source, 20)?;
-    assert_eq!(rt; all.as_slice(), TEXT);
-    assert_eq!(rt; source.faults(), 0);
+    expect_same(&rt, all.as_slice(), TEXT);
+    expect_same(&rt, source.faults(), 0);
     Ok(())
 }
 
@@ -55,8 +68,8 @@ fn std_source_reads_a_reader(rt: HostRuntime) -> Result<(), Fail> {
 fn std_source_counts_the_errors_of_its_reader(rt: HostRuntime) {
     let mut source = StdSource::new(Torn { is_first: true });
     let fail = read_all(rt.alloc(), &mut source, 20).err();
-    assert_eq!(rt; fail, Some(ReadFail::ReadFault));
-    assert_eq!(rt; source.faults(), 1);
+    expect_same(&rt, fail, Some(ReadFail::ReadFault));
+    expect_same(&rt, source.faults(), 1);
 }
 
 /// How the text is written to a buffer, and how many writes fail.
@@ -69,11 +82,11 @@ fn written_to(buffer: &mut [u8]) -> (Result<(), WriteFault>, u64) {
 #[test]
 fn std_sink_writes_a_writer_and_counts_a_write_of_nothing(rt: HostRuntime) {
     let mut whole = [0; 20];
-    assert_eq!(rt; written_to(&mut whole), (Ok(()), 0));
-    assert_eq!(rt; whole.as_slice(), TEXT);
+    expect_same(&rt, written_to(&mut whole), (Ok(()), 0));
+    expect_same(&rt, whole.as_slice(), TEXT);
     let mut small = [0; 8];
-    assert_eq!(rt; written_to(&mut small), (Err(WriteFault), 1));
-    assert_eq!(rt; small, *b"twenty b");
+    expect_same(&rt, written_to(&mut small), (Err(WriteFault), 1));
+    expect_same(&rt, small, *b"twenty b");
 }
 
 fn enter_twice<G: Gate>(gate: &G) {

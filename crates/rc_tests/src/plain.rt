@@ -4,13 +4,13 @@ ghost use Rattle.rc_play_model.specs.Shape.{shape_of as shape_for};
 ghost use Rattle.rc_play_model.specs.Step.{start};
 ghost use Rattle.rc_plain.specs.Plain.{CanDecide, config_of};
 
+use crate::expect::expect_same;
 use crate::house::GAME;
-use crate::view::{checked_in, go_on};
-use rc_flow::Checked;
+use crate::view::{Basis, basis_in, go_on};
 use rc_plain::PlainMachine;
 use rc_play_model::controls_fit_their_sites;
-use rc_rules::{About, Machine, MatchDealer, Stop, shape_of};
-use rc_table::Shape;
+use rc_rules::{About, Machine, MatchDealer, Stop};
+use std::alloc::Global;
 use std::sync::Arc;
 use std::test::Fail;
 
@@ -34,32 +34,56 @@ fn decide_first(
     }
 }
 
+/// What the matches are played by, with a turn limit of 100.
+fn about_on(basis: &Basis) -> Result<About, Fail>
+    requires { basis.now.shape.value ≡ shape_for basis.now.checked.value }
+    ensures { IfOk result (λ about. about ≡ record { sheet = basis.now.checked.value; shape = basis.now.shape.value; turns = 100 }) }
+{
+    let checked = Arc::try_clone(&basis.checked)?;
+    let shape = Arc::try_clone(&basis.shape)?;
+    Ok(About::new(checked, shape, 100))
+}
+
+/// A match at its first decision.
+fn first_on(alloc: Global, about: &About, dealer: &mut MatchDealer) -> Result<PlainMachine, Fail>
+    ensures about { IfOk result (λ m. m.about ≡ about.now) }
+    ensures decides { IfOk result (λ m. CanDecide about.now (config_of m).table (config_of m).control) }
+{
+    let mut machine = PlainMachine::start_of(alloc, about)?;
+    decide_first(about, &mut machine, dealer)?;
+    Ok(machine)
+}
+
 /// A machine that is made where another one stands, at a decision.
-fn made_there(
-    rt: &impl AllocGlobal,
-    checked: &Arc<Checked>,
-    shape: &Arc<Shape>,
-    machine: &PlainMachine,
-) -> Result<PlainMachine, Fail>
-    requires shape { shape.now.value ≡ shape_for checked.now.value }
-    requires about { machine.now.about ≡ record { sheet = checked.now.value; shape = shape.now.value; turns = 100 } }
+fn made_there(alloc: Global, basis: &Basis, machine: &PlainMachine) -> Result<PlainMachine, Fail>
+    requires shape { basis.now.shape.value ≡ shape_for basis.now.checked.value }
+    requires about { machine.now.about ≡ record { sheet = basis.now.checked.value; shape = basis.now.shape.value; turns = 100 } }
     requires decides { CanDecide machine.now.about (config_of machine.now).table (config_of machine.now).control }
 {
-    let table = machine.table().copy(rt.alloc())?;
+    let table = machine.table().copy(alloc)?;
     let control = machine.control().copy();
-    Ok(PlainMachine::at(checked, shape, 100, table, control)?)
+    Ok(PlainMachine::at(&basis.checked, &basis.shape, 100, table, control)?)
+}
+
+/// A machine that is made at the first decision of a match.
+fn made_at_first(
+    alloc: Global,
+    basis: &Basis,
+    dealer: &mut MatchDealer,
+) -> Result<PlainMachine, Fail>
+    requires { basis.now.shape.value ≡ shape_for basis.now.checked.value }
+{
+    let about = about_on(basis)?;
+    let machine = first_on(alloc, &about, dealer)?;
+    made_there(alloc, basis, &machine)
 }
 
 #[test]
 fn a_machine_is_made_at_a_decision(rt: HostRuntime) -> Result<(), Fail> {
-    let checked = Arc::new(rt.alloc(), checked_in(&rt, GAME)?)?;
-    let shape = Arc::new(rt.alloc(), shape_of(rt.alloc(), checked.sheet())?)?;
-    let about = About::new(Arc::try_clone(&checked)?, Arc::try_clone(&shape)?, 100);
-    let mut machine = PlainMachine::start_of(rt.alloc(), &about)?;
+    let basis = basis_in(&rt, GAME)?;
     let mut dealer = MatchDealer::new(0);
-    decide_first(&about, &mut machine, &mut dealer)?;
-    let mut made = made_there(&rt, &checked, &shape, &machine)?;
+    let mut made = made_at_first(rt.alloc(), &basis, &mut dealer)?;
     go_on(&mut made, &mut dealer)?;
-    assert_eq!(rt; made.menu().len(), 2);
+    expect_same(&rt, made.menu().len(), 2);
     Ok(())
 }

@@ -1,16 +1,19 @@
 //! A redrawn table, worked out by hand, and a copied tally.
 ghost use Rattle.std.specs.Prelude.{◌≡◌, IfOk};
+ghost use Rattle.rc_play_model.specs.Shape.{shape_of as shape_for};
 ghost use Rattle.rc_play_model.specs.RedrawLaws.{IsViewOfSound};
 ghost use Rattle.rc_view.specs.Seen.{view_seen};
 
+use crate::expect::expect_same;
 use crate::table::expect_lists;
-use crate::view::{checked_in, go_on};
+use crate::view::{Basis, basis_in, decided_on};
 use rc_draw::key32;
 use rc_plain::PlainMachine;
 use rc_redraw::{Tally, redraw};
-use rc_rules::{Machine, MatchDealer, shape_of};
-use rc_table::Shape;
+use rc_rules::{Machine, MatchDealer};
+use rc_table::{Shape, Table};
 use rc_view::{View, view_of};
+use std::alloc::Global;
 use std::process::Abort;
 use std::sync::Arc;
 use std::test::Fail;
@@ -63,24 +66,48 @@ fn seen_by_first(
     Ok(view_of(rt.alloc(), shape, table, machine.control(), 0)?)
 }
 
-#[test]
-fn a_table_is_redrawn_by_what_is_seen_and_a_key(rt: HostRuntime) -> Result<(), Fail> {
-    let checked = Arc::new(rt.alloc(), checked_in(&rt, PILES)?)?;
-    let shape = Arc::new(rt.alloc(), shape_of(rt.alloc(), checked.sheet())?)?;
-    let mut machine = PlainMachine::start(rt.alloc(), &checked, &shape, 64)?;
-    go_on(&mut machine, &mut MatchDealer::new(0))?;
-    expect_lists(&rt, machine.table(), &DEALT);
-    let view = seen_by_first(&rt, &shape, &machine)?;
-    let table = redraw(rt.alloc(), &shape, &view, &key32(7, 3, 0, 0))?;
-    expect_lists(&rt, &table, &REDRAWN);
-    assert_eq!(rt; table.number(0), -3);
+/// The table that is redrawn of what the first seat sees of a match.
+fn redrawn(
+    rt: &(impl AllocGlobal + Abort),
+    shape: &Arc<Shape>,
+    machine: &PlainMachine,
+) -> Result<Table, Fail>
+    requires { machine.now.about.shape ≡ shape.now.value }
+{
+    let view = seen_by_first(rt, shape, machine)?;
+    Ok(redraw(rt.alloc(), shape, &view, &key32(7, 3, 0, 0))?)
+}
+
+/// Fails unless the table is redrawn so at the first decision.
+fn expect_redrawn(rt: &(impl AllocGlobal + Abort), basis: &Basis) -> Result<(), Fail>
+    requires { basis.now.shape.value ≡ shape_for basis.now.checked.value }
+{
+    let machine = decided_on(rt.alloc(), basis, &mut MatchDealer::new(0))?;
+    expect_lists(rt, machine.table(), &DEALT);
+    let table = redrawn(rt, &basis.shape, &machine)?;
+    expect_lists(rt, &table, &REDRAWN);
+    expect_same(rt, table.number(0), -3);
     Ok(())
 }
 
 #[test]
+fn a_table_is_redrawn_by_what_is_seen_and_a_key(rt: HostRuntime) -> Result<(), Fail> {
+    let basis = basis_in(&rt, PILES)?;
+    expect_redrawn(&rt, &basis)
+}
+
+const TOTALS: [u32; 3] = [6, 0, 14_000];
+
+/// A tally with these totals.
+fn tally(alloc: Global) -> Result<Tally, Fail> {
+    let totals = TOTALS.to_vec(alloc)?;
+    Ok(Tally { totals })
+}
+
+#[test]
 fn a_copied_tally_has_its_totals(rt: HostRuntime) -> Result<(), Fail> {
-    let totals = vec![in rt.alloc(); 6u32, 0, 14_000]?;
-    let copy = Tally { totals }.copy(rt.alloc())?;
-    assert_eq!(rt; copy.totals.as_slice(), [6u32, 0, 14_000].as_slice());
+    let tally = tally(rt.alloc())?;
+    let copy = tally.copy(rt.alloc())?;
+    expect_same(&rt, copy.totals.as_slice(), TOTALS.as_slice());
     Ok(())
 }

@@ -1,10 +1,11 @@
 //! Copies of tables.
+use crate::expect::expect_same;
 use crate::house::GAME;
-use crate::view::{OPEN_CARD, checked_in, go_on, start_of};
-use rc_rules::{Machine, MatchDealer, shape_of};
+use crate::view::{Basis, OPEN_CARD, basis_in, first_decision};
+use rc_rules::{Machine, MatchDealer};
 use rc_table::Table;
+use std::alloc::Global;
 use std::process::Abort;
-use std::sync::Arc;
 use std::test::Fail;
 
 /// What the locations of the game hold at its start: STOCK, the two hands, and what the two players played.
@@ -15,22 +16,31 @@ const DEALT: [&[u16]; 6] = [&[0], &[4], &[3], &[2], &[1], &[1]];
 
 /// Fails unless the locations of a table hold these lists.
 pub fn expect_lists(rt: &(impl AllocGlobal + Abort), table: &Table, lists: &[&[u16]]) {
-    assert_eq!(rt; usize::from(table.shape().locations()), lists.len());
+    expect_same(rt, usize::from(table.shape().locations()), lists.len());
     for (loc, list) in (0u16..512).zip(lists) {
-        assert_eq!(rt; table.list(loc), *list);
+        expect_same(rt, table.list(loc), *list);
     }
 }
 
+/// A copy of the opening table.
+fn opening(alloc: Global, basis: &Basis) -> Result<Table, Fail> {
+    let table = Table::new(alloc, &basis.shape)?;
+    Ok(table.copy(alloc)?)
+}
+
 #[test]
-fn a_copied_table_has_the_lists_and_numbers(rt: HostRuntime) -> Result<(), Fail> {
-    let checked = checked_in(&rt, GAME)?;
-    let shape = Arc::new(rt.alloc(), shape_of(rt.alloc(), checked.sheet())?)?;
-    let table = Table::new(rt.alloc(), &shape)?;
-    expect_lists(&rt, &table.copy(rt.alloc())?, &START);
-    let mut machine = start_of(&rt, OPEN_CARD)?;
-    go_on(&mut machine, &mut MatchDealer::new(0))?;
+fn a_copied_opening_table_has_its_lists(rt: HostRuntime) -> Result<(), Fail> {
+    let basis = basis_in(&rt, GAME)?;
+    let copy = opening(rt.alloc(), &basis)?;
+    expect_lists(&rt, &copy, &START);
+    Ok(())
+}
+
+#[test]
+fn a_copied_table_has_its_lists_and_numbers(rt: HostRuntime) -> Result<(), Fail> {
+    let machine = first_decision(&rt, OPEN_CARD, &mut MatchDealer::new(0))?;
     let copy = machine.table().copy(rt.alloc())?;
     expect_lists(&rt, &copy, &DEALT);
-    assert_eq!(rt; copy.number(0), -300);
+    expect_same(&rt, copy.number(0), -300);
     Ok(())
 }

@@ -1,7 +1,9 @@
 //! The lines of one match.
+use crate::expect::expect_same;
 use rc_rules::{Ended, MatchRecord, Pick, Score};
 use rc_text::write_record;
 use std::alloc::{AllocError, Global};
+use std::process::Abort;
 use std::test::Fail;
 
 /// A match with the largest and the smallest numbers that lines may have.
@@ -75,11 +77,27 @@ end done 0
 score 0 0 0
 ";
 
+/// Fails unless these are the lines of a match.
+fn expect_lines(
+    rt: &(impl AllocGlobal + Abort),
+    played: &MatchRecord,
+    lines: &[u8],
+) -> Result<(), Fail> {
+    let bytes = write_record(rt.alloc(), played)?;
+    expect_same(rt, bytes.as_slice(), lines);
+    Ok(())
+}
+
 #[test]
 fn a_record_is_written_line_by_line(rt: HostRuntime) -> Result<(), Fail> {
-    let bytes = write_record(rt.alloc(), &limited(rt.alloc())?)?;
-    assert_eq!(rt; bytes.as_slice(), LIMITED);
-    let bytes = write_record(rt.alloc(), &short(rt.alloc())?)?;
-    assert_eq!(rt; bytes.as_slice(), SHORT);
-    Ok(())
+    let played = limited(rt.alloc())?;
+    expect_lines(&rt, &played, LIMITED)
+}
+
+#[test]
+fn a_record_with_nothing_chosen_or_shuffled_has_no_lines_for_it(
+    rt: HostRuntime,
+) -> Result<(), Fail> {
+    let played = short(rt.alloc())?;
+    expect_lines(&rt, &played, SHORT)
 }

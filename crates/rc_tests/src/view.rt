@@ -1,16 +1,19 @@
 //! What a seat sees of a match, and the bytes by which a view is known.
 ghost use Rattle.std.specs.Prelude.{◌≡◌, IfOk};
+ghost use Rattle.rc_play_model.specs.Shape.{shape_of as shape_for};
 ghost use Rattle.rc_plain.specs.Plain.{config_of};
 ghost use Rattle.rc_rules.specs.Machine.{StandsAtDecision};
 ghost use Rattle.rc_view.specs.Key.{HasKey};
 ghost use Rattle.rc_view.specs.Seen.{view_seen};
 
-use crate::names::made;
+use crate::expect::expect_same;
+use crate::names::sheet_in;
 use rc_flow::{Checked, check_sight};
-use rc_form::read_forms;
 use rc_plain::PlainMachine;
 use rc_rules::{Control, Machine, MatchDealer, Menu, Stop, shape_of};
+use rc_table::Shape;
 use rc_view::{Sight, View, key_bytes, view_of};
+use std::alloc::Global;
 use std::process::Abort;
 use std::sync::Arc;
 use std::test::Fail;
@@ -46,25 +49,79 @@ const TRICKS: &[u8] = b"\
 (forget (top (game mem LEAD)))))
 (scoring max ('SELF sto LAST)))";
 
+/// What matches of a sheet share.
+#[derive(Drop)]
+pub struct Basis {
+    pub checked: Arc<Checked>,
+    pub shape: Arc<Shape>,
+}
+
 /// The checked sheet of a text.
-pub fn checked_in(rt: &(impl AllocGlobal + Abort), text: &[u8]) -> Result<Checked, Fail> {
-    assert!(rt; text.len() <= 100_000);
-    let forms = read_forms(rt.alloc(), text, 1)?;
-    let form = forms.list.first().ok_or("the text has a list")?;
-    let Ok(sheet) = made(rt.alloc(), form) else {
-        return Err("the text is a sheet".into());
-    };
-    let Ok(checked) = check_sight(sheet) else {
-        return Err("the sheet is in sight".into());
-    };
-    Ok(checked)
+fn checked_in(rt: &(impl AllocGlobal + Abort), text: &[u8]) -> Result<Checked, Fail> {
+    let sheet = sheet_in(rt, text)?;
+    match check_sight(sheet) {
+        Ok(checked) => Ok(checked),
+        Err(_) => Err("the sheet is in sight".into()),
+    }
+}
+
+/// The shape of a sheet's tables.
+fn shape_shared(alloc: Global, checked: &Checked) -> Result<Arc<Shape>, Fail>
+    ensures { IfOk result (λ shape. shape.value ≡ shape_for checked.now) }
+{
+    let shape = shape_of(alloc, checked.sheet())?;
+    Ok(Arc::new(alloc, shape)?)
+}
+
+/// What matches of the sheet in a text share.
+pub fn basis_in(rt: &(impl AllocGlobal + Abort), text: &[u8]) -> Result<Basis, Fail>
+    ensures { IfOk result (λ basis. basis.shape.value ≡ shape_for basis.checked.value) }
+{
+    let checked = checked_in(rt, text)?;
+    let shape = shape_shared(rt.alloc(), &checked)?;
+    let checked = Arc::new(rt.alloc(), checked)?;
+    Ok(Basis { checked, shape })
+}
+
+/// A match at its start, with a turn limit of 64.
+fn start_on(alloc: Global, basis: &Basis) -> Result<PlainMachine, Fail>
+    requires { basis.now.shape.value ≡ shape_for basis.now.checked.value }
+    ensures { IfOk result (λ m. m.about ≡ record { sheet = basis.now.checked.value; shape = basis.now.shape.value; turns = 64 }) }
+{
+    Ok(PlainMachine::start(alloc, &basis.checked, &basis.shape, 64)?)
 }
 
 /// A match of the sheet in a text, at its start.
-pub fn start_of(rt: &(impl AllocGlobal + Abort), text: &[u8]) -> Result<PlainMachine, Fail> {
-    let checked = Arc::new(rt.alloc(), checked_in(rt, text)?)?;
-    let shape = Arc::new(rt.alloc(), shape_of(rt.alloc(), checked.sheet())?)?;
-    Ok(PlainMachine::start(rt.alloc(), &checked, &shape, 64)?)
+fn start_of(rt: &(impl AllocGlobal + Abort), text: &[u8]) -> Result<PlainMachine, Fail> {
+    let basis = basis_in(rt, text)?;
+    start_on(rt.alloc(), &basis)
+}
+
+/// A match at its first decision, with a turn limit of 64.
+pub fn decided_on(
+    alloc: Global,
+    basis: &Basis,
+    dealer: &mut MatchDealer,
+) -> Result<PlainMachine, Fail>
+    requires { basis.now.shape.value ≡ shape_for basis.now.checked.value }
+    ensures decision { IfOk result (λ m. StandsAtDecision m.about (config_of m)) }
+    ensures about { IfOk result (λ m. m.about ≡ record { sheet = basis.now.checked.value; shape = basis.now.shape.value; turns = 64 }) }
+{
+    let mut machine = start_on(alloc, basis)?;
+    go_on(&mut machine, dealer)?;
+    Ok(machine)
+}
+
+/// A match of the sheet in a text, at its first decision.
+pub fn first_decision(
+    rt: &(impl AllocGlobal + Abort),
+    text: &[u8],
+    dealer: &mut MatchDealer,
+) -> Result<PlainMachine, Fail>
+    ensures { IfOk result (λ m. StandsAtDecision m.about (config_of m)) }
+{
+    let basis = basis_in(rt, text)?;
+    decided_on(rt.alloc(), &basis, dealer)
 }
 
 /// The match at its next decision.
@@ -95,21 +152,27 @@ struct Decision {
     key: Vec<u8>,
 }
 
+/// The decision at which a match stands, and what the first seat sees of it.
+fn decision_of(rt: &(impl AllocGlobal + Abort), machine: &PlainMachine) -> Result<Decision, Fail>
+    requires { StandsAtDecision machine.now.about (config_of machine.now) }
+{
+    let view = seen_by(rt, machine, 0)?;
+    let key = key_bytes(rt.alloc(), &view)?;
+    let menu = machine.menu();
+    Ok(Decision { menu, view, key })
+}
+
 /// The first decision of a match of the trick game, where the first two seats hold these cards, from bottom to top.
 fn dealt(
     rt: &(impl AllocGlobal + Abort),
     deal: u64,
-    first: [u16; 6],
-    second: [u16; 6],
+    first: &[u16],
+    second: &[u16],
 ) -> Result<Decision, Fail> {
-    let mut machine = start_of(rt, TRICKS)?;
-    go_on(&mut machine, &mut MatchDealer::new(deal))?;
-    assert_eq!(rt; machine.table().list(1), first.as_slice());
-    assert_eq!(rt; machine.table().list(2), second.as_slice());
-    let view = seen_by(rt, &machine, 0)?;
-    let key = key_bytes(rt.alloc(), &view)?;
-    let menu = machine.menu();
-    Ok(Decision { menu, view, key })
+    let machine = first_decision(rt, TRICKS, &mut MatchDealer::new(deal))?;
+    expect_same(rt, machine.table().list(1), first);
+    expect_same(rt, machine.table().list(2), second);
+    decision_of(rt, &machine)
 }
 
 fn are_same_controls(one: &Control, other: &Control) -> bool {
@@ -149,30 +212,33 @@ fn are_same_menus(one: &Menu, other: &Menu) -> bool {
     one.len() == other.len()
 }
 
-/// The hands were made by a ChaCha8 written apart from this program. In the second deal only cards that the first seat doesn't
-/// see differ, in the third one of its own too.
-#[test]
-fn a_seat_sees_its_own_cards_alone(rt: HostRuntime) -> Result<(), Fail> {
-    let one = dealt(
-        &rt,
-        37_085,
-        [23, 20, 25, 12, 34, 32],
-        [8, 16, 22, 31, 14, 13],
-    )?;
-    let alike = dealt(
-        &rt,
-        904_383,
-        [23, 20, 25, 12, 34, 32],
-        [10, 27, 9, 22, 16, 33],
-    )?;
-    let other = dealt(&rt, 17_525, [23, 20, 25, 12, 2, 32], [28, 3, 13, 10, 5, 6])?;
-    assert_eq!(rt; one.menu.len(), 6);
+/// The hand of the first seat in the first two deals.
+const HAND: &[u16] = &[23, 20, 25, 12, 34, 32];
+
+/// Fails unless all is the same in a deal that differs only in cards which the first seat doesn't see.
+fn expect_alike(rt: &(impl AllocGlobal + Abort), one: &Decision) -> Result<(), Fail> {
+    let alike = dealt(rt, 904_383, HAND, &[10, 27, 9, 22, 16, 33])?;
     assert!(rt; are_same_menus(&one.menu, &alike.menu));
     assert!(rt; are_same_views(&one.view, &alike.view));
-    assert_eq!(rt; one.key.as_slice(), alike.key.as_slice());
+    expect_same(rt, one.key.as_slice(), alike.key.as_slice());
+    Ok(())
+}
+
+/// Fails unless the view is another one in a deal that differs in a card of the first seat's own.
+fn expect_other(rt: &(impl AllocGlobal + Abort), one: &Decision) -> Result<(), Fail> {
+    let other = dealt(rt, 17_525, &[23, 20, 25, 12, 2, 32], &[28, 3, 13, 10, 5, 6])?;
     assert!(rt; !are_same_views(&one.view, &other.view));
     assert!(rt; one.key.as_slice() != other.key.as_slice());
     Ok(())
+}
+
+/// The hands were made by a ChaCha8 written apart from this program.
+#[test]
+fn a_seat_sees_its_own_cards_alone(rt: HostRuntime) -> Result<(), Fail> {
+    let one = dealt(&rt, 37_085, HAND, &[8, 16, 22, 31, 14, 13])?;
+    expect_same(&rt, one.menu.len(), 6);
+    expect_alike(&rt, &one)?;
+    expect_other(&rt, &one)
 }
 
 /// Three seats with a card each, of which the last one's has the face of the open card. At the second choice of a turn the inner
@@ -239,23 +305,37 @@ const KEY_AT_DECISION: &[u8] = &[
     1, 0, // the face
 ];
 
-/// The bytes of what the last seat sees of a match.
-fn key_of_last(rt: &(impl AllocGlobal + Abort), machine: &PlainMachine) -> Result<Vec<u8>, Fail> {
+/// The bytes of a copied view.
+fn copied_key(alloc: Global, view: &View) -> Result<Vec<u8>, Fail>
+    requires { HasKey (view_seen view.now) }
+{
+    let copy = view.copy(alloc)?;
+    Ok(key_bytes(alloc, &copy)?)
+}
+
+/// Fails unless these are the bytes of what the last seat sees of a match.
+fn expect_key(
+    rt: &(impl AllocGlobal + Abort),
+    machine: &PlainMachine,
+    expected: &[u8],
+) -> Result<(), Fail> {
     let view = seen_by(rt, machine, 2)?;
-    let copy = view.copy(rt.alloc())?;
-    Ok(key_bytes(rt.alloc(), &copy)?)
+    let key = copied_key(rt.alloc(), &view)?;
+    expect_same(rt, key.as_slice(), expected);
+    Ok(())
+}
+
+/// A match at its start goes on to its second decision.
+fn go_on_twice(machine: &mut PlainMachine, dealer: &mut MatchDealer) -> Result<(), Fail> {
+    go_on(machine, dealer)?;
+    machine.apply(0, dealer)?;
+    go_on(machine, dealer)
 }
 
 #[test]
 fn the_bytes_of_a_view_tell_each_part_in_turn(rt: HostRuntime) -> Result<(), Fail> {
     let mut machine = start_of(&rt, OPEN_CARD)?;
-    let mut dealer = MatchDealer::new(0);
-    let key = key_of_last(&rt, &machine)?;
-    assert_eq!(rt; key.as_slice(), KEY_AT_START);
-    go_on(&mut machine, &mut dealer)?;
-    machine.apply(0, &mut dealer)?;
-    go_on(&mut machine, &mut dealer)?;
-    let key = key_of_last(&rt, &machine)?;
-    assert_eq!(rt; key.as_slice(), KEY_AT_DECISION);
-    Ok(())
+    expect_key(&rt, &machine, KEY_AT_START)?;
+    go_on_twice(&mut machine, &mut MatchDealer::new(0))?;
+    expect_key(&rt, &machine, KEY_AT_DECISION)
 }

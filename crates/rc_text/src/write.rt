@@ -84,6 +84,10 @@ fn write_score(out: &mut String, score: Score) -> Result<(), AllocError>
 }
 
 /// Adds a line for each strategy.
+///
+/// # Errors
+///
+/// No memory is left. Nothing is promised of `out` then, which may end within a line.
 pub fn write_standings(out: &mut String, standings: &[Standing]) -> Result<(), AllocError>
     ensures { OnOk result (string_bytes out.new
         ≡ string_bytes out.old ++ flat_map standing_line (map standing_seen standings.now)) }

@@ -27,7 +27,7 @@ pub returns-in-Err : goal.returns-in-Err
 returns-in-Err c =
     let forms = c.args.forms.now in
     let faulty =
-    subst (λ sheet. IfPlanFault c.in-Err.fail (λ fault. IsFaultyBehind sheet.players fault.kind fault.at (trees_of forms.list.items) forms.rest))
+    subst (λ sheet. IfPlanFault c.in-Err.fail (λ fault. IsFaultyBehind sheet.players (trees_of forms.list.items) forms.rest fault.kind fault.at))
     c.sheet.ensures.same c.in-Err.ensures.fault in
     λ steps.
     unread_answers c.args.source.now (trees_of forms.list.items) forms.rest c.args.checked steps c.in-Err.fail c.plan_failed.result

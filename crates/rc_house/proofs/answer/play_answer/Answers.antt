@@ -19,6 +19,6 @@ returns-in-Err-clause-answered g c =
     let forms = c.args.forms.now in
     let source = c.args.source.now in
     let faulty =
-    subst (λ sheet. IfPlanFault c.in-Err.fail (λ fault. IsPlanFaulty source sheet.players fault.kind fault.at (trees_of forms.list.items) forms.rest))
+    subst (λ sheet. IfPlanFault c.in-Err.fail (λ fault. IsPlanFaulty source sheet.players (trees_of forms.list.items) forms.rest fault.kind fault.at))
     c.sheet.ensures.same c.in-Err.ensures.fault in
     failed_answers source (trees_of forms.list.items) forms.rest c.args.checked c.args.steps.now c.in-Err.fail c.plan_failed.result c.requires.read c.requires.accepted faulty c.plan_failed.ensures
