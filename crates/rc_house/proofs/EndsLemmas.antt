@@ -1,10 +1,11 @@
 -- How words ended, from what their command did.
-use Rattle.std.proofs.Common.{◌≡◌, ◌<◌, ◌≤◌, ◌⊎◌, ℕ, List, Option, Some, None, inl, inr, refl, sym, subst, arith}
+use Rattle.std.proofs.Common.{◌≡◌, ◌<◌, ◌≤◌, ◌⊎◌, ℕ, List, Option, Some, None, inl, inr, refl, sym, ap, subst, arith}
 use Rattle.std.proofs.lemmas.Bool.{cases_lt}
 use Rattle.rc_words.specs.Words.{HasNumber}
 use Rattle.rc_words.specs.Command.{IsCommand, workers_of}
 use Rattle.rc_words.specs.declared.command.Command.{Command}
 use Rattle.rc_words.specs.declared.command.Command.TheVariants.{Play, Check, Sheet, Bench}
+use Rattle.rc_words.proofs.OneCommand.{one_command}
 use Rattle.rc_house.specs.declared.status.Status.{Status}
 use Rattle.rc_house.specs.declared.status.Status.TheVariants.{Memory, Usage}
 use Rattle.rc_house.specs.Status.{line_of}
@@ -77,3 +78,17 @@ is_unread many result words source out notes notes' steps same noted counted =
       ending = no_memory same (rested Memory result source out notes notes' steps same noted);
       no_count_fell = only_noted source out notes notes' counted;
     }
+
+-- words of one worker end alike, however those of more do
+pub ends_alike : (many other : Status) (words : List (List ℕ)) (command : Command) (before after : Ports) (steps steps' : ℕ) (status : Status)
+    → IsCommand words command → workers_of command ≡ 1 → Ends many words before after steps steps' status
+    → Ends other words before after steps steps' status
+ends_alike many other words command before after steps steps' status is one ends =
+    record { ending = by ends.ending; no_count_fell = ends.no_count_fell }
+  where
+    by : Ending many words before after steps steps' status → Ending other words before after steps steps' status
+    by (alone named its one runs) = alone named its one runs
+    by (shared named its more same rests) =
+        absurd (omega (arith, more, one, ap workers_of (one_command words command named is its)))
+    by (usage none same rests) = usage none same rests
+    by (no_memory same rests) = no_memory same rests

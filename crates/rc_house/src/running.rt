@@ -189,26 +189,23 @@ pub fn run_alone<S: Source, O: Sink, N: Sink, L: Ledger>(
 /// Runs a command on a ledger that no type stands for yet.
 fn run_from<S: Source, O: Sink, N: Sink, L: Ledger>(
     alloc: Global,
-    command: Command,
+    words: &[String],
     source: &mut S,
     out: &mut O,
     notes: &mut N,
     blank: Blank,
 ) -> Status
-    requires command { (words : List (List ℕ)) × IsCommand words command }
     requires name { blank.name ≡ L.name }
     requires parts { blank.parts ≡ L.parts }
     requires some { 0 < blank.parts }
-    ensures runs { (playouts : ℕ) × Runs command
+    ensures ends { (playouts : ℕ) × Ends Usage (map string_bytes words.now)
         (moment (S.left source.old) (S.faults source.old) (O.written out.old) (O.faults out.old) (N.written notes.old) (N.faults notes.old))
         (moment (S.left source.new) (S.faults source.new) (O.written out.new) (O.faults out.new) (N.written notes.new) (N.faults notes.new))
         0 playouts result }
-    ensures no_count_fell { NoCountFell
-        (moment (S.left source.old) (S.faults source.old) (O.written out.old) (O.faults out.old) (N.written notes.old) (N.faults notes.old))
-        (moment (S.left source.new) (S.faults source.new) (O.written out.new) (O.faults out.new) (N.written notes.new) (N.faults notes.new)) }
+    ensures alike { AlikeSamePicks }
 {
     let mut steps = Steps::<L>::new(blank);
-    run_command(alloc, command, source, out, notes, &mut steps)
+    run_alone(alloc, words, source, out, notes, &mut steps)
 }
 
 /// Runs a command. It may wait for workers, and what it promises holds if it returns. More than one worker isn't built yet.
@@ -231,7 +228,7 @@ pub fn run<R: Threads + Wait + Sync, S: Source, O: Sink, N: Sink, G: Gate>(
     match command_of(alloc, words) {
         Ok(Some(command)) => {
             if command.workers() == 1 {
-                run_from::<S, O, N, Brand>(alloc, command, source, out, notes, Blank::new(1))
+                run_from::<S, O, N, Brand>(alloc, words, source, out, notes, Blank::new(1))
             } else {
                 refuse(notes, Status::Unbuilt)
             }

@@ -1,13 +1,9 @@
 use Rattle.std.proofs.Common.{◌≡◌, map, string_bytes, rules}
 use Rattle.rc_words.specs.Command.{IsCommand, workers_of}
-use Rattle.rc_house.specs.declared.status.Status.TheVariants.{Unbuilt}
+use Rattle.rc_house.specs.declared.status.Status.TheVariants.{Usage, Unbuilt}
 use Rattle.rc_house.specs.Port.{port, ports}
-use Rattle.rc_house.proofs.EndsLemmas.{has_many, is_none, is_unread, ran}
+use Rattle.rc_house.proofs.EndsLemmas.{ends_alike, has_many, is_none, is_unread}
 use Rattle.rc_house.proofs.running.run.Goals as goal
-
-pub run_from-requires-clause-command : goal.run_from-requires-clause-command
-run_from-requires-clause-command g c =
-    let is : IsCommand (map string_bytes c.args.words.now) c.in-Ok-Some.command = search rules in (map string_bytes c.args.words.now, is)
 
 pub returns-then-workers-eq1-clause-ends : goal.returns-then-workers-eq1-clause-ends
 returns-then-workers-eq1-clause-ends g c =
@@ -16,12 +12,12 @@ returns-then-workers-eq1-clause-ends g c =
     let at_notes = λ (n : _). port (g.N.Sink.written n) (g.N.Sink.faults n) in
     let is : IsCommand (map string_bytes c.args.words.now) c.in-Ok-Some.command = search rules in
     let one : workers_of c.in-Ok-Some.command ≡ 1 = search rules in
-    let runs = c.run_from.ensures.runs in (
-      runs.0,
-      ran Unbuilt (map string_bytes c.args.words.now) c.in-Ok-Some.command
+    let ends = c.run_from.ensures.ends in (
+      ends.0,
+      ends_alike Usage Unbuilt (map string_bytes c.args.words.now) c.in-Ok-Some.command
           (ports (at_source c.args.source.now) (at_out c.args.out.now) (at_notes c.args.notes.now))
           (ports (at_source c.run_from.new.source) (at_out c.run_from.new.out) (at_notes c.run_from.new.notes))
-          0 runs.0 c.run_from.result is one runs.1 c.run_from.ensures.no_count_fell,
+          0 ends.0 c.run_from.result is one ends.1,
     )
 
 pub returns-else-workers-eq1-clause-ends : goal.returns-else-workers-eq1-clause-ends
