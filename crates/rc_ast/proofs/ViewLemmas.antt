@@ -102,11 +102,6 @@ pub tests_seen-drop : (ts : List Test) (i : ℕ) (t : Test) → i < length ts �
 tests_seen-drop ts i t lt is =
     at_drop_more tests_seen ts i t lt ∙ ap (λ x. test (test_seen x) (tests_seen (drop (i + 1) ts))) (sym is)
 
-pub effects_seen-drop : (es : List Effect) (i : ℕ) (e : Effect) → i < length es → e ≡ get_or es i e →
-    effects_seen (drop i es) ≡ effect (effect_seen e) (effects_seen (drop (i + 1) es))
-effects_seen-drop es i e lt is =
-    at_drop_more effects_seen es i e lt ∙ ap (λ x. effect (effect_seen x) (effects_seen (drop (i + 1) es))) (sym is)
-
 pub items_seen-drop : (all : List SheetItem) (i : ℕ) (x : SheetItem) → i < length all → x ≡ get_or all i x →
     items_seen (drop i all) ≡ item (item_seen x) (items_seen (drop (i + 1) all))
 items_seen-drop all i x lt is =

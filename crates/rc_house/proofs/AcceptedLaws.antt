@@ -121,12 +121,6 @@ both_accepted {Q = Q} (form ∷ others) is is' =
     let same = one_sheet form is.0 is'.0 is.1.of_form is'.1.of_form in
     (is.0, others, is.2, subst (λ sheet. Q sheet others) same is'.2)
 
--- what follows for the accepted sheet
-pub accepted_so : {P Q : Sheet → List Tree → Type 0} (lists : List Tree)
-    → ((sheet : Sheet) (others : List Tree) → P sheet others → Q sheet others) → IsAcceptedWith P lists → IsAcceptedWith Q lists
-accepted_so [] follows is = absurd is
-accepted_so (form ∷ others) follows is = (is.0, is.1, follows is.0 others is.2)
-
 -- a form that can be printed has at most 64 lists open at one place
 pub fits : (tree : Tree) → IsPrintable tree → IsOpenAtMost 64 tree
 fits (word bytes from to) printable = absurd printable

@@ -19,10 +19,6 @@ use Rattle.rc_house.specs.Answer.{Answer, text, playouts_of}
 use Rattle.rc_house.specs.Bench.{summed_up, benched, IsBenchAnswer}
 use Rattle.rc_house.specs.Note.{looks_line}
 
--- the text spells some form
-pub no_forms : (trees : List Tree) (rest : ℕ) → trees ≡ [] → (form : Tree) × (trees ≡ form ∷ []) × (rest ≡ length trick_text) → ⊥
-no_forms trees rest none one = omega (arith, ap length none, ap length one.1)
-
 -- a form that has no fault of a part, and whose sheet has none of sight, has none
 pub no_first_fault : (tree : Tree) (kind : SourceKind) (at : ℕ) → sheet_fault tree ≡ None
     → ((sheet : Sheet) (at : ℕ) → IsSheetOf tree sheet → IsUnseen sheet at → ⊥) → HasFirstFault tree kind at → ⊥

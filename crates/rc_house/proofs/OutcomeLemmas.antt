@@ -108,14 +108,6 @@ counted_given (Some whole) after faults steps steps' task bytes given end few =
     let all = gave_all whole given.0 bytes after given.1 given.2 end in
     subst (λ source. (answer : Answer) → HasAnswer task source answer → steps' ≤ steps + playouts_of answer) all.0 few
 
--- no step
-pub counted_none : (before : Port) (steps : ℕ) (task : Task) → CountedFew before task steps steps
-counted_none before steps task = by before.told
-  where
-    by : (told : Option (List ℕ)) → CountedFew (port told before.faults) task steps steps
-    by None = tt
-    by (Some source) = λ answer has. omega arith
-
 -- a text that was handed on
 pub delivered : (task : Task) (before after : Ports) (steps steps' playouts : ℕ) (bytes note : List ℕ) (status : Status)
     → IsNoteOf task note

@@ -71,9 +71,3 @@ abbrev mutual
   pub printed_behind : Trees → List ℕ
   printed_behind nil = []
   printed_behind (cons tree trees) = 32 ∷ printed tree ++ printed_behind trees
-
--- the tree at a place, where there is one
-abbrev pub nth : ℕ → Trees → Option Tree
-nth place nil = None
-nth zero (cons tree trees) = Some tree
-nth (suc place) (cons tree trees) = nth place trees

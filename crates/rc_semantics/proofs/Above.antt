@@ -53,7 +53,3 @@ above_more above rule forms index part lt is =
     ∙ ap (λ tree. above ++ (inner_attributes rule parts index ++ attributes_behind rule tree)) (sym same)
     ∙ ap (λ more. above ++ more)
     (sym (inner_more rule parts index (omega (arith, lt, count_packed forms))) ∙ ap (inner_attributes rule parts) next)
-
--- those above a form alone
-pub above_alone : (above inner : List (List ℕ)) → take (length above) (above ++ inner) ≡ above
-above_alone above inner = take-append_seam above inner

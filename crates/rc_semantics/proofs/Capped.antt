@@ -15,10 +15,6 @@ times_by a (suc b) (inl lt) =
 pub times : (a b : ℕ) → min (min a 513 * b) 513 ≡ min (a * b) 513
 times a b = times_by a b (cases_lt 513 a)
 
--- a part of a sum may be cut
-pub plus : (a b : ℕ) → min (min a 513 + b) 513 ≡ min (a + b) 513
-plus a b = omega arith
-
 -- one more factor
 pub one_more : (count faces rest : ℕ) → min (min (count * min faces 513) 513 * rest) 513 ≡ min (count * (faces * rest)) 513
 one_more count faces rest =

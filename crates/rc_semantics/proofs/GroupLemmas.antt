@@ -140,9 +140,3 @@ pair_by (a ∷ []) second from to some few is = absurd (omega (arith, some, few)
 pair_by (a ∷ b ∷ []) second from to some few is = pair_faces (tree_of a) (tree_of b) from to
     ∙ ap (λ form. branches_by (tree_of form)) (sym is)
 pair_by (a ∷ b ∷ c ∷ forms) second from to some few is = absurd (omega (arith, some, few))
-
--- the faces of branches
-pub branches_more : (branch : Tree) (branches : Trees) → written_branches (cons branch branches)
-    ≡ branch_by branch + written_branches branches
-branches_more (word value from to) branches = refl
-branches_more (list groups from to) branches = refl

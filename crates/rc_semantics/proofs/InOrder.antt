@@ -21,11 +21,6 @@ abbrev Rises : ℕ → List Part → Type 0
 Rises low [] = Unit {0}
 Rises low (part ∷ parts) = (low ≤ offset_of part) × Rises (offset_of part + 1) parts
 
--- what isn't below an offset isn't below a lower one
-Rises-lower : (low from : ℕ) (parts : List Part) → low ≤ from → Rises from parts → Rises low parts
-Rises-lower low from [] below rises = tt
-Rises-lower low from (part ∷ parts) below rises = (let above = rises.0 in omega arith, rises.1)
-
 -- what rises from a number on rises from a lower one on
 Rise-lower : (low from high : ℕ) (numbers : List ℕ) → low ≤ from → Rise from high numbers → Rise low high numbers
 Rise-lower low from high [] below rise = omega arith

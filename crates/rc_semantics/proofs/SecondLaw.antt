@@ -93,16 +93,3 @@ behind_law all earlier (part ∷ parts) =
 -- the first fault of a form
 pub finds_first : (tree : Tree) → FindsFirst tree
 finds_first tree = behind_law (parts_of tree) [] (parts_of tree)
-
--- no first fault, no fault
-no_first : (faults : List SheetFault) → first faults ≡ None → faults ≡ []
-no_first [] none = refl
-no_first (fault ∷ faults) none = absurd cc
-
--- a form whose walk finds no fault has none
-pub walk_is_fine : (tree : Tree) (seen : Summary) → check_form tree ≡ Ok seen → second_faults tree ≡ []
-walk_is_fine tree seen fine = no_first (second_faults tree) (finds_first tree ∙ ap fault_of fine)
-
--- the fault that a walk finds is the first
-pub walk_finds : (tree : Tree) (fault : SheetFault) → check_form tree ≡ Err fault → first (second_faults tree) ≡ Some fault
-walk_finds tree fault found = finds_first tree ∙ ap fault_of found
