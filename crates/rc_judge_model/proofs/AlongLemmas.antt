@@ -1,11 +1,11 @@
 -- One pass finds the first illegal line.
-use Rattle.std.proofs.Common.{◌≡◌, ◌≢◌, ℕ, zero, suc, ◌+◌, ◌<◌, ◌≤◌, ◌==◌, Bool, true, false, if◌then◌else◌, List, [], ◌∷◌, ◌++◌, map, flat_map, length, Option, Some, None, IfSome, Result, Ok, Err, refl, sym, ap, ◌∙◌, subst, append_assoc, append-nil, arith, eqb-true}
+use Rattle.std.proofs.Common.{◌≡◌, ◌≢◌, ℕ, ◌+◌, ◌==◌, Bool, true, false, if◌then◌else◌, List, [], ◌∷◌, ◌++◌, map, flat_map, length, Option, Some, None, IfSome, Ok, Err, refl, sym, ap, ◌∙◌, subst, append_assoc, append-nil, eqb-true}
 use Rattle.std.specs.List.{AllByRecursion}
 use Rattle.std.proofs.lemmas.List.{map-append, length-append}
-use Rattle.rc_model.specs.Transcript.{Pick, Ending, done, Score, Record, Standing}
+use Rattle.rc_model.specs.Transcript.{Pick, Ending, Score, Record, Standing}
 use Rattle.rc_text_model.specs.Fields.{◌>>=◌}
 use Rattle.rc_text_model.specs.Lines.{Line, header, opening, chosen, shuffled, ending, scored, ranked}
-use Rattle.rc_text_model.specs.HouseText.{HouseText, shuffles_told, played_lines, told_lines, ended_lines, record_lines, lines_of, IsHouseText}
+use Rattle.rc_text_model.specs.HouseText.{HouseText, shuffles_told, record_lines, lines_of, IsHouseText}
 use Rattle.rc_text_model.specs.Reading.{Place, outside, headed, playing, told, stopped, scoring, ranking, opened, with_pick, with_shuffles, with_end, with_score, take_line}
 use Rattle.rc_text_model.specs.Grammar.{run}
 use Rattle.rc_text_model.proofs.FieldLemmas.{bind_some, bind_is}
@@ -13,11 +13,11 @@ use Rattle.rc_text_model.proofs.Grammar.{run_append, text_taken, add_picks, add_
 use Rattle.rc_play_model.specs.About.{About}
 use Rattle.rc_play_model.specs.Effects.{Dealing}
 use Rattle.rc_play_model.specs.Stop.{Stopped}
-use Rattle.rc_play_model.specs.Play.{items_of, from_stop, follow, reached}
+use Rattle.rc_play_model.specs.Play.{items_of, reached}
 use Rattle.rc_play_model.specs.Plan.{Plan, deal_at}
 use Rattle.rc_judge_model.specs.Why.{Why, Illegal}
-use Rattle.rc_judge_model.specs.Rows.{◌or◌, lacking_row, opening_row, chosen_row, shuffled_row, ending_row, scored_row, ranked_row, end_row}
-use Rattle.rc_judge_model.specs.Judged.{at_line, play_after, play_at, row_at, end_at, row_of, end_of, first_from, first_illegal}
+use Rattle.rc_judge_model.specs.Rows.{◌or◌, lacking_row, opening_row, chosen_row, shuffled_row, ending_row, scored_row, ranked_row}
+use Rattle.rc_judge_model.specs.Judged.{at_line, play_after, play_at, row_at, end_at, row_of, first_from, first_illegal}
 use Rattle.rc_judge_model.specs.Along.{next_stop, stop_along, along_from, Judging, on_row, and_then, picks_along, told_along, scores_along, body_along, record_along, matches_along, standings_along, or_illegal, judged}
 use Rattle.rc_judge_model.proofs.GoesOn.{reached_append}
 

@@ -7,7 +7,7 @@ use Rattle.rc_play_model.specs.Effects.{Dealing}
 use Rattle.rc_play_model.specs.Step.{Config, Stop, decide, is_done, is_limit, start}
 use Rattle.rc_play_model.specs.Stop.{Stopped, stop_of}
 use Rattle.rc_play_model.specs.Decision.{choose}
-use Rattle.rc_play_model.specs.Play.{Played, stop_behind, pick_at, stop_for}
+use Rattle.rc_play_model.specs.Play.{stop_behind, pick_at, stop_for}
 use Rattle.rc_play_model.specs.Scores.{record_of}
 use Rattle.rc_play_model.specs.Plan.{Plan, deal_at}
 use Rattle.rc_play_model.specs.House.{standings_of}
