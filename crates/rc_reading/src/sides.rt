@@ -1,7 +1,10 @@
 //! Sides of equations.
-ghost use Rattle.std.specs.Prelude.{◌≡◌};
-ghost use Rattle.rc_ast.specs.Expressions.{test_seen};
+ghost use Rattle.std.specs.Prelude.{◌≡◌, Err, IfOk, OnErr};
+ghost use Rattle.rc_ast.specs.Names.{who_seen};
+ghost use Rattle.rc_ast.specs.Expressions.{card_seen, int_seen, test_seen};
 ghost use Rattle.rc_reading.specs.ReadExpressions as reading;
+ghost use Rattle.rc_reading.specs.ReadExpressions.{number_side, card_side, value_side, owner_side};
+ghost use Rattle.rc_reading.specs.declared.fail.ReadFail.TheVariants.{Memory};
 ghost use Rattle.rc_reading.specs.Sides.{side_seen};
 ghost use Rattle.rc_reading.specs.Gives.{Gives};
 
@@ -48,33 +51,66 @@ pub fn equal_test(alloc: Global, a: Side, b: Side) -> Result<Test, ReadFail>
     ensures { Gives test_seen result (reading.equal_test (side_seen a) (side_seen b)) }
 {
     match a {
-        Side::Number(a) => {
-            let Side::Number(b) = b else {
-                return Err(ReadFail::Meaningless);
-            };
-            Ok(Test::EqInt(Box::new(alloc, a)?, Box::new(alloc, b)?))
-        }
-        Side::Card(a) => {
-            let Side::Card(b) = b else {
-                return Err(ReadFail::Meaningless);
-            };
-            Ok(Test::EqCard(Box::new(alloc, a)?, Box::new(alloc, b)?))
-        }
-        Side::Value(a, attr) => {
-            let Side::Value(b, other) = b else {
-                return Err(ReadFail::Meaningless);
-            };
-            let (a, b) = (Box::new(alloc, a)?, Box::new(alloc, b)?);
-            Ok(Test::EqAttr(a, attr, b, other))
-        }
-        Side::Owner(a) => {
-            let Side::Owner(b) = b else {
-                return Err(ReadFail::Meaningless);
-            };
-            if class_of(a) != class_of(b) {
-                return Err(ReadFail::Meaningless);
-            }
-            Ok(Test::EqWho(a, b))
-        }
+        Side::Number(a) => equal_numbers(alloc, a, b),
+        Side::Card(a) => equal_cards(alloc, a, b),
+        Side::Value(a, attr) => equal_values(alloc, a, attr, b),
+        Side::Owner(a) => equal_owners(a, b),
     }
+}
+
+/// The equality of a number and this side.
+fn equal_numbers(alloc: Global, a: IntExpr, b: Side) -> Result<Test, ReadFail>
+    ensures { Gives test_seen result (reading.equal_test (number_side (int_seen a)) (side_seen b)) }
+{
+    let Side::Number(b) = b else {
+        return Err(ReadFail::Meaningless);
+    };
+    let (a, b) = boxed(alloc, a, b)?;
+    Ok(Test::EqInt(a, b))
+}
+
+/// The equality of a card and this side.
+fn equal_cards(alloc: Global, a: CardExpr, b: Side) -> Result<Test, ReadFail>
+    ensures { Gives test_seen result (reading.equal_test (card_side (card_seen a)) (side_seen b)) }
+{
+    let Side::Card(b) = b else {
+        return Err(ReadFail::Meaningless);
+    };
+    let (a, b) = boxed(alloc, a, b)?;
+    Ok(Test::EqCard(a, b))
+}
+
+/// The equality of a card's value of an attribute and this side.
+fn equal_values(alloc: Global, a: CardExpr, attr: u16, b: Side) -> Result<Test, ReadFail>
+    ensures { Gives test_seen result (reading.equal_test (value_side (card_seen a) attr) (side_seen b)) }
+{
+    let Side::Value(b, other) = b else {
+        return Err(ReadFail::Meaningless);
+    };
+    let (a, b) = boxed(alloc, a, b)?;
+    Ok(Test::EqAttr(a, attr, b, other))
+}
+
+/// The equality of an owner and this side.
+fn equal_owners(a: Who, b: Side) -> Result<Test, ReadFail>
+    ensures { Gives test_seen result (reading.equal_test (owner_side (who_seen a)) (side_seen b)) }
+{
+    let Side::Owner(b) = b else {
+        return Err(ReadFail::Meaningless);
+    };
+    if class_of(a) != class_of(b) {
+        return Err(ReadFail::Meaningless);
+    }
+    Ok(Test::EqWho(a, b))
+}
+
+/// Two values, each in a box.
+pub fn boxed<A: Drop, B: Drop>(alloc: Global, a: A, b: B) -> Result<(Box<A>, Box<B>), ReadFail>
+    ensures first { IfOk result (λ boxes. boxes.0.value ≡ a) }
+    ensures second { IfOk result (λ boxes. boxes.1.value ≡ b) }
+    ensures memory { OnErr result (result ≡ Err Memory) }
+{
+    let a = Box::new(alloc, a)?;
+    let b = Box::new(alloc, b)?;
+    Ok((a, b))
 }
