@@ -56,7 +56,28 @@ parts_fall form items span parts is parts_is =
     let parts_same : most the_size parts ≡ most the_size items.items = ap (most the_size) parts_is in
     omega arith
 
--- the trees of four parts
+-- what gives the reading of a list's parts, where its trees are these
+pub gives_parts : {X Y : Type 0} (view : X → Y) (result : Result X ReadFail) (reading : Trees → Option Y) {parts trees : Trees}
+    → parts ≡ trees → Gives view result (reading trees) → Gives view result (reading parts)
+gives_parts view result reading are gives = gives_same view result _ _ (ap reading are) gives
+
+-- the trees of two parts, of three and of four
+pub two_parts : (forms : List Form) (b : Form) → 2 ≤ length forms → length forms < 3 → b ≡ get_or forms 1 b
+    → packed (trees_of forms) ≡ cons (tree_of (get_or forms 0 b)) (cons (tree_of b) nil)
+two_parts [] b most least b_is = absurd (omega arith)
+two_parts (a ∷ []) b most least b_is = absurd (omega arith)
+two_parts (a ∷ b' ∷ []) b most least b_is = cc
+two_parts (a ∷ b' ∷ c ∷ forms) b most least b_is = absurd (omega arith)
+
+pub three_parts : (forms : List Form) (b c : Form) → 3 ≤ length forms → length forms < 4
+    → b ≡ get_or forms 1 b → c ≡ get_or forms 2 c
+    → packed (trees_of forms) ≡ cons (tree_of (get_or forms 0 b)) (cons (tree_of b) (cons (tree_of c) nil))
+three_parts [] b c most least b_is c_is = absurd (omega arith)
+three_parts (a ∷ []) b c most least b_is c_is = absurd (omega arith)
+three_parts (a ∷ b' ∷ []) b c most least b_is c_is = absurd (omega arith)
+three_parts (a ∷ b' ∷ c' ∷ []) b c most least b_is c_is = cc
+three_parts (a ∷ b' ∷ c' ∷ d ∷ forms) b c most least b_is c_is = absurd (omega arith)
+
 pub four_parts : (forms : List Form) (b c d : Form) → 4 ≤ length forms → length forms < 5
     → b ≡ get_or forms 1 b → c ≡ get_or forms 2 c → d ≡ get_or forms 3 d
     → packed (trees_of forms) ≡ cons (tree_of (get_or forms 0 b)) (cons (tree_of b) (cons (tree_of c) (cons (tree_of d) nil)))

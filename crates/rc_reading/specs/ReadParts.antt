@@ -1,7 +1,7 @@
 -- What the parts of a list say, by how many there are and what they are, and what a list of each form makes of its parts: the
 -- readings of expressions and tests again, cut as the readers are. The two are one (`rc_sheet/proofs/Forms.antt`).
 use Rattle.std.specs.Prelude.{ℕ, Option, Some, None, option_map}
-use Rattle.rc_model.specs.Tree.{Trees, nil, cons}
+use Rattle.rc_model.specs.Tree.{Tree, Trees, nil, cons}
 use Rattle.rc_sheet_model.specs.Sheet.{card_sort, CardExpr, top_card, bottom_card, max_card, min_card, CollExpr, cards_in, filtered, union_of, CollExprs, IntExpr, number, size_of, sum_of, worth_of, add, subtract, multiply, Test, ne, less, less_eq, more, more_eq, has_value, and_of, or_of, not_of, all_of, any_of, Tests, Domain}
 use Rattle.rc_sheet_model.specs.Naming.{Naming, Scope, bind, sort_of}
 use Rattle.rc_reading.specs.ReadNames.{◌>>=◌, both, name_at, binder_at, owner_rule, loc_parts, num_parts, map_at}
@@ -58,12 +58,16 @@ equality naming scope (cons head (cons a (cons b nil))) =
     both (side_at naming scope a) (side_at naming scope b) >>= λ p. equal_test p.0 p.1
 equality naming scope parts = None
 
--- `(is CARD ATTR VALUE)`
-abbrev pub is_parts : Naming → Scope → Trees → Option Test
-is_parts naming scope (cons head (cons card (cons attr (cons value nil)))) =
+-- whether a card has a value of an attribute
+abbrev pub is_of : Naming → Scope → Tree → Tree → Tree → Option Test
+is_of naming scope card attr value =
     card_at naming scope card >>= λ card.
     name_at naming.names.attrs attr >>= λ attr.
     option_map (λ value. has_value card attr value) (name_at naming.names.values value)
+
+-- `(is CARD ATTR VALUE)`
+abbrev pub is_parts : Naming → Scope → Trees → Option Test
+is_parts naming scope (cons head (cons card (cons attr (cons value nil)))) = is_of naming scope card attr value
 is_parts naming scope parts = None
 
 -- one test behind a head

@@ -3,6 +3,7 @@ ghost use Rattle.std.specs.Prelude.{◌≡◌, ◌≤◌, IsTrue, length};
 ghost use Rattle.rc_form.specs.Form.{tree_of, trees_of, packed};
 ghost use Rattle.rc_ast.specs.Expressions.{card_seen, coll_seen, colls_seen, int_seen, test_seen, tests_seen, domain_seen};
 ghost use Rattle.rc_grammar.specs.Faults.{fits};
+ghost use Rattle.rc_reading.specs.ReadNames.{both, map_at, name_at};
 ghost use Rattle.rc_reading.specs.ReadExpressions as reading;
 ghost use Rattle.rc_reading.specs.ReadParts as behind;
 ghost use Rattle.rc_reading.specs.Sides.{side_seen};
@@ -14,7 +15,7 @@ use crate::names::rule_at;
 use crate::owners::owner_rule;
 use crate::reader::Reader;
 use crate::scope::Scope;
-use crate::sides::{Side, equal_test, side_word};
+use crate::sides::{Side, boxed, equal_test, side_word};
 use rc_ast::{CardExpr, CollExpr, Domain, IntExpr, Sort, Test};
 use rc_form::{Form, integer};
 use rc_grammar::{Keyword, Place, Rule, is_form_word};
@@ -59,19 +60,19 @@ impl Reader {
         match rule {
             Rule::TopCard => {
                 let cards = self.one_collection(alloc, scope, parts)?;
-                Ok(CardExpr::Top(Box::new(alloc, cards)?))
+                Ok(CardExpr::Top(cards))
             }
             Rule::BottomCard => {
                 let cards = self.one_collection(alloc, scope, parts)?;
-                Ok(CardExpr::Bottom(Box::new(alloc, cards)?))
+                Ok(CardExpr::Bottom(cards))
             }
             Rule::MaxCard => {
                 let (cards, map) = self.collection_and_map(alloc, scope, parts)?;
-                Ok(CardExpr::Max(Box::new(alloc, cards)?, map))
+                Ok(CardExpr::Max(cards, map))
             }
             Rule::MinCard => {
                 let (cards, map) = self.collection_and_map(alloc, scope, parts)?;
-                Ok(CardExpr::Min(Box::new(alloc, cards)?, map))
+                Ok(CardExpr::Min(cards, map))
             }
             _ => Err(ReadFail::Meaningless),
         }
@@ -84,17 +85,34 @@ impl Reader {
         alloc: Global,
         scope: &Scope,
         parts: &[Form],
-    ) -> Result<(CardExpr, u16), ReadFail>
+    ) -> Result<(Box<CardExpr>, u16), ReadFail>
         requires { length parts.now ≡ 4 }
-        ensures { Gives (λ two. (card_seen two.0, two.1)) result
+        ensures { Gives (λ two. (card_seen two.0.value, two.1)) result
             (behind.card_and_map self.now scope.now (packed (trees_of parts.now))) }
     {
-        let [_, card, using, map] = parts else {
+        let [_, card, keyword, map] = parts else {
             return Err(ReadFail::Meaningless);
         };
+        self.mapped_card(alloc, scope, card, keyword, map)
+    }
+
+    /// A card, and a point map behind the word `using`.
+    #[cycle(reading)]
+    fn mapped_card(
+        &self,
+        alloc: Global,
+        scope: &Scope,
+        card: &Form,
+        keyword: &Form,
+        map: &Form,
+    ) -> Result<(Box<CardExpr>, u16), ReadFail>
+        ensures { Gives (λ two. (card_seen two.0.value, two.1)) result
+            (both (reading.card_at self.now scope.now (tree_of card.now))
+            (map_at self.now (tree_of keyword.now) (tree_of map.now))) }
+    {
         let card = self.card(alloc, scope, card)?;
-        let map = self.map(using, map)?;
-        Ok((card, map))
+        let map = self.map(keyword, map)?;
+        Ok((Box::new(alloc, card)?, map))
     }
 
     /// The card behind a head, and an attribute.
@@ -112,6 +130,22 @@ impl Reader {
         let [_, card, attr] = parts else {
             return Err(ReadFail::Meaningless);
         };
+        self.card_with_attr(alloc, scope, card, attr)
+    }
+
+    /// A card, and an attribute.
+    #[cycle(reading)]
+    fn card_with_attr(
+        &self,
+        alloc: Global,
+        scope: &Scope,
+        card: &Form,
+        attr: &Form,
+    ) -> Result<(CardExpr, u16), ReadFail>
+        ensures { Gives (λ two. (card_seen two.0, two.1)) result
+            (both (reading.card_at self.now scope.now (tree_of card.now))
+            (name_at self.now.names.attrs (tree_of attr.now))) }
+    {
         let card = self.card(alloc, scope, card)?;
         let attr = self.attr(attr)?;
         Ok((card, attr))
@@ -190,14 +224,29 @@ impl Reader {
         alloc: Global,
         scope: &Scope,
         parts: &[Form],
-    ) -> Result<CollExpr, ReadFail>
+    ) -> Result<Box<CollExpr>, ReadFail>
         requires { length parts.now ≡ 2 }
-        ensures { Gives coll_seen result (behind.one_coll self.now scope.now (packed (trees_of parts.now))) }
+        ensures { Gives (λ cards. coll_seen cards.value) result
+            (behind.one_coll self.now scope.now (packed (trees_of parts.now))) }
     {
         let [_, cards] = parts else {
             return Err(ReadFail::Meaningless);
         };
-        self.collection(alloc, scope, cards)
+        self.boxed_collection(alloc, scope, cards)
+    }
+
+    /// A list of cards in a box.
+    #[cycle(reading)]
+    fn boxed_collection(
+        &self,
+        alloc: Global,
+        scope: &Scope,
+        form: &Form,
+    ) -> Result<Box<CollExpr>, ReadFail>
+        ensures { Gives (λ cards. coll_seen cards.value) result (reading.coll_at self.now scope.now (tree_of form.now)) }
+    {
+        let cards = self.collection(alloc, scope, form)?;
+        Ok(Box::new(alloc, cards)?)
     }
 
     /// The cards behind a head, and a point map.
@@ -207,17 +256,34 @@ impl Reader {
         alloc: Global,
         scope: &Scope,
         parts: &[Form],
-    ) -> Result<(CollExpr, u16), ReadFail>
+    ) -> Result<(Box<CollExpr>, u16), ReadFail>
         requires { length parts.now ≡ 4 }
-        ensures { Gives (λ two. (coll_seen two.0, two.1)) result
+        ensures { Gives (λ two. (coll_seen two.0.value, two.1)) result
             (behind.coll_and_map self.now scope.now (packed (trees_of parts.now))) }
     {
-        let [_, cards, using, map] = parts else {
+        let [_, cards, keyword, map] = parts else {
             return Err(ReadFail::Meaningless);
         };
+        self.mapped_collection(alloc, scope, cards, keyword, map)
+    }
+
+    /// A list of cards, and a point map behind the word `using`.
+    #[cycle(reading)]
+    fn mapped_collection(
+        &self,
+        alloc: Global,
+        scope: &Scope,
+        cards: &Form,
+        keyword: &Form,
+        map: &Form,
+    ) -> Result<(Box<CollExpr>, u16), ReadFail>
+        ensures { Gives (λ two. (coll_seen two.0.value, two.1)) result
+            (both (reading.coll_at self.now scope.now (tree_of cards.now))
+            (map_at self.now (tree_of keyword.now) (tree_of map.now))) }
+    {
         let cards = self.collection(alloc, scope, cards)?;
-        let map = self.map(using, map)?;
-        Ok((cards, map))
+        let map = self.map(keyword, map)?;
+        Ok((Box::new(alloc, cards)?, map))
     }
 
     /// The cards behind a head that pass a test.
@@ -232,7 +298,8 @@ impl Reader {
         let cards = self.collection(alloc, scope, cards)?;
         let (bound, inner) = self.bind(alloc, scope, variable, Sort::Card)?;
         let test = self.test(alloc, &inner, test)?;
-        Ok(CollExpr::Filter(Box::new(alloc, cards)?, bound, Box::new(alloc, test)?))
+        let (cards, test) = boxed(alloc, cards, test)?;
+        Ok(CollExpr::Filter(cards, bound, test))
     }
 
     /// The lists of cards behind a head.
@@ -296,27 +363,27 @@ impl Reader {
             Rule::Counter => Ok(IntExpr::Num(self.counter_parts(scope, parts)?)),
             Rule::Size => {
                 let cards = self.one_collection(alloc, scope, parts)?;
-                Ok(IntExpr::Size(Box::new(alloc, cards)?))
+                Ok(IntExpr::Size(cards))
             }
             Rule::Sum => {
                 let (cards, map) = self.collection_and_map(alloc, scope, parts)?;
-                Ok(IntExpr::Sum(Box::new(alloc, cards)?, map))
+                Ok(IntExpr::Sum(cards, map))
             }
             Rule::PointsOf => {
                 let (card, map) = self.card_and_map(alloc, scope, parts)?;
-                Ok(IntExpr::Points(Box::new(alloc, card)?, map))
+                Ok(IntExpr::Points(card, map))
             }
             Rule::Plus => {
                 let (a, b) = self.two_integers(alloc, scope, parts)?;
-                Ok(IntExpr::Add(Box::new(alloc, a)?, Box::new(alloc, b)?))
+                Ok(IntExpr::Add(a, b))
             }
             Rule::Minus => {
                 let (a, b) = self.two_integers(alloc, scope, parts)?;
-                Ok(IntExpr::Sub(Box::new(alloc, a)?, Box::new(alloc, b)?))
+                Ok(IntExpr::Sub(a, b))
             }
             Rule::Times => {
                 let (a, b) = self.two_integers(alloc, scope, parts)?;
-                Ok(IntExpr::Mul(Box::new(alloc, a)?, Box::new(alloc, b)?))
+                Ok(IntExpr::Mul(a, b))
             }
             _ => Err(ReadFail::Meaningless),
         }
@@ -329,9 +396,9 @@ impl Reader {
         alloc: Global,
         scope: &Scope,
         parts: &[Form],
-    ) -> Result<(IntExpr, IntExpr), ReadFail>
+    ) -> Result<(Box<IntExpr>, Box<IntExpr>), ReadFail>
         requires { length parts.now ≡ 3 }
-        ensures { Gives (λ two. (int_seen two.0, int_seen two.1)) result
+        ensures { Gives (λ two. (int_seen two.0.value, int_seen two.1.value)) result
             (behind.two_ints self.now scope.now (packed (trees_of parts.now))) }
     {
         let [_, a, b] = parts else {
@@ -339,7 +406,7 @@ impl Reader {
         };
         let a = self.integer(alloc, scope, a)?;
         let b = self.integer(alloc, scope, b)?;
-        Ok((a, b))
+        boxed(alloc, a, b)
     }
 
     /// A test.
@@ -377,22 +444,22 @@ impl Reader {
             }
             Rule::Less | Rule::LessOrEqual | Rule::More | Rule::MoreOrEqual => {
                 let (a, b) = self.two_integers(alloc, scope, parts)?;
-                order_test(alloc, rule, a, b)
+                order_test(rule, a, b)
             }
             Rule::Is => self.value_test(alloc, scope, parts),
             Rule::And => Ok(Test::and_of(self.tests(alloc, scope, parts)?)),
             Rule::Or => Ok(Test::or_of(self.tests(alloc, scope, parts)?)),
             Rule::Not => {
                 let test = self.one_test(alloc, scope, parts)?;
-                Ok(Test::Not(Box::new(alloc, test)?))
+                Ok(Test::Not(test))
             }
             Rule::ForAll => {
                 let (domain, bound, test) = self.quantified(alloc, scope, parts)?;
-                Ok(Test::All(domain, bound, Box::new(alloc, test)?))
+                Ok(Test::All(domain, bound, test))
             }
             Rule::ForAny => {
                 let (domain, bound, test) = self.quantified(alloc, scope, parts)?;
-                Ok(Test::Any(domain, bound, Box::new(alloc, test)?))
+                Ok(Test::Any(domain, bound, test))
             }
             _ => Err(ReadFail::Meaningless),
         }
@@ -407,6 +474,22 @@ impl Reader {
         let [_, card, attr, value] = parts else {
             return Err(ReadFail::Meaningless);
         };
+        self.has_value(alloc, scope, card, attr, value)
+    }
+
+    /// Whether a card has a value of an attribute.
+    #[cycle(reading)]
+    fn has_value(
+        &self,
+        alloc: Global,
+        scope: &Scope,
+        card: &Form,
+        attr: &Form,
+        value: &Form,
+    ) -> Result<Test, ReadFail>
+        ensures { Gives test_seen result
+            (behind.is_of self.now scope.now (tree_of card.now) (tree_of attr.now) (tree_of value.now)) }
+    {
         let card = self.card(alloc, scope, card)?;
         let attr = self.attr(attr)?;
         let value = self.value(value)?;
@@ -415,14 +498,24 @@ impl Reader {
 
     /// The test behind a head.
     #[cycle(reading)]
-    fn one_test(&self, alloc: Global, scope: &Scope, parts: &[Form]) -> Result<Test, ReadFail>
+    fn one_test(&self, alloc: Global, scope: &Scope, parts: &[Form]) -> Result<Box<Test>, ReadFail>
         requires { length parts.now ≡ 2 }
-        ensures { Gives test_seen result (behind.one_test self.now scope.now (packed (trees_of parts.now))) }
+        ensures { Gives (λ test. test_seen test.value) result
+            (behind.one_test self.now scope.now (packed (trees_of parts.now))) }
     {
         let [_, test] = parts else {
             return Err(ReadFail::Meaningless);
         };
-        self.test(alloc, scope, test)
+        self.boxed_test(alloc, scope, test)
+    }
+
+    /// A test in a box.
+    #[cycle(reading)]
+    fn boxed_test(&self, alloc: Global, scope: &Scope, form: &Form) -> Result<Box<Test>, ReadFail>
+        ensures { Gives (λ test. test_seen test.value) result (reading.test_at self.now scope.now (tree_of form.now)) }
+    {
+        let test = self.test(alloc, scope, form)?;
+        Ok(Box::new(alloc, test)?)
     }
 
     /// The tests behind a head.
@@ -449,9 +542,9 @@ impl Reader {
         alloc: Global,
         scope: &Scope,
         parts: &[Form],
-    ) -> Result<(Domain, u32, Test), ReadFail>
+    ) -> Result<(Domain, u32, Box<Test>), ReadFail>
         requires { length parts.now ≡ 4 }
-        ensures { Gives (λ found. (domain_seen found.0, found.1, test_seen found.2)) result
+        ensures { Gives (λ found. (domain_seen found.0, found.1, test_seen found.2.value)) result
             (behind.quantified self.now scope.now (packed (trees_of parts.now))) }
     {
         let [_, range, variable, test] = parts else {
@@ -460,7 +553,7 @@ impl Reader {
         let domain = self.range(alloc, scope, range)?;
         let (bound, inner) = self.bind(alloc, scope, variable, sort_of(&domain))?;
         let test = self.test(alloc, &inner, test)?;
-        Ok((domain, bound, test))
+        Ok((domain, bound, Box::new(alloc, test)?))
     }
 
     /// The players, or cards.
@@ -543,10 +636,9 @@ impl Reader {
 }
 
 /// The test of which of two numbers is less.
-fn order_test(alloc: Global, rule: Rule, a: IntExpr, b: IntExpr) -> Result<Test, ReadFail>
-    ensures { Gives test_seen result (behind.order_test rule (int_seen a) (int_seen b)) }
+fn order_test(rule: Rule, a: Box<IntExpr>, b: Box<IntExpr>) -> Result<Test, ReadFail>
+    ensures { Gives test_seen result (behind.order_test rule (int_seen a.value) (int_seen b.value)) }
 {
-    let (a, b) = (Box::new(alloc, a)?, Box::new(alloc, b)?);
     match rule {
         Rule::Less => Ok(Test::Less(a, b)),
         Rule::LessOrEqual => Ok(Test::LessEq(a, b)),

@@ -5,11 +5,12 @@ use Rattle.rc_sheet_model.specs.Lists.{colls_from, tests_from}
 use Rattle.rc_sheet_model.specs.Naming.{bind}
 use Rattle.rc_grammar.specs.declared.grammar.Place.TheVariants as place
 use Rattle.rc_reading.specs.ReadExpressions.{card_at, card_rule, coll_at, coll_rule, colls_at, int_at, int_rule, side_at, test_at, test_rule, tests_at}
-use Rattle.rc_reading.specs.ReadParts.{card_form, coll_form, colls_behind, int_form, side_form, test_form, tests_behind}
+use Rattle.rc_reading.specs.ReadParts as behind
+use Rattle.rc_reading.specs.ReadParts.{card_and_attr, card_and_map, card_form, coll_and_map, coll_form, colls_behind, int_form, is_parts, one_coll, side_form, test_form, tests_behind}
 use Rattle.rc_reading.specs.Sides.{side_seen}
 use Rattle.rc_reading.proofs.Forms.{card_forms, coll_forms, int_forms, side_rule, side_forms, test_forms}
 use Rattle.rc_reading.proofs.InTurn.{so_far, goes_on, is_done}
-use Rattle.rc_reading.proofs.Lists.{list_gives, parts_fall, behind_head, filter_said, quantified_said}
+use Rattle.rc_reading.proofs.Lists.{list_gives, parts_fall, gives_parts, two_parts, three_parts, four_parts, behind_head, filter_said, quantified_said}
 use Rattle.rc_reading.proofs.reader.Reader.+reading.Goals as goal
 
 -- the parts of a list are less deep than the list, and as many as its form has
@@ -89,6 +90,51 @@ side-returns-in_ok-rule-in-List t c =
     c.in_ok-rule-in-List.rule c.as_slice-parts.result.now c.side_list.result c.in-List.is
     c.as_slice-parts.ensures.value c.in_ok-rule-in-List.ensures.given c.side_list.ensures
 
+-- what is read off the parts of a list
+pub card_and_map-returns : goal.card_and_map-returns
+card_and_map-returns t c =
+    let card = c.card-item in
+    let keyword = c.keyword-item in
+    let map = c.map-item in
+    gives_parts (λ two. (card_seen two.0.value, two.1)) c.mapped_card.result (card_and_map c.args.self.now c.args.scope.now)
+    (four_parts c.args.parts.now card.result keyword.result map.result (omega arith) (omega arith) card.is keyword.is map.is)
+    c.mapped_card.ensures
+
+pub card_and_attr-returns : goal.card_and_attr-returns
+card_and_attr-returns t c =
+    gives_parts (λ two. (card_seen two.0, two.1)) c.card_with_attr.result (card_and_attr c.args.self.now c.args.scope.now)
+    (three_parts c.args.parts.now c.card-item.result c.attr-item.result (omega arith) (omega arith) c.card-item.is c.attr-item.is)
+    c.card_with_attr.ensures
+
+pub one_collection-returns : goal.one_collection-returns
+one_collection-returns t c =
+    gives_parts (λ cards. coll_seen cards.value) c.boxed_collection.result (one_coll c.args.self.now c.args.scope.now)
+    (two_parts c.args.parts.now c.cards-item.result (omega arith) (omega arith) c.cards-item.is) c.boxed_collection.ensures
+
+pub collection_and_map-returns : goal.collection_and_map-returns
+collection_and_map-returns t c =
+    let cards = c.cards-item in
+    let keyword = c.keyword-item in
+    let map = c.map-item in
+    gives_parts (λ two. (coll_seen two.0.value, two.1)) c.mapped_collection.result
+    (coll_and_map c.args.self.now c.args.scope.now)
+    (four_parts c.args.parts.now cards.result keyword.result map.result (omega arith) (omega arith) cards.is keyword.is map.is)
+    c.mapped_collection.ensures
+
+pub value_test-returns : goal.value_test-returns
+value_test-returns t c =
+    let card = c.card-item in
+    let attr = c.attr-item in
+    let value = c.value-item in
+    gives_parts test_seen c.has_value.result (is_parts c.args.self.now c.args.scope.now)
+    (four_parts c.args.parts.now card.result attr.result value.result (omega arith) (omega arith) card.is attr.is value.is)
+    c.has_value.ensures
+
+pub one_test-returns : goal.one_test-returns
+one_test-returns t c =
+    gives_parts (λ test. test_seen test.value) c.boxed_test.result (behind.one_test c.args.self.now c.args.scope.now)
+    (two_parts c.args.parts.now c.test-item.result (omega arith) (omega arith) c.test-item.is) c.boxed_test.ensures
+
 -- three readings in turn, of which the last is in the scope behind the binder
 pub filter-returns : goal.filter-returns
 filter-returns t c =
@@ -99,8 +145,8 @@ filter-returns t c =
     c.test-item.result (coll_seen c.in_ok-cards.cards) bound (test_seen test) (omega arith) (omega arith)
     c.cards-item.is c.variable-item.is c.test-item.is
     c.in_ok-cards.ensures c.in_ok-bound.ensures.given c.in_ok-bound.ensures.inner c.in_ok-test.ensures
-    ∙ ap (λ cards. Some (filtered (coll_seen cards) bound (test_seen test))) (sym c.in_ok-new.ensures.ok)
-    ∙ ap (λ t. Some (filtered (coll_seen c.in_ok-new.field-0.value) bound (test_seen t))) (sym c.in_ok-new-2.ensures.ok)
+    ∙ ap (λ cards. Some (filtered (coll_seen cards) bound (test_seen test))) (sym c.in_ok-cards-2.ensures.first)
+    ∙ ap (λ t. Some (filtered (coll_seen c.in_ok-cards-2.cards.value) bound (test_seen t))) (sym c.in_ok-cards-2.ensures.second)
 
 pub quantified-returns : goal.quantified-returns
 quantified-returns t c =
@@ -112,6 +158,7 @@ quantified-returns t c =
     c.range-item.is c.variable-item.is c.test-item.is
     c.in_ok-domain.ensures c.in_ok-bound.ensures.given
     (c.in_ok-bound.ensures.inner ∙ ap (bind naming scope bound) c.sort_of.ensures) c.in_ok-test.ensures
+    ∙ ap (λ t. Some (domain_seen c.in_ok-domain.domain, bound, test_seen t)) (sym c.in_ok-new.ensures.ok)
 
 -- one part after the other
 pub collections-loop-form-preserved : goal.collections-loop-form-preserved
