@@ -8,6 +8,7 @@ mod Lists
 mod Parts
 mod Numbers
 mod Places
+mod PlainLemmas
 pub mod Faces
 mod Sheets
 mod Readings

@@ -1,13 +1,14 @@
 //! Alternatives of choices.
 ghost use Rattle.std.specs.Prelude.{◌≡◌, IsTrue, IfOk, Option, length, option_map};
 ghost use Rattle.rc_form.specs.Form.{tree_of, trees_of, packed};
-ghost use Rattle.rc_sheet_model.specs.Sheet.{any_alt};
+ghost use Rattle.rc_sheet_model.specs.Sheet.{do_alt, if_alt, any_alt};
 ghost use Rattle.rc_sheet_model.specs.Sheet.{Alt as PureAlt};
 ghost use Rattle.rc_sheet_model.specs.Naming as model;
 ghost use Rattle.rc_ast.specs.Expressions.{domain_seen};
 ghost use Rattle.rc_ast.specs.Items.{alt_seen, alts_seen};
 ghost use Rattle.rc_grammar.specs.Faults.{fits};
 ghost use Rattle.rc_reading.specs.ReadNames.{both, binder_at};
+ghost use Rattle.rc_reading.specs.ReadExpressions.{test_at};
 ghost use Rattle.rc_reading.specs.ReadEffects as reading;
 ghost use Rattle.rc_reading.specs.Gives.{Gives};
 
@@ -65,6 +66,33 @@ impl Reader {
         }
     }
 
+    /// Effects, as an alternative.
+    fn unguarded(&self, alloc: Global, scope: &Scope, effects: &[Form]) -> Result<Alt, ReadFail>
+        ensures { Gives alt_seen result
+            (option_map do_alt (reading.effects_at self.now scope.now (packed (trees_of effects.now)))) }
+    {
+        let effects = self.effects(alloc, scope, effects)?;
+        Ok(Alt::Do(effects))
+    }
+
+    /// Effects that a test guards, as an alternative.
+    fn guarded(
+        &self,
+        alloc: Global,
+        scope: &Scope,
+        guard: &Form,
+        effects: &[Form],
+    ) -> Result<Alt, ReadFail>
+        ensures { Gives alt_seen result (option_map (λ p. if_alt p.0 p.1)
+            (both (test_at self.now scope.now (tree_of guard.now))
+            (reading.effects_at self.now scope.now (packed (trees_of effects.now))))) }
+    {
+        let guard = self.test(alloc, scope, guard)?;
+        let guard = Box::new(alloc, guard)?;
+        let effects = self.effects(alloc, scope, effects)?;
+        Ok(Alt::If(guard, effects))
+    }
+
     /// The alternative that a list of this form says, which has no alternative in it.
     fn plain_alternative(
         &self,
@@ -77,15 +105,8 @@ impl Reader {
         ensures { Gives alt_seen result (reading.plain_alt self.now scope.now rule (packed (trees_of parts.now))) }
     {
         match rule {
-            Rule::Do => {
-                let effects = self.effects(alloc, scope, &parts[1..])?;
-                Ok(Alt::Do(effects))
-            }
-            Rule::If => {
-                let guard = self.test(alloc, scope, &parts[1])?;
-                let effects = self.effects(alloc, scope, &parts[2..])?;
-                Ok(Alt::If(Box::new(alloc, guard)?, effects))
-            }
+            Rule::Do => self.unguarded(alloc, scope, &parts[1..]),
+            Rule::If => self.guarded(alloc, scope, &parts[1], &parts[2..]),
             _ => Err(ReadFail::Meaningless),
         }
     }

@@ -1,14 +1,15 @@
 //! The items and the scoring of a sheet.
-ghost use Rattle.std.specs.Prelude.{◌≡◌, IsTrue, Option, length, option_map};
+ghost use Rattle.std.specs.Prelude.{◌≡◌, IsTrue, Option, [], length, option_map};
 ghost use Rattle.rc_form.specs.Form.{tree_of, trees_of, packed};
-ghost use Rattle.rc_sheet_model.specs.Sheet.{stage, SheetItems};
+ghost use Rattle.rc_sheet_model.specs.Sheet.{do_item, stage, SheetItems};
 ghost use Rattle.rc_ast.specs.Expressions.{int_seen, test_seen};
 ghost use Rattle.rc_ast.specs.Items.{items_seen};
 ghost use Rattle.rc_ast.specs.Sheet.{best_seen};
 ghost use Rattle.rc_grammar.specs.Faults.{fits};
 ghost use Rattle.rc_reading.specs.Begun.{begun_seen, item_read, items_read};
 ghost use Rattle.rc_reading.specs.ReadNames.{both};
-ghost use Rattle.rc_reading.specs.ReadEffects.{alts_at};
+ghost use Rattle.rc_reading.specs.ReadExpressions.{test_at};
+ghost use Rattle.rc_reading.specs.ReadEffects.{alts_at, effects_at};
 ghost use Rattle.rc_reading.specs.ReadItems as reading;
 ghost use Rattle.rc_reading.specs.Gives.{Gives};
 
@@ -64,9 +65,16 @@ impl Reader {
         ensures { Gives test_seen result (reading.end_rule self.now rule (packed (trees_of parts.now))) }
     {
         match rule {
-            Rule::End => self.test(alloc, &Scope::empty(alloc), &parts[1]),
+            Rule::End => self.closed_test(alloc, &parts[1]),
             _ => Err(ReadFail::Meaningless),
         }
+    }
+
+    /// A test that no variable is bound around.
+    fn closed_test(&self, alloc: Global, form: &Form) -> Result<Test, ReadFail>
+        ensures { Gives test_seen result (test_at self.now [] (tree_of form.now)) }
+    {
+        self.test(alloc, &Scope::empty(alloc), form)
     }
 
     /// The item that a list of this form says, which has no item in it, and what has begun behind it.
@@ -82,13 +90,24 @@ impl Reader {
             (reading.plain_item self.now (begun_seen begun) rule (packed (trees_of parts.now))) }
     {
         match rule {
-            Rule::Do => {
-                let effects = self.effects(alloc, &Scope::empty(alloc), &parts[1..])?;
-                Ok((SheetItem::Do(effects), begun))
-            }
+            Rule::Do => self.setting(alloc, begun, &parts[1..]),
             Rule::Choice => self.choice(alloc, begun, &parts[1..]),
             _ => Err(ReadFail::Meaningless),
         }
+    }
+
+    /// Effects that are done at once.
+    fn setting(
+        &self,
+        alloc: Global,
+        begun: Begun,
+        effects: &[Form],
+    ) -> Result<(SheetItem, Begun), ReadFail>
+        ensures { Gives item_read result (option_map (λ effects. (do_item effects, begun_seen begun))
+            (effects_at self.now [] (packed (trees_of effects.now)))) }
+    {
+        let effects = self.effects(alloc, &Scope::empty(alloc), effects)?;
+        Ok((SheetItem::Do(effects), begun))
     }
 
     /// One more choice, among these alternatives.
