@@ -4,12 +4,13 @@ use Rattle.std.specs.Prelude.{unwrap_or}
 use Rattle.std.specs.List.{AllByRecursion, AllZip}
 use Rattle.std.proofs.lemmas.List.{length-replicate}
 use Rattle.std.proofs.lemmas.List.Elements.{All-from_recursion}
+use Rattle.rc_sheet_model.specs.Sheet.{choice}
 use Rattle.rc_sheet_model.specs.Lists.{item_list}
 use Rattle.rc_sheet_model.specs.WellFormed.{IsWellFormed}
 use Rattle.rc_play_model.specs.Shape.{shape_of}
 use Rattle.rc_play_model.specs.About.{About}
 use Rattle.rc_play_model.specs.Effects.{Dealing}
-use Rattle.rc_play_model.specs.Step.{todos, Config, decide, start}
+use Rattle.rc_play_model.specs.Step.{todo, todos, Config, decide, start}
 use Rattle.rc_play_model.specs.Stop.{Stopped}
 use Rattle.rc_play_model.specs.Decision.{left_at}
 use Rattle.rc_play_model.specs.Play.{reached}
@@ -18,6 +19,7 @@ use Rattle.rc_play_model.proofs.KeptLemmas.{reached_holds}
 use Rattle.rc_play_model.proofs.StageLemmas.{stages_numbered}
 use Rattle.rc_play_model.proofs.FrameRanges.{AreParts, Frames, item_parts, around_items, IsInRange, first_range, choice_range}
 use Rattle.rc_play_model.proofs.ReachedLemmas.{decision_at_site}
+use Rattle.rc_play_model.proofs.SiteLemmas.{left_at_there}
 
 zeros : (n turn : ℕ) → AllByRecursion (λ m. m ≤ turn) (replicate n 0)
 zeros zero turn = tt
@@ -38,10 +40,12 @@ module _ {S : Type 0} (about : About) (dealing : Dealing S) (fits : about.shape 
       let range =
       reached_holds about dealing (IsInRange about fits formed) (λ k c h. first_range about fits formed dealing k c.left c.table c.control h.0 h.1 h.2)
       (λ k x c below h. choice_range about fits formed dealing k x c.left c.table c.control h.0 h.1 h.2) start_range items k at is in
-      let decision = decision_at_site about dealing formed.numbered.sites items k at seat site is stands in
+      let sites = formed.numbered.sites in
+      let decision = decision_at_site about dealing sites items k at seat site is stands in
       let left : at.config.left ≡ left_at about.sheet site =
       ap (λ (c : Config). c.left) decision.1 ∙ ap (λ o. left_at about.sheet (unwrap_or o 0)) decision.0.stands in
       record {
+        there = left_at_there about.sheet site (todo (choice site decision.0.alts)) decision.0.rest sites (sym left ∙ decision.0.first);
         stands = decision.0.stands;
         frames = subst (λ left. AllZip (IsFrameOf about.sheet) (around left) at.config.control.frames) left range.1;
         seats = range.2.0;

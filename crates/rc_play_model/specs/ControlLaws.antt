@@ -12,8 +12,8 @@ use Rattle.rc_play_model.specs.Path.{Path, next_item, item_depth, items_depth}
 use Rattle.rc_play_model.specs.Play.{reached}
 use Rattle.rc_play_model.specs.Fits.{FitsSite}
 
--- Where items lead to a decision in a match of a well formed sheet, the control fits the site: members and named members are
--- those of their stages, and counts of decisions are at most the turn count.
+-- Where items lead to a decision in a match of a well formed sheet, the control fits the site: the sheet has the site, members
+-- and named members are those of their stages, and counts of decisions are at most the turn count.
 abbrev pub ControlsFit : Type 0
 ControlsFit =
     (about : About) (dealing : Dealing ℕ) → about.shape ≡ shape_of about.sheet → IsWellFormed about.sheet →

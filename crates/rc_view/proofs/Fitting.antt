@@ -86,9 +86,10 @@ counts_below top less [] all = tt
 counts_below top less (n ∷ made) all = (let most = all.0 in omega (arith, most, less), counts_below top less made all.1)
 
 pub fitting_controls_have_keys : FittingControlsHaveKeys
-fitting_controls_have_keys about site control formed fits low less = (
+fitting_controls_have_keys about site control formed fits less = (
   record {
-    site = subst (λ o. IfSome o (λ n. n < 255)) (sym fits.stands) (omega (arith, low));
+    site = subst (λ o. IfSome o (λ n. n < 255)) (sym fits.stands)
+        (let there = fits.there in let few = formed.limits.sites in omega (arith, there, few));
     turn = less;
     made = All-from_recursion (λ n. n < 2 ^ 32) control.made
         (counts_below control.turn less control.made (recursion_from_All (λ n. n ≤ control.turn) control.made fits.counts));

@@ -54,5 +54,5 @@ KeysTellViews =
 -- a control that fits a choice site of a well formed sheet has room in the bytes, and one count of decisions for each player
 abbrev pub FittingControlsHaveKeys : Type 0
 FittingControlsHaveKeys =
-    (about : About) (site : ℕ) (control : Control) → IsWellFormed about.sheet → FitsSite about site control → site < 64 → control.turn < 2 ^ 32 →
+    (about : About) (site : ℕ) (control : Control) → IsWellFormed about.sheet → FitsSite about site control → control.turn < 2 ^ 32 →
     HasControlKey control × (length control.made ≡ about.sheet.players)
