@@ -1,0 +1,7 @@
+mod Dealt
+mod Picked
+mod Scored
+mod Ranked
+mod Played
+pub mod Judged
+pub mod Behind
