@@ -56,7 +56,7 @@ fn decision_row<M: Machine>(machine: &M, seat: u8, site: u8, pick: &Pick) -> Opt
     if pick.seat != seat || pick.site != site {
         return Some(Why::Seat);
     }
-    if usize::from(pick.size) != machine.menu().len() {
+    if usize::from(pick.size) != machine.menu_size() {
         return Some(Why::Menu);
     }
     if pick.item >= pick.size {

@@ -13,7 +13,7 @@ ghost use Rattle.rc_plain.specs.State.{IsReady, plain_of, config_at};
 use crate::state::{State, count_decision};
 use rc_ast::{Alt, Class};
 use rc_effects::do_item;
-use rc_rules::{About, Dealer, Item, Menu, Spots, current_in};
+use rc_rules::{About, Dealer, Item, Menu, current_in};
 
 impl State {
     /// Takes an item out of the menu of the decision that is next, and does its effects.
@@ -67,19 +67,7 @@ pub fn copy_of(menu: &Menu) -> Menu
     let mut copy = Menu::new();
     let _fits = menu.len();
     for item in menu.as_slice() {
-        copy.push(item_of(item));
+        copy.push(item.copy());
     }
     copy
-}
-
-// The same item once more.
-fn item_of(item: &Item) -> Item
-    ensures { item_seen result ≡ item_seen item.now }
-{
-    let mut spots = Spots::new();
-    let _fits = spots.try_extend_from_slice(item.spots.as_slice());
-    Item {
-        alt: item.alt,
-        spots,
-    }
 }

@@ -1,11 +1,12 @@
 //! The machine.
-ghost use Rattle.std.specs.Prelude.{◌≡◌, ◌<◌, ◌≤◌, false, length, Some, is_err, IfOk, OnOk, IsOk};
+ghost use Rattle.std.specs.Prelude.{◌≡◌, ◌<◌, ◌≤◌, true, false, length, Some, is_err, IfOk, OnOk, OnErr, IsOk};
 ghost use Rattle.rc_play_model.specs.Shape.{shape_of};
 ghost use Rattle.rc_play_model.specs.Step.{goes, start};
 ghost use Rattle.rc_play_model.specs.Stop.{stop_of};
 ghost use Rattle.rc_play_model.specs.Decision.{at_site, choose};
 ghost use Rattle.rc_play_model.specs.Table.{opening};
 ghost use Rattle.rc_rules.specs.Control.{control_seen, stop_seen};
+ghost use Rattle.rc_rules.specs.Dealer.{HasShuffled};
 ghost use Rattle.rc_rules.specs.Machine.{StandsAtDecision, StandsWhereItStops, menu_here};
 ghost use Rattle.rc_plain.specs.Plain.{config_of, CanDecide};
 
@@ -141,15 +142,6 @@ impl PlainMachine {
             },
         }
     }
-
-    /// How many items the mover may pick. `menu` copies them; this copies nothing.
-    pub fn menu_size(&self) -> usize
-        requires decision { StandsAtDecision self.now.about (config_of self.now) }
-        ensures is { result ≡ length (menu_here self.now.about (config_of self.now)) }
-        ensures few { result ≤ 256 }
-    {
-        self.state.menu.len()
-    }
 }
 
 // What the match is played by.
@@ -177,6 +169,8 @@ impl Machine for PlainMachine {
         ensures stands { IfOk result (λ stop. StandsWhereItStops self.old.about (stop_seen stop) (config_of self.new)) }
         ensures fresh { OnOk result (false ≡ false) }
         ensures spent { false ≡ is_err result }
+        ensures shuffled { OnErr result (HasShuffled (D.dealing dealer.old) (D.state dealer.old) (D.state dealer.new)) }
+        ensures idle { false ≡ true → D.state dealer.new ≡ D.state dealer.old }
         ensures same { self.new.about ≡ self.old.about }
         ensures dealing { D.dealing dealer.new ≡ D.dealing dealer.old }
     {
@@ -187,14 +181,25 @@ impl Machine for PlainMachine {
         copy_of(&self.state.menu)
     }
 
+    fn menu_size(&self) -> usize
+        requires decision { StandsAtDecision self.now.about (config_of self.now) }
+        ensures is { result ≡ length (menu_here self.now.about (config_of self.now)) }
+        ensures few { result ≤ 256 }
+    {
+        self.state.menu.len()
+    }
+
     fn apply<D: Dealer>(&mut self, item: u16, dealer: &mut D) -> Result<(), Memory>
-        requires decision { StandsAtDecision self.old.about (config_of self.old) }
-        requires offered { item < length (menu_here self.old.about (config_of self.old)) }
+        requires decision { false ≡ false → StandsAtDecision self.old.about (config_of self.old) }
+        requires offered { false ≡ false → item < length (menu_here self.old.about (config_of self.old)) }
         ensures ok { IsOk result }
         ensures leads { OnOk result
             (choose self.old.about (D.dealing dealer.old) (D.state dealer.old) item (config_of self.old)
             ≡ goes (D.state dealer.new) (config_of self.new)) }
+        ensures fresh { OnOk result (false ≡ false) }
         ensures spent { false ≡ is_err result }
+        ensures shuffled { OnErr result (HasShuffled (D.dealing dealer.old) (D.state dealer.old) (D.state dealer.new)) }
+        ensures idle { false ≡ true → D.state dealer.new ≡ D.state dealer.old }
         ensures same { self.new.about ≡ self.old.about }
         ensures dealing { D.dealing dealer.new ≡ D.dealing dealer.old }
     {

@@ -1,6 +1,17 @@
--- The dealer of a match: the seed of its shuffles, and how many there were.
-use Rattle.std.specs.Prelude.{ℕ}
+-- Dealers: the states to which shuffles lead, and the dealer of a match.
+use Rattle.std.specs.Prelude.{◌≡◌, ℕ, List, [], ◌∷◌}
+use Rattle.rc_play_model.specs.Effects.{Dealing}
 
+-- the state behind shuffles of lists of these sizes, in order
+abbrev pub state_behind : Dealing ℕ → ℕ → List ℕ → ℕ
+state_behind dealing state [] = state
+state_behind dealing state (size ∷ sizes) = state_behind dealing (dealing.next state size) sizes
+
+-- some lists were shuffled between these two states
+abbrev pub HasShuffled : Dealing ℕ → ℕ → ℕ → Type 0
+HasShuffled dealing before after = (sizes : List ℕ) × (after ≡ state_behind dealing before sizes)
+
+-- the seed of the shuffles of a match, and how many there were
 pub record Dealt : Type 0 where
   pub deal : ℕ
   pub count : ℕ

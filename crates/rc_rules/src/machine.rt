@@ -1,11 +1,12 @@
 //! Machines that play a match.
-ghost use Rattle.std.specs.Prelude.{◌≡◌, ◌<◌, ℕ, Bool, false, length, Some, is_err, IfOk, OnOk};
+ghost use Rattle.std.specs.Prelude.{◌≡◌, ◌<◌, ◌≤◌, ℕ, Bool, true, false, length, Some, is_err, IfOk, OnOk, OnErr};
 ghost use Rattle.rc_play_model.specs.About.{About as PureAbout};
 ghost use Rattle.rc_play_model.specs.Step.{Config, goes};
 ghost use Rattle.rc_play_model.specs.Stop.{stop_of};
 ghost use Rattle.rc_play_model.specs.Decision.{choose};
 ghost use Rattle.rc_play_model.specs.Scores.{scores_of};
 ghost use Rattle.rc_rules.specs.Control.{control_seen, stop_seen};
+ghost use Rattle.rc_rules.specs.Dealer.{HasShuffled};
 ghost use Rattle.rc_rules.specs.Menu.{menu_seen};
 ghost use Rattle.rc_rules.specs.Machine.{StandsAtDecision, StandsWhereItStops, menu_here};
 
@@ -25,7 +26,8 @@ pub trait Machine {
     ghost spent: { Self → Bool };
 
     /// Goes on to the next stop: a decision at a menu that has an item, below the turn limit; the end, where nothing is left to
-    /// run; or the turn limit. At a stop it answers the same and changes nothing.
+    /// run; or the turn limit. At a stop it answers the same and changes nothing. Where it lacks memory the dealer is in a state
+    /// that shuffles lead to.
     fn advance<D: Dealer>(&mut self, dealer: &mut D) -> Result<Stop, Memory>
         ensures leads { IfOk result
             (λ stop. stop_of (about self.old) (D.dealing dealer.old) (D.state dealer.old) (config self.old)
@@ -33,6 +35,8 @@ pub trait Machine {
         ensures stands { IfOk result (λ stop. StandsWhereItStops (about self.old) (stop_seen stop) (config self.new)) }
         ensures fresh { OnOk result (spent self.old ≡ false) }
         ensures spent { spent self.new ≡ is_err result }
+        ensures shuffled { OnErr result (HasShuffled (D.dealing dealer.old) (D.state dealer.old) (D.state dealer.new)) }
+        ensures idle { spent self.old ≡ true → D.state dealer.new ≡ D.state dealer.old }
         ensures same { about self.new ≡ about self.old }
         ensures dealing { D.dealing dealer.new ≡ D.dealing dealer.old };
 
@@ -42,15 +46,25 @@ pub trait Machine {
         requires decision { StandsAtDecision (about self.now) (config self.now) }
         ensures { menu_seen result.items ≡ menu_here (about self.now) (config self.now) };
 
-    /// Takes an item of the menu and does its effects. The match then stands behind the decision, and `advance` goes on.
+    /// How many items the mover may pick. `menu` copies them, and this copies nothing.
+    fn menu_size(&self) -> usize
+        requires fresh { spent self.now ≡ false }
+        requires decision { StandsAtDecision (about self.now) (config self.now) }
+        ensures is { result ≡ length (menu_here (about self.now) (config self.now)) }
+        ensures few { result ≤ 256 };
+
+    /// Takes an item of the menu and does its effects. The match then stands behind the decision, and `advance` goes on. Where it
+    /// lacks memory the dealer is in a state that shuffles lead to. Of a spent machine nothing is asked.
     fn apply<D: Dealer>(&mut self, item: u16, dealer: &mut D) -> Result<(), Memory>
-        requires fresh { spent self.old ≡ false }
-        requires decision { StandsAtDecision (about self.old) (config self.old) }
-        requires offered { item < length (menu_here (about self.old) (config self.old)) }
+        requires decision { spent self.old ≡ false → StandsAtDecision (about self.old) (config self.old) }
+        requires offered { spent self.old ≡ false → item < length (menu_here (about self.old) (config self.old)) }
         ensures leads { OnOk result
             (choose (about self.old) (D.dealing dealer.old) (D.state dealer.old) item (config self.old)
             ≡ goes (D.state dealer.new) (config self.new)) }
+        ensures fresh { OnOk result (spent self.old ≡ false) }
         ensures spent { spent self.new ≡ is_err result }
+        ensures shuffled { OnErr result (HasShuffled (D.dealing dealer.old) (D.state dealer.old) (D.state dealer.new)) }
+        ensures idle { spent self.old ≡ true → D.state dealer.new ≡ D.state dealer.old }
         ensures same { about self.new ≡ about self.old }
         ensures dealing { D.dealing dealer.new ≡ D.dealing dealer.old };
 

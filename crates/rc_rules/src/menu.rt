@@ -1,4 +1,6 @@
 //! What a choice offers.
+ghost use Rattle.std.specs.Prelude.{◌≡◌};
+ghost use Rattle.rc_rules.specs.Menu.{item_seen};
 
 use arrayvec::ArrayVec;
 
@@ -10,6 +12,20 @@ pub type Spots = ArrayVec<u16, 4>;
 pub struct Item {
     pub alt: usize,
     pub spots: Spots,
+}
+
+impl Item {
+    /// The same item once more.
+    pub fn copy(&self) -> Item
+        ensures { item_seen result ≡ item_seen self.now }
+    {
+        let mut spots = Spots::new();
+        let _fits = spots.try_extend_from_slice(self.spots.as_slice());
+        Item {
+            alt: self.alt,
+            spots,
+        }
+    }
 }
 
 /// The first 256 items that a choice offers.

@@ -23,24 +23,12 @@ use rc_ast::{Alt, CollExpr, Domain};
 use rc_play_model::alike_states_have_equal_menus;
 use rc_rules::{Item, Menu, Spots};
 
-// The same item once more.
-fn copy_of(item: &Item) -> Item
-    ensures { item_seen result ≡ item_seen item.now }
-{
-    let mut spots = Spots::new();
-    let _fits = spots.try_extend_from_slice(item.spots.as_slice());
-    Item {
-        alt: item.alt,
-        spots,
-    }
-}
-
 // The item with one more position.
 fn with_spot(item: &Item, spot: u16) -> Item
     requires { length item.now.spots.items < 4 }
     ensures { item_seen result ≡ extended (item_seen item.now) (spot ∷ []) }
 {
-    let mut next = copy_of(item);
+    let mut next = item.copy();
     next.spots.push(spot);
     next
 }
@@ -50,7 +38,7 @@ fn put(menu: &mut Menu, item: &Item)
     ensures { menu_seen menu.new.items ≡ take 256 (menu_seen menu.old.items ++ extended (item_seen item.now) [] ∷ []) }
 {
     if !menu.is_full() {
-        menu.push(copy_of(item));
+        menu.push(item.copy());
     }
 }
 

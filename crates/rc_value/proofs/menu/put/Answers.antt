@@ -10,7 +10,7 @@ returns-then-not-is_full c =
     let r = room_is _ _ c.is_full.ensures.value c.if-not-is_full.true c.is_full.ensures.fits in
     put_more (menu_seen c.args.menu.now.items) (menu_seen c.push.new.self.items) _ _
     (ap menu_seen c.push.ensures.items ∙ map-append item_seen c.args.menu.now.items _) (omega arith)
-    (c.copy_of.ensures ∙ ap (λ xs. record { alt = c.args.item.now.alt; spots = xs }) (sym (append-nil c.args.item.now.spots.items)))
+    (c.copy.ensures ∙ ap (λ xs. record { alt = c.args.item.now.alt; spots = xs }) (sym (append-nil c.args.item.now.spots.items)))
 
 pub returns-else-not-is_full : goal.returns-else-not-is_full
 returns-else-not-is_full c =

@@ -2,7 +2,7 @@ use Rattle.std.proofs.Common.{ap, ◌∙◌, length, sym, subst}
 use Rattle.rc_rules.specs.Machine.{StandsAtDecision, menu_here}
 use Rattle.rc_plain.specs.Plain.{Plain, config_of}
 use Rattle.rc_plain.proofs.KeptLemmas.{so_many}
-use Rattle.rc_plain.proofs.machine.PlainMachine.menu_size.Goals as goal
+use Rattle.rc_plain.proofs.machine.PlainMachineMachine.menu_size.Goals as goal
 
 pub returns-clause-is : goal.returns-clause-is
 returns-clause-is c =
