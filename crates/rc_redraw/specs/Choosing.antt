@@ -1,5 +1,5 @@
 -- What choosing asks of a memo, and how many playouts it takes.
-use Rattle.std.specs.Prelude.{◌≡◌, ℕ, ◌+◌, ◌⊎◌, true, false, List, [], ◌∷◌}
+use Rattle.std.specs.Prelude.{◌≡◌, ℕ, ◌+◌, ◌≤◌, ◌⊎◌, true, false, List, [], ◌∷◌}
 use Rattle.rc_play_model.specs.About.{About}
 use Rattle.rc_play_model.specs.Plan.{Strategy, scripted, random, rollout}
 use Rattle.rc_play_model.specs.View.{View}
@@ -33,12 +33,18 @@ asked_for need = asked_by need.about need.strategy need.seed need.view
 abbrev pub Chooses : Need → Counts → Counts → ℕ → ℕ → Type 0
 Chooses need before after steps steps' = AsksAll (asked_for need) before after steps steps'
 
--- Where memory runs out, nothing was asked, or the one key was looked up once, a miss; nothing was kept.
-abbrev pub Lacks : Key → Counts → Counts → Type 0
-Lacks key before after = (after ≡ before) ⊎ (after ≡ looked_up key false before)
+-- Where memory runs out at a key, nothing of it was done, or it was looked up, a miss, and some of its playouts were made. Nothing was
+-- kept.
+pub data Lacks (key : Key) (before after : Counts) (steps steps' : ℕ) : Type 0 where
+  unasked : after ≡ before → steps' ≡ steps → Lacks key before after steps steps'
+  unkept : after ≡ looked_up key false before → steps ≤ steps' → steps' ≤ steps + cost_of key → Lacks key before after steps steps'
 
-abbrev pub LacksChoice : Need → Counts → Counts → Type 0
-LacksChoice need before after = (after ≡ before) ⊎ ((key : Key) × (asked_for need ≡ key ∷ []) × (after ≡ looked_up key false before))
+-- The first of these keys are looked up one after the other, all of them or until memory runs out at one.
+abbrev pub AsksSome : List Key → Counts → Counts → ℕ → ℕ → Type 0
+AsksSome [] before after steps steps' = (after ≡ before) × (steps' ≡ steps)
+AsksSome (key ∷ keys) before after steps steps' =
+    Lacks key before after steps steps'
+    ⊎ ((between : Counts) × (more : ℕ) × Asks key before between steps more × AsksSome keys between after more steps')
 
 -- the steps that these lookups take where none is a hit
 abbrev pub all_costs : List Key → ℕ

@@ -4,7 +4,7 @@ ghost use Rattle.rc_play_model.specs.About.{About as PureAbout};
 ghost use Rattle.rc_play_model.specs.Keyed.{choice_of};
 ghost use Rattle.rc_redraw.specs.Counts.{Counts, Serves};
 ghost use Rattle.rc_redraw.specs.Need.{need_seen, IsNeed};
-ghost use Rattle.rc_redraw.specs.Choosing.{Chooses, LacksChoice, most_steps};
+ghost use Rattle.rc_redraw.specs.Choosing.{Chooses, AsksSome, asked_for, most_steps};
 
 use crate::need::Need;
 use rc_deck::Memory;
@@ -31,7 +31,7 @@ pub trait Chooser {
         ensures is { IfOk result (λ item. item
             ≡ choice_of (need_seen need.now).about (need_seen need.now).strategy (need_seen need.now).seed (need_seen need.now).view) }
         ensures counted { OnOk result (Chooses (need_seen need.now) (counts self.old) (counts self.new) steps.old steps.new) }
-        ensures lacking { OnErr result (LacksChoice (need_seen need.now) (counts self.old) (counts self.new)) }
+        ensures lacking { OnErr result (AsksSome (asked_for (need_seen need.now)) (counts self.old) (counts self.new) steps.old steps.new) }
         ensures rises { steps.old ≤ steps.new }
         ensures bounded { steps.new ≤ steps.old + most_steps (need_seen need.now) }
         ensures same { serves self.new ≡ serves self.old };

@@ -5,9 +5,10 @@ ghost use Rattle.rc_play_model.specs.Keyed.{choice_of};
 ghost use Rattle.rc_play_model.specs.Strategy as strategy;
 ghost use Rattle.rc_play_model.specs.Tally.{tally as tally_of};
 ghost use Rattle.rc_redraw.specs.Asking.{cost_of, key_seen};
-ghost use Rattle.rc_redraw.specs.Choosing.{Asks, Chooses, Lacks, LacksChoice, most_steps};
+ghost use Rattle.rc_redraw.specs.Choosing.{Asks, AsksSome, Chooses, Lacks, asked_for, most_steps};
 ghost use Rattle.rc_redraw.specs.Counts.{Serves, kept_once};
 ghost use Rattle.rc_redraw.specs.Need.{need_seen, IsAtDecision, IsNeed};
+ghost use Rattle.rc_rollout.specs.Alone.{IsOffhand, keys_of};
 
 use crate::offhand::{made_by, picked, scripted};
 use crate::totals::tally;
@@ -33,7 +34,7 @@ pub fn choose<M: Memo, L: Ledger>(
     ensures is { IfOk result (λ item. item
         ≡ choice_of (need_seen need.now).about (need_seen need.now).strategy (need_seen need.now).seed (need_seen need.now).view) }
     ensures counted { OnOk result (Chooses (need_seen need.now) (M.counts memo.old) (M.counts memo.new) steps.old steps.new) }
-    ensures lacking { OnErr result (LacksChoice (need_seen need.now) (M.counts memo.old) (M.counts memo.new)) }
+    ensures lacking { OnErr result (AsksSome (asked_for (need_seen need.now)) (M.counts memo.old) (M.counts memo.new) steps.old steps.new) }
     ensures rises { steps.old ≤ steps.new }
     ensures bounded { steps.new ≤ steps.old + most_steps (need_seen need.now) }
     ensures same { M.serves memo.new ≡ M.serves memo.old }
@@ -56,6 +57,42 @@ pub fn choose<M: Memo, L: Ledger>(
             Ok(key) => best_of(alloc, &key, need.menu, memo, steps),
             Err(Memory) => Err(Memory),
         },
+    }
+}
+
+/// The item of a strategy that asks nothing of playouts, and nothing for a rollout.
+pub fn offhand_item(need: &Need) -> Option<u16>
+    requires { IsNeed (need_seen need.now) }
+    ensures { IsOffhand (need_seen need.now) result }
+{
+    let view = &need.view;
+    match &need.strategy {
+        Strategy::Script(numbers) => Some(scripted(
+            numbers,
+            made_by(&view.control, view.seat),
+            need.menu,
+        )),
+        Strategy::Random { key } => Some(picked(
+            *key,
+            need.seed,
+            view.seat,
+            view.control.turn,
+            need.menu,
+        )),
+        Strategy::Rollout { .. } => None,
+    }
+}
+
+/// What a strategy asks of playouts: a rollout its key, and the others nothing. Memory may run out.
+pub fn asked_key(alloc: Global, need: &Need) -> Result<Option<Key>, Memory>
+    ensures { IfOk result (λ key. asked_for (need_seen need.now) ≡ keys_of key) }
+{
+    match &need.strategy {
+        Strategy::Rollout { rounds, key } => match key_of(alloc, need, *rounds, *key) {
+            Ok(key) => Ok(Some(key)),
+            Err(Memory) => Err(Memory),
+        },
+        _ => Ok(None),
     }
 }
 
@@ -99,7 +136,7 @@ fn best_of<M: Memo, L: Ledger>(
     requires menu { menu ≡ strategy.menu_size (key_seen key.now).about (key_seen key.now).ask.view }
     ensures is { IfOk result (λ item. item ≡ strategy.first_largest (tally_of (key_seen key.now).about (key_seen key.now).ask)) }
     ensures counted { OnOk result (Asks (key_seen key.now) (M.counts memo.old) (M.counts memo.new) steps.old steps.new) }
-    ensures lacking { OnErr result (Lacks (key_seen key.now) (M.counts memo.old) (M.counts memo.new)) }
+    ensures lacking { OnErr result (Lacks (key_seen key.now) (M.counts memo.old) (M.counts memo.new) steps.old steps.new) }
     ensures rises { steps.old ≤ steps.new }
     ensures bounded { steps.new ≤ steps.old + cost_of (key_seen key.now) }
     ensures same { M.serves memo.new ≡ M.serves memo.old }
@@ -146,8 +183,8 @@ fn best_played<M: Memo, L: Ledger>(
     }
 }
 
-// The place of the first of the largest totals.
-fn first_largest(totals: &[u32]) -> usize
+/// The place of the first of the largest totals.
+pub fn first_largest(totals: &[u32]) -> usize
     ensures is { result ≡ strategy.first_largest totals.now }
     ensures within { result ≤ length totals.now }
 {
