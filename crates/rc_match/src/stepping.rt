@@ -12,7 +12,7 @@ ghost use Rattle.rc_rules.specs.Record.{pick_seen, ending_seen, record_seen};
 ghost use Rattle.rc_rules.specs.Machine.{StandsAtDecision, StandsWhereItStops, menu_here};
 ghost use Rattle.rc_redraw.specs.Need.{need_seen};
 ghost use Rattle.rc_match.specs.Lane.{ready, over, lane_of, phase_seen, pick_here, noted, next_stop, need_at, completed, notes_at, phase_at, stepped};
-ghost use Rattle.rc_match.specs.Way.{IsOnWay};
+ghost use Rattle.rc_match.specs.Way.{IsOnWay, HaveSameHead};
 
 use crate::ending::complete;
 use crate::job::{Job, deal_of, strategy_of};
@@ -50,6 +50,7 @@ pub(crate) fn go_on<M: Machine>(
     ensures about { M.about machine.new ≡ job.now.about.value }
     ensures deal { dealing_of dealer.new.deal ≡ dealing_of (deal_at (plan_seen job.now.plan.value) job.now.number).deal }
     ensures fresh { OnOk result (M.spent machine.new ≡ false) }
+    ensures head { HaveSameHead (record_seen notes.old) (record_seen notes.new) }
 {
     // what an about keeps
     let _sheet = job.about.sheet();
@@ -83,6 +84,7 @@ fn take_any<M: Machine>(
     ensures about { M.about machine.new ≡ about.now }
     ensures deal { dealing_of dealer.new.deal ≡ dealing_of dealer.old.deal }
     ensures fresh { OnOk result (M.spent machine.new ≡ false) }
+    ensures head { HaveSameHead (record_seen notes.old) (record_seen notes.new) }
 {
     match pick {
         Some(item) => take(about, item, machine, dealer, notes),
@@ -109,6 +111,7 @@ fn take<M: Machine>(
     ensures about { M.about machine.new ≡ about.now }
     ensures deal { dealing_of dealer.new.deal ≡ dealing_of dealer.old.deal }
     ensures fresh { OnOk result (M.spent machine.new ≡ false) }
+    ensures head { HaveSameHead (record_seen notes.old) (record_seen notes.new) }
 {
     let pick = pick_of(about, machine, item);
     match notes.picks.push(pick) {
@@ -130,7 +133,7 @@ fn pick_of<M: Machine>(about: &About, machine: &M, item: u16) -> Pick
         seat: current_in(about.sheet(), Class::Player, control.frames.as_slice()),
         site: control.site.unwrap_or(0),
         item,
-        size: machine.menu().len() as u16,
+        size: machine.menu_size() as u16,
     }
 }
 
@@ -153,6 +156,7 @@ fn arrive<M: Machine>(
         ≡ phase_at job.now.about.value (plan_seen job.now.plan.value) job.now.number (stop_seen stop) (M.config machine.now)) }
     ensures notes { OnOk result (record_seen notes.new
         ≡ notes_at job.now.about.value (record_seen notes.old) (stop_seen stop) (M.config machine.now) dealer.now.count) }
+    ensures head { HaveSameHead (record_seen notes.old) (record_seen notes.new) }
 {
     match stop {
         Stop::Decide { seat, .. } => match need_of(alloc, job, seat, machine) {
@@ -199,7 +203,7 @@ fn need_of<M: Machine>(alloc: Global, job: &Job, seat: u8, machine: &M) -> Resul
         about,
         strategy,
         seed: deal_of(&job.plan, job.number).seats,
-        menu: machine.menu().len() as u16,
+        menu: machine.menu_size() as u16,
         view,
     })
 }
@@ -218,6 +222,7 @@ fn end<M: Machine>(
     ensures is { IfOk result (λ phase. phase_seen phase ≡ over) }
     ensures notes { OnOk result (record_seen notes.new
         ≡ completed job.now.about.value (record_seen notes.old) (ending_seen stop) (M.config machine.now) dealer.now.count) }
+    ensures head { HaveSameHead (record_seen notes.old) (record_seen notes.new) }
 {
     match complete(alloc, &job.about, machine, dealer, stop, notes) {
         Ok(()) => Ok(Phase::Over),
