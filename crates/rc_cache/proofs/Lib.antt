@@ -1,0 +1,6 @@
+pub mod CacheLemmas
+pub mod KeptLemmas
+pub mod LaneLemmas
+pub mod MarkLemmas
+pub mod ReplayLemmas
+pub mod WorkerLemmas
