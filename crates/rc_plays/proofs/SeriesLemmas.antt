@@ -1,5 +1,5 @@
 -- The records of a plan's matches and what they ask, match by match.
-use Rattle.std.proofs.Common.{◌≡◌, ℕ, zero, suc, ◌+◌, ◌-◌, ◌≤◌, List, [], ◌∷◌, ◌++◌, append-nil, map, length, Some, refl, sym, ap, ◌∙◌, subst, arith}
+use Rattle.std.proofs.Common.{◌≡◌, ℕ, zero, suc, ◌+◌, ◌-◌, ◌≤◌, List, [], ◌∷◌, ◌++◌, append-nil, append_assoc, map, length, Some, refl, sym, ap, ◌∙◌, subst, arith}
 use Rattle.std.specs.Prelude.{filter_map, flat_map}
 use Rattle.std.proofs.lemmas.List.{length-map, map-append}
 use Rattle.std.proofs.lemmas.List.Concat.{flat_map-append}
@@ -9,14 +9,15 @@ use Rattle.rc_model.specs.Transcript.{Record}
 use Rattle.rc_play_model.specs.About.{About}
 use Rattle.rc_play_model.specs.Plan.{Plan}
 use Rattle.rc_play_model.specs.Keyed.{keyed_match}
-use Rattle.rc_redraw.specs.Choosing.{all_costs}
+use Rattle.rc_redraw.specs.Counts.{Counts}
+use Rattle.rc_redraw.specs.Choosing.{AsksAll, AsksSome}
 use Rattle.rc_rules.specs.declared.record.MatchRecord.{MatchRecord}
 use Rattle.rc_rules.specs.declared.plan.Plan.{Plan as StoredPlan}
 use Rattle.rc_rules.specs.Plan.{deal_seen, plan_seen}
 use Rattle.rc_rules.specs.Record.{record_seen}
 use Rattle.rc_rules.proofs.PointLemmas.{below_push}
 use Rattle.rc_match.specs.Asks.{asks_of}
-use Rattle.rc_match.proofs.AskLemmas.{costs-append}
+use Rattle.rc_match.proofs.AskLemmas.{IsFront, some_then, some_of}
 use Rattle.rc_plays.specs.Series.{looks_below, looks_of, records_below}
 
 -- one match more
@@ -41,27 +42,33 @@ looks_more about plan n =
     sym (ap (λ ns. flat_map (asks_of about plan) ns) (below_push n) ∙ flat_map-append (asks_of about plan) (below n) (n ∷ [])
     ∙ ap (λ keys. looks_below about plan n ++ keys) (append-nil (asks_of about plan n)))
 
--- and costs
-pub costs_more : (about : About) (plan : Plan) (n : ℕ) →
-    all_costs (looks_below about plan (n + 1)) ≡ all_costs (looks_below about plan n) + all_costs (asks_of about plan n)
-costs_more about plan n =
-    sym (ap all_costs (looks_more about plan n)) ∙ costs-append (looks_below about plan n) (asks_of about plan n)
-
-costs_within : (about : About) (plan : Plan) (n d : ℕ) → all_costs (looks_below about plan n) ≤ all_costs (looks_below about plan (n + d))
-costs_within about plan n zero =
+-- what the first matches ask is a front of what more of them ask
+more_front : (about : About) (plan : Plan) (n d : ℕ) → IsFront (looks_below about plan n) (looks_below about plan (n + d))
+more_front about plan n zero =
     let same : n ≡ n + 0 = omega arith in
-    subst (λ k. all_costs (looks_below about plan n) ≤ all_costs (looks_below about plan k)) same (omega arith)
-costs_within about plan n (suc d) =
+    ([], append-nil (looks_below about plan n) ∙ ap (looks_below about plan) same)
+more_front about plan n (suc d) =
     let same : (n + d) + 1 ≡ n + suc d = omega arith in
-    let rest = costs_within about plan n d in
-    let sum = costs_more about plan (n + d) in
-    subst (λ k. all_costs (looks_below about plan n) ≤ all_costs (looks_below about plan k)) same (omega (arith, rest, sum))
+    let rest = more_front about plan n d in
+    let there = asks_of about plan (n + d) in (
+      rest.0 ++ there,
+      sym (append_assoc (looks_below about plan n) rest.0 there) ∙ ap (λ keys. keys ++ there) rest.1
+          ∙ looks_more about plan (n + d) ∙ ap (looks_below about plan) same,
+    )
 
--- fewer matches cost no more
-pub fewer_cost : (about : About) (plan : Plan) (n k : ℕ) → n ≤ k → all_costs (looks_below about plan n) ≤ all_costs (looks_below about plan k)
-fewer_cost about plan n k few =
+pub front_below : (about : About) (plan : Plan) (n k : ℕ) → n ≤ k → IsFront (looks_below about plan n) (looks_below about plan k)
+front_below about plan n k few =
     let same : n + (k - n) ≡ k = omega (arith, few) in
-    subst (λ j. all_costs (looks_below about plan n) ≤ all_costs (looks_below about plan j)) same (costs_within about plan n (k - n))
+    subst (λ j. IsFront (looks_below about plan n) (looks_below about plan j)) same (more_front about plan n (k - n))
+
+-- where memory runs out in a match of these
+pub stopped_in : (about : About) (plan : Plan) (n k : ℕ) (before between after : Counts) (steps steps' steps'' : ℕ) → n + 1 ≤ k →
+    AsksAll (looks_below about plan n) before between steps steps' → AsksSome (asks_of about plan n) between after steps' steps'' →
+    AsksSome (looks_below about plan k) before after steps steps''
+stopped_in about plan n k before between after steps steps' steps'' few first here =
+    some_of (looks_below about plan (n + 1)) (looks_below about plan k) before after steps steps'' (front_below about plan (n + 1) k few)
+    (subst (λ keys. AsksSome keys before after steps steps'') (looks_more about plan n)
+    (some_then (looks_below about plan n) (asks_of about plan n) before between after steps steps' steps'' first here))
 
 -- the record of one match of these
 pub match_alike : (about about' : About) (plan plan' : Plan) (m m' : ℕ) → about ≡ about' → plan ≡ plan' → m ≡ m' →

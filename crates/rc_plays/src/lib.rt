@@ -1,6 +1,6 @@
-//! The matches of a plan in order, and the house text that they make.
+//! The matches of a plan in order, and their standings.
 #![tactic(auto)]
 
 mod plays;
 
-pub use plays::{House, Series, house_of, series_of, shared_about};
+pub use plays::{Series, record_of, series_of, shared_about};

@@ -1,89 +1,66 @@
-//! Plays of all matches, one after the other.
-ghost use Rattle.std.specs.Prelude.{◌≡◌, ◌<◌, ◌≤◌, ◌+◌, map, length, Some, All, IfOk, OnOk};
+//! Plays of all matches, one after the other, over one book.
+ghost use Rattle.std.specs.Prelude.{◌≡◌, ◌<◌, ◌≤◌, ◌+◌, [], map, length, Some, All, IfOk, OnOk, OnErr};
 ghost use Rattle.rc_play_model.specs.About.{about_of};
 ghost use Rattle.rc_play_model.specs.House.{standings_of};
-ghost use Rattle.rc_play_model.specs.Keyed.{keyed_match, keyed_house};
+ghost use Rattle.rc_play_model.specs.Keyed.{keyed_match};
 ghost use Rattle.rc_plan_model.specs.Limits.{IsWithinLimits};
-ghost use Rattle.rc_redraw.specs.Choosing.{AsksAll, all_costs};
+ghost use Rattle.rc_redraw.specs.Choosing.{AsksAll, AsksSome, all_costs};
 ghost use Rattle.rc_redraw.specs.Counts.{Serves};
 ghost use Rattle.rc_rules.specs.Plan.{plan_seen};
 ghost use Rattle.rc_rules.specs.Record.{record_seen, standing_seen};
 ghost use Rattle.rc_match.specs.Asks.{asks_of};
+ghost use Rattle.rc_cache.specs.Hits.{hits, cost};
+ghost use Rattle.rc_cache.specs.Sums.{idle};
 ghost use Rattle.rc_plays.specs.Series.{looks_below, looks_of, matches_of, records_below};
 
+use rc_cache::{
+    Book, Fresh, Naming, OwnBook, one_worker_has_the_hits_of_its_looks,
+    one_worker_lacking_memory_takes_no_more_steps,
+};
 use rc_deck::Memory;
 use rc_flow::Checked;
 use rc_match::{Job, play_match};
 use rc_plain::PlainMachine;
 use rc_redraw::Chooser;
-use rc_rollout::{Blank, Choices};
+use rc_rollout::Choices;
 use rc_rules::{About, MatchRecord, Plan, shape_of};
 use rc_steps::Steps;
-use rc_text::{HouseText, standings, write_house};
+use rc_text::{HouseText, standings};
 use std::alloc::Global;
+use std::marker::Brand;
 use std::sync::Arc;
 use std::sync::ledger::Ledger;
 
-/// The matches of a plan as they were played, with the standings, and how many of their decisions asked for playouts.
+/// The matches of a plan as they were played, with the standings, and how many of their decisions asked for playouts, and how many of
+/// these the book had.
 #[derive(Drop)]
 pub struct Series {
     pub text: HouseText,
     pub looks: u64,
-}
-
-/// The house text of a plan, and how many of its decisions asked for playouts.
-#[derive(Drop)]
-pub struct House {
-    pub text: Vec<u8>,
-    pub looks: u64,
-}
-
-/// Plays the matches of a plan for a checked sheet one after the other, and writes their house text. The plan is within the limits,
-/// and has a strategy for each player. Each playout is a step. Memory may run out.
-pub fn house_of<L: Ledger>(
-    alloc: Global,
-    checked: Checked,
-    plan: Plan,
-    steps: &mut Steps<L>,
-) -> Result<House, Memory>
-    requires within { IsWithinLimits (plan_seen plan) }
-    requires seats { length (plan_seen plan).strategies ≡ checked.players }
-    ensures text { IfOk result (λ house. house.text.items ≡ keyed_house (about_of checked plan.turns) (plan_seen plan)) }
-    ensures looks { IfOk result (λ house. house.looks ≡ length (looks_of (about_of checked plan.turns) (plan_seen plan))) }
-    ensures counted { OnOk result (steps.new ≡ steps.old + all_costs (looks_of (about_of checked plan.turns) (plan_seen plan))) }
-    ensures rises { steps.old ≤ steps.new }
-    ensures bounded { steps.new ≤ steps.old + all_costs (looks_of (about_of checked plan.turns) (plan_seen plan)) }
-{
-    let series = match series_of(alloc, checked, plan, steps) {
-        Ok(series) => series,
-        Err(Memory) => return Err(Memory),
-    };
-    match write_house(alloc, &series.text) {
-        Ok(text) => Ok(House {
-            text,
-            looks: series.looks,
-        }),
-        Err(Memory) => Err(Memory),
-    }
+    pub hits: u64,
 }
 
 /// Plays the matches of a plan for a checked sheet one after the other. The plan is within the limits, and has a strategy for each
-/// player. Each playout is a step. Memory may run out.
+/// player. What rollouts find is kept in a book of so many entries, 1 to 65,536. Each playout is a step. Memory may run out; then no
+/// more steps were counted than the whole call counts.
 pub fn series_of<L: Ledger>(
     alloc: Global,
     checked: Checked,
     plan: Plan,
+    capacity: u32,
     steps: &mut Steps<L>,
 ) -> Result<Series, Memory>
     requires within { IsWithinLimits (plan_seen plan) }
     requires seats { length (plan_seen plan).strategies ≡ checked.players }
+    requires capacity { (1 ≤ capacity) × (capacity ≤ 65536) }
     ensures matches { IfOk result (λ series. map record_seen series.text.matches.items ≡ matches_of (about_of checked plan.turns) (plan_seen plan)) }
     ensures standings { IfOk result (λ series. map standing_seen series.text.standings.items
         ≡ standings_of (plan_seen plan) (matches_of (about_of checked plan.turns) (plan_seen plan))) }
     ensures looks { IfOk result (λ series. series.looks ≡ length (looks_of (about_of checked plan.turns) (plan_seen plan))) }
-    ensures counted { OnOk result (steps.new ≡ steps.old + all_costs (looks_of (about_of checked plan.turns) (plan_seen plan))) }
+    ensures hits { IfOk result (λ series. series.hits ≡ hits (looks_of (about_of checked plan.turns) (plan_seen plan)) capacity) }
+    ensures counted { OnOk result (steps.new ≡ steps.old + cost (looks_of (about_of checked plan.turns) (plan_seen plan)) capacity) }
     ensures rises { steps.old ≤ steps.new }
-    ensures bounded { steps.new ≤ steps.old + all_costs (looks_of (about_of checked plan.turns) (plan_seen plan)) }
+    ensures bounded { steps.new ≤ steps.old + cost (looks_of (about_of checked plan.turns) (plan_seen plan)) capacity }
 {
     let about = match shared_about(alloc, checked, plan.turns) {
         Ok(about) => about,
@@ -93,7 +70,7 @@ pub fn series_of<L: Ledger>(
         Ok(plan) => plan,
         Err(_) => return Err(Memory),
     };
-    played(alloc, &about, &plan, steps)
+    played::<Brand, L>(alloc, Fresh::new(1), &about, &plan, capacity, steps)
 }
 
 /// What the matches of a checked sheet are played by. Memory may run out.
@@ -118,25 +95,42 @@ pub fn shared_about(alloc: Global, checked: Checked, turns: u32) -> Result<Arc<A
     }
 }
 
-// The matches of a plan, with no memo of playouts, and the standings.
-fn played<L: Ledger>(
+// The matches of a plan, with a book of so many entries, and the standings.
+fn played<N: Naming, L: Ledger>(
     alloc: Global,
+    fresh: Fresh,
     about: &Arc<About>,
     plan: &Arc<Plan>,
+    capacity: u32,
     steps: &mut Steps<L>,
 ) -> Result<Series, Memory>
     requires within { IsWithinLimits (plan_seen plan.now.value) }
     requires seats { length plan.now.value.strategies.items ≡ about.now.value.sheet.players }
+    requires room { (1 ≤ capacity) × (capacity ≤ 65536) }
+    requires name { (about.now.value ≡ N.about) × (capacity ≡ N.capacity) × (1 ≡ N.lanes) }
+    requires names { (fresh.looks.name ≡ N.looks) × (fresh.hits.name ≡ N.hits) × (fresh.keeps.name ≡ N.keeps) }
+    requires parts { (fresh.looks.parts ≡ N.lanes) × (fresh.hits.parts ≡ N.lanes) × (fresh.keeps.parts ≡ N.lanes) }
     ensures matches { IfOk result (λ series. map record_seen series.text.matches.items ≡ matches_of about.now.value (plan_seen plan.now.value)) }
     ensures standings { IfOk result (λ series. map standing_seen series.text.standings.items
         ≡ standings_of (plan_seen plan.now.value) (matches_of about.now.value (plan_seen plan.now.value))) }
     ensures looks { IfOk result (λ series. series.looks ≡ length (looks_of about.now.value (plan_seen plan.now.value))) }
-    ensures counted { OnOk result (steps.new ≡ steps.old + all_costs (looks_of about.now.value (plan_seen plan.now.value))) }
+    ensures hits { IfOk result (λ series. series.hits ≡ hits (looks_of about.now.value (plan_seen plan.now.value)) capacity) }
+    ensures counted { OnOk result (steps.new ≡ steps.old + cost (looks_of about.now.value (plan_seen plan.now.value)) capacity) }
     ensures rises { steps.old ≤ steps.new }
-    ensures bounded { steps.new ≤ steps.old + all_costs (looks_of about.now.value (plan_seen plan.now.value)) }
+    ensures bounded { steps.new ≤ steps.old + cost (looks_of about.now.value (plan_seen plan.now.value)) capacity }
 {
-    let mut choices = Choices::new(Blank::new());
-    let matches = match records_of(alloc, about, plan, &mut choices, steps) {
+    one_worker_has_the_hits_of_its_looks();
+    one_worker_lacking_memory_takes_no_more_steps();
+    let book = match own_book::<N>(alloc, fresh, about, capacity) {
+        Ok(book) => book,
+        Err(Memory) => return Err(Memory),
+    };
+    let mut choices = Choices::new(book);
+    let records = records_of(alloc, about, plan, &mut choices, steps);
+    let (book, lane) = choices.into_memo().parts();
+    // what a book keeps
+    let _journal = book.journal();
+    let matches = match records {
         Ok(matches) => matches,
         Err(Memory) => return Err(Memory),
     };
@@ -146,8 +140,31 @@ fn played<L: Ledger>(
     };
     Ok(Series {
         text: HouseText { matches, standings },
-        looks: choices.into_memo().looks(),
+        looks: lane.looks(),
+        hits: lane.hits(),
     })
+}
+
+// A new book for one worker.
+fn own_book<N: Naming>(
+    alloc: Global,
+    fresh: Fresh,
+    about: &About,
+    capacity: u32,
+) -> Result<OwnBook<N>, Memory>
+    requires room { (1 ≤ capacity) × (capacity ≤ 65536) }
+    requires name { (about.now ≡ N.about) × (capacity ≡ N.capacity) × (1 ≡ N.lanes) }
+    requires names { (fresh.looks.name ≡ N.looks) × (fresh.hits.name ≡ N.hits) × (fresh.keeps.name ≡ N.keeps) }
+    requires parts { (fresh.looks.parts ≡ N.lanes) × (fresh.hits.parts ≡ N.lanes) × (fresh.keeps.parts ≡ N.lanes) }
+    ensures { IfOk result (λ own. own ≡ ([], idle 0)) }
+{
+    match Book::<N>::new(alloc, fresh, about, capacity, 1) {
+        Ok((book, lanes)) => {
+            let mut lanes = lanes;
+            Ok(OwnBook::new(book, lanes.pop().unwrap()))
+        }
+        Err(Memory) => Err(Memory),
+    }
 }
 
 // The records of a plan's matches, in order.
@@ -167,9 +184,8 @@ fn records_of<C: Chooser, L: Ledger>(
     ensures each { IfOk result (λ records. All (λ r. length r.scores.items ≡ about.now.value.sheet.players) records.items) }
     ensures asked { OnOk result (AsksAll (looks_below about.now.value (plan_seen plan.now.value) (length plan.now.value.matches.items))
         (C.counts chooser.old) (C.counts chooser.new) steps.old steps.new) }
-    ensures rises { steps.old ≤ steps.new }
-    ensures bounded { steps.new ≤ steps.old
-        + all_costs (looks_below about.now.value (plan_seen plan.now.value) (length plan.now.value.matches.items)) }
+    ensures lacking { OnErr result (AsksSome (looks_below about.now.value (plan_seen plan.now.value) (length plan.now.value.matches.items))
+        (C.counts chooser.old) (C.counts chooser.new) steps.old steps.new) }
 {
     let mut records = Vec::new(alloc);
     for number in 0..plan.matches.len() as u32 {
@@ -185,8 +201,8 @@ fn records_of<C: Chooser, L: Ledger>(
     Ok(records)
 }
 
-// The record of one match.
-fn record_of<C: Chooser, L: Ledger>(
+/// The record of one match, by any chooser. Memory may run out.
+pub fn record_of<C: Chooser, L: Ledger>(
     alloc: Global,
     about: &Arc<About>,
     plan: &Arc<Plan>,
@@ -200,6 +216,8 @@ fn record_of<C: Chooser, L: Ledger>(
     ensures is { IfOk result (λ r. keyed_match about.now.value (plan_seen plan.now.value) number ≡ Some (record_seen r)) }
     ensures each { IfOk result (λ r. length r.scores.items ≡ about.now.value.sheet.players) }
     ensures asked { OnOk result (AsksAll (asks_of about.now.value (plan_seen plan.now.value) number)
+        (C.counts chooser.old) (C.counts chooser.new) steps.old steps.new) }
+    ensures lacking { OnErr result (AsksSome (asks_of about.now.value (plan_seen plan.now.value) number)
         (C.counts chooser.old) (C.counts chooser.new) steps.old steps.new) }
     ensures same { C.serves chooser.new ≡ C.serves chooser.old }
     ensures rises { steps.old ≤ steps.new }

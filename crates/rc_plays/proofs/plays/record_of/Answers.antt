@@ -1,7 +1,9 @@
-use Rattle.std.proofs.Common.{◌≡◌, ◌≤◌, ◌+◌, Some, IfOk, OnOk, ap, subst}
-use Rattle.rc_redraw.specs.Choosing.{AsksAll, all_costs}
+use Rattle.std.proofs.Common.{◌≡◌, ◌≤◌, ◌+◌, Some, IfOk, OnOk, OnErr, ap, subst}
+use Rattle.rc_redraw.specs.Choosing.{AsksAll, AsksSome, all_costs}
 use Rattle.rc_rules.specs.Plan.{plan_seen}
 use Rattle.rc_rules.specs.Record.{record_seen}
+use Rattle.rc_match.specs.Asks.{asks_of}
+use Rattle.rc_match.proofs.AskLemmas.{none_asked}
 use Rattle.rc_plays.proofs.SeriesLemmas.{asked_alike, match_alike}
 use Rattle.rc_plays.proofs.plays.record_of.Goals as goal
 
@@ -20,6 +22,22 @@ returns-clause-asked g c =
     (asked_alike job.about.value c.args.about.now.value (plan_seen job.plan.value) (plan_seen c.args.plan.now.value) job.number c.args.number
     c.in-Ok-job_of.ensures.about (ap plan_seen c.in-Ok-job_of.ensures.plan) c.in-Ok-job_of.ensures.number)
     c.play_match.ensures.asked
+
+pub returns-clause-lacking : goal.returns-clause-lacking
+returns-clause-lacking g c =
+    let job = c.in-Ok-job_of.job in
+    subst (λ keys. OnErr c.play_match.result (AsksSome keys (g.C.Chooser.counts c.args.chooser.now) (g.C.Chooser.counts c.play_match.new.chooser) c.args.steps.now c.play_match.new.steps))
+    (asked_alike job.about.value c.args.about.now.value (plan_seen job.plan.value) (plan_seen c.args.plan.now.value) job.number c.args.number
+    c.in-Ok-job_of.ensures.about (ap plan_seen c.in-Ok-job_of.ensures.plan) c.in-Ok-job_of.ensures.number)
+    c.play_match.ensures.lacking
+
+pub returns-in-Err-clause-lacking : goal.returns-in-Err-clause-lacking
+returns-in-Err-clause-lacking g c =
+    none_asked (asks_of c.args.about.now.value (plan_seen c.args.plan.now.value) c.args.number) (g.C.Chooser.counts c.args.chooser.now) c.args.steps.now
+
+pub returns-in-Err-job_of-clause-lacking : goal.returns-in-Err-job_of-clause-lacking
+returns-in-Err-job_of-clause-lacking g c =
+    none_asked (asks_of c.args.about.now.value (plan_seen c.args.plan.now.value) c.args.number) (g.C.Chooser.counts c.args.chooser.now) c.args.steps.now
 
 pub returns-clause-bounded : goal.returns-clause-bounded
 returns-clause-bounded g c =

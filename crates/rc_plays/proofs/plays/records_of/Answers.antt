@@ -1,14 +1,14 @@
 use Rattle.std.proofs.Common.{◌≡◌, ◌≤◌, ◌+◌, ◌∷◌, [], map, length, All, arith, rules, refl, sym, ap, subst, ◌∙◌}
 use Rattle.std.proofs.lemmas.List.{length-append}
 use Rattle.std.proofs.lemmas.List.Elements.{All-push, All-nil}
-use Rattle.rc_redraw.specs.Choosing.{AsksAll, all_costs}
+use Rattle.rc_redraw.specs.Choosing.{AsksAll}
 use Rattle.rc_redraw.specs.Counts.{Serves}
 use Rattle.rc_rules.specs.Plan.{plan_seen}
 use Rattle.rc_rules.specs.Record.{record_seen}
 use Rattle.rc_match.specs.Asks.{asks_of}
-use Rattle.rc_match.proofs.AskLemmas.{asks_then, costs_bound}
+use Rattle.rc_match.proofs.AskLemmas.{all_some, asks_then}
 use Rattle.rc_plays.specs.Series.{looks_below}
-use Rattle.rc_plays.proofs.SeriesLemmas.{told_more, looks_more, costs_more, fewer_cost}
+use Rattle.rc_plays.proofs.SeriesLemmas.{told_more, looks_more, stopped_in}
 use Rattle.rc_plays.proofs.plays.records_of.Goals as goal
 
 pub loop-number-init : goal.loop-number-init
@@ -48,51 +48,31 @@ loop-number-preserved g c =
           c.args.steps.now c.loop-number.steps c.record_of.new.steps c.loop-number.invariant.asked c.in-Ok.ensures.asked);
     }
 
-pub returns-in-Err-clause-rises : goal.returns-in-Err-clause-rises
-returns-in-Err-clause-rises g c =
-    let so_far = costs_bound (looks_below c.args.about.now.value (plan_seen c.args.plan.now.value) c.loop-number.number) _ _ _ _ c.loop-number.invariant.asked in
-    omega (arith, so_far.0, c.record_of.ensures.rises)
+pub returns-in-Err-clause-lacking : goal.returns-in-Err-clause-lacking
+returns-in-Err-clause-lacking g c =
+    let about = c.args.about.now.value in
+    let plan = plan_seen c.args.plan.now.value in
+    let len : c.len-number-end.result ≡ length c.args.plan.now.value.matches.items = search rules in
+    let few : c.loop-number.number + 1 ≤ length c.args.plan.now.value.matches.items = omega (arith, len, c.loop-number-test.true) in
+    stopped_in about plan c.loop-number.number (length c.args.plan.now.value.matches.items)
+    (g.C.Chooser.counts c.args.chooser.now) (g.C.Chooser.counts c.loop-number.chooser) (g.C.Chooser.counts c.record_of.new.chooser)
+    c.args.steps.now c.loop-number.steps c.record_of.new.steps few c.loop-number.invariant.asked c.in-Err.ensures.lacking
 
-pub returns-in-Err-clause-bounded : goal.returns-in-Err-clause-bounded
-returns-in-Err-clause-bounded g c =
+pub returns-in-Err-push-clause-lacking : goal.returns-in-Err-push-clause-lacking
+returns-in-Err-push-clause-lacking g c =
     let about = c.args.about.now.value in
     let plan = plan_seen c.args.plan.now.value in
     let n = c.loop-number.number in
-    let so_far = costs_bound (looks_below about plan n) _ _ _ _ c.loop-number.invariant.asked in
     let len : c.len-number-end.result ≡ length c.args.plan.now.value.matches.items = search rules in
     let few : n + 1 ≤ length c.args.plan.now.value.matches.items = omega (arith, len, c.loop-number-test.true) in
-    omega (arith, so_far.1, c.record_of.ensures.bounded, costs_more about plan n, fewer_cost about plan (n + 1) (length c.args.plan.now.value.matches.items) few)
-
-pub returns-in-Err-push-clause-rises : goal.returns-in-Err-push-clause-rises
-returns-in-Err-push-clause-rises g c =
-    let so_far = costs_bound (looks_below c.args.about.now.value (plan_seen c.args.plan.now.value) c.loop-number.number) _ _ _ _ c.loop-number.invariant.asked in
-    omega (arith, so_far.0, c.record_of.ensures.rises)
-
-pub returns-in-Err-push-clause-bounded : goal.returns-in-Err-push-clause-bounded
-returns-in-Err-push-clause-bounded g c =
-    let about = c.args.about.now.value in
-    let plan = plan_seen c.args.plan.now.value in
-    let n = c.loop-number.number in
-    let so_far = costs_bound (looks_below about plan n) _ _ _ _ c.loop-number.invariant.asked in
-    let len : c.len-number-end.result ≡ length c.args.plan.now.value.matches.items = search rules in
-    let few : n + 1 ≤ length c.args.plan.now.value.matches.items = omega (arith, len, c.loop-number-test.true) in
-    omega (arith, so_far.1, c.record_of.ensures.bounded, costs_more about plan n, fewer_cost about plan (n + 1) (length c.args.plan.now.value.matches.items) few)
+    let between = g.C.Chooser.counts c.loop-number.chooser in
+    let after = g.C.Chooser.counts c.record_of.new.chooser in
+    stopped_in about plan n (length c.args.plan.now.value.matches.items) (g.C.Chooser.counts c.args.chooser.now) between after
+    c.args.steps.now c.loop-number.steps c.record_of.new.steps few c.loop-number.invariant.asked
+    (all_some (asks_of about plan n) between after c.loop-number.steps c.record_of.new.steps c.in-Ok.ensures.asked)
 
 pub returns-clause-asked : goal.returns-clause-asked
 returns-clause-asked g c =
     let ends : c.loop-number.number ≡ length c.args.plan.now.value.matches.items = search rules in
     subst (λ n. AsksAll (looks_below c.args.about.now.value (plan_seen c.args.plan.now.value) n) (g.C.Chooser.counts c.args.chooser.now) (g.C.Chooser.counts c.loop-number.chooser) c.args.steps.now c.loop-number.steps)
     ends c.loop-number.invariant.asked
-
-pub returns-clause-rises : goal.returns-clause-rises
-returns-clause-rises g c =
-    let so_far = costs_bound (looks_below c.args.about.now.value (plan_seen c.args.plan.now.value) c.loop-number.number) _ _ _ _ c.loop-number.invariant.asked in so_far.0
-
-pub returns-clause-bounded : goal.returns-clause-bounded
-returns-clause-bounded g c =
-    let about = c.args.about.now.value in
-    let plan = plan_seen c.args.plan.now.value in
-    let ends : c.loop-number.number ≡ length c.args.plan.now.value.matches.items = search rules in
-    let so_far = costs_bound (looks_below about plan c.loop-number.number) _ _ _ _ c.loop-number.invariant.asked in
-    let same = ap (λ n. all_costs (looks_below about plan n)) ends in
-    omega (arith, so_far.1, same)
