@@ -1,0 +1,3 @@
+mod ViewLemmas
+mod ClaimLemmas
+mod CutLemmas
