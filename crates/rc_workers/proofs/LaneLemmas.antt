@@ -1,0 +1,74 @@
+-- What lanes have together.
+use Rattle.std.proofs.Common.{◌≡◌, ℕ, zero, suc, ◌+◌, ◌<◌, List, [], ◌∷◌, ◌++◌, length, length-append, map, All, refl, sym, ap, ◌∙◌, arith}
+use Rattle.std.specs.List.{AllByRecursion, sum_by}
+use Rattle.std.proofs.lemmas.List.{length-map, map-append}
+use Rattle.std.proofs.lemmas.List.Elements.{All-from_recursion}
+use Rattle.std.proofs.lemmas.List.Sums.{sum_by-cons, sum_by_push}
+use Rattle.rc_model.specs.Numbers.{below}
+use Rattle.rc_rules.proofs.PointLemmas.{below_push}
+use Rattle.rc_redraw.specs.Counts.{Counts}
+use Rattle.rc_cache.specs.Memos.{shared_counts}
+use Rattle.rc_cache.specs.Sums.{Lane, idle, idle_lanes}
+use Rattle.rc_cache.specs.Sums as lane
+use Rattle.rc_workers.specs.Gathered.{RiseTogether}
+
+-- what holds of every value holds of all that are listed
+pub all_alike : {X : Type 0} (P : X → Type 0) → ((x : X) → P x) → (xs : List X) → All P xs
+all_alike {X} P every xs = All-from_recursion P xs (by xs)
+  where
+    by : (l : List X) → AllByRecursion P l
+    by [] = tt
+    by (x ∷ l) = (every x, by l)
+
+sum_map : {X Y : Type 0} (f : X → Y) (h : Y → ℕ) (xs : List X) → sum_by h (map f xs) ≡ sum_by (λ x. h (f x)) xs
+sum_map f h [] = refl
+sum_map f h (x ∷ xs) =
+    let rest = sum_map f h xs in
+    sum_by-cons h (f x) (map f xs) ∙ omega (arith, rest) ∙ sym (sum_by-cons (λ y. h (f y)) x xs)
+
+-- one lane more
+one_more : (n : ℕ) → idle_lanes (suc n) ≡ idle_lanes n ++ idle n ∷ []
+one_more n =
+    ap idle_lanes (let e : suc n ≡ n + 1 = omega arith in e) ∙ ap (map idle) (below_push n) ∙ map-append idle (below n) (n ∷ [])
+
+-- lanes that have called nothing
+idle_sum : (h : Lane → ℕ) → ((k : ℕ) → h (idle k) ≡ 0) → (n : ℕ) → sum_by h (idle_lanes n) ≡ 0
+idle_sum h none zero = refl
+idle_sum h none (suc n) =
+    let rest = idle_sum h none n in
+    let last = none n in
+    ap (sum_by h) (one_more n) ∙ sum_by_push h (idle_lanes n) (idle n) ∙ omega (arith, rest, last)
+
+pub idle_count : (n : ℕ) → length (idle_lanes n) ≡ n
+idle_count zero = refl
+idle_count (suc n) =
+    let rest = idle_count n in
+    ap length (one_more n) ∙ length-append (idle_lanes n) (idle n ∷ []) ∙ omega (arith, rest)
+
+-- what such lanes rose by
+module _ (looks workers : ℕ) (lanes : List Lane) (rise : RiseTogether looks (map shared_counts (idle_lanes workers)) (map shared_counts lanes)) where
+  counted : (h : Counts → ℕ) → ((k : ℕ) → h (shared_counts (idle k)) ≡ 0) → sum_by h (map shared_counts (idle_lanes workers)) ≡ 0
+  counted h none = sum_map shared_counts h (idle_lanes workers) ∙ idle_sum (λ l. h (shared_counts l)) none workers
+
+  pub as_many : length lanes ≡ workers
+  as_many = sym (length-map lanes shared_counts) ∙ rise.each ∙ length-map (idle_lanes workers) shared_counts ∙ idle_count workers
+
+  pub all_looked : lane.looks_in lanes ≡ looks
+  all_looked =
+      let before = counted (λ c. c.looks) (λ k. refl) in
+      let now = sum_map shared_counts (λ c. c.looks) lanes in
+      omega (arith, before, now, rise.looked)
+
+  pub all_answered : lane.keeps_in lanes + lane.hits_in lanes ≡ looks
+  all_answered =
+      let hits = counted (λ c. c.hits) (λ k. refl) in
+      let keeps = counted (λ c. c.keeps) (λ k. refl) in
+      let hits' = sum_map shared_counts (λ c. c.hits) lanes in
+      let keeps' = sum_map shared_counts (λ c. c.keeps) lanes in
+      omega (arith, hits, keeps, hits', keeps', rise.kept)
+
+-- where nothing hits without a keep, not all looks hit
+pub some_missed : (looks hits keeps : ℕ) → keeps + hits ≡ looks → (keeps ≡ 0 → hits ≡ 0) → 0 < looks → hits < looks
+some_missed looks hits zero sum unkept some =
+    let none = unkept refl in absurd (omega (arith, sum, none, some))
+some_missed looks hits (suc keeps) sum unkept some = omega (arith, sum)

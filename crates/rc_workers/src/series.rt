@@ -1,0 +1,114 @@
+//! All matches of a plan by several workers, over a book that is made for them.
+ghost use Rattle.std.specs.Prelude.{◌≡◌, ◌<◌, ◌≤◌, map, length, IfOk};
+ghost use Rattle.rc_play_model.specs.About.{about_of};
+ghost use Rattle.rc_play_model.specs.House.{standings_of};
+ghost use Rattle.rc_plan_model.specs.Limits.{IsWithinLimits};
+ghost use Rattle.rc_rules.specs.Plan.{plan_seen};
+ghost use Rattle.rc_rules.specs.Record.{record_seen, standing_seen};
+ghost use Rattle.rc_plays.specs.Series.{looks_of, matches_of};
+
+use crate::sharing::{memos_of, play_shared};
+use rc_cache::{Book, Fresh, Naming, close};
+use rc_deck::Memory;
+use rc_flow::Checked;
+use rc_outside::Gate;
+use rc_plays::{Series, shared_about};
+use rc_rules::{About, Plan};
+use rc_text::{HouseText, standings};
+use std::alloc::Global;
+use std::marker::Brand;
+use std::sync::{Arc, Mutex, Wait};
+use std::thread::Threads;
+
+/// Plays the matches of a plan for a checked sheet by so many workers, 1 to 64, each in a thread of its own where one can be made.
+/// The plan is within the limits, and has a strategy for each player. What rollouts find is kept in one book of so many entries, 1 to
+/// 65,536, that all workers share. How many of the looks hit depends on which worker comes first; not all do. Memory may run out.
+pub fn series_by_workers<R: Threads + Wait + Sync, G: Gate>(
+    rt: &R,
+    alloc: Global,
+    checked: Checked,
+    plan: Plan,
+    workers: u8,
+    capacity: u32,
+    gate: &G,
+) -> Result<Series, Memory>
+    requires within { IsWithinLimits (plan_seen plan) }
+    requires seats { length (plan_seen plan).strategies ≡ checked.players }
+    requires workers { (1 ≤ workers) × (workers ≤ 64) }
+    requires capacity { (1 ≤ capacity) × (capacity ≤ 65536) }
+    ensures matches { IfOk result (λ series. map record_seen series.text.matches.items ≡ matches_of (about_of checked plan.turns) (plan_seen plan)) }
+    ensures standings { IfOk result (λ series. map standing_seen series.text.standings.items
+        ≡ standings_of (plan_seen plan) (matches_of (about_of checked plan.turns) (plan_seen plan))) }
+    ensures looks { IfOk result (λ series. series.looks ≡ length (looks_of (about_of checked plan.turns) (plan_seen plan))) }
+    ensures hits { IfOk result (λ series. series.hits ≤ series.looks) }
+    ensures missed { IfOk result (λ series. 0 < series.looks → series.hits < series.looks) }
+{
+    let about = match shared_about(alloc, checked, plan.turns) {
+        Ok(about) => about,
+        Err(Memory) => return Err(Memory),
+    };
+    let plan = match Arc::new(alloc, plan) {
+        Ok(plan) => plan,
+        Err(_) => return Err(Memory),
+    };
+    played::<Brand, R, G>(
+        rt,
+        alloc,
+        Fresh::new(workers),
+        &about,
+        &plan,
+        workers,
+        capacity,
+        gate,
+    )
+}
+
+// The same, with a name for the book.
+fn played<N: Naming + Send + Sync, R: Threads + Wait + Sync, G: Gate>(
+    rt: &R,
+    alloc: Global,
+    fresh: Fresh,
+    about: &Arc<About>,
+    plan: &Arc<Plan>,
+    workers: u8,
+    capacity: u32,
+    gate: &G,
+) -> Result<Series, Memory>
+    requires within { IsWithinLimits (plan_seen plan.now.value) }
+    requires seats { length plan.now.value.strategies.items ≡ about.now.value.sheet.players }
+    requires some { (1 ≤ workers) × (workers ≤ 64) }
+    requires room { (1 ≤ capacity) × (capacity ≤ 65536) }
+    requires name { (about.now.value ≡ N.about) × (capacity ≡ N.capacity) × (workers ≡ N.lanes) }
+    requires names { (fresh.looks.name ≡ N.looks) × (fresh.hits.name ≡ N.hits) × (fresh.keeps.name ≡ N.keeps) }
+    requires parts { (fresh.looks.parts ≡ N.lanes) × (fresh.hits.parts ≡ N.lanes) × (fresh.keeps.parts ≡ N.lanes) }
+    ensures matches { IfOk result (λ series. map record_seen series.text.matches.items ≡ matches_of about.now.value (plan_seen plan.now.value)) }
+    ensures standings { IfOk result (λ series. map standing_seen series.text.standings.items
+        ≡ standings_of (plan_seen plan.now.value) (matches_of about.now.value (plan_seen plan.now.value))) }
+    ensures looks { IfOk result (λ series. series.looks ≡ length (looks_of about.now.value (plan_seen plan.now.value))) }
+    ensures hits { IfOk result (λ series. series.hits ≤ series.looks) }
+    ensures missed { IfOk result (λ series. 0 < series.looks → series.hits < series.looks) }
+{
+    let (book, lanes) = match Book::<N>::new(alloc, fresh, about, capacity, workers) {
+        Ok(made) => made,
+        Err(Memory) => return Err(Memory),
+    };
+    let book = Mutex::new(book);
+    let memos = match memos_of(rt, alloc, &book, lanes) {
+        Ok(memos) => memos,
+        Err(Memory) => return Err(Memory),
+    };
+    let (matches, lanes) = match play_shared(rt, alloc, about, plan, memos, gate) {
+        Ok(played) => played,
+        Err(Memory) => return Err(Memory),
+    };
+    let standings = match standings(alloc, plan, &matches) {
+        Ok(standings) => standings,
+        Err(Memory) => return Err(Memory),
+    };
+    let totals = close(book.into_inner(), lanes);
+    Ok(Series {
+        text: HouseText { matches, standings },
+        looks: totals.looks,
+        hits: totals.hits,
+    })
+}

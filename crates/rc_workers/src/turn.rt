@@ -1,0 +1,149 @@
+//! What one worker does.
+ghost use Rattle.std.specs.Prelude.{◌≡◌, ◌<◌, ◌≤◌, [], length, All, IfOk, OnOk};
+ghost use Rattle.rc_rules.specs.Plan.{plan_seen};
+ghost use Rattle.rc_redraw.specs.Counts.{Serves};
+ghost use Rattle.rc_match.specs.Asks.{asks_of};
+ghost use Rattle.rc_workers.specs.Turns.{IsRecordIn, IsTurn, IsWork, Rise};
+
+use rc_claims::{Claims, Pass};
+use rc_deck::Memory;
+use rc_outside::Gate;
+use rc_plays::record_of;
+use rc_redraw::Memo;
+use rc_rollout::Choices;
+use rc_rules::{About, MatchRecord, Plan};
+use rc_steps::Steps;
+use std::alloc::Global;
+use std::marker::Brand;
+use std::sync::Arc;
+use std::sync::ledger::{Blank, Ledger};
+
+/// A worker before its turn: what it claims matches by, and what remembers totals for it.
+#[derive(Drop)]
+pub(crate) struct Worker<M: Drop> {
+    pub(crate) pass: Pass,
+    pub(crate) memo: M,
+}
+
+/// What a worker has behind its turn: the pass, the records of the matches that it claimed, and the memo.
+#[derive(Drop)]
+pub(crate) struct Turn<M: Drop> {
+    pub(crate) pass: Pass,
+    pub(crate) records: Vec<MatchRecord>,
+    pub(crate) memo: M,
+}
+
+/// Claims matches and plays them, until none is left.
+pub(crate) fn take_turn<M: Memo + Drop, G: Gate>(
+    alloc: Global,
+    about: &Arc<About>,
+    plan: &Arc<Plan>,
+    claims: &Claims,
+    gate: &G,
+    worker: Worker<M>,
+) -> Result<Turn<M>, Memory>
+    requires own { worker.pass.table ≡ claims.now.table }
+    requires none { worker.pass.numbers ≡ [] }
+    requires count { claims.now.count ≡ length plan.now.value.matches.items }
+    requires seats { length plan.now.value.strategies.items ≡ about.now.value.sheet.players }
+    requires served { Serves (M.serves worker.memo) about.now.value }
+    ensures { IfOk result (IsTurn M.counts about.now.value (plan_seen plan.now.value) worker) }
+{
+    counted_turn::<M, G, Brand>(alloc, about, plan, claims, gate, worker, Blank::new(1))
+}
+
+// The same, with a counter of its own for the playouts.
+fn counted_turn<M: Memo + Drop, G: Gate, L: Ledger>(
+    alloc: Global,
+    about: &Arc<About>,
+    plan: &Arc<Plan>,
+    claims: &Claims,
+    gate: &G,
+    worker: Worker<M>,
+    blank: Blank,
+) -> Result<Turn<M>, Memory>
+    requires name { blank.name ≡ L.name }
+    requires parts { blank.parts ≡ L.parts }
+    requires some { 0 < blank.parts }
+    requires own { worker.pass.table ≡ claims.now.table }
+    requires none { worker.pass.numbers ≡ [] }
+    requires count { claims.now.count ≡ length plan.now.value.matches.items }
+    requires seats { length plan.now.value.strategies.items ≡ about.now.value.sheet.players }
+    requires served { Serves (M.serves worker.memo) about.now.value }
+    ensures { IfOk result (IsTurn M.counts about.now.value (plan_seen plan.now.value) worker) }
+{
+    let Worker { mut pass, memo } = worker;
+    let mut choices = Choices::new(memo);
+    let mut steps = Steps::<L>::new(blank);
+    let records = match work(
+        alloc,
+        about,
+        plan,
+        claims,
+        gate,
+        &mut pass,
+        &mut choices,
+        &mut steps,
+    ) {
+        Ok(records) => records,
+        Err(Memory) => return Err(Memory),
+    };
+    Ok(Turn {
+        pass,
+        records,
+        memo: choices.into_memo(),
+    })
+}
+
+// The records of all matches that a pass claims.
+fn work<M: Memo + Drop, G: Gate, L: Ledger>(
+    alloc: Global,
+    about: &Arc<About>,
+    plan: &Arc<Plan>,
+    claims: &Claims,
+    gate: &G,
+    pass: &mut Pass,
+    choices: &mut Choices<M>,
+    steps: &mut Steps<L>,
+) -> Result<Vec<MatchRecord>, Memory>
+    requires own { pass.old.table ≡ claims.now.table }
+    requires none { pass.old.numbers ≡ [] }
+    requires count { claims.now.count ≡ length plan.now.value.matches.items }
+    requires seats { length plan.now.value.strategies.items ≡ about.now.value.sheet.players }
+    requires served { Serves (M.serves choices.old) about.now.value }
+    ensures { IfOk result (λ records. IsWork about.now.value (plan_seen plan.now.value) pass.old pass.new (M.counts choices.old) (M.counts choices.new) records.items) }
+{
+    let mut records = Vec::new(alloc);
+    while let Some(number) = claims.claim(pass) {
+        gate.enter(number);
+        let record = match play(alloc, about, plan, number, choices, steps) {
+            Ok(record) => record,
+            Err(Memory) => return Err(Memory),
+        };
+        match records.push(record) {
+            Ok(()) => {}
+            Err(_) => return Err(Memory),
+        }
+    }
+    Ok(records)
+}
+
+// The record of one match. The memo's counts rise by what it asks.
+fn play<M: Memo + Drop, L: Ledger>(
+    alloc: Global,
+    about: &Arc<About>,
+    plan: &Arc<Plan>,
+    number: u32,
+    choices: &mut Choices<M>,
+    steps: &mut Steps<L>,
+) -> Result<MatchRecord, Memory>
+    requires served { Serves (M.serves choices.old) about.now.value }
+    requires number { number < length plan.now.value.matches.items }
+    requires seats { length plan.now.value.strategies.items ≡ about.now.value.sheet.players }
+    ensures number { IfOk result (λ r. r.number ≡ number) }
+    ensures is { IfOk result (IsRecordIn about.now.value (plan_seen plan.now.value)) }
+    ensures rise { OnOk result (Rise (length (asks_of about.now.value (plan_seen plan.now.value) number)) (M.counts choices.old) (M.counts choices.new)) }
+    ensures same { M.serves choices.new ≡ M.serves choices.old }
+{
+    record_of(alloc, about, plan, number, choices, steps)
+}
