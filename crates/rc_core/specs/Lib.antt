@@ -1,0 +1,10 @@
+pub mod Codes
+pub mod House
+pub mod Events
+pub mod Sound
+pub mod Calls
+pub mod Short
+pub mod Entries
+pub mod Stored
+pub mod Kept
+pub mod Laws
