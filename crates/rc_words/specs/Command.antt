@@ -1,6 +1,6 @@
 -- The commands, as words name them.
 use Rattle.std.specs.Prelude.{ℕ, ◌≡◌, List, [], ◌∷◌, codes}
-use Rattle.rc_words.specs.Words.{IsNumber, HasOptions}
+use Rattle.rc_words.specs.Words.{IsNumber, HasOptions, usual_options}
 use Rattle.rc_words.specs.declared.options.Options.{Options}
 use Rattle.rc_words.specs.declared.command.Command.{Command}
 use Rattle.rc_words.specs.declared.command.Command.TheVariants.{Play, Check, Sheet, Bench}
@@ -18,9 +18,13 @@ IsCommand words Sheet = words ≡ codes "sheet" ∷ []
 IsCommand words (Bench number options) =
     (rest : List (List ℕ)) × (words ≡ codes "bench" ∷ rest) × IsBench rest number options
 
--- how many threads are to play. A command that plays nothing has one
+-- what the command is told of who plays. One that plays nothing has the usual options
+abbrev pub options_of : Command → Options
+options_of (Play options) = options
+options_of Check = usual_options
+options_of Sheet = usual_options
+options_of (Bench number options) = options
+
+-- how many threads are to play
 abbrev pub workers_of : Command → ℕ
-workers_of (Play options) = options.workers
-workers_of Check = 1
-workers_of Sheet = 1
-workers_of (Bench number options) = options.workers
+workers_of command = (options_of command).workers

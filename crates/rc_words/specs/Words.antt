@@ -35,10 +35,14 @@ abbrev pub HasNumber : ℕ → ℕ → Option (List ℕ) → ℕ → Type 0
 HasNumber usual most None n = n ≡ usual
 HasNumber usual most (Some text) n = IsNumber most text n
 
+-- what holds unless words say otherwise
+abbrev pub usual_options : Options
+usual_options = record { workers = 1; cache = 1024 }
+
 -- the words give the options these texts, and the texts spell the numbers
 abbrev pub GivesOptions : Option (List ℕ) → Option (List ℕ) → List (List ℕ) → Options → Type 0
 GivesOptions workers cache words options = AreOptions workers cache words
-    × HasNumber 1 64 workers options.workers × HasNumber 1024 65536 cache options.cache
+    × HasNumber usual_options.workers 64 workers options.workers × HasNumber usual_options.cache 65536 cache options.cache
 
 -- the words are these options, each named once at most
 abbrev pub HasOptions : List (List ℕ) → Options → Type 0

@@ -3,7 +3,7 @@ ghost use Rattle.std.specs.Prelude.{◌≡◌, ◌∷◌, ℕ, map, codes, strin
 ghost use Rattle.rc_words.specs.Words.{HasOptions};
 ghost use Rattle.rc_words.specs.declared.options.Options.{Options};
 ghost use Rattle.rc_words.specs.declared.command.Command.{Command};
-ghost use Rattle.rc_words.specs.Command.{IsCommand, IsBench, workers_of};
+ghost use Rattle.rc_words.specs.Command.{IsCommand, IsBench, options_of};
 
 use crate::number::number_of;
 use crate::options::{Options, options_of};
@@ -24,15 +24,15 @@ pub enum Command {
 }
 
 impl Command {
-    /// How many threads play, 1 to 64. A command that plays nothing has one.
-    pub fn workers(&self) -> u8
-        ensures { result ≡ workers_of self.now }
+    /// What it is told of who plays. A command that plays nothing has the usual options.
+    pub fn options(&self) -> Options
+        ensures { result ≡ options_of self.now }
     {
         match self {
-            Command::Play(options) => options.workers,
-            Command::Check => 1,
-            Command::Sheet => 1,
-            Command::Bench { options, .. } => options.workers,
+            Command::Play(options) => *options,
+            Command::Check => Options::usual(),
+            Command::Sheet => Options::usual(),
+            Command::Bench { options, .. } => *options,
         }
     }
 }

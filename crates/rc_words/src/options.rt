@@ -1,7 +1,7 @@
 //! The options of `play` and `bench`.
-ghost use Rattle.std.specs.Prelude.{ℕ, ◌≤◌, ◌↔◌, map, string_bytes, option_map, IsTrue, IfOk, IfSome, IfNone};
+ghost use Rattle.std.specs.Prelude.{◌≡◌, ℕ, ◌≤◌, ◌↔◌, map, string_bytes, option_map, IsTrue, IfOk, IfSome, IfNone};
 ghost use Rattle.rc_words.specs.declared.options.Options.{Options};
-ghost use Rattle.rc_words.specs.Words.{AreOptions, GivesOptions, HasNumber, HasOptions};
+ghost use Rattle.rc_words.specs.Words.{AreOptions, GivesOptions, HasNumber, HasOptions, usual_options};
 
 use crate::number::number_of;
 use crate::option::{OptionName, are_in_order};
@@ -22,6 +22,18 @@ pub struct Options {
     pub workers: u8,
     /// How many totals of rollouts are kept, 1 to 65,536. It is 1,024 unless words say otherwise.
     pub cache: u32,
+}
+
+impl Options {
+    /// Those that hold unless words say otherwise.
+    pub(crate) fn usual() -> Options
+        ensures { result ≡ usual_options }
+    {
+        Options {
+            workers: 1,
+            cache: 1024,
+        }
+    }
 }
 
 /// The options that the words behind a command's name and number say, if they say nothing else.
