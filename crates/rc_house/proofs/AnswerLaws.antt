@@ -17,6 +17,7 @@ use Rattle.rc_plan.specs.declared.fail.PlanFail.TheVariants as fails
 use Rattle.rc_plan.specs.Reads.{IfPlanFault}
 use Rattle.rc_house.specs.declared.answer.Answer.{Answer as Stored}
 use Rattle.rc_house.specs.declared.answer.Answer.TheVariants.{Text, Refused}
+use Rattle.rc_words.specs.declared.options.Options.{Options}
 use Rattle.rc_house.specs.declared.task.Task.{Task}
 use Rattle.rc_house.specs.declared.task.Task.TheVariants.{Play, Check, Sheet as PrintsSheet}
 use Rattle.rc_house.specs.AcceptedPlan.{IsBehind, IsFaultyBehind, IsPlanFaulty}
@@ -30,8 +31,8 @@ use Rattle.rc_house.specs.Accepted.{HasFirstFault}
 use Rattle.rc_house.specs.Task.{wanted}
 use Rattle.rc_house.specs.Reading.{Reading, IsAcceptedWith}
 use Rattle.rc_house.specs.Note.{note_line}
-use Rattle.rc_house.specs.Answer.{Answer, text, refused, seen, playouts_of, IsAnswered, HasPlanRefusal, HasAnswer, form_faulty, sheet_faulty, plan_faulty, accepted, IsAnswerTo, IsJudged, IsPlanRefusal, IsSheetText}
-use Rattle.rc_house.proofs.OneAnswer.{only_answer}
+use Rattle.rc_house.specs.Answer.{Answer, text, refused, seen, playouts_of, AreAlike, IsAnswered, HasPlanRefusal, HasAnswer, form_faulty, sheet_faulty, plan_faulty, accepted, IsAnswerTo, IsJudged, IsPlanRefusal, IsSheetText}
+use Rattle.rc_house.proofs.OneAnswer.{alike_answers}
 use Rattle.rc_house.proofs.Options.{some_is}
 
 -- the trees of forms of which this is the first, and of none
@@ -97,83 +98,76 @@ plan_answer task source lists rest sheet kind at spelled is has =
     plan_faulty (reading source _ lists rest spelled) kind at
     (accepted_then (λ sheet others. HasPlanRefusal task source sheet others rest kind at) lists sheet is has) refl
 
--- a refusal takes no playout
-pub refusal_is : (task : Task) (source : List ℕ) (refusal : Refusal) (steps : ℕ) (answer : Stored) → answer ≡ Refused refusal
-    → HasAnswer task source (refused refusal) → IsAnswerTo task source steps steps answer
-refusal_is task source refusal steps answer is has =
-    subst (IsAnswerTo task source steps steps) (sym is) (0, has, omega arith)
+-- a refusal
+pub refusal_is : (task : Task) (source : List ℕ) (refusal : Refusal) (answer : Stored) → answer ≡ Refused refusal
+    → HasAnswer task source (refused refusal) → IsAnswerTo task source answer
+refusal_is task source refusal answer is has = subst (IsAnswerTo task source) (sym is) has
 
 -- an accepted sheet as it is printed
-sheet_answer : (source : List ℕ) (lists : List Tree) (rest : ℕ) (sheet : Sheet) (steps : ℕ) (answer : Stored)
+pub sheet_answer : (source : List ℕ) (lists : List Tree) (rest : ℕ) (sheet : Sheet) (answer : Stored)
     → Spelled source 1 lists rest → IsAcceptedWith (λ other _. other ≡ sheet) lists → IsSheetText sheet answer
-    → IsAnswerTo PrintsSheet source steps steps answer
-sheet_answer source lists rest sheet steps (Text bytes note) spelled is printed =
+    → IsAnswerTo PrintsSheet source answer
+sheet_answer source lists rest sheet (Text bytes note) spelled is printed =
     let same : seen (Text bytes note) 0 ≡ text (line (printed_sheet sheet)) [] 0 =
     ap (λ bytes. text bytes (note_line note) 0) printed.0 ∙ ap (λ note. text (line (printed_sheet sheet)) (note_line note) 0) printed.1 in
-    (0, accepted_answer PrintsSheet source lists rest sheet (seen (Text bytes note) 0) spelled is (λ form others first. same), omega arith)
-sheet_answer source lists rest sheet steps (Refused refusal) spelled is printed = absurd printed
+    accepted_answer PrintsSheet source lists rest sheet (seen (Text bytes note) 0) spelled is (λ form others first. same)
+sheet_answer source lists rest sheet (Refused refusal) spelled is printed = absurd printed
 
-pub sheet_answers : (source : List ℕ) (lists : List Tree) (rest : ℕ) (sheet : Sheet) (steps : ℕ) {E : Type 0} (result : Result Stored E)
+pub sheet_answers : (source : List ℕ) (lists : List Tree) (rest : ℕ) (sheet : Sheet) {E : Type 0} (result : Result Stored E)
     → Spelled source 1 lists rest → IsAcceptedWith (λ other _. other ≡ sheet) lists → IfOk result (IsSheetText sheet)
-    → IfOk result (IsAnswerTo PrintsSheet source steps steps)
-sheet_answers source lists rest sheet steps (Err error) spelled is printed = tt
-sheet_answers source lists rest sheet steps (Ok answer) spelled is printed = sheet_answer source lists rest sheet steps answer spelled is printed
+    → IfOk result (IsAnswerTo PrintsSheet source)
+sheet_answers source lists rest sheet (Err error) spelled is printed = tt
+sheet_answers source lists rest sheet (Ok answer) spelled is printed = sheet_answer source lists rest sheet answer spelled is printed
 
 -- a transcript that is judged
-judged_so : (source : List ℕ) (lists : List Tree) (rest : ℕ) (sheet : Sheet) (plan : Plan) (steps : ℕ) (answer : Stored)
+judged_so : (source : List ℕ) (lists : List Tree) (rest : ℕ) (sheet : Sheet) (plan : Plan) (answer : Stored)
     → Spelled source (wanted Check) lists rest → IsAcceptedWith (λ other _. other ≡ sheet) lists → IsBehind sheet.players lists plan
-    → IsJudged (about_of sheet plan.turns) plan (drop rest source) answer → IsAnswerTo Check source steps steps answer
-judged_so source lists rest sheet plan steps answer spelled is behind judged =
-    (0, accepted_answer Check source lists rest sheet (seen answer 0) spelled is (λ form others same. (plan, behind form others same, judged)), no_playouts answer steps)
-  where
-    no_playouts : (answer : Stored) (steps : ℕ) → steps ≡ steps + playouts_of (seen answer 0)
-    no_playouts (Text bytes note) steps = omega arith
-    no_playouts (Refused refusal) steps = omega arith
+    → IsJudged (about_of sheet plan.turns) plan (drop rest source) answer → IsAnswerTo Check source answer
+judged_so source lists rest sheet plan answer spelled is behind judged =
+    accepted_answer Check source lists rest sheet (seen answer 0) spelled is (λ form others same. (plan, behind form others same, judged))
 
-pub judged_answers : (source : List ℕ) (lists : List Tree) (rest : ℕ) (sheet : Sheet) (plan : Plan) (steps : ℕ) {E : Type 0} (result : Result Stored E)
+pub judged_answers : (source : List ℕ) (lists : List Tree) (rest : ℕ) (sheet : Sheet) (plan : Plan) {E : Type 0} (result : Result Stored E)
     → Spelled source (wanted Check) lists rest → IsAcceptedWith (λ other _. other ≡ sheet) lists → IsBehind sheet.players lists plan
-    → IfOk result (IsJudged (about_of sheet plan.turns) plan (drop rest source)) → IfOk result (IsAnswerTo Check source steps steps)
-judged_answers source lists rest sheet plan steps (Err error) spelled is behind judged = tt
-judged_answers source lists rest sheet plan steps (Ok answer) spelled is behind judged = judged_so source lists rest sheet plan steps answer spelled is behind judged
+    → IfOk result (IsJudged (about_of sheet plan.turns) plan (drop rest source)) → IfOk result (IsAnswerTo Check source)
+judged_answers source lists rest sheet plan (Err error) spelled is behind judged = tt
+judged_answers source lists rest sheet plan (Ok answer) spelled is behind judged = judged_so source lists rest sheet plan answer spelled is behind judged
 
 -- A plan that fails as it is read is refused for its first fault.
-unread_answer : (source : List ℕ) (lists : List Tree) (rest : ℕ) (sheet : Sheet) (steps : ℕ) (fail : PlanFail) (answer : Stored)
+unread_answer : (source : List ℕ) (lists : List Tree) (rest : ℕ) (sheet : Sheet) (fail : PlanFail) (answer : Stored)
     → Spelled source (wanted Check) lists rest → IsAcceptedWith (λ other _. other ≡ sheet) lists
     → IfPlanFault fail (λ fault. IsFaultyBehind sheet.players lists rest fault.kind fault.at) → IsPlanRefusal fail answer
-    → IsAnswerTo Check source steps steps answer
-unread_answer source lists rest sheet steps fails.Memory answer spelled is fault refusal_so = absurd refusal_so
-unread_answer source lists rest sheet steps (fails.Fault found) answer spelled is fault refusal_so =
-    refusal_is Check source (refusal.Plan found.kind found.at) steps answer refusal_so
+    → IsAnswerTo Check source answer
+unread_answer source lists rest sheet fails.Memory answer spelled is fault refusal_so = absurd refusal_so
+unread_answer source lists rest sheet (fails.Fault found) answer spelled is fault refusal_so =
+    refusal_is Check source (refusal.Plan found.kind found.at) answer refusal_so
     (plan_answer Check source lists rest sheet found.kind found.at spelled is fault)
 
-pub unread_answers : (source : List ℕ) (lists : List Tree) (rest : ℕ) (sheet : Sheet) (steps : ℕ) (fail : PlanFail) {E : Type 0} (result : Result Stored E)
+pub unread_answers : (source : List ℕ) (lists : List Tree) (rest : ℕ) (sheet : Sheet) (fail : PlanFail) {E : Type 0} (result : Result Stored E)
     → Spelled source (wanted Check) lists rest → IsAcceptedWith (λ other _. other ≡ sheet) lists
     → IfPlanFault fail (λ fault. IsFaultyBehind sheet.players lists rest fault.kind fault.at)
-    → IfOk result (IsPlanRefusal fail) → IfOk result (IsAnswerTo Check source steps steps)
-unread_answers source lists rest sheet steps fail (Err error) spelled is fault refusal_so = tt
-unread_answers source lists rest sheet steps fail (Ok answer) spelled is fault refusal_so =
-    unread_answer source lists rest sheet steps fail answer spelled is fault refusal_so
+    → IfOk result (IsPlanRefusal fail) → IfOk result (IsAnswerTo Check source)
+unread_answers source lists rest sheet fail (Err error) spelled is fault refusal_so = tt
+unread_answers source lists rest sheet fail (Ok answer) spelled is fault refusal_so =
+    unread_answer source lists rest sheet fail answer spelled is fault refusal_so
 
 -- A plan that fails is refused for its first fault.
-failed_answer : (source : List ℕ) (lists : List Tree) (rest : ℕ) (sheet : Sheet) (steps : ℕ) (fail : PlanFail) (answer : Stored)
-    → Spelled source (wanted Play) lists rest → IsAcceptedWith (λ other _. other ≡ sheet) lists
+pub failed_answer : (options : Options) (source : List ℕ) (lists : List Tree) (rest : ℕ) (sheet : Sheet) (fail : PlanFail) (answer : Stored)
+    → Spelled source 2 lists rest → IsAcceptedWith (λ other _. other ≡ sheet) lists
     → IfPlanFault fail (λ fault. IsPlanFaulty source sheet.players lists rest fault.kind fault.at) → IsPlanRefusal fail answer
-    → IsAnswerTo Play source steps steps answer
-failed_answer source lists rest sheet steps fails.Memory answer spelled is fault refusal_so = absurd refusal_so
-failed_answer source lists rest sheet steps (fails.Fault found) answer spelled is fault refusal_so =
-    refusal_is Play source (refusal.Plan found.kind found.at) steps answer refusal_so
-    (plan_answer Play source lists rest sheet found.kind found.at spelled is fault)
+    → IsAnswerTo (Play options) source answer
+failed_answer options source lists rest sheet fails.Memory answer spelled is fault refusal_so = absurd refusal_so
+failed_answer options source lists rest sheet (fails.Fault found) answer spelled is fault refusal_so =
+    refusal_is (Play options) source (refusal.Plan found.kind found.at) answer refusal_so
+    (plan_answer (Play options) source lists rest sheet found.kind found.at spelled is fault)
 
-pub failed_answers : (source : List ℕ) (lists : List Tree) (rest : ℕ) (sheet : Sheet) (steps : ℕ) (fail : PlanFail) {E : Type 0} (result : Result Stored E)
-    → Spelled source (wanted Play) lists rest → IsAcceptedWith (λ other _. other ≡ sheet) lists
-    → IfPlanFault fail (λ fault. IsPlanFaulty source sheet.players lists rest fault.kind fault.at)
-    → IfOk result (IsPlanRefusal fail) → IfOk result (IsAnswerTo Play source steps steps)
-failed_answers source lists rest sheet steps fail (Err error) spelled is fault refusal_so = tt
-failed_answers source lists rest sheet steps fail (Ok answer) spelled is fault refusal_so =
-    failed_answer source lists rest sheet steps fail answer spelled is fault refusal_so
-
--- where no more steps were counted than one answer takes playouts, that is so of any answer to the source
+-- where no more steps were counted than playouts are for one answer, that is so of any answer to the source
 pub counted_few : (task : Task) (source : List ℕ) (answer : Answer) (steps steps' : ℕ) → HasAnswer task source answer
     → steps' ≤ steps + playouts_of answer → (other : Answer) → HasAnswer task source other → steps' ≤ steps + playouts_of other
 counted_few task source answer steps steps' has few other has' =
-    subst (λ answer. steps' ≤ steps + playouts_of answer) (sym (only_answer task source answer other has has')) few
+    subst (λ playouts. steps' ≤ steps + playouts) (as_many answer other (alike_answers task source answer other has has')) few
+  where
+    as_many : (answer other : Answer) → AreAlike answer other → playouts_of answer ≡ playouts_of other
+    as_many (text bytes note playouts) (text bytes' note' playouts') alike = alike.1
+    as_many (refused refusal) (refused refusal') alike = refl
+    as_many (text bytes note playouts) (refused refusal) alike = absurd alike
+    as_many (refused refusal) (text bytes note playouts) alike = absurd alike

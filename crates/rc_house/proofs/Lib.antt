@@ -7,5 +7,9 @@ pub mod OneReading
 pub mod Options
 pub mod OutcomeLemmas
 pub mod PlanLaws
+pub mod PlayedLaws
+pub mod PlayedLemmas
+pub mod PlayerLemmas
+pub mod PlayingLemmas
 pub mod PrintedTwice
 pub mod SomeAnswer

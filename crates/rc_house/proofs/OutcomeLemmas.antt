@@ -6,6 +6,7 @@ use Rattle.rc_sheet_model.specs.Sheet.{Sheet}
 use Rattle.rc_play_model.specs.About.{About, about_of}
 use Rattle.rc_play_model.specs.Plan.{Plan}
 use Rattle.rc_play_model.specs.Keyed.{dealing_of}
+use Rattle.rc_rules.specs.Plan.{plan_seen}
 use Rattle.rc_text_model.specs.HouseText.{HouseText}
 use Rattle.rc_text_model.specs.Reading.{read_text}
 use Rattle.rc_judge_model.specs.Why.{Illegal}
@@ -22,16 +23,18 @@ use Rattle.rc_house.specs.declared.status.Status.{Status}
 use Rattle.rc_house.specs.declared.status.Status.TheVariants.{Memory, TooLong}
 use Rattle.rc_house.specs.declared.answer.Answer.{Answer as Stored}
 use Rattle.rc_house.specs.declared.answer.Answer.TheVariants.{Text, Refused}
+use Rattle.rc_house.specs.declared.answer.Prepared.{Prepared}
+use Rattle.rc_house.specs.declared.answer.Prepared.TheVariants.{Answered, Playing}
 use Rattle.rc_house.specs.Task.{IsNoteOf, limit_of}
 use Rattle.rc_house.specs.Note.{note_line}
-use Rattle.rc_house.specs.Answer.{Answer, text, refused, seen, text_judged, verdict, playouts_of, IsAnswered, HasAnswer, form_faulty, sheet_faulty, plan_faulty, accepted, IsAnswerTo}
+use Rattle.rc_house.specs.Answer.{Answer, text, refused, seen, text_judged, verdict, AreAlike, IsAnswered, HasAnswer, form_faulty, sheet_faulty, plan_faulty, accepted, IsGameOf, IsPrepared}
 use Rattle.rc_house.specs.Status.{line_of, refusal_status, read_status}
 use Rattle.rc_house.specs.Port.{Port, Ports, port, HasFailed, Took, Delivers}
 use Rattle.rc_house.specs.Outcome.{GaveTooMuch, Answers, CountedFew, Outcome, written, refusing, no_memory, read_failed, too_long, text_failed, note_failed, NoPortFailed, Succeeds, status_of}
 use Rattle.rc_house.specs.Ends.{Performs}
 use Rattle.rc_house.specs.Reading.{IsAcceptedWith}
-use Rattle.rc_house.specs.Running.{HasNoteOf, ReadsAnswer, ReadsNone}
-use Rattle.rc_house.proofs.OneAnswer.{only_answer}
+use Rattle.rc_house.specs.Running.{HasNoteOf, ReadsGame, ReadsNone, ReadsPrepared}
+use Rattle.rc_house.proofs.OneAnswer.{alike_answers}
 
 -- what a source gave to its end is all that it told
 gave_all : (whole rest bytes : List ℕ) (after : Option (List ℕ)) → after ≡ Some rest → whole ≡ bytes ++ rest → IsAtEnd after → (bytes ≡ whole) × (after ≡ Some [])
@@ -72,7 +75,8 @@ judged_note about plan (Ok told) bytes note playouts same = verdict_note (first_
 -- what is answered for an accepted sheet is noted as the command notes
 note_of_sheet : (task : Task) (source : List ℕ) (sheet : Sheet) (others : List Tree) (rest : ℕ) (bytes note : List ℕ) (playouts : ℕ)
     → IsAnswered task source sheet others rest (text bytes note playouts) → IsNoteOf task note
-note_of_sheet Play source sheet others rest bytes note playouts has = (length (looks_of (about_of sheet has.0.turns) has.0), cc)
+note_of_sheet (Play options) source sheet others rest bytes note playouts has =
+    let same = has.2.2 in (length (looks_of (about_of sheet has.0.turns) has.0), has.2.0, cc)
 note_of_sheet named.Check source sheet others rest bytes note playouts has = judged_note (about_of sheet has.0.turns) has.0 (read_text (drop rest source)) bytes note playouts (sym has.2)
 note_of_sheet named.Sheet source sheet others rest bytes note playouts has = cc
 
@@ -92,21 +96,31 @@ note_answered : (task : Task) (source : List ℕ) (answer : Stored) (playouts : 
 note_answered task source (Text bytes note) playouts has = note_of_text task source bytes.items (note_line note) playouts has
 note_answered task source (Refused refusal) playouts has = tt
 
--- an answer to the bytes that a source gave to its end
-pub reads_answer : (told after : Option (List ℕ)) (faults faults' steps steps' : ℕ) (task : Task) (bytes : List ℕ) (answer : Stored)
-    → Gave told after bytes → IsAtEnd after → length bytes ≤ limit_of task → IsAnswerTo task bytes steps steps' answer
-    → ReadsAnswer task (port told faults) (port after faults') steps steps' answer
-reads_answer told after faults faults' steps steps' task bytes answer given end few is =
-    (is.0, answers_given told after faults faults' task bytes (seen answer is.0) given end few is.1, is.2, note_answered task bytes answer is.0 is.1)
+-- what is played for a source whose bytes were given to its end
+reads_game : (told after : Option (List ℕ)) (faults faults' : ℕ) (task : Task) (bytes : List ℕ) (sheet : Sheet) (plan : Plan)
+    → Gave told after bytes → IsAtEnd after → length bytes ≤ limit_of task → IsGameOf task bytes sheet plan
+    → ReadsGame task (port told faults) (port after faults') sheet plan
+reads_game told after faults faults' (Play options) bytes sheet plan given end few is = λ answer played.
+    answers_given told after faults faults' (Play options) bytes answer given end few (is answer played)
+reads_game told after faults faults' named.Check bytes sheet plan given end few is = is
+reads_game told after faults faults' named.Sheet bytes sheet plan given end few is = is
 
--- no more steps than the answer to those bytes takes
-pub counted_given : (told after : Option (List ℕ)) (faults steps steps' : ℕ) (task : Task) (bytes : List ℕ)
-    → Gave told after bytes → IsAtEnd after → ((answer : Answer) → HasAnswer task bytes answer → steps' ≤ steps + playouts_of answer)
-    → CountedFew (port told faults) task steps steps'
-counted_given None after faults steps steps' task bytes given end few = tt
-counted_given (Some whole) after faults steps steps' task bytes given end few =
-    let all = gave_all whole given.0 bytes after given.1 given.2 end in
-    subst (λ source. (answer : Answer) → HasAnswer task source answer → steps' ≤ steps + playouts_of answer) all.0 few
+-- what a command makes of the bytes that a source gave to its end
+pub reads_prepared : (told after : Option (List ℕ)) (faults faults' : ℕ) (task : Task) (bytes : List ℕ) (prepared : Prepared)
+    → Gave told after bytes → IsAtEnd after → length bytes ≤ limit_of task → IsPrepared task bytes prepared
+    → ReadsPrepared task (port told faults) (port after faults') prepared
+reads_prepared told after faults faults' task bytes (Answered answer) given end few is =
+    (answers_given told after faults faults' task bytes (seen answer 0) given end few is, note_answered task bytes answer 0 is)
+reads_prepared told after faults faults' task bytes (Playing game) given end few is =
+    (is.0, reads_game told after faults faults' task bytes game.checked (plan_seen game.plan) given end few is.1, (bytes, given, few))
+
+-- no step is counted where nobody plays
+counted_none : (before : Port) (task : Task) (steps : ℕ) → CountedFew before task steps steps
+counted_none before task steps = by before.told
+  where
+    by : (told : Option (List ℕ)) → CountedFew (port told before.faults) task steps steps
+    by None = tt
+    by (Some source) = λ answer has. omega arith
 
 -- a text that was handed on
 pub delivered : (task : Task) (before after : Ports) (steps steps' playouts : ℕ) (bytes note : List ℕ) (status : Status)
@@ -125,35 +139,42 @@ delivered task before after steps steps' playouts bytes note status noted answer
     (answers_with before.source after.source task (text bytes note playouts) _ answers (bytes, playouts, refl, counted, failed.2)) failed.3
 
 -- a refusal
-pub refused_so : (task : Task) (before after : Ports) (steps steps' : ℕ) (refusal : Refusal) (status : Status) → status ≡ refusal_status refusal
-    → Answers before.source after.source task (λ other. other ≡ refused refusal) → steps' ≡ steps → after.out ≡ before.out
-    → Took before.notes after.notes (line_of status) → Outcome task before after steps steps' status
-refused_so task before after steps steps' refusal status is answers counted untouched noted =
-    refusing refusal is answers (record { untouched = untouched; noted = noted }) counted
+pub refused_so : (task : Task) (before after : Ports) (steps : ℕ) (refusal : Refusal) (status : Status) → status ≡ refusal_status refusal
+    → Answers before.source after.source task (λ other. other ≡ refused refusal) → after.out ≡ before.out
+    → Took before.notes after.notes (line_of status) → Outcome task before after steps steps status
+refused_so task before after steps refusal status is answers untouched noted =
+    refusing refusal is answers (record { untouched = untouched; noted = noted }) refl
 
 -- a source that wasn't read to its end, or for whose answer there was no memory
-pub unread_so : (task : Task) (before after : Ports) (steps steps' : ℕ) (fail : ReadFail) (status : Status) → status ≡ read_status fail
-    → ReadsNone task before.source after.source steps steps' fail → after.out ≡ before.out
-    → Took before.notes after.notes (line_of status) → Outcome task before after steps steps' status
-unread_so task before after steps steps' read.ReadFault status is none untouched noted =
-    read_failed is none.0 none.1 (record { untouched = untouched; noted = noted }) none.2
-unread_so task before after steps steps' read.TooLong status is none untouched noted =
-    too_long is none.0 (record { untouched = untouched; noted = noted }) none.1
-unread_so task before after steps steps' read.Memory status is none untouched noted =
-    no_memory is none.0 (record { untouched = untouched; noted = noted }) none.1
+pub unread_so : (task : Task) (before after : Ports) (steps : ℕ) (fail : ReadFail) (status : Status) → status ≡ read_status fail
+    → ReadsNone task before.source after.source fail → after.out ≡ before.out
+    → Took before.notes after.notes (line_of status) → Outcome task before after steps steps status
+unread_so task before after steps read.ReadFault status is none untouched noted =
+    read_failed is none.0 none.1 (record { untouched = untouched; noted = noted }) refl
+unread_so task before after steps read.TooLong status is none untouched noted =
+    too_long is none (record { untouched = untouched; noted = noted }) refl
+unread_so task before after steps read.Memory status is none untouched noted =
+    no_memory is none (record { untouched = untouched; noted = noted }) (counted_none before.source task steps)
 
--- the answers that two readings of one source give are one
+-- the answers that two readings of one source give are alike
 same_answer : (before after : Port) (task : Task) (P : Answer → Type 0) (source : List ℕ) (other : Answer)
     → Answers before after task P → before.told ≡ Some source → HasAnswer task source other
-    → (answer : Answer) × P answer × (other ≡ answer)
+    → (answer : Answer) × P answer × AreAlike other answer
 same_answer before after task P source other answers told has = by before.told told answers
   where
     by : (mine : Option (List ℕ)) → mine ≡ Some source → Answers (port mine before.faults) after task P
-        → (answer : Answer) × P answer × (other ≡ answer)
+        → (answer : Answer) × P answer × AreAlike other answer
     by None told answers = absurd (cc)
     by (Some whole) told answers =
         let same : source ≡ whole = cc in
-        (answers.2, answers.4, only_answer task whole answers.2 other answers.3 (subst (λ bytes. HasAnswer task bytes other) same has))
+        (answers.2, answers.4, alike_answers task whole other answers.2 (subst (λ bytes. HasAnswer task bytes other) same has) answers.3)
+
+-- alike answers have one status
+one_status : (answer other : Answer) → AreAlike answer other → status_of answer ≡ status_of other
+one_status (text bytes note playouts) (text bytes' note' playouts') alike = refl
+one_status (refused refusal) (refused refusal') alike = ap refusal_status alike
+one_status (text bytes note playouts) (refused refusal) alike = absurd alike
+one_status (refused refusal) (text bytes note playouts) alike = absurd alike
 
 -- a source that has few bytes doesn't give too many
 not_too_much : (task : Task) (before after : Port) (source : List ℕ) → GaveTooMuch task before after → before.told ≡ Some source → length source ≤ limit_of task → ⊥
@@ -176,18 +197,19 @@ not_answered before after task P source answers told long = by before.told told 
         let same : whole ≡ source = cc in omega (arith, ap length same, answers.0)
 
 -- a refusal is no text
-refusal_is_no_text : (refusal : Refusal) (bytes note : List ℕ) (playouts : ℕ) (other : Answer) → refused refusal ≡ other → other ≡ text bytes note playouts → ⊥
-refusal_is_no_text refusal bytes note playouts other same is = let both : refused refusal ≡ text bytes note playouts = same ∙ is in absurd cc
+refusal_is_no_text : (refusal : Refusal) (bytes note : List ℕ) (playouts : ℕ) (other : Answer) → AreAlike (refused refusal) other
+    → other ≡ text bytes note playouts → ⊥
+refusal_is_no_text refusal bytes note playouts other alike is = subst (AreAlike (refused refusal)) is alike
 
 answers_due : (task : Task) (before after : Ports) (steps steps' : ℕ) (status : Status) → Outcome task before after steps steps' status
     → (source : List ℕ) (answer : Answer) → before.source.told ≡ Some source → length source ≤ limit_of task
     → HasAnswer task source answer → NoPortFailed answer before after → (status ≡ status_of answer) ⊎ (status ≡ Memory)
 answers_due task before after steps steps' status (written is note noted answers took) source answer told few has well =
     let same = same_answer before.source after.source task _ source answer answers told has in
-    inl (is ∙ ap status_of (sym (same.2 ∙ same.1.2)))
+    inl (is ∙ ap status_of (sym same.1.2) ∙ sym (one_status answer same.0 same.2))
 answers_due task before after steps steps' status (refusing refusal is answers refuses counted) source answer told few has well =
     let same = same_answer before.source after.source task _ source answer answers told has in
-    inl (is ∙ ap status_of (sym (same.2 ∙ same.1)))
+    inl (is ∙ ap status_of (sym same.1) ∙ sym (one_status answer same.0 same.2))
 answers_due task before after steps steps' status (no_memory is gave refuses counted) source answer told few has well = inr is
 answers_due task before after steps steps' status (read_failed is failed gave refuses counted) source (text bytes note' playouts) told few has well = absurd (well.0 failed)
 answers_due task before after steps steps' status (read_failed is failed gave refuses counted) source (refused refusal) told few has well = absurd (well failed)

@@ -1,5 +1,6 @@
 -- A command has an answer to each source.
-use Rattle.std.proofs.Common.{◌≡◌, ℕ, List, [], ◌∷◌, drop, Option, Some, None, ◌⊎◌, inl, inr, refl, subst}
+use Rattle.std.proofs.Common.{◌≡◌, ◌<◌, ◌≤◌, ℕ, List, [], ◌∷◌, drop, Option, Some, None, ◌⊎◌, inl, inr, refl, subst, arith}
+use Rattle.std.proofs.lemmas.Bool.{cases_lt}
 use Rattle.rc_model.specs.Spelled.{Spelled}
 use Rattle.rc_model.specs.Tree.{Tree}
 use Rattle.rc_model.specs.Transcript.{line}
@@ -15,6 +16,10 @@ use Rattle.rc_form.proofs.TopLists.{fits-first}
 use Rattle.rc_sheet.proofs.Accepted.{has_sheet}
 use Rattle.rc_play_model.specs.About.{about_of}
 use Rattle.rc_text_model.specs.Reading.{read_text}
+use Rattle.rc_redraw.specs.Asking.{Key}
+use Rattle.rc_cache.specs.Hits.{hits}
+use Rattle.rc_plays.specs.Series.{looks_of}
+use Rattle.rc_words.specs.declared.options.Options.{Options}
 use Rattle.rc_house.specs.declared.task.Task.{Task}
 use Rattle.rc_house.specs.declared.task.Task.TheVariants.{Play, Check, Sheet}
 use Rattle.rc_house.specs.declared.refusal.Refusal.TheVariants as refusal
@@ -24,10 +29,19 @@ use Rattle.rc_sheet_laws.specs.Accepted.{IsSheetOf, IsAccepted}
 use Rattle.rc_house.specs.AcceptedPlan.{HasPlanFault, HasPlanReadFault, IsPlanAccepted, IsPlanRead}
 use Rattle.rc_house.specs.Task.{wanted}
 use Rattle.rc_house.specs.Reading.{IsAcceptedWith}
-use Rattle.rc_house.specs.Answer.{Answer, text, refused, plan_played, text_judged, HasAnswer, form_faulty}
+use Rattle.rc_house.specs.Players.{AreHits, alone, shared}
+use Rattle.rc_house.specs.Answer.{Answer, text, refused, house_played, text_judged, HasAnswer, form_faulty}
 use Rattle.rc_house.proofs.AcceptedLaws.{in_sight_or_not}
 use Rattle.rc_house.proofs.AnswerLaws.{missing_answer, refused_answer, first_accepted, accepted_answer, plan_answer}
 use Rattle.rc_house.proofs.PlanLaws.{IsPlanOrFault, plan_or_fault, IsReadOrFault, read_or_fault}
+
+-- so many looks may hit
+pub some_hits : (options : Options) (looks : List Key) → (found : ℕ) × AreHits options looks found
+some_hits options looks = by (cases_lt 1 options.workers)
+  where
+    by : (1 < options.workers) ⊎ (options.workers ≤ 1) → (found : ℕ) × AreHits options looks found
+    by (inl many) = (0, shared many (omega arith) (λ some. some))
+    by (inr few) = (hits looks options.cache, alone few refl)
 
 -- the command has an answer to this source
 abbrev SomeAnswer : Task → List ℕ → Type 0
@@ -63,7 +77,7 @@ accepted Check source form others rest sheet spelled is =
       plan_answer Check source (form ∷ others) rest sheet fault.0 fault.1 spelled sheet_is
           (λ first more same. subst (λ others. HasPlanReadFault sheet.players others rest fault.0 fault.1) (behind first more same) fault.2),
     )
-accepted Play source form others rest sheet spelled is =
+accepted (Play options) source form others rest sheet spelled is =
     by_plan (plan_or_fault source sheet.players others rest is.of_form.well.limits.some_players is.of_form.well.limits.players)
   where
     behind : (first : Tree) (more : List Tree) → form ∷ others ≡ first ∷ more → others ≡ more
@@ -72,15 +86,18 @@ accepted Play source form others rest sheet spelled is =
     sheet_is : IsAcceptedWith (λ other _. other ≡ sheet) (form ∷ others)
     sheet_is = first_accepted (form ∷ others) form others sheet refl is
 
-    by_plan : IsPlanOrFault source sheet.players others rest → SomeAnswer Play source
-    by_plan (inl plan) = (
-      plan_played (about_of sheet plan.0.turns) plan.0,
-      accepted_answer Play source (form ∷ others) rest sheet (plan_played (about_of sheet plan.0.turns) plan.0) spelled sheet_is
-          (λ first more same. (plan.0, subst (λ others. IsPlanAccepted source sheet.players others rest plan.0) (behind first more same) plan.1, refl)),
-    )
+    by_plan : IsPlanOrFault source sheet.players others rest → SomeAnswer (Play options) source
+    by_plan (inl plan) =
+        let about = about_of sheet plan.0.turns in
+        let hits = some_hits options (looks_of about plan.0) in
+        let answer = house_played options about plan.0 hits.0 in (
+          answer,
+          accepted_answer (Play options) source (form ∷ others) rest sheet answer spelled sheet_is
+              (λ first more same. (plan.0, subst (λ others. IsPlanAccepted source sheet.players others rest plan.0) (behind first more same) plan.1, (hits.0, hits.1, refl))),
+        )
     by_plan (inr fault) = (
       refused (refusal.Plan fault.0 fault.1),
-      plan_answer Play source (form ∷ others) rest sheet fault.0 fault.1 spelled sheet_is
+      plan_answer (Play options) source (form ∷ others) rest sheet fault.0 fault.1 spelled sheet_is
           (λ first more same. subst (λ others. HasPlanFault source sheet.players others rest fault.0 fault.1) (behind first more same) fault.2),
     )
 

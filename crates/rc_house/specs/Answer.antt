@@ -1,6 +1,7 @@
--- What a command answers to its source. HasAnswer is the relation that holds of each source and exactly one answer; what an accepted
--- sheet is answered, and with a plan, is IsAnswered. IsAnswerTo is HasAnswer of the value that the program makes, with its steps.
-use Rattle.std.specs.Prelude.{◌≡◌, ℕ, ◌+◌, List, [], length, drop, codes, Option, Some, None, Result, Ok, Err}
+-- What a command answers to its source. HasAnswer is the relation that holds of each source and its answers: exactly one, but that the
+-- note may tell one number of hits or another where several workers play. What an accepted sheet is answered, and with a plan, is
+-- IsAnswered. IsPrepared is what the program makes of a source before anybody plays.
+use Rattle.std.specs.Prelude.{◌≡◌, ◌≤◌, ℕ, List, [], length, drop, codes, Option, Some, None, Result, Ok, Err}
 use Rattle.rc_model.specs.Transcript.{line}
 use Rattle.rc_model.specs.Tree.{Tree}
 use Rattle.rc_play_model.specs.About.{About, about_of}
@@ -10,12 +11,14 @@ use Rattle.rc_text_model.specs.HouseText.{HouseText}
 use Rattle.rc_text_model.specs.Reading.{read_text}
 use Rattle.rc_judge_model.specs.Why.{Illegal}
 use Rattle.rc_judge_model.specs.Judged.{first_illegal}
-use Rattle.rc_redraw.specs.Choosing.{all_costs}
 use Rattle.rc_plays.specs.Series.{looks_of}
 use Rattle.rc_sheet_model.specs.Sheet as sheet
 use Rattle.rc_sheet_model.specs.Printing.{printed_sheet}
+use Rattle.rc_plan_model.specs.Limits.{IsWithinLimits}
 use Rattle.rc_plan_model.specs.declared.fault.PlanKind.{PlanKind}
+use Rattle.rc_rules.specs.Plan.{plan_seen}
 use Rattle.rc_plan.specs.declared.fail.PlanFail.{PlanFail}
+use Rattle.rc_words.specs.declared.options.Options.{Options}
 use Rattle.rc_plan.specs.declared.fail.PlanFail.TheVariants as fails
 use Rattle.rc_house.specs.declared.task.Task.{Task}
 use Rattle.rc_house.specs.declared.task.Task.TheVariants.{Play, Check, Sheet}
@@ -24,22 +27,30 @@ use Rattle.rc_house.specs.declared.refusal.Refusal.TheVariants as refusal
 use Rattle.rc_house.specs.declared.status.SourceKind.{SourceKind}
 use Rattle.rc_house.specs.declared.answer.Answer.{Answer as Stored}
 use Rattle.rc_house.specs.declared.answer.Answer.TheVariants as stored
+use Rattle.rc_house.specs.declared.answer.Prepared.{Prepared}
+use Rattle.rc_house.specs.declared.answer.Prepared.TheVariants.{Answered, Playing}
 use Rattle.rc_house.specs.Task.{wanted}
 use Rattle.rc_house.specs.declared.note.Note.TheVariants.{Nothing}
 use Rattle.rc_house.specs.Note.{looks_line, note_line}
+use Rattle.rc_house.specs.Players.{AreHits, counted_playouts}
 use Rattle.rc_house.specs.Status.{why_told}
 use Rattle.rc_house.specs.AcceptedPlan.{HasPlanFault, HasPlanReadFault, IsPlanAccepted, IsPlanRead}
 use Rattle.rc_house.specs.Reading.{Reading, HasFormFault, HasSheetFault, IsAcceptedWith}
 
--- a text, with what is noted behind it and how many playouts it takes; or a refusal
+-- a text, with what is noted behind it and how many playouts are counted for it; or a refusal
 pub data Answer : Type 0 where
   text : (bytes note : List ℕ) (playouts : ℕ) → Answer
   refused : (refusal : Refusal) → Answer
 
--- The house text of a plan: the plays of all matches in order, and the standings. What rollouts ask is played out each time.
-abbrev pub plan_played : About → Plan → Answer
-plan_played about plan =
-    text (keyed_house about plan) (looks_line (length (looks_of about plan)) 0) (all_costs (looks_of about plan))
+-- The house text of a plan: the plays of all matches in order, and the standings. It is the same whoever plays, and whatever the book
+-- has; the note tells how many looks there were, and how many of them hit.
+abbrev pub house_played : Options → About → Plan → ℕ → Answer
+house_played options about plan found =
+    text (keyed_house about plan) (looks_line (length (looks_of about plan)) found) (counted_playouts options (looks_of about plan))
+
+abbrev pub IsPlayed : Options → About → Plan → Answer → Type 0
+IsPlayed options about plan answer =
+    (found : ℕ) × AreHits options (looks_of about plan) found × (answer ≡ house_played options about plan found)
 
 -- The verdict on a transcript: that it is legal, or its first illegal line and why.
 abbrev pub verdict : Option Illegal → Answer
@@ -54,19 +65,19 @@ text_judged about plan (Ok told) = verdict (first_illegal about dealing_of plan 
 -- What a command answers where the sheet is accepted, with these lists behind it and the rest that begins here, and where the plan is
 -- accepted too, if the command reads one.
 abbrev pub IsAnswered : Task → List ℕ → sheet.Sheet → List Tree → ℕ → Answer → Type 0
-IsAnswered Play source sheet others rest answer =
-    (plan : Plan) × IsPlanAccepted source sheet.players others rest plan × (answer ≡ plan_played (about_of sheet plan.turns) plan)
+IsAnswered (Play options) source sheet others rest answer =
+    (plan : Plan) × IsPlanAccepted source sheet.players others rest plan × IsPlayed options (about_of sheet plan.turns) plan answer
 IsAnswered Check source sheet others rest answer =
     (plan : Plan) × IsPlanRead sheet.players others plan × (answer ≡ text_judged (about_of sheet plan.turns) plan (read_text (drop rest source)))
 IsAnswered Sheet source sheet others rest answer = answer ≡ text (line (printed_sheet sheet)) [] 0
 
 -- The plan's first fault, where the command reads a plan.
 abbrev pub HasPlanRefusal : Task → List ℕ → sheet.Sheet → List Tree → ℕ → PlanKind → ℕ → Type 0
-HasPlanRefusal Play source sheet others rest kind at = HasPlanFault source sheet.players others rest kind at
+HasPlanRefusal (Play options) source sheet others rest kind at = HasPlanFault source sheet.players others rest kind at
 HasPlanRefusal Check source sheet others rest kind at = HasPlanReadFault sheet.players others rest kind at
 HasPlanRefusal Sheet source sheet others rest kind at = ⊥
 
--- The command has this answer to its source. To each source it has exactly one.
+-- The command has this answer to its source.
 pub data HasAnswer (task : Task) (source : List ℕ) (answer : Answer) : Type 0 where
   -- the first fault of the source's forms
   form_faulty : (kind : SourceKind) (at : ℕ) → HasFormFault source (wanted task) kind at
@@ -86,20 +97,49 @@ pub data HasAnswer (task : Task) (source : List ℕ) (answer : Answer) : Type 0 
       → IsAcceptedWith (λ sheet others. IsAnswered task source sheet others read.rest answer) read.lists
       → HasAnswer task source answer
 
--- how many playouts an answer takes
+-- how many playouts are counted for an answer
 abbrev pub playouts_of : Answer → ℕ
 playouts_of (text bytes note playouts) = playouts
 playouts_of (refused refusal) = 0
+
+-- two answers that differ in their notes alone
+abbrev pub AreAlike : Answer → Answer → Type 0
+AreAlike (text bytes note playouts) (text bytes' note' playouts') = (bytes ≡ bytes') × (playouts ≡ playouts')
+AreAlike (refused refusal) (refused refusal') = refusal ≡ refusal'
+AreAlike (text bytes note playouts) (refused refusal) = ⊥
+AreAlike (refused refusal) (text bytes note playouts) = ⊥
+
+-- a command that one worker runs
+abbrev pub IsAlone : Task → Type 0
+IsAlone (Play options) = options.workers ≤ 1
+IsAlone Check = Unit {0}
+IsAlone Sheet = Unit {0}
 
 -- the answer that a value of the program stands for, where it took so many playouts
 abbrev pub seen : Stored → ℕ → Answer
 seen (stored.Text bytes note) playouts = text bytes.items (note_line note) playouts
 seen (stored.Refused refusal) playouts = refused refusal
 
--- The command's answer to its source, and so many steps were counted for it as it takes playouts.
-abbrev pub IsAnswerTo : Task → List ℕ → ℕ → ℕ → Stored → Type 0
-IsAnswerTo task source steps steps' answer =
-    (playouts : ℕ) × HasAnswer task source (seen answer playouts) × (steps' ≡ steps + playouts_of (seen answer playouts))
+-- The command's answer to its source, for which nobody plays.
+abbrev pub IsAnswerTo : Task → List ℕ → Stored → Type 0
+IsAnswerTo task source answer = HasAnswer task source (seen answer 0)
+
+-- A sheet, and a plan for its players that is within the limits.
+pub record IsGame (sheet : sheet.Sheet) (plan : Plan) : Type 0 where
+  pub within : IsWithinLimits plan
+  pub seats : length plan.strategies ≡ sheet.players
+
+-- What is played of this sheet and plan is the command's answer to its source.
+abbrev pub IsGameOf : Task → List ℕ → sheet.Sheet → Plan → Type 0
+IsGameOf (Play options) source sheet plan =
+    (answer : Answer) → IsPlayed options (about_of sheet plan.turns) plan answer → HasAnswer (Play options) source answer
+IsGameOf Check source sheet plan = ⊥
+IsGameOf Sheet source sheet plan = ⊥
+
+-- What a command makes of its source before anybody plays: its answer, or the sheet and the plan that are to be played.
+abbrev pub IsPrepared : Task → List ℕ → Prepared → Type 0
+IsPrepared task source (Answered answer) = IsAnswerTo task source answer
+IsPrepared task source (Playing game) = IsGame game.checked (plan_seen game.plan) × IsGameOf task source game.checked (plan_seen game.plan)
 
 -- the text of a sheet as it is printed, behind which nothing is noted
 abbrev pub IsSheetText : sheet.Sheet → Stored → Type 0

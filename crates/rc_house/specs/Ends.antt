@@ -18,11 +18,11 @@ pub record Performs (task : Task) (before after : Ports) (steps steps' : ℕ) (s
 
 -- The command was run.
 abbrev pub Runs : Command → Ports → Ports → ℕ → ℕ → Status → Type 0
-Runs (Play options) before after steps steps' status = Performs task.Play before after steps steps' status
+Runs (Play options) before after steps steps' status = Performs (task.Play options) before after steps steps' status
 Runs Check before after steps steps' status = Performs task.Check before after steps steps' status
 Runs Sheet before after steps steps' status = Performs task.Sheet before after steps steps' status
 Runs (Bench number options) before after steps steps' status =
-    (after.source ≡ before.source) × BenchOutcome number before after steps steps' status
+    (after.source ≡ before.source) × BenchOutcome options number before after steps steps' status
 
 -- No command was run: nothing was read, written or counted, and the status's line was noted.
 pub record Rests (status : Status) (before after : Ports) (steps steps' : ℕ) : Type 0 where
@@ -30,15 +30,23 @@ pub record Rests (status : Status) (before after : Ports) (steps steps' : ℕ) :
   pub refuses : Refuses status before after
   pub uncounted : steps' ≡ steps
 
--- Words that began with these ports and so many steps ended so, where `many` is how those of more than one worker end.
-pub data Ending (many : Status) (words : List (List ℕ)) (before after : Ports) (steps steps' : ℕ) (status : Status) : Type 0 where
+-- how a command ended: its ports and steps before and behind it, and its status
+abbrev pub HowEnded : Type 1
+HowEnded = Command → Ports → Ports → ℕ → ℕ → Status → Type 0
+
+-- The command has more workers than there are here: its words are those of none.
+abbrev pub RefusesMany : HowEnded
+RefusesMany command before after steps steps' status = (status ≡ ending.Usage) × Rests status before after steps steps'
+
+-- Words that began with these ports and so many steps ended so, where `many` is how commands of more than one worker end.
+pub data Ending (many : HowEnded) (words : List (List ℕ)) (before after : Ports) (steps steps' : ℕ) (status : Status) : Type 0 where
   -- they are a command's, with one worker
   alone : (command : Command) → IsCommand words command → workers_of command ≡ 1
       → Runs command before after steps steps' status
       → Ending many words before after steps steps' status
   -- with more workers
   shared : (command : Command) → IsCommand words command → 1 < workers_of command
-      → status ≡ many → Rests status before after steps steps'
+      → many command before after steps steps' status
       → Ending many words before after steps steps' status
   -- no command's
   usage : ((command : Command) → IsCommand words command → ⊥)
@@ -49,6 +57,6 @@ pub data Ending (many : Status) (words : List (List ℕ)) (before after : Ports)
       → Ending many words before after steps steps' status
 
 -- and no count of faults fell
-pub record Ends (many : Status) (words : List (List ℕ)) (before after : Ports) (steps steps' : ℕ) (status : Status) : Type 0 where
+pub record Ends (many : HowEnded) (words : List (List ℕ)) (before after : Ports) (steps steps' : ℕ) (status : Status) : Type 0 where
   pub ending : Ending many words before after steps steps' status
   pub no_count_fell : NoCountFell before after

@@ -3,8 +3,11 @@ pub mod AcceptedPlan
 pub mod Answer
 pub mod Bench
 pub mod Ends
+pub mod Laws
 pub mod Note
+pub mod Players
 pub mod Outcome
+pub mod PlayedLaws
 pub mod Port
 pub mod Reading
 pub mod Running

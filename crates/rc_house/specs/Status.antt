@@ -17,7 +17,7 @@ use Rattle.rc_house.specs.declared.refusal.Refusal.TheVariants as refusal
 use Rattle.rc_house.specs.declared.status.SourceKind.{SourceKind}
 use Rattle.rc_house.specs.declared.status.SourceKind.TheVariants.{BadByte, Stray, TooDeep, AtomLong, Unclosed, Shape, Number, Twice, Unknown, WrongKind, TooMany, NoCards, Unseen}
 use Rattle.rc_house.specs.declared.status.Status.{Status}
-use Rattle.rc_house.specs.declared.status.Status.TheVariants.{Done, Sheet, Plan, Text, Illegal, Memory, ReadFault, WriteFault, TooLong, Unbuilt, Usage}
+use Rattle.rc_house.specs.declared.status.Status.TheVariants.{Done, Sheet, Plan, Text, Illegal, Memory, ReadFault, WriteFault, TooLong, Usage}
 
 -- the name of a kind
 abbrev pub kind_name : SourceKind → List ℕ
@@ -110,7 +110,6 @@ code_of Memory = 5
 code_of ReadFault = 6
 code_of WriteFault = 7
 code_of TooLong = 8
-code_of Unbuilt = 9
 
 -- the line that goes to the notes where a command ends so; where all went well, the command says what is noted
 abbrev pub line_of : Status → List ℕ
@@ -123,5 +122,4 @@ line_of Memory = line (codes "no memory")
 line_of ReadFault = line (codes "read fault")
 line_of WriteFault = line (codes "write fault")
 line_of TooLong = line (codes "too long")
-line_of Unbuilt = line (codes "unbuilt")
 line_of Usage = line (codes "usage: cardhouse play, check, sheet or bench")

@@ -6,18 +6,24 @@ use Rattle.rc_house.specs.Note.{looks_line}
 
 -- how many lists a command reads from the front of its source
 abbrev pub wanted : Task → ℕ
-wanted Play = 2
+wanted (Play options) = 2
 wanted Check = 2
 wanted Sheet = 1
 
 -- the most bytes that a command takes from its source
 abbrev pub limit_of : Task → ℕ
-limit_of Play = 1048576
+limit_of (Play options) = 1048576
 limit_of Check = 8388608
 limit_of Sheet = 1048576
 
+-- a command that plays nothing
+abbrev pub PlaysNothing : Task → Type 0
+PlaysNothing (Play options) = ⊥
+PlaysNothing Check = Unit {0}
+PlaysNothing Sheet = Unit {0}
+
 -- what a command may note where all went well
 abbrev pub IsNoteOf : Task → List ℕ → Type 0
-IsNoteOf Play note = (looks : ℕ) × (note ≡ looks_line looks 0)
+IsNoteOf (Play options) note = (looks : ℕ) × (found : ℕ) × (note ≡ looks_line looks found)
 IsNoteOf Check note = note ≡ []
 IsNoteOf Sheet note = note ≡ []

@@ -1,5 +1,5 @@
-//! What a command answers to the bytes of its source.
-ghost use Rattle.std.specs.Prelude.{◌≡◌, ◌≤◌, ◌+◌, ℕ, length, None, IfOk, OnErr, All};
+//! What a command answers to the bytes of its source, or what is to be played before it can.
+ghost use Rattle.std.specs.Prelude.{◌≡◌, ◌≤◌, length, None, IfOk, All};
 ghost use Rattle.rc_model.specs.Placed.{IsPlaced};
 ghost use Rattle.rc_model.specs.Spelled.{Spelled};
 ghost use Rattle.rc_form.specs.Form.{tree_of, trees_of, IsPrintable};
@@ -14,12 +14,12 @@ ghost use Rattle.rc_rules.specs.Plan.{plan_seen};
 ghost use Rattle.rc_house.specs.declared.refusal.Refusal.TheVariants as refusal;
 ghost use Rattle.rc_house.specs.declared.status.SourceKind.TheVariants.{Shape};
 ghost use Rattle.rc_house.specs.Status.{source_kind};
+ghost use Rattle.rc_words.specs.declared.options.Options.{Options};
 ghost use Rattle.rc_house.specs.declared.task.Task.TheVariants as task;
-ghost use Rattle.rc_house.specs.AcceptedPlan.{IsPlanned};
 ghost use Rattle.rc_house.specs.Task.{wanted};
 ghost use Rattle.rc_house.specs.Reading.{IsAcceptedWith};
 ghost use Rattle.rc_house.specs.declared.answer.Answer.TheVariants as stored;
-ghost use Rattle.rc_house.specs.Answer.{Answer as PureAnswer, HasAnswer, IsAnswerTo, IsJudged, IsPlanRefusal, IsSheetText, playouts_of, seen, verdict};
+ghost use Rattle.rc_house.specs.Answer.{IsAnswerTo, IsJudged, IsPlanRefusal, IsPrepared, IsSheetText, seen, verdict};
 
 use crate::accepting::{SourceFail, accept};
 use crate::note::Note;
@@ -33,12 +33,10 @@ use rc_flow::Checked;
 use rc_form::{FormFail, FormFault, Forms, read_forms};
 use rc_judge::{Verdict, judge};
 use rc_plan::PlanFail;
-use rc_plays::{house_of, shared_about};
+use rc_plays::shared_about;
 use rc_rules::Plan;
-use rc_steps::Steps;
 use rc_text::{HouseText, TextFail, read_house};
 use std::alloc::{AllocError, Global};
-use std::sync::ledger::Ledger;
 
 /// What a command answers to its source.
 #[derive(Drop)]
@@ -49,20 +47,30 @@ pub enum Answer {
     Refused(Refusal),
 }
 
-/// The answer of a command to its source. `Err` is want of memory alone.
-pub fn answer_to<L: Ledger>(
-    alloc: Global,
-    task: Task,
-    source: &[u8],
-    steps: &mut Steps<L>,
-) -> Result<Answer, AllocError>
+/// The matches of a plan for a sheet.
+#[derive(Drop)]
+pub struct Game {
+    pub checked: Checked,
+    pub plan: Plan,
+}
+
+/// What a command makes of its source before anybody plays.
+#[derive(Drop)]
+pub enum Prepared {
+    /// Its answer.
+    Answered(Answer),
+    /// The matches that are to be played.
+    Playing(Game),
+}
+
+/// What a command makes of its source before anybody plays. `Err` is want of memory alone.
+pub fn prepare(alloc: Global, task: Task, source: &[u8]) -> Result<Prepared, AllocError>
     requires { length source.now ≤ 8388608 }
-    ensures answered { IfOk result (IsAnswerTo task source.now steps.old steps.new) }
-    ensures few { OnErr result ((answer : PureAnswer) → HasAnswer task source.now answer → steps.new ≤ steps.old + playouts_of answer) }
+    ensures { IfOk result (IsPrepared task source.now) }
 {
     match read_forms(alloc, source, task.wanted()) {
-        Ok(forms) => answer_of_forms(alloc, task, source, &forms, steps),
-        Err(FormFail::Fault(form_fault)) => Ok(fault_of(form_fault)),
+        Ok(forms) => prepare_forms(alloc, task, source, &forms),
+        Err(FormFail::Fault(form_fault)) => Ok(Prepared::Answered(fault_of(form_fault))),
         Err(FormFail::Memory) => Err(AllocError),
     }
 }
@@ -77,29 +85,29 @@ fn fault_of(form_fault: FormFault) -> Answer
     })
 }
 
-/// The answer of a command to a source with these forms.
-fn answer_of_forms<L: Ledger>(
+/// What a command makes of a source with these forms.
+fn prepare_forms(
     alloc: Global,
     task: Task,
     source: &[u8],
     forms: &Forms,
-    steps: &mut Steps<L>,
-) -> Result<Answer, AllocError>
+) -> Result<Prepared, AllocError>
     requires small { length source.now ≤ 8388608 }
     requires within { forms.now.rest ≤ length source.now }
     requires read { Spelled source.now (wanted task) (trees_of forms.now.list.items) forms.now.rest }
     requires printable { All (λ form. IsPrintable (tree_of form)) forms.now.list.items }
     requires of_atoms { All (λ form. IsOfAtoms (tree_of form)) forms.now.list.items }
     requires placed { All (λ form. IsPlaced (length source.now) (tree_of form)) forms.now.list.items }
-    ensures answered { IfOk result (IsAnswerTo task source.now steps.old steps.new) }
-    ensures few { OnErr result ((answer : PureAnswer) → HasAnswer task source.now answer → steps.new ≤ steps.old + playouts_of answer) }
+    ensures { IfOk result (IsPrepared task source.now) }
 {
     let Some(form) = forms.list.first() else {
-        return Ok(missing(forms));
+        return Ok(Prepared::Answered(missing(forms)));
     };
     match accept(alloc, form) {
-        Ok(checked) => accepted_answer(alloc, task, source, forms, checked, steps),
-        Err(SourceFail::Fault { kind, at }) => Ok(Answer::Refused(Refusal::Sheet { kind, at })),
+        Ok(checked) => prepare_sheet(alloc, task, source, forms, checked),
+        Err(SourceFail::Fault { kind, at }) => Ok(Prepared::Answered(Answer::Refused(
+            Refusal::Sheet { kind, at },
+        ))),
         Err(SourceFail::Memory) => Err(AllocError),
     }
 }
@@ -115,79 +123,55 @@ fn missing(forms: &Forms) -> Answer
     })
 }
 
-/// The answer of a command to a source with these forms, of which the first is accepted as this sheet.
-fn accepted_answer<L: Ledger>(
+/// What a command makes of a source with these forms, of which the first is accepted as this sheet.
+fn prepare_sheet(
     alloc: Global,
     task: Task,
     source: &[u8],
     forms: &Forms,
     checked: Checked,
-    steps: &mut Steps<L>,
-) -> Result<Answer, AllocError>
+) -> Result<Prepared, AllocError>
     requires small { length source.now ≤ 8388608 }
     requires within { forms.now.rest ≤ length source.now }
     requires read { Spelled source.now (wanted task) (trees_of forms.now.list.items) forms.now.rest }
     requires placed { All (λ form. IsPlaced (length source.now) (tree_of form)) forms.now.list.items }
     requires accepted { IsAcceptedWith (λ sheet _. sheet ≡ checked) (trees_of forms.now.list.items) }
-    ensures answered { IfOk result (IsAnswerTo task source.now steps.old steps.new) }
-    ensures few { OnErr result ((answer : PureAnswer) → HasAnswer task source.now answer → steps.new ≤ steps.old + playouts_of answer) }
+    ensures { IfOk result (IsPrepared task source.now) }
 {
     match task {
-        Task::Play => play_answer(alloc, source, forms, checked, steps),
-        Task::Check => check_answer(alloc, source, forms, checked),
-        Task::Sheet => sheet_answer(alloc, &checked),
+        Task::Play(_) => prepare_play(alloc, source, forms, checked),
+        Task::Check => match check_answer(alloc, source, forms, checked) {
+            Ok(answer) => Ok(Prepared::Answered(answer)),
+            Err(error) => Err(error),
+        },
+        Task::Sheet => match sheet_answer(alloc, &checked) {
+            Ok(answer) => Ok(Prepared::Answered(answer)),
+            Err(error) => Err(error),
+        },
     }
 }
 
-/// The answer of `play` to a source with these forms, of which the first is accepted as this sheet.
-fn play_answer<L: Ledger>(
+/// What `play` makes of a source with these forms, of which the first is accepted as this sheet.
+fn prepare_play(
     alloc: Global,
     source: &[u8],
     forms: &Forms,
     checked: Checked,
-    steps: &mut Steps<L>,
-) -> Result<Answer, AllocError>
+) -> Result<Prepared, AllocError>
     requires small { length source.now ≤ 8388608 }
     requires within { forms.now.rest ≤ length source.now }
     requires read { Spelled source.now 2 (trees_of forms.now.list.items) forms.now.rest }
     requires placed { All (λ form. IsPlaced (length source.now) (tree_of form)) forms.now.list.items }
     requires accepted { IsAcceptedWith (λ sheet _. sheet ≡ checked) (trees_of forms.now.list.items) }
-    ensures answered { IfOk result (IsAnswerTo task.Play source.now steps.old steps.new) }
-    ensures few { OnErr result ((answer : PureAnswer) → HasAnswer task.Play source.now answer → steps.new ≤ steps.old + playouts_of answer) }
+    ensures { (options : Options) → IfOk result (IsPrepared (task.Play options) source.now) }
 {
     let players = checked.sheet().players;
     match read_plan(alloc, source, forms, players) {
-        Ok(plan) => planned_answer(alloc, source, forms, checked, plan, steps),
-        Err(fail) => plan_failed(fail),
-    }
-}
-
-/// The answer of `play` to a source with these forms, of which the first is accepted as this sheet and the second as this plan.
-fn planned_answer<L: Ledger>(
-    alloc: Global,
-    source: &[u8],
-    forms: &Forms,
-    checked: Checked,
-    plan: Plan,
-    steps: &mut Steps<L>,
-) -> Result<Answer, AllocError>
-    requires read { Spelled source.now 2 (trees_of forms.now.list.items) forms.now.rest }
-    requires accepted { IsAcceptedWith (λ sheet _. sheet ≡ checked) (trees_of forms.now.list.items) }
-    requires planned { IsPlanned source.now checked.players (trees_of forms.now.list.items) forms.now.rest (plan_seen plan) }
-    requires within { IsWithinLimits (plan_seen plan) }
-    requires seats { length (plan_seen plan).strategies ≡ checked.players }
-    ensures answered { IfOk result (IsAnswerTo task.Play source.now steps.old steps.new) }
-    ensures few { OnErr result ((answer : PureAnswer) → HasAnswer task.Play source.now answer → steps.new ≤ steps.old + playouts_of answer) }
-{
-    match house_of(alloc, checked, plan, steps) {
-        Ok(house) => Ok(Answer::Text(
-            house.text,
-            Note::Looks {
-                looks: house.looks,
-                hits: 0,
-            },
-        )),
-        Err(_) => Err(AllocError),
+        Ok(plan) => Ok(Prepared::Playing(Game { checked, plan })),
+        Err(fail) => match plan_failed(fail) {
+            Ok(answer) => Ok(Prepared::Answered(answer)),
+            Err(error) => Err(error),
+        },
     }
 }
 
@@ -203,7 +187,7 @@ fn check_answer(
     requires read { Spelled source.now 2 (trees_of forms.now.list.items) forms.now.rest }
     requires placed { All (λ form. IsPlaced (length source.now) (tree_of form)) forms.now.list.items }
     requires accepted { IsAcceptedWith (λ sheet _. sheet ≡ checked) (trees_of forms.now.list.items) }
-    ensures { (steps : ℕ) → IfOk result (IsAnswerTo task.Check source.now steps steps) }
+    ensures { IfOk result (IsAnswerTo task.Check source.now) }
 {
     let players = checked.sheet().players;
     match plan_behind(alloc, source, forms, players) {

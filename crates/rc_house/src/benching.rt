@@ -1,57 +1,39 @@
-//! What `bench` plays, and its summary.
-ghost use Rattle.std.specs.Prelude.{◌≡◌, ◌≤◌, ◌+◌, ℕ, length, IfOk, OnErr, All};
+//! What `bench` plays.
+ghost use Rattle.std.specs.Prelude.{◌≡◌, ◌≤◌, length, IfOk, All};
 ghost use Rattle.rc_model.specs.Placed.{IsPlaced};
 ghost use Rattle.rc_model.specs.Spelled.{Spelled};
 ghost use Rattle.rc_form.specs.Form.{tree_of, trees_of, IsPrintable};
 ghost use Rattle.rc_form.specs.SameForm.{IsOfAtoms};
 ghost use Rattle.rc_sheet_model.specs.Sheet.{Sheet};
+ghost use Rattle.rc_rules.specs.Plan.{plan_seen};
+ghost use Rattle.rc_bench.specs.Bench.{bench_plan};
 ghost use Rattle.rc_trick.specs.Trick.{trick_text, IsTrickGame};
-ghost use Rattle.rc_house.specs.Answer.{Answer, text, playouts_of};
-ghost use Rattle.rc_house.specs.Bench.{IsBenchAnswer};
-ghost use Rattle.rc_house.specs.Note.{looks_line};
+ghost use Rattle.rc_house.specs.Answer.{IsGame};
 
 use crate::accepting::{SourceFail, accept};
-use rc_bench::{bench_plan, summary};
+use crate::answer::Game;
+use rc_bench::bench_plan;
 use rc_deck::Memory;
 use rc_flow::Checked;
 use rc_form::{FormFail, Forms, read_forms};
-use rc_plays::series_of;
-use rc_steps::Steps;
 use rc_trick::{the_trick_game_is_accepted, trick_text};
 use std::alloc::Global;
-use std::sync::ledger::Ledger;
 
-/// What `bench` writes, and how many decisions asked for playouts.
-#[derive(Drop)]
-pub struct Summary {
-    pub text: Vec<u8>,
-    pub looks: u64,
-}
-
-/// Plays so many matches of the trick game, and sums them up. Each playout is a step. `Err` is want of memory alone.
-pub fn bench<L: Ledger>(alloc: Global, number: u16, steps: &mut Steps<L>) -> Result<Summary, Memory>
+/// The matches of the bench, so many. `Err` is want of memory alone.
+pub fn bench_game(alloc: Global, number: u16) -> Result<Game, Memory>
     requires some { 1 ≤ number }
     requires few { number ≤ 1000 }
-    ensures summed { IfOk result (λ s. (playouts : ℕ) × IsBenchAnswer number (text s.text.items (looks_line s.looks 0) playouts) × (steps.new ≡ steps.old + playouts)) }
-    ensures few { OnErr result ((answer : Answer) → IsBenchAnswer number answer → steps.new ≤ steps.old + playouts_of answer) }
+    ensures is { IfOk result (λ game. IsTrickGame game.checked) }
+    ensures one { IfOk result (λ game. (other : Sheet) → IsTrickGame other → other ≡ game.checked) }
+    ensures plan { IfOk result (λ game. plan_seen game.plan ≡ bench_plan number) }
+    ensures game { IfOk result (λ game. IsGame game.checked (plan_seen game.plan)) }
 {
     let checked = match trick_game(alloc) {
         Ok(checked) => checked,
         Err(Memory) => return Err(Memory),
     };
-    let plan = match bench_plan(alloc, number) {
-        Ok(plan) => plan,
-        Err(Memory) => return Err(Memory),
-    };
-    let series = match series_of(alloc, checked, plan, steps) {
-        Ok(series) => series,
-        Err(Memory) => return Err(Memory),
-    };
-    match summary(alloc, number, &series.text.matches, &series.text.standings) {
-        Ok(text) => Ok(Summary {
-            text,
-            looks: series.looks,
-        }),
+    match bench_plan(alloc, number) {
+        Ok(plan) => Ok(Game { checked, plan }),
         Err(Memory) => Err(Memory),
     }
 }

@@ -157,8 +157,6 @@ pub enum Status {
     WriteFault,
     /// The source gave more bytes than the command may read.
     TooLong,
-    /// The words name more than one worker, which isn't built yet.
-    Unbuilt,
     /// The words are no command's.
     Usage,
 }
@@ -179,7 +177,6 @@ impl Status {
             Status::ReadFault => 6,
             Status::WriteFault => 7,
             Status::TooLong => 8,
-            Status::Unbuilt => 9,
         }
     }
 
@@ -197,7 +194,6 @@ impl Status {
             Status::ReadFault => fixed_line("read fault\n"),
             Status::WriteFault => fixed_line("write fault\n"),
             Status::TooLong => fixed_line("too long\n"),
-            Status::Unbuilt => fixed_line("unbuilt\n"),
             Status::Usage => fixed_line("usage: cardhouse play, check, sheet or bench\n"),
         }
     }

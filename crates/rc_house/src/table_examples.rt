@@ -1,6 +1,7 @@
 //! The tables of statuses and of what commands read, computed. No function here does anything: each has a contract that the check proves
 //! by computing.
 ghost use Rattle.std.specs.Prelude.{◌≡◌, [], codes};
+ghost use Rattle.rc_words.specs.declared.options.Options.{Options};
 ghost use Rattle.rc_house.specs.declared.task.Task.TheVariants as task;
 ghost use Rattle.rc_house.specs.declared.status.SourceKind.TheVariants.{Unseen, NoCards};
 ghost use Rattle.rc_plan_model.specs.declared.fault.PlanKind.TheVariants.{TooLarge};
@@ -23,7 +24,6 @@ pub fn codes_of_statuses()
     ensures read_fault { code_of ending.ReadFault ≡ 6 }
     ensures write_fault { code_of ending.WriteFault ≡ 7 }
     ensures too_long { code_of ending.TooLong ≡ 8 }
-    ensures unbuilt { code_of ending.Unbuilt ≡ 9 }
 {}
 
 /// The lines that are noted.
@@ -38,16 +38,15 @@ pub fn lines_of_statuses()
     ensures read_fault { line_of ending.ReadFault ≡ codes "read fault\n" }
     ensures write_fault { line_of ending.WriteFault ≡ codes "write fault\n" }
     ensures too_long { line_of ending.TooLong ≡ codes "too long\n" }
-    ensures unbuilt { line_of ending.Unbuilt ≡ codes "unbuilt\n" }
     ensures usage { line_of ending.Usage ≡ codes "usage: cardhouse play, check, sheet or bench\n" }
 {}
 
 /// How much a command reads, and what it notes.
 pub fn sources_of_tasks()
-    ensures play_reads { wanted task.Play ≡ 2 }
+    ensures play_reads { (options : Options) → wanted (task.Play options) ≡ 2 }
     ensures check_reads { wanted task.Check ≡ 2 }
     ensures sheet_reads { wanted task.Sheet ≡ 1 }
     ensures check_takes { limit_of task.Check ≡ 8388608 }
-    ensures note { note_line (Looks 600 0) ≡ codes "cache looks 600 hits 0\n" }
+    ensures note { note_line (Looks 600 12) ≡ codes "cache looks 600 hits 12\n" }
     ensures no_note { note_line Nothing ≡ [] }
 {}

@@ -3,11 +3,13 @@ ghost use Rattle.std.specs.Prelude.{◌≡◌, ◌≤◌};
 ghost use Rattle.rc_house.specs.declared.task.Task.{Task};
 ghost use Rattle.rc_house.specs.Task.{limit_of, wanted};
 
+use rc_words::Options;
+
 /// What a command does with its source.
 #[derive(Clone, Copy, Debug, PartialEq, Eq, Hash)]
 pub enum Task {
-    /// Plays the matches of a sheet and a plan.
-    Play,
+    /// Plays the matches of a sheet and a plan, by these options.
+    Play(Options),
     /// Judges a transcript of a sheet and a plan.
     Check,
     /// Prints a sheet.
@@ -20,7 +22,7 @@ impl Task {
         ensures { result ≡ wanted self }
     {
         match self {
-            Task::Play => 2,
+            Task::Play(_) => 2,
             Task::Check => 2,
             Task::Sheet => 1,
         }
@@ -32,7 +34,7 @@ impl Task {
         ensures few { result ≤ 8388608 }
     {
         match self {
-            Task::Play => 1_048_576,
+            Task::Play(_) => 1_048_576,
             Task::Check => 8_388_608,
             Task::Sheet => 1_048_576,
         }

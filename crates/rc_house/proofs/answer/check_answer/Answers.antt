@@ -17,8 +17,7 @@ returns-in-Ok c =
     let forms = c.args.forms.now in
     let plan = plan_seen c.in-Ok.plan in
     let behind = subst (λ sheet. IsBehind sheet.players (trees_of forms.list.items) plan) c.sheet.ensures.same c.in-Ok.ensures.behind in
-    λ steps.
-    judged_answers c.args.source.now (trees_of forms.list.items) forms.rest c.args.checked plan steps c.judged_answer.result
+    judged_answers c.args.source.now (trees_of forms.list.items) forms.rest c.args.checked plan c.judged_answer.result
     c.requires.read c.requires.accepted behind
     (subst (λ bytes. IfOk c.judged_answer.result (IsJudged (about_of c.args.checked c.in-Ok.plan.turns) plan bytes))
     (take_rest c.args.source.now forms.rest) c.judged_answer.ensures)
@@ -29,6 +28,5 @@ returns-in-Err c =
     let faulty =
     subst (λ sheet. IfPlanFault c.in-Err.fail (λ fault. IsFaultyBehind sheet.players (trees_of forms.list.items) forms.rest fault.kind fault.at))
     c.sheet.ensures.same c.in-Err.ensures.fault in
-    λ steps.
-    unread_answers c.args.source.now (trees_of forms.list.items) forms.rest c.args.checked steps c.in-Err.fail c.plan_failed.result
+    unread_answers c.args.source.now (trees_of forms.list.items) forms.rest c.args.checked c.in-Err.fail c.plan_failed.result
     c.requires.read c.requires.accepted faulty c.plan_failed.ensures
