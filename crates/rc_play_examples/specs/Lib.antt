@@ -7,3 +7,4 @@ pub mod References
 pub mod Effects
 pub mod Menus
 pub mod Draws
+pub mod Rollouts

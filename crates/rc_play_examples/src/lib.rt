@@ -9,6 +9,7 @@ mod effects;
 mod four_cards;
 mod menus;
 mod references;
+mod rollouts;
 mod scores;
 
 pub use collections::{
@@ -37,6 +38,9 @@ pub use menus::{
 pub use references::{
     all_places_are_full, one_place_is_full, own_place_forgets, topmost_goes,
     variables_keep_references,
+};
+pub use rollouts::{
+    playouts_count_picks_and_shuffles_together, playouts_pick_by_item, rollouts_add_up_rank_points,
 };
 pub use scores::{
     points_are_clamped_card_by_card, sums_are_clamped_once, team_sums_are_exact,
