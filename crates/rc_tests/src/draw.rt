@@ -5,7 +5,7 @@ use crate::expect::expect_same;
 use rand::RngExt;
 use rand_chacha::ChaCha8Rng;
 use rand_core::SeedableRng;
-use rc_draw::{key32, shuffle_by};
+use rc_draw::{key32, pick_by, shuffle_by};
 use rc_rules::{Dealer, MatchDealer};
 use std::alloc::{AllocError, Global};
 use std::process::Abort;
@@ -18,6 +18,33 @@ fn a_key_has_its_numbers_with_the_lowest_bytes_first(rt: HostRuntime) {
         0, 0,
     ];
     expect_same(&rt, key32(0, 1, 2, 0), expected);
+}
+
+/// Four numbers of a key, a number of items, and the item that the key picks. With w the first word of the key, that is w * n / 2^32.
+/// The words were made by a ChaCha8 written apart from this program.
+const PICKS: [([u64; 4], u32, u32); 8] = [
+    ([0, 0, 0, 0], 52, 9), // 804,192,318
+    ([1, 0, 0, 0], 7, 4), // 2,699,648,719
+    ([0, 1, 0, 0], 65_536, 21_207), // 1,389,847,909
+    ([0, 0, 1, 0], 512, 254), // 2,133,154,844
+    ([0, 0, 0, 1], 256, 247), // 4,156,505,706
+    ([1, 2, 3, 4], 4_294_967_295, 2_921_608_187), // 2,921,608,188
+    ([9, 2, 7, 1], 2, 0), // 2,048,601,052
+    ([9, 258, 7, 3], 1, 0), // 1,637,302,776
+];
+
+/// Fails unless the key of these numbers picks this item of so many.
+fn expect_pick(rt: &impl Abort, key: [u64; 4], size: u32, item: u32) {
+    let [a, b, c, d] = key;
+    assert!(rt; 0 < size);
+    expect_same(rt, pick_by(&key32(a, b, c, d), size), item);
+}
+
+#[test]
+fn a_key_picks_by_its_first_word(rt: HostRuntime) {
+    for (key, size, item) in PICKS {
+        expect_pick(&rt, key, size, item);
+    }
 }
 
 /// So many numbers, from 0 on.

@@ -142,7 +142,7 @@ fn run_on<S: Source, O: Sink, N: Sink, L: Ledger>(
     run_alone(alloc, words, source, out, notes, &mut steps)
 }
 
-fn owned(alloc: Global, words: &[&str]) -> Result<Vec<String>, AllocError> {
+pub fn owned(alloc: Global, words: &[&str]) -> Result<Vec<String>, AllocError> {
     let mut owned = Vec::new(alloc);
     for word in words {
         owned.push(String::from_str(alloc, *word)?)?;

@@ -13,6 +13,8 @@ mod form;
 #[cfg(test)]
 mod house;
 #[cfg(test)]
+mod largest;
+#[cfg(test)]
 mod names;
 #[cfg(test)]
 mod outside;
@@ -21,8 +23,14 @@ mod plain;
 #[cfg(test)]
 mod redraw;
 #[cfg(test)]
+mod stated;
+#[cfg(test)]
 mod table;
 #[cfg(test)]
 mod text;
 #[cfg(test)]
+mod turns;
+#[cfg(test)]
 mod view;
+#[cfg(test)]
+mod workers;

@@ -66,7 +66,7 @@ fn made_there(alloc: Global, basis: &Basis, machine: &PlainMachine) -> Result<Pl
 }
 
 /// A machine that is made at the first decision of a match.
-fn made_at_first(
+pub fn made_at_first(
     alloc: Global,
     basis: &Basis,
     dealer: &mut MatchDealer,

@@ -92,7 +92,7 @@ fn start_on(alloc: Global, basis: &Basis) -> Result<PlainMachine, Fail>
 }
 
 /// A match of the sheet in a text, at its start.
-fn start_of(rt: &(impl AllocGlobal + Abort), text: &[u8]) -> Result<PlainMachine, Fail> {
+pub fn start_of(rt: &(impl AllocGlobal + Abort), text: &[u8]) -> Result<PlainMachine, Fail> {
     let basis = basis_in(rt, text)?;
     start_on(rt.alloc(), &basis)
 }
@@ -136,7 +136,11 @@ pub fn go_on(machine: &mut PlainMachine, dealer: &mut MatchDealer) -> Result<(),
 }
 
 /// What a seat sees of a match.
-fn seen_by(rt: &(impl AllocGlobal + Abort), machine: &PlainMachine, seat: u8) -> Result<View, Fail>
+pub fn seen_by(
+    rt: &(impl AllocGlobal + Abort),
+    machine: &PlainMachine,
+    seat: u8,
+) -> Result<View, Fail>
     ensures { IfOk result (λ view. HasKey (view_seen view)) }
 {
     let table = machine.table();
@@ -306,7 +310,7 @@ const KEY_AT_DECISION: &[u8] = &[
 ];
 
 /// The bytes of a copied view.
-fn copied_key(alloc: Global, view: &View) -> Result<Vec<u8>, Fail>
+pub fn copied_key(alloc: Global, view: &View) -> Result<Vec<u8>, Fail>
     requires { HasKey (view_seen view.now) }
 {
     let copy = view.copy(alloc)?;
