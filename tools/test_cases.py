@@ -4,19 +4,23 @@ import shutil
 import tempfile
 import unittest
 from collections.abc import Callable
+from dataclasses import replace
 from itertools import islice
 from pathlib import Path
 from unittest.mock import patch
 
-from cases import checking, tricks
+from cases import bench, checking, tricks
+from cases.book import hits
 from cases.expected import KINDS, PLAN_FAULTS, PLAN_KINDS
+from cases.lengths import FIRST, LIMIT, lengthened, read_longest
 from cases.pages import frame_of, read_page
+from cases.notes import NO_LOOKS, any_hits, is_note
 from cases.plays import Play, lines_match, read_play, read_plays
 from cases.rows import Mistake, Row, copied, is_limit, marked, only_last_marker, read_groups, read_rows, unescaped
 from cases.running import End, fault_case, run
 from cases.sheets import read_frames, read_sheets
 from cases.texts import altered, read_texts
-from cases.words import UNBUILT, USAGE, words_case
+from cases.words import NO_SHEET, USAGE, words_case
 from faults import kinds
 
 ROW = Row(Path("file.cases"), 7, "")
@@ -137,18 +141,38 @@ class Plays(InFolder):
 
     def test_later_plays_take_over_from_the_first(self) -> None:
         cases = self.plays("[one]\na: 1\nb: {2 x}\n> house 1\n[two]\na: ^2\nNumber\n")
-        self.assertEqual(cases[0][:2], (("play",), "(game 1 xx)"))
-        self.assertEqual(cases[1], (("check",), "(game 1 xx)\nhouse 1\n", "legal"))
-        self.assertEqual(cases[2:], [((word,), "(game 2 xx)", "Number at 6") for word in ("sheet", "play", "check")])
+        self.assertEqual({source for _, source, _ in cases[:3]}, {"(game 1 xx)"})
+        self.assertEqual(cases[3], (("check",), "(game 1 xx)\nhouse 1\n", "legal"))
+        self.assertEqual(cases[4:], [((word,), "(game 2 xx)", "Number at 6") for word in ("sheet", "play", "check")])
 
     def test_lines_that_are_left_out(self) -> None:
-        cases = self.plays("[one]\na: 1\nb: 2\n> house 1\n> ..\nlooks 3\n")
-        self.assertEqual(len(cases), 1)
-        self.assertIn("cache looks 3 hits 0", cases[0][2])
+        cases = self.plays("[one]\na: 1\nb: 2\n> house 1\n> ..\n")
+        self.assertEqual({words[0] for words, _, _ in cases}, {"play"})
         self.assertTrue(lines_match(["a", "..", "b"], "a\nb\n"))
         self.assertTrue(lines_match(["a", "..", "b"], "a\nx\ny\nb\n"))
         self.assertFalse(lines_match(["a", "..", "b"], "a\nx\nb\nc\n"))
         self.assertFalse(lines_match(["a."], "ab\n"))
+
+    def test_what_is_noted(self) -> None:
+        text = "[one]\na: 1\nb: 2\n> house 1\n> ..\nlooks 3 hits 1\n--cache 1: looks 3 hits 0\n[two]\n> house 1\n> ..\n"
+        cases = list(read_plays(self.write("a.plays", text), self.SOURCE))
+        options = ((), ("--cache", "1"), ("--workers", "2"), ("--workers", "4"))
+        others = (options[0], *options[2:])
+        self.assertEqual([case.words for case in cases], [("play", *option) for option in options + others])
+        notes = ("cache looks 3 hits 1\n", "cache looks 3 hits 0\n", "cache looks 0 hits 0\n")
+        met = [[number for number, note in enumerate(notes) if case.is_met(End(0, "house 1\nmore\n", note))] for case in cases]
+        self.assertEqual(met, [[0], [1], [0, 1], [0, 1], [2], [2], [2]])
+        self.assertFalse(cases[0].is_met(End(0, "house 2\n", notes[0])))
+        self.assertFalse(cases[2].is_met(End(0, "house 2\n", notes[0])))
+
+    def test_any_hits(self) -> None:
+        self.assertEqual(any_hits("cache looks 600 hits 12\n"), "cache looks 600 hits *\n")
+        found = ("600 hits 0", "600 hits 599", "600 hits 600", "600 hits 05", "600 hits ", "601 hits 0", "600 hits *", "600 hits 1 ")
+        met = [is_note("cache looks 600 hits *\n", f"cache looks {it}\n") for it in found]
+        self.assertEqual(met, [True, True] + [False] * 6)
+        self.assertEqual([is_note(any_hits(NO_LOOKS), f"cache looks 0 hits {hits}\n") for hits in (0, 1)], [True, False])
+        self.assertFalse(is_note("cache looks 600 hits *\n", "cache looks 600 hits 0"))
+        self.assertFalse(is_note("cache looks 600 hits 1\n", "cache looks 600 hits 2\n"))
 
     def test_other_refusals(self) -> None:
         self.assertEqual(self.plays("[one]\na: 1\nb: 2\ntoo long\n"), [(("play",), "(game 1 2)", "too long")])
@@ -163,10 +187,12 @@ class Plays(InFolder):
         self.mistake("neither a place", lambda: self.plays("[one]\nsomething\n> house 1\n"))
         self.mistake("aren't those of the source", lambda: self.plays("[one]\na: 1\n> house 1\n"))
         self.mistake("has 1 of the marker", lambda: self.plays("[one]\na: 1\nb: 2\nNumber\n"))
+        for row in ("looks 3", "looks 3 hits", "cache 1: looks 3 hits 0", "--cache 1 looks 3 hits 0"):
+            self.mistake("neither a place|aren't those", lambda: self.plays(f"[one]\na: 1\nb: 2\n> house 1\n{row}\n"))
 
     def test_a_place_of_several_lines(self) -> None:
         group = read_groups(self.write("a", "[one]\na: 1\n 2\n> x\n"))[0]
-        self.assertEqual(read_play(group, {"b": "3"}), Play({"b": "3", "a": "1\n2"}, ["x"], 0))
+        self.assertEqual(read_play(group, {"b": "3"}), Play({"b": "3", "a": "1\n2"}, ["x"], {(): NO_LOOKS}))
 
 
 class Texts(InFolder):
@@ -221,20 +247,35 @@ class Words(unittest.TestCase):
         self.assertEqual(words, ("play", "--", ""))
         self.assertTrue(is_met(USAGE))
         self.assertFalse(is_met(End(2, "x", USAGE.notes)))
-        self.assertFalse(is_met(UNBUILT))
+        self.assertFalse(is_met(NO_SHEET))
 
     def test_commands_on_an_empty_input(self) -> None:
         for row in ('["play"]\tplay workers 1 cache 1024', '["check"]\tcheck', '["sheet"]\tsheet'):
             self.assertTrue(self.case(row)[1](End(1, "", "sheet Shape 0\n")))
-        self.assertTrue(self.case('["play", "--workers=2"]\tplay workers 2 cache 1024')[1](UNBUILT))
+        self.assertTrue(self.case('["play", "--workers=2"]\tplay workers 2 cache 1024')[1](NO_SHEET))
 
     def test_benches(self) -> None:
         end = End(0, tricks.summary(2), "cache looks 24 hits 0\n")
+        self.assertTrue(self.case('["bench", "2", "--cache=3"]\tbench 2 workers 1 cache 3')[1](end))
         self.assertTrue(self.case('["bench", "002"]\tbench 2 workers 1 cache 1024')[1](end))
         self.assertFalse(self.case('["bench", "1"]\tbench 1 workers 1 cache 1024')[1](end))
-        words, is_met = self.case('["bench", "1000"]\tbench 1000 workers 1 cache 1024')
-        self.assertEqual(words, ("bench", "1000", "--workers", "2"))
-        self.assertTrue(is_met(UNBUILT))
+        self.assertTrue(self.case('["bench", "2", "--workers=4"]\tbench 2 workers 4 cache 1024')[1](end))
+
+    def test_larger_benches(self) -> None:
+        words, is_met = self.case('["bench", "01000"]\tbench 1000 workers 1 cache 1024')
+        self.assertEqual(words, ("bench", "01000"))
+        head, note = "bench 1000\nmatches 1000\ndecisions 24000\nlimits 0\n", "cache looks 12000 hits 0\n"
+        standings = [f"standing {place} strategy {place - 1} points 3000\n" for place in (1, 2, 3, 4)]
+        self.assertTrue(is_met(End(0, head + "".join(standings), note)))
+        for end in (
+            End(0, head + "".join(standings), "cache looks 12000 hits 1\n"),
+            End(0, head + "".join(standings[:3]), note),
+            End(0, head + "".join(standings).replace("3000", "3001"), note),
+            End(0, head.replace("24000", "24001") + "".join(standings), note),
+            End(9, head + "".join(standings), note),
+            End(0, "", note),
+        ):
+            self.assertFalse(is_met(end))
 
     def test_mistakes(self) -> None:
         for row in ('play\tusage', '["play"]', '[1]\tusage', '["play"]\tplays'):
@@ -326,13 +367,60 @@ class Tricks(unittest.TestCase):
         self.assertNotEqual(drawn.hands[2], table.hands[2])
 
     def test_matches(self) -> None:
-        text = tricks.transcript(1, 1000, 2).splitlines()
+        text = tricks.transcript(tricks.in_a_row(1, 1000, 2)).splitlines()
         self.assertEqual(len(text), 1 + 2 * 31 + 4)
         self.assertEqual(text[1], "match 0 deal 1 seats 1000")
         self.assertEqual(text[26:28], ["shuffles 1", "end done 54"])
         self.assertEqual(sum(int(line.split()[-1]) for line in text if line.startswith("standing")), 24)
         self.assertTrue(tricks.summary(2).startswith("bench 2\nmatches 2\ndecisions 48\nlimits 0\nstanding 1 "))
-        self.assertEqual(tricks.looks(50), 600)
+
+    def test_what_is_seen(self) -> None:
+        # Seat 1 is to follow with one of its two cards. It doesn't see which cards the others hold, or which are left.
+        table = tricks.Table([8, 9], [[1], [4, 2], [3, 0], [6, 7]], [5, 10, 11, 12], [32, None, None, None], 32, 1, 9, 2)
+        other = tricks.Table([3, 7], [[6], [4, 2], [8, 0], [9, 1]], [5, 10, 11, 12], [32, None, None, None], 32, 1, 9, 2)
+        self.assertEqual(table.seen(), other.seen())
+        seen = {table.seen()}
+        for change in (
+            {"stock": [8]}, {"hands": [[], [4, 2], [3, 0], [6, 7]]}, {"hands": [[1], [2, 4], [3, 0], [6, 7]]},
+            {"used": [10, 5, 11, 12]}, {"tricks": [33, None, None, None]}, {"lead": 33}, {"mover": 2}, {"turn": 10}, {"last": 3},
+        ):
+            seen.add(replace(table, **change).seen())
+        self.assertEqual(len(seen), 10)
+
+    def test_looks(self) -> None:
+        # Six of each of two seats, and in matches of different seeds all different.
+        self.assertEqual([tricks.note(tricks.of_bench(3), entries) for entries in (1, 1024)], ["cache looks 36 hits 0\n"] * 2)
+        for entries, found in bench.FOUND.items():
+            with self.subTest(entries):
+                self.assertEqual(tricks.note(bench.AGAIN, entries), f"cache looks 144 hits {found}\n")
+
+    def test_looks_of_several_workers(self) -> None:
+        self.assertEqual(bench.note_of(tricks.of_bench(3), 1024, 4), "cache looks 36 hits 0\n")
+        self.assertEqual(bench.note_of(bench.AGAIN, 1, 1), "cache looks 144 hits 0\n")
+        self.assertEqual(bench.note_of(bench.AGAIN, 1, 2), "cache looks 144 hits *\n")
+
+
+class Book(unittest.TestCase):
+    def test_what_was_asked_for_is_found(self) -> None:
+        self.assertEqual([hits(looks, 9) for looks in ("", "a", "ab", "aa", "aba", "aabbab")], [0, 0, 0, 1, 1, 4])
+
+    def test_who_wasnt_asked_for_longest_leaves(self) -> None:
+        self.assertEqual([hits("abacab", capacity) for capacity in (1, 2, 3)], [0, 2, 3])
+        self.assertEqual([hits("abcabc", capacity) for capacity in (1, 2, 3)], [0, 0, 3])
+        self.assertEqual([hits("abba", capacity) for capacity in (1, 2)], [1, 2])
+
+
+class Lengths(unittest.TestCase):
+    def test_sources_are_as_long_as_they_may_be_or_longer_by_a_byte(self) -> None:
+        cases = [(len(case.source) - LIMIT, case.expected) for case in read_longest(FIRST)]
+        self.assertEqual([more for more, _ in cases], [0, 1, 0, 1, 0])
+        self.assertEqual([expected for more, expected in cases if more], ["too long", "too long"])
+
+    def test_a_first_choice_is_made_again(self) -> None:
+        text = ["house 1", "match 0 deal 0 seats 0", "choose 0 0 1 2", "end done 8", *["score 0 0 0"] * 2, *["standing"] * 2]
+        room = sum(len(line) + 1 for line in text)
+        self.assertEqual(lengthened(text, room), text)
+        self.assertEqual(lengthened(text, room + 31), [*text[:3], "choose 0 0 1 20", "choose 0 0 1 2", *text[3:]])
 
 
 class Files(unittest.TestCase):

@@ -207,7 +207,7 @@ class Explanations(unittest.TestCase):
         self.assertFalse([line for line in said if line.startswith("No list")])
 
     def test_whole_lines(self) -> None:
-        for note in ("too long", "unbuilt", "no memory", "read fault", "write fault"):
+        for note in ("too long", "no memory", "read fault", "write fault"):
             with self.subTest(note):
                 self.assertTrue(explanation(note, b"", ["play"]))
         self.assertEqual(explanation("cache looks 0 hits 0", b"", ["play"]), [])

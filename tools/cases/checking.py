@@ -7,6 +7,7 @@ from concurrent.futures import ThreadPoolExecutor
 from pathlib import Path
 
 from cases.bench import TRICKS, read_bench
+from cases.lengths import FIRST, read_longest
 from cases.pages import PAGES, read_page
 from cases.plays import read_plays
 from cases.rows import ROOT, Mistake, name_of
@@ -39,6 +40,7 @@ def read_all() -> dict[Path, list[Case]]:
     frames = read_frames(HERE / "language")
     cases = {page: list(read_page(page, frames)) for page in PAGES}
     cases[TRICKS] = list(read_bench(TRICKS))
+    cases[FIRST] = list(read_longest(FIRST))
     cases[HERE / "words.rows"] = list(read_words(HERE / "words.rows"))
     for folder in sorted(path for path in HERE.iterdir() if path.is_dir()):
         cases.update(read_folder(folder))

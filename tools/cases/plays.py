@@ -6,39 +6,46 @@ from dataclasses import dataclass
 from pathlib import Path
 
 from cases.expected import KINDS, REFUSALS, REFUSED, TOLD
+from cases.notes import NO_LOOKS, any_hits, is_note
 from cases.rows import Group, Row, copied, marked, read_groups, unescaped
 from cases.running import Case, End, ends_as, fault_case, told_cases
 from cases.texts import judged_case
 
+# What is noted, and behind which options.
+NOTED = re.compile(r"(?:(?P<options>--.+): )?looks (?P<looks>\d+) hits (?P<hits>\d+|\*)")
+
+# How many workers play each play, beside one.
+WORKERS = (2, 4)
+
 
 @dataclass(frozen=True)
 class Play:
-    """What stands at the places of the source, the lines or the refusal that is expected, and how many looks."""
+    """What stands at the places of the source, the lines or the refusal that is expected, and what is noted with which options."""
 
     places: dict[str, str]
     expected: list[str]
-    looks: int
+    notes: dict[tuple[str, ...], str]
 
 
 def read_play(group: Group, base: dict[str, str]) -> Play:
     """A play, with the places of the first play where it says nothing of one."""
-    places, expected, looks = dict(base), [], 0
+    places, expected, notes = dict(base), [], {(): NO_LOOKS}
     for row in group.rows:
         place = re.fullmatch(r"(\w+):(.*)", row.text, re.DOTALL)
-        told = re.fullmatch(r"looks (\d+)", row.text)
+        noted = NOTED.fullmatch(row.text)
         if row.text in REFUSED:
             expected.append(row.text)
         elif row.text.startswith("> "):
             expected.append(row.text.removeprefix("> "))
-        elif told:
-            looks = int(told[1])
+        elif noted:
+            notes[tuple((noted["options"] or "").split())] = "cache looks {looks} hits {hits}\n".format(**noted.groupdict())
         elif place:
             places[place[1]] = copied(unescaped(row, place[2].strip()))
         else:
             raise row.mistake("neither a place of the source nor what is expected")
     if not expected or (expected[0] in REFUSED and len(expected) > 1):
         raise group.heading.mistake("what is expected of a play is lines, or one refusal")
-    return Play(places, expected, looks)
+    return Play(places, expected, notes)
 
 
 def lines_match(expected: list[str], text: str) -> bool:
@@ -65,14 +72,22 @@ def play_cases(heading: Row, text: str, play: Play) -> Iterator[Case]:
         yield from played_cases(heading, source, play)
 
 
-def played_cases(heading: Row, source: str, play: Play) -> Iterator[Case]:
-    """The case of a source that is played, and that of its transcript, if it is known as a whole, which is legal."""
-    note = f"cache looks {play.looks} hits 0\n"
+def played_case(heading: Row, source: str, expected: list[str], options: tuple[str, ...], note: str) -> Case:
+    """The case of a source that is played with these options."""
 
     def is_played(end: End) -> bool:
-        return (end.status, end.notes) == (0, note) and lines_match(play.expected, end.out)
+        return end.status == 0 and is_note(note, end.notes) and lines_match(expected, end.out)
 
-    yield Case(heading, ("play",), source, f"the lines {play.expected!r} and the note {note!r}", is_played)
+    return Case(heading, ("play", *options), source, f"the lines {expected!r} and the note {note!r}", is_played)
+
+
+def played_cases(heading: Row, source: str, play: Play) -> Iterator[Case]:
+    """The cases of a source that is played, also by several workers, and that of its transcript, if it is known as a whole, which
+    is legal."""
+    for options, note in play.notes.items():
+        yield played_case(heading, source, play.expected, options, note)
+    for workers in WORKERS:
+        yield played_case(heading, source, play.expected, ("--workers", str(workers)), any_hits(play.notes[()]))
     if ".." not in play.expected:
         yield judged_case(heading, source, "".join(f"{line}\n" for line in play.expected), "legal")
 

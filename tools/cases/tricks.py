@@ -9,6 +9,8 @@ from collections.abc import Iterator
 from dataclasses import dataclass, field
 from functools import cache
 
+from cases.book import Key, hits
+
 SEATS = 4
 HAND = 6
 SUITS = 4
@@ -17,6 +19,9 @@ WORD = 0xFFFFFFFF
 
 # The strategies of the bench: a key, and for those that roll out the rounds.
 STRATEGIES = ((1, 0), (2, 4), (3, 0), (4, 4))
+
+# The seeds of matches: that of the shuffle and that of the seats.
+Seeds = tuple[tuple[int, int], ...]
 
 
 def quarter(s: list[int], a: int, b: int, c: int, d: int) -> None:
@@ -71,10 +76,11 @@ def worth(card: int) -> int:
 
 @dataclass
 class Table:
-    """The cards that matter, from bottom to top, who is to play, and how many turns went by."""
+    """The cards, from bottom to top, who is to play, and how many turns went by."""
 
     stock: list[int]
     hands: list[list[int]]
+    used: list[int] = field(default_factory=list)
     tricks: list[int | None] = field(default_factory=lambda: [None] * SEATS)
     lead: int | None = None
     mover: int = 0
@@ -83,7 +89,13 @@ class Table:
 
     def copy(self) -> "Table":
         hands = [list(hand) for hand in self.hands]
-        return Table(list(self.stock), hands, list(self.tricks), self.lead, self.mover, self.turn, self.last)
+        return Table(list(self.stock), hands, list(self.used), list(self.tricks), self.lead, self.mover, self.turn, self.last)
+
+    def seen(self) -> Key:
+        """What the mover sees: two moments look the same to him exactly where these are equal. Who leads, how many decisions each
+        seat has made and which card was best follow from what stands here."""
+        hands = [tuple(hand) if owner == self.mover else len(hand) for owner, hand in enumerate(self.hands)]
+        return (self.mover, self.turn, len(self.stock), *hands, *self.tricks, self.lead, tuple(self.used), self.last)
 
     def menu(self) -> list[int]:
         """The cards that may be played, as they lie in the hand."""
@@ -110,6 +122,7 @@ class Table:
         played = [card for card in self.tricks if card is not None]
         followed = [worth(card) if suit(card) == suit(self.lead) else 0 for card in played]
         self.mover = self.last = followed.index(max(followed))
+        self.used += played
         self.tricks, self.lead = [None] * SEATS, None
 
     def begin_round(self) -> None:
@@ -171,30 +184,48 @@ def chosen(table: Table, strategy: int, seed: int) -> int:
     return pick(len(table.menu()), key, 256 * table.mover + 2, seed, table.turn)
 
 
+def asked(table: Table, strategy: int, seed: int) -> list[Key]:
+    """The key by which a decision looks for totals, where its strategy rolls out."""
+    key, rounds = STRATEGIES[strategy]
+    return [(rounds, key, seed, table.seen())] if rounds else []
+
+
 @dataclass(frozen=True)
 class Match:
-    """The lines of a match that was played, and the points of each strategy."""
+    """The lines of a match that was played, its looks, and the points of each strategy."""
 
     lines: list[str]
+    looks: list[Key]
     points: list[int]
 
 
 def played(number: int, deal: int, seed: int) -> Match:
-    table = dealt(deal)
+    table, looks = dealt(deal), []
     lines = [f"match {number} deal {deal} seats {seed}"]
     while not table.is_over():
-        item = chosen(table, (table.mover + number) % SEATS, seed)
+        strategy = (table.mover + number) % SEATS
+        looks += asked(table, strategy, seed)
+        item = chosen(table, strategy, seed)
         lines.append(f"choose {table.mover} 0 {item} {len(table.menu())}")
         table.play(item)
     lines += ["shuffles 1", f"end done {table.turn}"]
     lines += [f"score {seat} {int(seat == table.last)} {table.points(seat)}" for seat in range(SEATS)]
-    return Match(lines, [table.points((strategy - number) % SEATS) for strategy in range(SEATS)])
+    return Match(lines, looks, [table.points((strategy - number) % SEATS) for strategy in range(SEATS)])
+
+
+def in_a_row(deal: int, seed: int, count: int) -> Seeds:
+    """The seeds of so many matches, which count up."""
+    return tuple((deal + number, seed + number) for number in range(count))
+
+
+def of_bench(number: int) -> Seeds:
+    """The seeds of the matches of a bench."""
+    return in_a_row(number, 1000, number)
 
 
 @cache
-def matches(deal: int, seed: int, count: int) -> list[Match]:
-    """So many matches in a row, whose seeds count up."""
-    return [played(number, deal + number, seed + number) for number in range(count)]
+def matches(seeds: Seeds) -> list[Match]:
+    return [played(number, deal, seed) for number, (deal, seed) in enumerate(seeds)]
 
 
 def standings(of: list[Match]) -> list[str]:
@@ -207,19 +238,20 @@ def text_of(lines: list[str]) -> str:
     return "".join(f"{line}\n" for line in lines)
 
 
-def transcript(deal: int, seed: int, count: int) -> str:
-    """What `play` writes of so many matches."""
-    of = matches(deal, seed, count)
+def transcript(seeds: Seeds) -> str:
+    """What `play` writes of these matches."""
+    of = matches(seeds)
     return text_of(["house 1", *(line for match in of for line in match.lines), *standings(of)])
 
 
 def summary(number: int) -> str:
     """What `bench` writes of so many matches."""
-    of = matches(number, 1000, number)
+    of = matches(of_bench(number))
     decisions = sum(line.startswith("choose ") for match in of for line in match.lines)
     return text_of([f"bench {number}", f"matches {number}", f"decisions {decisions}", "limits 0", *standings(of)])
 
 
-def looks(number: int) -> int:
-    """How many decisions of so many matches look for playouts: six of each of two seats."""
-    return 2 * HAND * number
+def note(seeds: Seeds, capacity: int) -> str:
+    """What is noted of these matches where one worker plays them and so many entries are remembered."""
+    looks = [key for match in matches(seeds) for key in match.looks]
+    return f"cache looks {len(looks)} hits {hits(looks, capacity)}\n"

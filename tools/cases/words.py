@@ -5,16 +5,12 @@ import re
 from collections.abc import Callable, Iterator
 from pathlib import Path
 
-from cases.bench import ends_as_bench
+from cases.bench import MATCHES, ends_as_bench, is_bench
 from cases.rows import Row, numbered_lines
 from cases.running import Case, End, ends_as
 
 USAGE = End(2, "", "usage: cardhouse play, check, sheet or bench\n")
-UNBUILT = End(9, "", "unbuilt\n")
 NO_SHEET = End(1, "", "sheet Shape 0\n")
-
-# Larger numbers take long to play. That they are numbers of a command shows by asking for a second worker besides.
-LARGEST_PLAYED = 20
 
 
 def read_words(file: Path) -> Iterator[Case]:
@@ -41,14 +37,12 @@ def run_of(row: Row, words: tuple[str, ...], expected: str) -> tuple[tuple[str, 
         return words, "", f"usage of {words}", ends_as(USAGE)
     if expected in ("check", "sheet"):
         return words, "", f"the command {expected}", ends_as(NO_SHEET)
-    command = re.fullmatch(r"(?:play|bench (?P<number>\d+)) workers (?P<workers>\d+) cache \d+", expected)
+    command = re.fullmatch(r"(?:play|bench (?P<number>\d+)) workers \d+ cache (?P<entries>\d+)", expected)
     if not command:
         raise row.mistake(f"'{expected}' is no command with its numbers, nor usage")
-    number, workers = int(command["number"] or 0), int(command["workers"])
-    if workers > 1:
-        return words, "", f"a command with {workers} workers", ends_as(UNBUILT)
+    number = int(command["number"] or 0)
     if not number:
         return words, "", expected, ends_as(NO_SHEET)
-    if number < LARGEST_PLAYED:
-        return words, "", expected, ends_as_bench(number)
-    return (*words, "--workers", "2"), "", f"{expected} but with two workers", ends_as(UNBUILT)
+    if number > MATCHES:
+        return words, "", expected, is_bench(number)
+    return words, "", expected, ends_as_bench(number, int(command["entries"]))

@@ -92,7 +92,6 @@ WHOLE = {
         "The source is too long: `play` and `sheet` take 1048576 bytes at most, and `check` takes 8388608; take out "
         "comments, or list fewer matches."
     ),
-    "unbuilt": "What these words ask for isn't built: ask for one worker, or leave `--workers` out.",
     "no memory": (
         "There was not enough memory, and nothing was written: end other programs, or play fewer matches at a time."
     ),
