@@ -52,6 +52,11 @@ class Named(unittest.TestCase):
         examples = {sheet.stem for sheet in (ROOT / "examples").glob("*.sheet")}
         self.assertEqual(examples - quoted(ROOT / "docs/LANGUAGE.md"), set())
 
+    def test_each_idiom_is_quoted(self) -> None:
+        sheets = {str(sheet.relative_to(ROOT)) for sheet in (ROOT / "examples/cookbook").glob("*.sheet")}
+        page = (ROOT / "docs/COOKBOOK.md").read_text("utf-8")
+        self.assertEqual(sheets, set(re.findall(r"^<!-- from (\S+\.sheet) -->$", page, re.MULTILINE)))
+
     def test_files_of_crates(self) -> None:
         paths = [str(file.relative_to(ROOT / "crates")) for file in sources()]
         ends = {"/".join(parts[at:]) for parts in (path.split("/") for path in paths) for at in range(len(parts))}
