@@ -1,0 +1,1 @@
+"""What a sheet may say and is likely a mistake."""

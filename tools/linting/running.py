@@ -1,0 +1,57 @@
+"""Reads a sheet and tells what in it is likely a mistake."""
+
+import sys
+
+from faults.places import place_of
+from linting.finding import Finding
+from linting.on_names import on_locations, on_numbers
+from linting.on_stages import on_stages
+from linting.on_values import on_values
+from linting.on_variables import on_variables
+from linting.trees import Node, Unreadable, read_sheet
+
+# The statuses where nothing is told, where something is, and where nothing could be looked at or written.
+CLEAN, FOUND, FAILED, WRITE_FAULT = 0, 1, 2, 7
+
+KINDS = (on_locations, on_numbers, on_values, on_variables, on_stages)
+
+
+def findings(sheet: Node) -> list[Finding]:
+    """All that is told of a sheet, in the order of the text."""
+    return sorted(finding for kind in KINDS for finding in kind(sheet))
+
+
+def told(file: str, source: bytes, finding: Finding) -> str:
+    place = place_of(source, finding.at)
+    return f"{file}:{place.line}:{place.column}: {finding.said}\n"
+
+
+def main(words: list[str]) -> int:
+    """Tells the findings of one file, and ends with the status that says whether there were some."""
+    if len(words) != 1:
+        return fail("usage: cardhouse lint GAME.sheet")
+    file = words[0]
+    try:
+        with open(file, "rb") as opened:
+            source = opened.read()
+        found = findings(read_sheet(source))
+    except OSError as fault:
+        return fail(f"{file} can't be read: {fault.strerror}.")
+    except Unreadable as fault:
+        return fail(f"{file} can't be read as a sheet: {fault}. `./cardhouse sheet` tells its fault.")
+    try:
+        write("".join(told(file, source, finding) for finding in found))
+    except OSError:
+        return WRITE_FAULT
+    return FOUND if found else CLEAN
+
+
+def write(text: str) -> None:
+    """Writes to standard output. What isn't text in the name of the file is written as it was given."""
+    sys.stdout.buffer.write(text.encode("utf-8", "surrogateescape"))
+    sys.stdout.buffer.flush()
+
+
+def fail(said: str) -> int:
+    sys.stderr.write(f"lint: {said}\n")
+    return FAILED

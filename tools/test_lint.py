@@ -1,0 +1,380 @@
+"""Tests of what is told of a sheet that is allowed and likely a mistake."""
+
+import subprocess
+import tempfile
+import unittest
+from pathlib import Path
+
+from faults.mentions import STORED
+from linting.names import SUSPECTED, distance, nearest
+from linting.running import findings
+from linting.trees import Unreadable, read_sheet
+from linting.uses import is_location, is_number
+
+ROOT = Path(__file__).resolve().parent.parent
+LINT = ROOT / "tools/lint"
+SHIPPED = sorted([*(ROOT / "examples").glob("**/*.sheet"), *(ROOT / "bench").glob("*.sheet")])
+
+DECK = "(create deck (game hloc STOCK) (deck (RANK (ACE KING 10)) (SUIT (CLUBS HEARTS))))"
+FRAME = f"(game (setup (create players 2) {DECK} {{}}) {{}} (scoring max (size ('SELF iloc HAND))))"
+DEAL = "(do (all player 'P (move (top (game hloc STOCK)) (top ('P iloc HAND)))))"
+STAGE = "(stage player (end (= (size (game hloc STOCK)) 0)) {} (do (move (top (game hloc STOCK)) (top (game vloc PILE)))))"
+
+
+def sheet(item: str, line: str = "") -> str:
+    """A sheet in which each player is dealt a card, and then comes this item."""
+    return FRAME.format(line, f"{DEAL} {item}")
+
+
+def staged(item: str) -> str:
+    """A sheet with a stage in which this item stands."""
+    return sheet(STAGE.format(item))
+
+
+def ended(test: str, item: str) -> str:
+    """A sheet with a stage that ends so and has this item alone."""
+    return sheet(f"(stage player ^(end {test}) {item})")
+
+
+def told(source: str) -> list[tuple[int, str]]:
+    return [(it.at, it.said) for it in findings(read_sheet(source.encode("latin-1")))]
+
+
+class Telling(unittest.TestCase):
+    def check(self, source: str, *said: str) -> None:
+        """These sentences are told, each at a marker `^`, in order."""
+        pieces = source.split("^")
+        places = [len("".join(pieces[: number + 1])) for number in range(len(pieces) - 1)]
+        self.assertEqual(told("".join(pieces)), list(zip(places, said, strict=True)))
+
+    def silent(self, source: str) -> None:
+        self.assertEqual(told(source.replace("^", "")), [])
+
+
+class Locations(Telling):
+    def test_one_that_is_read_and_never_filled(self) -> None:
+        said = "`STOK` is read and never filled, so that it is always empty. Is `STOCK` meant?"
+        self.check(sheet("(do (move (top (game hloc ^STOK)) (top (game vloc PILE))))"), said)
+        said = "`TALON` is read and never filled, so that it is always empty."
+        self.check(sheet("(do (move (top (game hloc ^TALON)) (top (game vloc PILE))))"), said)
+
+    def test_one_that_is_only_shuffled(self) -> None:
+        said = "`STOKC` is shuffled and never filled, so that it is always empty. Is `STOCK` meant?"
+        self.check(sheet("(do (shuffle (game hloc ^STOKC)))"), said)
+
+    def test_it_is_told_once_where_it_is_first_read(self) -> None:
+        said = "`HEAP` is read and never filled, so that it is always empty."
+        shuffle = "(shuffle (game vloc HEAP))"
+        self.check(sheet(f"(do {shuffle} (move (top (game vloc ^HEAP)) (top (game vloc USED))) {shuffle})"), said)
+
+    def test_a_size_and_a_guard_read(self) -> None:
+        said = "`LEAD` is read and never filled, so that it is always empty."
+        self.check(staged("(choice (if (= (size (game mem ^LEAD)) 0) (cycle reverse)))"), said)
+
+    def test_what_is_remembered_fills_a_mem(self) -> None:
+        self.silent(staged("(choice (if (= (size (game mem LEAD)) 0) (remember (top (game hloc STOCK)) (top (game mem LEAD)))))"))
+
+    def test_the_place_from_which_is_moved_is_read(self) -> None:
+        self.silent(sheet("(do (move (top ('P iloc HAND)) (top (game vloc PILE))))"))
+
+    def test_cards_may_be_put_away(self) -> None:
+        for location in ("(game vloc USED)", "(game hloc USED)", "('P vloc USED)", "('P hloc USED)", "(game iloc USED)"):
+            with self.subTest(location):
+                self.silent(sheet(f"(do (all player 'P (move (top ('P iloc HAND)) (bottom {location}))))"))
+
+    def test_what_one_player_is_shown_is_to_be_used(self) -> None:
+        said = "`CRIB` is filled and never read, so that the cards there have no use."
+        self.check(sheet("(do (all player 'P (move (top ('P iloc HAND)) (top ('P iloc ^CRIB)))))"), said)
+
+    def test_a_deck_is_to_be_used(self) -> None:
+        said = "`BOX` is filled and never read, so that the cards there have no use."
+        box = "(create deck (game vloc ^BOX) (deck (RANK (ACE))))"
+        self.check(sheet("(do (shuffle (game vloc BOX)))", box), said)
+
+    def test_a_game_of_numbers_has_a_deck_too(self) -> None:
+        self.silent(f"(game (setup (create players 2) {DECK}) (do (inc (game sto N) 1)) (scoring max (game sto N)))")
+
+    def test_one_that_is_filled_is_told_where_its_name_is_that_of_another(self) -> None:
+        said = "`PIEL` is filled and never read, so that the cards there have no use. Is `PILE` meant?"
+        draw = "(move (top (game vloc PILE)) (top ('P iloc HAND)))"
+        put = "(do (all player 'P (move (top ('P iloc HAND)) (top ({} {}))) {} {}))"
+        lay = "(move (top ('P iloc HAND)) (top (game vloc PILE)))"
+        self.check(sheet(put.format("game vloc", "^PIEL", lay, draw)), said)
+        self.silent(sheet(put.format("'P vloc", "PIEL", lay, draw)))
+        self.silent(sheet(put.format("game hloc", "PIEL", lay, draw)))
+
+    def test_what_stands_in_a_list_without_a_form_may_be_anything(self) -> None:
+        self.silent(sheet("(do (move (top (game vloc PILE)) (top ('P iloc HAND))) (put (game vloc PILE)))"))
+        self.silent(sheet("(do (inc (game sto N) 1 2) (set (game sto M) (game sto N)) (dec (game sto M)))"))
+
+
+class Numbers(Telling):
+    def test_one_that_is_never_set(self) -> None:
+        said = "`ROUDN` is read and never set, so that it is always 0. Is `ROUND` meant?"
+        item = "(do (inc (game sto ROUND) (game sto ^ROUDN)) (repeat (game sto ROUND) (shuffle (game hloc STOCK))))"
+        self.check(sheet(item), said)
+
+    def test_one_that_is_never_read(self) -> None:
+        said = "`TRICKS` is set and never read, so that nothing comes of it."
+        self.check(sheet("(do (all player 'P (inc ('P sto ^TRICKS) 1)))"), said)
+
+    def test_who_reads_it_to_set_it_doesnt_use_it(self) -> None:
+        said = "`TRICKS` is set and never read, so that nothing comes of it."
+        self.check(sheet("(do (all player 'P (set ('P sto ^TRICKS) (+ ('P sto TRICKS) 1))))"), said)
+
+    def test_a_test_reads_it(self) -> None:
+        self.silent(sheet("(do (inc (game sto N) 1) (if (= (game sto N) 1) (shuffle (game hloc STOCK))))"))
+
+    def test_a_location_of_the_same_name_is_something_else(self) -> None:
+        said = "`HAND` is read and never set, so that it is always 0."
+        self.check(sheet("(do (repeat ('P sto ^HAND) (shuffle (game hloc STOCK))))"), said)
+
+
+class Values(Telling):
+    def asked(self, test: str) -> str:
+        return sheet(f"(do (all (game hloc STOCK) 'C (if {test} (move 'C (top (game vloc PILE))))))")
+
+    def test_one_that_no_card_has(self) -> None:
+        self.check(self.asked("(is 'C SUIT ^HERATS)"), "No card has the value `HERATS` of `SUIT`. Is `HEARTS` meant?")
+        self.check(self.asked("(is 'C RANK ^9)"), "No card has the value `9` of `RANK`.")
+
+    def test_one_of_another_attribute(self) -> None:
+        self.check(self.asked("(is 'C SUIT ^ACE)"), "No card has the value `ACE` of `SUIT`. It is a value of `RANK`.")
+
+    def test_it_is_told_once(self) -> None:
+        said = "No card has the value `ACE` of `SUIT`. It is a value of `RANK`."
+        self.check(self.asked("(or (is 'C SUIT ^ACE) (is 'C SUIT ACE))"), said)
+
+    def test_an_attribute(self) -> None:
+        said = "No card has the attribute `SIUT`. Is `SUIT` meant?"
+        self.check(self.asked("(is 'C ^SIUT ACE)"), said)
+        self.check(self.asked("(= (attr 'C ^SIUT) (attr 'C RANK))"), said)
+        self.check(staged("(choice (any (partition ((current player) iloc HAND) ^SIUT) 'G (do (forget (top 'G)))))"), said)
+
+    def test_cards_of_groups_inside_of_groups(self) -> None:
+        deck = "(create deck (game hloc STOCK) (deck (KIND ((PIP (N (1 2))) (FACE (N (J)))))))"
+        for test in ("(is 'C N J)", "(is 'C KIND PIP)", "(is 'C RANK 10)"):
+            with self.subTest(test):
+                self.silent(self.asked(test).replace("(create players 2)", f"(create players 2) {deck}"))
+
+    def test_a_point_map_may_name_more(self) -> None:
+        self.silent(sheet("", "(put points WORTH ((RANK (QUEEN 9 11) 2) (JOKER (RED) 3)))"))
+
+    def test_a_point_map_with_a_misspelling(self) -> None:
+        said = "No card has the value `KNIG` of `RANK`. Is `KING` meant?"
+        self.check(sheet("", "(put points WORTH ((RANK (ACE ^KNIG) 2)))"), said)
+        said = "No card has the attribute `RNAK`. Is `RANK` meant?"
+        self.check(sheet("", "(put points WORTH ((^RNAK (ACE) 2)))"), said)
+        said = "No card has the value `ACE` of `SUIT`. It is a value of `RANK`."
+        self.check(sheet("", "(put points WORTH ((SUIT (^ACE) 2)))"), said)
+
+    def test_nothing_is_told_of_decks_that_cant_be_read(self) -> None:
+        self.silent(self.asked("(is 'C SUIT ACE)").replace("(SUIT (CLUBS HEARTS))", "(SUIT CLUBS HEARTS)"))
+
+
+class Variables(Telling):
+    def test_in_tests(self) -> None:
+        said = "`'Q` isn't used behind this place, so that the test is the same for each."
+        for test in (
+            "(all player ^'Q (= (size ((current player) iloc HAND)) 0))",
+            "(any ((current player) iloc HAND) ^'Q (is (top (game vloc PILE)) RANK ACE))",
+        ):
+            with self.subTest(test):
+                self.check(staged(f"(choice (if {test} (cycle reverse)))"), said)
+
+    def test_in_filters(self) -> None:
+        said = "`'Q` isn't used behind this place, so that either all cards are kept or none."
+        move = "(do (all (game vloc PILE) 'C (move all (filter (game vloc PILE) ^'Q {}) (top (game hloc STOCK)))))"
+        self.check(staged(move.format("(is 'C RANK ACE)")), said)
+        self.check(staged(move.format("(= 'C (top (game vloc PILE)))")), said)
+
+    def test_a_filter_may_switch_an_amount(self) -> None:
+        amount = "(size (filter (game vloc PILE) 'C (> (size (game hloc STOCK)) 1)))"
+        self.silent(staged(f"(do (repeat {amount} (shuffle (game hloc STOCK))))"))
+
+    def test_in_menus(self) -> None:
+        said = "`'P` isn't used behind this place, so that all items that it gives are alike."
+        draw = "(do (move (top (game hloc STOCK)) (top ((current player) iloc HAND))))"
+        play = "(any ((current player) iloc HAND) 'C (do (move 'C (top (game vloc PILE)))))"
+        for item in (draw, play):
+            with self.subTest(item):
+                self.check(staged(f"(choice (any player ^'P {item}))"), said)
+
+    def test_in_loops(self) -> None:
+        said = "`'P` isn't used behind this place, so that the effects come to the same each time."
+        self.check(staged("(do (all player ^'P (shuffle (game hloc STOCK)) (cycle next (current player))))"), said)
+
+    def test_a_loop_may_repeat_its_effects(self) -> None:
+        deal = "(move (top (game hloc STOCK)) (top (game vloc PILE)))"
+        for effect in (deal, f"(if (= (size (game vloc PILE)) 0) {deal})", "(cycle reverse)", "(put it)"):
+            with self.subTest(effect):
+                self.silent(staged(f"(do (all player 'P {effect}))"))
+        count = "(all player 'P (set (game sto N) (+ (game sto N) 1)))"
+        self.silent(staged(f"(do {count} (repeat (game sto N) (shuffle (game hloc STOCK))))"))
+
+    def test_what_stands_before_the_variable_doesnt_use_it(self) -> None:
+        said = "`'D` isn't used behind this place, so that the test is the same for each."
+        test = "(any (filter (game vloc PILE) 'D (is 'D RANK ACE)) ^'D (is (top (game vloc PILE)) RANK ACE))"
+        self.check(staged(f"(choice (if {test} (cycle reverse)))"), said)
+
+
+class Stages(Telling):
+    SAID = "The end of this stage reads nothing that its items change, so that it has no round, or goes on to the turn limit."
+    TAKE = "(do (move (top (game hloc STOCK)) (top ((current player) iloc HAND))))"
+
+    def test_an_end_that_nothing_changes(self) -> None:
+        for test in ("(= (size (game hloc STOCK)) 0)", "(all player 'P (= (size ('P iloc HAND)) 3))", "(= 1 2)"):
+            with self.subTest(test):
+                self.check(ended(test, "(do (cycle reverse))"), self.SAID)
+
+    def test_a_number_that_another_item_sets(self) -> None:
+        self.check(sheet(f"(do (inc (game sto N) 1)) (stage player ^(end (= (game sto N) 1)) {self.TAKE})"), self.SAID)
+
+    def test_what_moves_changes(self) -> None:
+        for test in ("(= (size (game hloc STOCK)) 0)", "(any player 'P (> (size ('P iloc HAND)) 3))"):
+            with self.subTest(test):
+                self.silent(ended(test, self.TAKE))
+
+    def test_a_card_is_moved_from_where_its_variable_found_it(self) -> None:
+        end = "(all player 'P (= (size ('P iloc HAND)) 0))"
+        play = "(choice (any {} 'G (any 'G 'C (do (move 'C (top (game vloc PILE)))))))"
+        self.silent(ended(end, "(choice (any ((current player) iloc HAND) 'C (do (move 'C (top (game vloc PILE))))))"))
+        self.silent(ended(end, play.format("(partition ((current player) iloc HAND) SUIT)")))
+        self.silent(ended(end, "(do (all ((current player) iloc HAND) 'C (move 'C (top (game vloc PILE)))))"))
+
+    def test_a_card_that_stays_changes_nothing(self) -> None:
+        end = "(all player 'P (= (size ('P iloc HAND)) 0))"
+        look = "(remember 'C (top (game mem SEEN)))"
+        self.check(ended(end, f"(choice (any ((current player) iloc HAND) 'C (do {look})))"), self.SAID)
+        self.silent(ended("(> (size (game mem SEEN)) 3)", f"(choice (any ((current player) iloc HAND) 'C (do {look})))"))
+
+    def test_a_reference_that_is_forgotten(self) -> None:
+        see = "(remember (top (game hloc STOCK)) (top (game mem SEEN)))"
+        forget = "(do (all (game mem SEEN) 'C (forget 'C)))"
+        self.silent(sheet(f"(do {see}) (stage player (end (= (size (game mem SEEN)) 0)) {forget})"))
+
+    def test_what_is_shuffled_lies_otherwise(self) -> None:
+        self.silent(ended("(is (top (game hloc STOCK)) RANK ACE)", "(do (shuffle (game hloc STOCK)))"))
+
+    def test_numbers(self) -> None:
+        for effect in ("set", "inc", "dec"):
+            with self.subTest(effect):
+                self.silent(ended("(= (game sto N) 1)", f"(do ({effect} (game sto N) 1))"))
+
+    def test_each_round_has_another_current_member(self) -> None:
+        wait = "(do (cycle reverse))"
+        for test in ("(= (size ((current player) iloc HAND)) 0)", "(any player 'P (= 'P (current player)))"):
+            with self.subTest(test):
+                self.silent(ended(test, wait))
+
+    def test_stages_inside_change_too(self) -> None:
+        inner = f"(stage player (end (= (size (game hloc STOCK)) 0)) {self.TAKE})"
+        self.silent(ended("(> (size (game hloc STOCK)) 9)", inner))
+
+    def test_nothing_is_told_where_an_item_cant_be_read(self) -> None:
+        self.silent(ended("(= (size (game hloc STOCK)) 0)", "(do (draw (game hloc STOCK)))"))
+
+
+class Names(unittest.TestCase):
+    def test_distances(self) -> None:
+        for one, other, letters in (
+            ("PILE", "PILE", 0), ("PILE", "PIEL", 1), ("PILE", "PIPE", 1), ("PILE", "PILES", 1), ("PILE", "PLE", 1),
+            ("STOCK", "TSOKC", 2), ("HAND", "LAID", 2), ("", "AB", 2), ("CA", "ABC", 3),
+        ):  # fmt: skip
+            with self.subTest(one=one, other=other):
+                self.assertEqual((distance(one, other), distance(other, one)), (letters, letters))
+
+    def test_the_nearest_is_told_and_the_first_of_several(self) -> None:
+        self.assertEqual(nearest("HAND", ["LAID", "HEND", "HANDS"]), "HEND")
+        self.assertEqual(nearest("STOCK", ["HAND", "WASTE"]), None)
+
+    def test_short_names_differ_less(self) -> None:
+        self.assertEqual(nearest("A", ["B"]), None)
+        self.assertEqual(nearest("UP", ["US"]), "US")
+        self.assertEqual(nearest("UP", ["US"], SUSPECTED), None)
+        self.assertEqual(nearest("HAND", ["LAID"]), "LAID")
+        self.assertEqual(nearest("HAND", ["LAID"], SUSPECTED), None)
+
+    def test_a_series_is_no_misspelling(self) -> None:
+        self.assertEqual(nearest("COLUMN-8", ["COLUMN-7"]), None)
+        self.assertEqual(nearest("11", ["10", "1"]), None)
+
+
+class Reading(unittest.TestCase):
+    def test_texts_that_are_no_sheets(self) -> None:
+        for source, said in (
+            ("(game", "a `)` is missing"),
+            ("(game))", "`)` stands outside of all lists"),
+            ("game", "`game` stands outside of all lists"),
+            ("(" * 65 + ")" * 65, "more than 64 lists are open at one place"),
+            ("", "its first list isn't written `(game (setup LINE+) ITEM+ (scoring BEST INT))`"),
+            ("(plan)", "its first list isn't written `(game (setup LINE+) ITEM+ (scoring BEST INT))`"),
+        ):
+            with self.subTest(source), self.assertRaises(Unreadable) as raised:
+                read_sheet(source.encode())
+            self.assertEqual(str(raised.exception), said)
+
+    def test_a_plan_may_stand_behind_the_sheet(self) -> None:
+        self.assertEqual(told(sheet("") + "(plan (seats (script)))"), [])
+
+
+class Shipped(unittest.TestCase):
+    def test_nothing_is_told_of_them(self) -> None:
+        self.assertGreaterEqual(len(SHIPPED), 21)
+        for file in SHIPPED:
+            with self.subTest(file.relative_to(ROOT)):
+                self.assertEqual(told(file.read_text("latin-1")), [])
+
+    def test_a_name_that_is_misspelled_in_one_place_is_told(self) -> None:
+        """The last mention of each name that stands several times is spelled with an X more."""
+        for file in SHIPPED:
+            source = file.read_text("latin-1")
+            mentions = [it for it in read_sheet(source.encode("latin-1")).within() if is_location(it) or is_number(it)]
+            names = [(it.parts[1].text == STORED, it.parts[2].text) for it in mentions]
+            last = dict(zip(names, mentions))
+            for name, mention in last.items():
+                end = mention.parts[2].at + len(name[1])
+                with self.subTest(file=file.relative_to(ROOT), name=name):
+                    self.assertEqual(bool(told(f"{source[:end]}X{source[end:]}")), names.count(name) > 1)
+
+
+class Running(unittest.TestCase):
+    def setUp(self) -> None:
+        folder = tempfile.TemporaryDirectory()
+        self.addCleanup(folder.cleanup)
+        self.folder = Path(folder.name)
+
+    def lint(self, *words: str, out: int = subprocess.PIPE) -> tuple[int, str, str]:
+        ran = subprocess.run([LINT, *words], cwd=self.folder, stdout=out, stderr=subprocess.PIPE, text=True, timeout=60)
+        return ran.returncode, ran.stdout, ran.stderr
+
+    def test_nothing_is_found(self) -> None:
+        (self.folder / "a.sheet").write_text(sheet(""))
+        self.assertEqual(self.lint("a.sheet"), (0, "", ""))
+
+    def test_findings_stand_in_the_order_of_the_text(self) -> None:
+        (self.folder / "a b.sheet").write_text(sheet("(do\n\t(shuffle (game hloc STOK))\n  (inc (game sto N) 1))"))
+        lines = (
+            "a b.sheet:2:22: `STOK` is shuffled and never filled, so that it is always empty. Is `STOCK` meant?\n"
+            "a b.sheet:3:18: `N` is set and never read, so that nothing comes of it.\n"
+        )
+        self.assertEqual(self.lint("a b.sheet"), (1, lines, ""))
+
+    def test_words(self) -> None:
+        for words in ((), ("a.sheet", "b.sheet")):
+            self.assertEqual(self.lint(*words), (2, "", "lint: usage: cardhouse lint GAME.sheet\n"))
+
+    def test_files_that_cant_be_read(self) -> None:
+        self.assertEqual(self.lint("a.sheet"), (2, "", "lint: a.sheet can't be read: No such file or directory.\n"))
+        (self.folder / "a.sheet").write_text("(game")
+        said = "lint: a.sheet can't be read as a sheet: a `)` is missing. `./cardhouse sheet` tells its fault.\n"
+        self.assertEqual(self.lint("a.sheet"), (2, "", said))
+
+    def test_output_that_cant_be_written(self) -> None:
+        (self.folder / "a.sheet").write_text(sheet("(do (inc (game sto N) 1))"))
+        with open("/dev/full", "w") as full:
+            self.assertEqual(self.lint("a.sheet", out=full.fileno())[0], 7)
+
+
+if __name__ == "__main__":
+    unittest.main()
