@@ -1,4 +1,5 @@
-"""Tests of the syntax files for editors: their words are those of the grammar, and a sample is coloured as it should be."""
+"""Tests of the files for editors: their words are those of the grammar, a sample is coloured as it should be, what ships stays as it is
+indented, faults are found, and snippets are of the language."""
 
 import json
 import re
@@ -11,6 +12,11 @@ from pathlib import Path
 ROOT = Path(__file__).resolve().parent.parent
 VIM = ROOT / "editors/vim"
 VSCODE = ROOT / "editors/vscode"
+
+SHEETS = sorted([*(ROOT / "examples").glob("**/*.sheet"), *(ROOT / "bench").glob("*.sheet")])
+
+# What a sheet has that is written with indentation.
+INDENTED = re.compile(r"^\(game\n  \(setup", re.MULTILINE)
 
 SHEET = """(game ; a comment (game
 (setup (create players 2)(put points max ((A 7UP -7))))
@@ -81,21 +87,33 @@ class Words(unittest.TestCase):
         self.assertEqual(vscode_words("cardplan"), plan_words())
 
 
-class Colours(unittest.TestCase):
+class InFolder(unittest.TestCase):
     def setUp(self) -> None:
         self.folder = Path(tempfile.mkdtemp())
         self.addCleanup(shutil.rmtree, self.folder)
 
+    def vim(self, *commands: str) -> None:
+        """Runs commands in Vim, with the files of this folder and no others."""
+        script = [f"set nocompatible runtimepath^={VIM}", "filetype plugin on", "syntax on", *commands, "qall!", ""]
+        (self.folder / "script.vim").write_text("\n".join(script))
+        command = ["vim", "-u", "NONE", "-es", "-S", self.folder / "script.vim"]
+        subprocess.run(command, cwd=self.folder, timeout=60, stdin=subprocess.DEVNULL, stdout=subprocess.DEVNULL)
+
+
+class Colours(InFolder):
     def vim_colours(self, file: str, text: str) -> list[tuple[str, str]]:
         """The runs of characters of one class, as Vim colours them."""
         (self.folder / file).write_text(text)
-        (self.folder / "script.vim").write_text(
-            f"set nocompatible runtimepath^={VIM}\nfiletype plugin on\nsyntax on\nedit {self.folder / file}\n"
-            "let rows = []\nfor row in range(1, line('$'))\nfor column in range(1, col([row, '$']) - 1)\n"
-            "call add(rows, row . ' ' . column . ' ' . synIDattr(synID(row, column, 1), 'name'))\nendfor\nendfor\n"
-            f"call writefile(rows, '{self.folder / 'rows'}')\nqall!\n"
+        self.vim(
+            f"edit {file}",
+            "let rows = []",
+            "for row in range(1, line('$'))",
+            "for column in range(1, col([row, '$']) - 1)",
+            "call add(rows, row . ' ' . column . ' ' . synIDattr(synID(row, column, 1), 'name'))",
+            "endfor",
+            "endfor",
+            "call writefile(rows, 'rows')",
         )
-        subprocess.run(["vim", "-u", "NONE", "-es", "-S", self.folder / "script.vim"], timeout=60, stdin=subprocess.DEVNULL)
         lines = text.split("\n")
         runs: list[tuple[str, str]] = []
         last = ("", 0, 0)
@@ -146,6 +164,76 @@ class Colours(unittest.TestCase):
     def test_vscode(self) -> None:
         self.assertEqual(self.node_colours("cardsheet", SHEET), SHEET_COLOURS)
         self.assertEqual(self.node_colours("cardplan", PLAN), PLAN_COLOURS)
+
+
+@unittest.skipUnless(shutil.which("vim"), "no Vim on the path")
+class Indenting(InFolder):
+    def indented(self, *texts: str) -> list[str]:
+        """The texts as Vim indents them."""
+        files = [self.folder / f"{number}.sheet" for number in range(len(texts))]
+        for file, text in zip(files, texts):
+            file.write_text(text)
+        self.vim(*(command for file in files for command in (f"edit {file.name}", "normal gg=G", "write")))
+        return [file.read_text() for file in files]
+
+    def test_sheets_that_ship_stay_as_they_are(self) -> None:
+        sheets = [file for file in SHEETS if INDENTED.search(file.read_text("ascii"))]
+        self.assertGreaterEqual(len(sheets), 15)
+        texts = [file.read_text("ascii") for file in sheets]
+        flat = [re.sub("^ +", "", text, flags=re.MULTILINE) for text in texts]
+        for file, text, kept, made in zip(sheets, texts, self.indented(*texts), self.indented(*flat)):
+            with self.subTest(file.relative_to(ROOT)):
+                self.assertEqual(kept, text)
+                self.assertEqual(made, text)
+
+    def test_comments_count_for_nothing(self) -> None:
+        text = "(game ; (((\n  (setup\n    (put points A ; ((\n      ; (\n      ((B (1) 2)\n       (B (2) 3)))))\n"
+        self.assertEqual(self.indented(text), [text])
+
+
+@unittest.skipUnless(shutil.which("vim"), "no Vim on the path")
+class Making(InFolder):
+    def made(self, program: str) -> list[str]:
+        """What `:make` tells by this program, and where it jumps to."""
+        (self.folder / "a b.sheet").write_text("(game\n  (stage player\n    (end (= 1 2))\n")
+        (self.folder / "program").write_text(f"#!/bin/sh\n{program}\n")
+        (self.folder / "program").chmod(0o755)
+        self.vim(
+            "let g:cardhouse = './program'",
+            "edit a\\ b.sheet",
+            "call cursor(1, 1)",
+            "compiler cardhouse",
+            "silent make",
+            "let rows = []",
+            "for it in filter(getqflist(), 'v:val.valid')",
+            "call add(rows, bufname(it.bufnr) . ' ' . it.lnum . ' ' . it.col . ' ' . it.text)",
+            "endfor",
+            "call add(rows, line('.') . ' ' . col('.'))",
+            "call writefile(rows, 'rows')",
+        )
+        return (self.folder / "rows").read_text().splitlines()
+
+    def test_it_jumps_to_a_fault(self) -> None:
+        program = """
+        [ "$1 $2" = "--explain sheet" ] || exit 2
+        echo "sheet Shape 26" >&2
+        echo >&2
+        echo "$3:3:5: No such list." >&2
+        exit 1
+        """
+        self.assertEqual(self.made(program), ["a b.sheet 3 5 No such list.", "3 5"])
+
+    def test_where_there_is_none_it_tells_findings(self) -> None:
+        program = """
+        [ "$1" = lint ] || { echo "(game (written:1:1: (canonically)))"; exit 0; }
+        echo "$2:2:3: One."
+        echo "$2:3:10: Another."
+        exit 1
+        """
+        self.assertEqual(self.made(program), ["a b.sheet 2 3 One.", "a b.sheet 3 10 Another.", "2 3"])
+
+    def test_where_there_is_nothing_it_stays(self) -> None:
+        self.assertEqual(self.made("exit 0"), ["1 1"])
 
 
 class Extension(unittest.TestCase):
