@@ -8,10 +8,15 @@ import subprocess
 import tempfile
 import unittest
 from pathlib import Path
+from typing import Any
+
+from linting.running import findings
+from linting.trees import placed, read_lists, read_sheet
 
 ROOT = Path(__file__).resolve().parent.parent
 VIM = ROOT / "editors/vim"
 VSCODE = ROOT / "editors/vscode"
+PROGRAM = ROOT / "crates/rc_main/out/rc_main"
 
 SHEETS = sorted([*(ROOT / "examples").glob("**/*.sheet"), *(ROOT / "bench").glob("*.sheet")])
 
@@ -236,15 +241,102 @@ class Making(InFolder):
         self.assertEqual(self.made("exit 0"), ["1 1"])
 
 
+def contributed() -> dict[str, Any]:
+    """What the extension adds to the editor."""
+    told: dict[str, Any] = json.loads((VSCODE / "package.json").read_text("ascii"))["contributes"]
+    return told
+
+
 class Extension(unittest.TestCase):
     def test_its_files_are_there(self) -> None:
-        contributes = json.loads((VSCODE / "package.json").read_text("ascii"))["contributes"]
-        for entry in contributes["languages"]:
+        for entry in contributed()["languages"]:
             self.assertTrue((VSCODE / entry["configuration"]).is_file())
-        for entry in contributes["grammars"]:
+        for entry in contributed()["grammars"]:
             told = json.loads((VSCODE / entry["path"]).read_text("ascii"))
             self.assertEqual(told["scopeName"], entry["scopeName"])
-        json.loads((VSCODE / "language-configuration.json").read_text("ascii"))
+        for entry in contributed()["snippets"]:
+            self.assertTrue((VSCODE / entry["path"]).is_file())
+
+    def test_the_task_uses_the_matcher(self) -> None:
+        (task,) = json.loads((VSCODE / "tasks.json").read_text("ascii"))["tasks"]
+        (matcher,) = contributed()["problemMatchers"]
+        self.assertEqual(task["problemMatcher"], f"${matcher['name']}")
+
+    def test_the_matcher_finds_places(self) -> None:
+        pattern = contributed()["problemMatchers"][0]["pattern"]
+        for line, groups in (
+            ("/a b/c.sheet:31:5: No such list: 7:7: here.", ("/a b/c.sheet", "31", "5", "No such list: 7:7: here.")),
+            ("sheet Shape 26", None),
+            ("    (if (= 1 2)", None),
+        ):
+            found = re.search(pattern["regexp"], line)
+            told = [pattern[it] for it in ("file", "line", "column", "message")]
+            self.assertEqual(found and tuple(found[it] for it in told), groups)
+
+
+class Rules(unittest.TestCase):
+    """How VS Code indents the line behind a line. That a list is open is counted here, and not matched."""
+
+    def setUp(self) -> None:
+        told = json.loads((VSCODE / "language-configuration.json").read_text("ascii"))
+        self.increase = re.compile(told["indentationRules"]["increaseIndentPattern"])
+        (rule,) = told["onEnterRules"]
+        self.outdent = re.compile(rule["beforeText"])
+        self.lines = [line for file in SHEETS for line in file.read_text("ascii").splitlines()]
+
+    def test_a_line_that_leaves_a_list_open_is_followed_by_what_is_in_it(self) -> None:
+        for line in [*self.lines, "(do ; (", "(do) ; (", "; (do", "(a (b (c (d (e)))))", ")) (do"]:
+            with self.subTest(line):
+                self.assertEqual(bool(self.increase.search(line)), left(line)[1] > 0)
+
+    def test_a_line_that_ends_lists_is_followed_by_what_is_outside(self) -> None:
+        for line in [*self.lines, "(do))", "(do) ; )", "))", ""]:
+            closed, opened = left(line)
+            with self.subTest(line):
+                self.assertEqual(bool(self.outdent.search(line)), closed > 0 and opened == 0)
+
+
+def left(line: str) -> tuple[int, int]:
+    """How many lists that began before a line end in it, and how many that begin in it are open behind it."""
+    closed = opened = 0
+    for character in line.partition(";")[0]:
+        if character == "(":
+            opened += 1
+        elif character == ")" and opened:
+            opened -= 1
+        elif character == ")":
+            closed += 1
+    return closed, opened
+
+
+class Snippets(unittest.TestCase):
+    # What each snippet is.
+    PLACES = {"game": "SHEET", "deal": "ITEM", "stage": "ITEM", "play": "ALT", "points": "LINE", "plan": "PLAN"}
+
+    def setUp(self) -> None:
+        files = [json.loads((VSCODE / entry["path"]).read_text("ascii")) for entry in contributed()["snippets"]]
+        self.texts = {entry["prefix"]: filled(entry["body"]) for file in files for entry in file.values()}
+
+    def test_each_is_a_list_of_its_place(self) -> None:
+        self.assertEqual(self.texts.keys(), self.PLACES.keys())
+        for prefix, place in self.PLACES.items():
+            (written,) = read_lists(self.texts[prefix].encode())
+            with self.subTest(prefix):
+                self.assertEqual([it.at for it in placed(written, place).within() if it.is_list and not it.form], [])
+
+    def test_nothing_is_told_of_the_game(self) -> None:
+        self.assertEqual(findings(read_sheet(self.texts["game"].encode())), [])
+
+    @unittest.skipUnless(PROGRAM.is_file(), "the program isn't built")
+    def test_the_game_is_played_by_the_plan(self) -> None:
+        source = self.texts["game"] + self.texts["plan"]
+        ran = subprocess.run([PROGRAM, "play"], input=source, capture_output=True, text=True, timeout=60)
+        self.assertEqual((ran.returncode, ran.stdout.count("\nend done ")), (0, 100))
+
+
+def filled(body: list[str]) -> str:
+    """A snippet with what stands at first where it is to be filled in."""
+    return re.sub(r"\$\d", "", re.sub(r"\$\{\d:([^{}]*)\}", r"\1", "\n".join(body)))
 
 
 if __name__ == "__main__":
