@@ -331,7 +331,7 @@ class Snippets(unittest.TestCase):
     def test_the_game_is_played_by_the_plan(self) -> None:
         source = self.texts["game"] + self.texts["plan"]
         ran = subprocess.run([PROGRAM, "play"], input=source, capture_output=True, text=True, timeout=60)
-        self.assertEqual((ran.returncode, ran.stdout.count("\nend done ")), (0, 100))
+        self.assertEqual((ran.returncode, ran.stdout.count("\nend done ")), (0, 10))
 
 
 def filled(body: list[str]) -> str:
