@@ -19,7 +19,15 @@ from pathlib import Path
 from textwrap import dedent
 
 ROOT = Path(__file__).resolve().parent.parent
-QUOTING = ("README.md", "docs/TUTORIAL.md", "docs/COOKBOOK.md", "docs/LANGUAGE.md", "docs/FORMATS.md", "examples/poker.md")
+QUOTING = (
+    "README.md",
+    "docs/TUTORIAL.md",
+    "docs/COOKBOOK.md",
+    "docs/LANGUAGE.md",
+    "docs/FORMATS.md",
+    "docs/LINT.md",
+    "examples/poker.md",
+)
 FREE = ("sh", "text")
 SECONDS = 120
 LOOKS = re.compile(r"^cache looks \d+ hits \d+\n", re.MULTILINE)
