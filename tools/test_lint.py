@@ -202,7 +202,14 @@ class Variables(Telling):
 
     def test_in_loops(self) -> None:
         said = "`'P` isn't used behind this place, so that the effects come to the same each time."
-        self.check(staged("(do (all player ^'P (shuffle (game hloc STOCK)) (cycle next (current player))))"), said)
+        self.check(staged("(do (all player ^'P (shuffle (game hloc STOCK))))"), said)
+        self.check(staged("(do (all (game vloc PILE) ^'P (cycle next (current player))))"), said)
+
+    def test_a_loop_in_which_the_current_player_stands_for_each(self) -> None:
+        said = "`'P` isn't used behind this place, so that the effects are those of the current player each time."
+        draw = "(move (top (game hloc STOCK)) (top ((current player) iloc HAND)))"
+        self.check(staged(f"(do (all player ^'P {draw}))"), said)
+        self.silent(staged(f"(do (all player 'P (if (!= 'P (current player)) {draw})))"))
 
     def test_a_loop_may_repeat_its_effects(self) -> None:
         deal = "(move (top (game hloc STOCK)) (top (game vloc PILE)))"

@@ -15,6 +15,7 @@ SAME = {
     "(all COLL 'V EFFECT+)": "the effects come to the same each time",
 }
 TEST = "the test is the same for each"
+CURRENT = "the effects are those of the current player each time"
 
 # Effects that come to more the more often they are done.
 ADDING = (
@@ -33,13 +34,19 @@ def on_variables(sheet: Node) -> Iterator[Finding]:
         if parts_of(node.form)[2:3] != ["'V"]:
             continue
         variable, body = node.parts[2], node.parts[3:]
-        if not any(is_used(variable.text, part) for part in body) and not is_switch(node) and not is_repeating(node):
-            come = SAME.get(node.form, TEST)
+        if any(it.text == variable.text for part in body for it in part.within()) or is_switch(node):
+            continue
+        come = what_comes(node)
+        if come:
             yield Finding(variable.at, f"`{variable.text}` isn't used behind this place, so that {come}.")
 
 
-def is_used(variable: str, part: Node) -> bool:
-    return any(node.text == variable for node in part.within())
+def what_comes(node: Node) -> str:
+    """What comes of a list whose variable isn't used; nothing where that may be meant."""
+    effects = [it for part in node.parts[3:] for it in part.within()] if node.form.endswith("EFFECT+)") else []
+    if node.parts[1].text == "player" and any(it.form == "(current player)" for it in effects):
+        return CURRENT
+    return "" if any(is_adding(it) for it in effects) else SAME.get(node.form, TEST)
 
 
 def is_switch(node: Node) -> bool:
@@ -49,14 +56,7 @@ def is_switch(node: Node) -> bool:
     return is_filter and not any(it.place == "CARD" or it.form in cards for it in node.parts[3].within())
 
 
-def is_repeating(node: Node) -> bool:
-    """Whether effects are to be done once for each member, whoever that is, as where a card is dealt for each player."""
-    if not node.form.endswith("EFFECT+)"):
-        return False
-    effects = [it for part in node.parts[3:] for it in part.within()]
-    return any(it.form in ADDING or is_adding(it) or (it.is_list and not it.form) for it in effects)
-
-
-def is_adding(effect: Node) -> bool:
-    """Whether a number is set to an amount that may be another one each time."""
-    return effect.form == "(set NUM INT)" and any(is_number(it) for it in effect.parts[2].within())
+def is_adding(node: Node) -> bool:
+    """Whether it may be meant to do an effect once for each member, whoever that is, since it comes to more each time."""
+    is_other = node.form == "(set NUM INT)" and any(is_number(it) for it in node.parts[2].within())
+    return node.form in ADDING or is_other or (node.is_list and not node.form)
