@@ -12,6 +12,12 @@ setlocal lispwords=game,setup,create,put,deck,do,stage,end,choice,any,all,if,rep
 
 let b:undo_ftplugin = "setlocal comments< commentstring< lisp< autoindent< shiftwidth< expandtab< lispwords<"
 
+" Plans have these settings too, and no `:make`, which reads a sheet alone.
+if &filetype ==# "cardsheet"
+  compiler cardhouse
+  let b:undo_ftplugin .= " makeprg< errorformat<"
+endif
+
 " Older versions have no such option, and align what is in a list of lists with the second of them.
 if exists("+lispoptions")
   setlocal lispoptions=expr:1 indentexpr=CardhouseIndent(v:lnum)
