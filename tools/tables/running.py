@@ -1,0 +1,74 @@
+"""The command `table`."""
+
+import argparse
+import sys
+from pathlib import Path
+
+from tables import records
+from tables.counting import counts_of
+from tables.ending import READ_FAULT, TEXT, Refused, status_of
+from tables.house import Match, Reader
+from tables.showing import table
+
+STANDARD_INPUT = "standard input"
+
+
+def parser() -> argparse.ArgumentParser:
+    """What the words may be."""
+    words = argparse.ArgumentParser(
+        "cardhouse table", description="One table of all matches that transcripts tell.", allow_abbrev=False
+    )
+    add_forms(words)
+    words.add_argument("--duplicate", action="store_true", help="each deal was played once by each strategy in each seat: errors by deal")
+    words.add_argument("texts", nargs="*", type=Path, metavar="TEXT", help="a file with what `play` wrote; none: standard input")
+    return words
+
+
+def add_forms(words: argparse.ArgumentParser) -> None:
+    """The options by which the matches are written one by one."""
+    forms = words.add_mutually_exclusive_group()
+    forms.add_argument("--csv", action="store_const", dest="form", const="csv", help="a line for each match, comma-separated")
+    forms.add_argument("--jsonl", action="store_const", dest="form", const="jsonl", help="a line for each match, a JSON object")
+
+
+def main(words: list[str]) -> int:
+    options = parser().parse_intermixed_args(words)
+    return status_of(lambda: write(matches_of(options.texts), options.form, options.duplicate))
+
+
+def matches_of(files: list[Path]) -> list[Match]:
+    """The matches of all texts, which have the same number of players."""
+    found: list[Match] = []
+    for name, text in [(str(file), read(file)) for file in files] or [(STANDARD_INPUT, sys.stdin.buffer.read())]:
+        matches = Reader(name, text).matches()
+        if found and len(matches[0].scores) != len(found[0].scores):
+            raise Refused(TEXT, f"{name}:2: here {len(matches[0].scores)} play, and in {files[0]} {len(found[0].scores)}")
+        found += matches
+    return found
+
+
+def read(file: Path) -> bytes:
+    try:
+        return file.read_bytes()
+    except OSError as error:
+        raise Refused(READ_FAULT, f"{file}: {error.strerror}") from None
+
+
+def write(matches: list[Match], form: str | None, is_duplicate: bool) -> None:
+    """Writes what is asked for: the table, or a line for each match."""
+    if form:
+        sys.stdout.write(records.csv(matches) if form == "csv" else records.jsonl(matches))
+    else:
+        sys.stdout.write(table(counts_of(matches, players_of_deals(matches) if is_duplicate else 1)))
+
+
+def players_of_deals(matches: list[Match]) -> int:
+    """How many matches a deal has, where each is played once by each strategy in each seat, one match behind the other."""
+    players = len(matches[0].scores)
+    for at, match in enumerate(matches):
+        first = matches[at - at % players]
+        if (match.deal, match.seats) != (first.deal, first.seats) or match.number % players != at % players:
+            raise Refused(TEXT, f"match {match.number} isn't of the deal of match {first.number}: these aren't deals played {players} times")
+    if len(matches) % players:
+        raise Refused(TEXT, f"the last deal isn't played {players} times")
+    return players
