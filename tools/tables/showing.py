@@ -23,24 +23,25 @@ def counted(number: int, one: str, many: str) -> str:
     return f"{number} {one if number == 1 else many}"
 
 
-def columns(counts: Counts) -> str:
-    """The figures, those of lengths and those of strategies and seats, each below a line that names them."""
-    lengths = [["turns", *length(counts.turns)], ["choices", *length(counts.choices)]]
+def columns(counts: Counts, sign: str = "") -> str:
+    """The figures, those of lengths and those of strategies and seats, each below a line that names them. The sign `+` is for
+    differences."""
+
+    def whole(number: int) -> str:
+        return f"{number:{sign}}"
+
+    def mean(figure: Figure) -> list[str]:
+        error = figure.error()
+        return [f"{figure.mean():{sign}.3f}", "-" if error is None else f"{error:.3f}"]
+
+    lengths = [
+        [label, *mean(it), whole(it.least), whole(it.most)] for label, it in (("turns", counts.turns), ("choices", counts.choices))
+    ]
     sides = [
-        [it.label, str(it.points.total), *mean(it.points), str(it.wins.total), *mean(it.wins), *mean(it.score)]
+        [it.label, whole(it.points.total), *mean(it.points), whole(it.wins.total), *mean(it.wins), *mean(it.score)]
         for it in counts.sides()
     ]
     return f"\n{aligned([LENGTHS, *lengths])}\n{aligned([SIDES, *sides])}"
-
-
-def length(figure: Figure) -> list[str]:
-    return [*mean(figure), str(figure.least), str(figure.most)]
-
-
-def mean(figure: Figure) -> list[str]:
-    """The mean and its error, if it has one."""
-    error = figure.error()
-    return [f"{figure.mean():.3f}", "-" if error is None else f"{error:.3f}"]
 
 
 def aligned(rows: list[list[str]]) -> str:

@@ -1,0 +1,53 @@
+"""Asks the program whether it accepts a sheet and the plan of a series, and tells where it doesn't."""
+
+import re
+from dataclasses import dataclass
+from pathlib import Path
+
+from faults.places import place_of
+from pieces.folder import read
+from pieces.plans import SeriesPlan, plan_of
+from pieces.program import Program, refusal
+from tables.ending import Refused
+
+
+@dataclass(frozen=True)
+class Sources:
+    """A sheet and the plan of a series, and their files."""
+
+    sheet_file: Path
+    plan_file: Path
+    sheet: bytes
+    plan: SeriesPlan
+
+    def part(self, begin: int, matches: int) -> bytes:
+        """The source of so many matches from one on."""
+        return self.sheet + b"\n" + self.plan.part(begin, matches)
+
+    def accept(self, program: Program, matches: int) -> None:
+        """Asks that the sheet and a plan of so many matches are accepted. Then `check` looks for a transcript behind them, and
+        misses its first line."""
+        judged = program.call(["check"], self.part(0, matches))
+        if (judged.returncode, judged.stderr.splitlines()[-1:]) != (4, [b"text 1"]):
+            refused = refusal(judged)
+            raise Refused(refused.status, self.located(str(refused)))
+
+    def located(self, note: str) -> str:
+        """A note behind the file, the line and the column at which it points. In a plan that is one of a series by its shape, only
+        what stands before its matches may be faulty."""
+        told = re.fullmatch(r"(?:sheet|plan) \w+ (\d+)", note)
+        if not told:
+            return note
+        at, length = int(told[1]), len(self.sheet)
+        if at < length:
+            return f"{placed(self.sheet_file, self.sheet, at)}: {note}"
+        return f"{placed(self.plan_file, self.plan.text, at - length - 1)}: {note}"
+
+
+def sources_of(sheet: Path, plan: Path, duplicate: bool) -> Sources:
+    return Sources(sheet, plan, read(sheet), plan_of(str(plan), read(plan), duplicate))
+
+
+def placed(file: Path, text: bytes, at: int) -> str:
+    place = place_of(text, at)
+    return f"{file}:{place.line}:{place.column}"

@@ -1,0 +1,90 @@
+"""The program that plays and judges: where it is, which one it is, and calls of it."""
+
+import hashlib
+import os
+import subprocess
+import time
+from dataclasses import dataclass
+from pathlib import Path
+
+from tables.ending import Refused
+
+ROOT = Path(__file__).resolve().parent.parent.parent
+NOT_BUILT = 127
+
+
+def digest(data: bytes) -> str:
+    return hashlib.sha256(data).hexdigest()
+
+
+@dataclass(frozen=True)
+class Played:
+    """What `play` wrote and noted, and how long it took to play and to judge."""
+
+    text: bytes
+    note: str
+    seconds: float
+
+
+class Program:
+    """The script `cardhouse` of this checkout, or what the environment has in CARDHOUSE, another such script or the program itself."""
+
+    def __init__(self) -> None:
+        self.command = Path(os.environ.get("CARDHOUSE") or ROOT / "cardhouse").resolve()
+        crate = self.command.parent / "crates/rc_main"
+        self.file = crate / "out/rc_main" if crate.is_dir() else self.command
+
+    def digest(self) -> str:
+        """The digest of the program itself, which is built first where it isn't there."""
+        if not self.file.exists():
+            self.call(["sheet"], b"")
+        try:
+            return digest(self.file.read_bytes())
+        except OSError as error:
+            raise Refused(NOT_BUILT, f"{self.file}: {error.strerror}") from None
+
+    def call(self, words: list[str], source: bytes) -> subprocess.CompletedProcess[bytes]:
+        try:
+            return subprocess.run([self.command, *words], input=source, capture_output=True)
+        except OSError as error:
+            raise Refused(NOT_BUILT, f"{self.command}: {error.strerror}") from None
+
+    def play(self, source: bytes) -> Played:
+        """Plays a sheet and a plan, and has the transcript judged, which is to be legal."""
+        began = time.monotonic()
+        played = self.call(["play"], source)
+        if played.returncode:
+            raise refusal(played)
+        self.judge(source, played.stdout)
+        return Played(played.stdout, played.stderr.decode("utf-8", "replace").strip(), time.monotonic() - began)
+
+    def judge(self, source: bytes, text: bytes) -> None:
+        """Asks that a transcript is legal."""
+        judged = self.call(["check"], source + b"\n" + text)
+        if (judged.returncode, judged.stdout) != (0, b"legal\n"):
+            raise refusal(judged)
+
+
+def refusal(ended: subprocess.CompletedProcess[bytes]) -> Refused:
+    """What the program told, with its status."""
+    told = ended.stderr.decode("utf-8", "replace").strip() or f"the program ended with {ended.returncode}"
+    return Refused(ended.returncode if ended.returncode > 0 else NOT_BUILT, told)
+
+
+def told_by(*command: str) -> str | None:
+    """What a command writes, if it is there and ends well."""
+    try:
+        ran = subprocess.run(command, cwd=ROOT, capture_output=True, text=True)
+    except OSError:
+        return None
+    return ran.stdout.strip() if ran.returncode == 0 else None
+
+
+def commit() -> str | None:
+    """The commit of this checkout, with `-dirty` behind it where files differ from it."""
+    return told_by("git", "describe", "--always", "--abbrev=40", "--exclude=*", "--dirty")
+
+
+def kit() -> str | None:
+    """The line by which the kit is known."""
+    return told_by("rt", "version")

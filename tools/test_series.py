@@ -1,0 +1,368 @@
+"""Tests of tools/series. Those that play need the built program."""
+
+import json
+import os
+import shutil
+import signal
+import subprocess
+import sys
+import tempfile
+import time
+import unittest
+from pathlib import Path
+
+from pieces.folder import Piece, Said, Series, write_object
+from pieces.plans import plan_of, size_of
+from pieces.playing import line_of, picked
+from pieces.program import digest
+from pieces.splitting import MAKEFILE
+from tables.ending import Refused
+
+ROOT = Path(__file__).resolve().parent.parent
+PROGRAM = ROOT / "crates/rc_main/out/rc_main"
+COMMAND = ROOT / "tools/series"
+SHEET = ROOT / "examples/draws.sheet"
+
+# The first plan that isn't too large has these matches, of which a piece takes 102.
+PLAN = "(plan (seats (random 1) (random 7))\n  (matches (from 1 5 300)) ; a series\n  (turns 40))\n"
+
+
+def skip(test: str, reason: str) -> unittest.SkipTest:
+    """Says why a test is skipped, since unittest prints a letter alone."""
+    print(f"\n{test} is skipped: {reason}", file=sys.stderr)
+    return unittest.SkipTest(reason)
+
+
+def ran(*words: object, **environment: str) -> subprocess.CompletedProcess[str]:
+    """How a call of the command ends."""
+    return ended([COMMAND, *map(str, words)], **environment)
+
+
+def ended(command: list[object], **environment: str) -> subprocess.CompletedProcess[str]:
+    names = {**os.environ, "CARDHOUSE": str(PROGRAM), **environment}
+    return subprocess.run(list(map(str, command)), capture_output=True, text=True, env=names, timeout=300)
+
+
+class Plans(unittest.TestCase):
+    def plan(self, strategies: int, turns: int, count: int = 100_000, duplicate: bool = False):
+        seats = " ".join(f"(random {key})" for key in range(strategies))
+        text = f"(plan (seats {seats}) (matches (from 10 20 {count})) (turns {turns}))"
+        return plan_of("a", text.encode(), duplicate)
+
+    def test_all_but_the_matches_stays_as_it_is_written(self) -> None:
+        text = b"; a plan\n(plan (seats (script 1  2)\n(random 007)) (matches (from 01 2 99999)) ; (from 3 4 5)\n(turns 9))\n"
+        plan = plan_of("a", text, False)
+        self.assertEqual((plan.deal, plan.seats, plan.count, plan.turns), (1, 2, 99999, 9))
+        self.assertEqual(plan.strategies, ["(script 1 2)", "(random 007)"])
+        self.assertEqual(plan.part(40, 6), text.replace(b"(from 01 2 99999)", b"(from 41 42 6)"))
+
+    def test_pieces_are_as_large_as_a_plan_may_be(self) -> None:
+        # 262144 / 200 is 1310 and more, and 3 times 436 is 1308. 262144 / 40 is more than 4096, and 3 times 1365 is 4095.
+        for strategies, turns, size in [(3, 200, 1308), (2, 40, 4096), (3, 40, 4095), (2, 100_000, 2), (8, 32_768, 8), (1, 100_000, 2)]:
+            plan = self.plan(strategies, turns)
+            self.assertEqual(size_of(plan, plan.most()), size)
+        self.assertEqual([size_of(self.plan(3, 200), wanted) for wanted in (3, 4, 5, 6, 104)], [3, 3, 3, 6, 102])
+
+    def test_where_no_piece_fits(self) -> None:
+        for strategies, turns, wanted in [(3, 100_000, 4096), (8, 32_769, 4096), (3, 200, 2)]:
+            self.assertRaises(Refused, size_of, self.plan(strategies, turns), wanted)
+
+    def test_each_match_of_a_piece_has_the_seeds_and_strategies_of_the_series(self) -> None:
+        plan = self.plan(3, 200, 50)
+        for begin in range(0, 50, size_of(plan, 13)):
+            piece = plan_of("piece", plan.part(begin, 2), False)
+            for match in range(2):
+                self.assertEqual(piece.seeds(match), plan.seeds(begin + match))
+                self.assertEqual([(seat + match) % 3 for seat in range(3)], [(seat + begin + match) % 3 for seat in range(3)])
+
+    def test_duplicates_are_played_with_each_strategy_in_each_seat(self) -> None:
+        plan = self.plan(3, 200, 2, duplicate=True)
+        self.assertEqual(plan.matches(), 6)
+        self.assertIn(b"(matches (10 20) (10 20) (10 20) (11 21) (11 21) (11 21))", plan.part(0, 6))
+        self.assertIn(b"(matches (11 21) (11 21) (11 21))", plan.part(3, 3))
+
+    def test_what_is_no_plan_of_a_series(self) -> None:
+        plan = "(plan (seats (script)) (matches (from 1 1 9)) (turns 9))"
+        plan_of("a", plan.encode(), False)
+        for old, new in [
+            ("(from 1 1 9)", "(1 1)"),
+            ("(from 1 1 9)", "(from 1 1 9) (from 2 2 9)"),
+            ("(from 1 1 9)", "(from 1 x 9)"),
+            ("(from 1 1 9)", "(from 1 1 0)"),
+            ("(from 1 1 9)", f"(from {10**18 - 9} 1 10)"),
+            ("(turns 9)", "(turns 0)"),
+            ("(turns 9)", ""),
+            ("(script)", ""),
+            ("))", ")"),
+        ]:
+            self.assertRaises(Refused, plan_of, "a", plan.replace(old, new).encode(), False)
+
+
+class Folders(unittest.TestCase):
+    def setUp(self) -> None:
+        folder = tempfile.TemporaryDirectory()
+        self.addCleanup(folder.cleanup)
+        self.folder = Path(folder.name)
+
+    def write(self, pieces: int, seed: int = 0) -> None:
+        parts = [Piece(2 * number, 2, "") for number in range(pieces)]
+        write_object(self.folder / "series.json", Said("", "", "", None, None, ["", ""], seed, 0, 9, False, 2 * pieces, parts))
+
+    def test_the_share_is_picked_by_the_digest(self) -> None:
+        self.write(40)
+        some = picked(self.folder, 0.05)
+        self.assertEqual((len(some), some), (2, picked(self.folder, 0.05)))
+        self.assertEqual([len(picked(self.folder, share)) for share in (0.001, 0.051, 1)], [1, 3, 40])
+        self.write(40, seed=1)
+        self.assertNotEqual(picked(self.folder, 0.25), some)
+        for share in (0, 1.1, -1):
+            self.assertRaises(Refused, picked, self.folder, share)
+
+    def test_pieces_are_numbered_from_0_on(self) -> None:
+        self.write(2)
+        for number in (-1, 2):
+            self.assertRaises(Refused, Series(self.folder).piece, number)
+
+    def test_what_is_no_folder_of_a_series(self) -> None:
+        self.assertRaises(Refused, Series, self.folder)
+        for text in ("", "{}", "[]", "1"):
+            (self.folder / "series.json").write_text(text)
+            self.assertRaises(Refused, Series, self.folder)
+
+    def test_a_file_is_written_as_a_whole(self) -> None:
+        self.write(2)
+        self.assertEqual([file.name for file in self.folder.iterdir()], ["series.json"])
+
+    def test_lines_that_differ(self) -> None:
+        self.assertEqual([line_of(b"a\nb\n", it) for it in (b"x\nb\n", b"a\nx\n", b"a\n", b"a\nb\nc")], [1, 2, 2, 3])
+
+    def test_make_plays_what_is_missing_alone(self) -> None:
+        (self.folder / "Makefile").write_text(MAKEFILE.format(command="echo", last=2))
+        (self.folder / "1.json").touch()
+        (self.folder / "1.transcript").touch()
+        made = ended(["make", "-C", self.folder, "-s", "-n"])
+        self.assertEqual(made.stdout.split("\n"), ["echo run . 0", "echo run . 2", ""])
+
+
+class Played(unittest.TestCase):
+    """A series of 300 matches of a game that ships, and its whole plan in one."""
+
+    @classmethod
+    def setUpClass(cls) -> None:
+        if not PROGRAM.exists():
+            raise skip(cls.__name__, "the program isn't built")
+        folder = tempfile.TemporaryDirectory()
+        cls.addClassCleanup(folder.cleanup)
+        cls.root = Path(folder.name)
+        (cls.root / "series.plan").write_text(PLAN)
+        cls.split = ran("split", cls.root / "whole", SHEET, cls.root / "series.plan", "--size", 103)
+        cls.made = ended(["make", "-s", "-j", 4, "-C", cls.root / "whole", "table"])
+        source = SHEET.read_text() + PLAN
+        cls.text = subprocess.run([PROGRAM, "play"], input=source, capture_output=True, text=True, timeout=300).stdout
+        cls.table = subprocess.run([ROOT / "tools/table"], input=cls.text, capture_output=True, text=True, timeout=300).stdout
+
+    def setUp(self) -> None:
+        self.folder = self.root / self.id()
+        shutil.copytree(self.root / "whole", self.folder)
+
+    def refused(self, status: int, said: str, *words: object, **environment: str) -> None:
+        end = ran(*words, **environment)
+        self.assertEqual((end.returncode, end.stdout), (status, ""))
+        self.assertIn(said, end.stderr)
+
+    def is_whole(self) -> None:
+        end = ran("table", self.folder)
+        self.assertEqual((end.returncode, end.stdout, end.stderr), (0, self.table, ""))
+
+    def altered(self, number: int, **values: object) -> None:
+        """Puts other values into what is kept of a piece."""
+        file = self.folder / f"{number}.json"
+        file.write_text(json.dumps(json.loads(file.read_text()) | values))
+
+    def test_what_was_split_and_played(self) -> None:
+        self.assertEqual((self.split.returncode, self.split.stderr), (0, ""))
+        self.assertTrue(self.split.stdout.startswith("3 pieces of 102 matches or fewer: "))
+        self.assertEqual((self.made.returncode, self.made.stderr), (0, ""))
+        *pieces, told = self.made.stdout.split("\n", 3)
+        self.assertEqual({line.rpartition(",")[0] for line in pieces}, {f"piece {number} of 3" for number in range(3)})
+        self.assertEqual(told, self.table)
+        kept = json.loads((self.folder / "2.json").read_text())
+        self.assertEqual((kept["verdict"], kept["host"], kept["note"]), ("legal", os.uname().nodename, "cache looks 0 hits 0"))
+
+    def test_the_pieces_are_the_whole(self) -> None:
+        end = ran("merge", self.folder)
+        self.assertEqual((end.returncode, end.stdout == self.text, end.stderr), (0, True, ""))
+        for form in ("--csv", "--jsonl"):
+            lines = subprocess.run([ROOT / "tools/table", form], input=self.text, capture_output=True, text=True, timeout=300)
+            self.assertEqual(ran("table", form, self.folder).stdout, lines.stdout)
+
+    def test_a_lost_piece_is_told_and_made_again(self) -> None:
+        for ending in ("json", "transcript"):
+            (self.folder / f"1.{ending}").unlink()
+            self.refused(4, "piece 1 is missing; 1 of 3 pieces don't count: 1;", "table", self.folder)
+            self.refused(4, "piece 1 is missing", "again", self.folder, 1)
+            self.assertEqual(ended(["make", "-s", "-C", self.folder]).stdout, "piece 1 of 3, 3 done\n")
+            self.is_whole()
+
+    def test_a_changed_byte_is_refused(self) -> None:
+        file = self.folder / "2.transcript"
+        text = file.read_bytes()
+        file.write_bytes(text[:1000] + bytes([text[1000] ^ 1]) + text[1001:])
+        for words in (["table"], ["merge"], ["again"]):
+            self.refused(4, "piece 2 isn't as it was judged", *words, self.folder, *([2] if words == ["again"] else []))
+        end = ran("run", self.folder, 2)
+        self.assertEqual((end.returncode, end.stdout), (0, "piece 2 of 3, 3 done\n"))
+        self.assertEqual(end.stderr, "piece 2 isn't as it was judged, and was played again\n")
+        self.is_whole()
+
+    def test_what_was_split_is_not_to_change(self) -> None:
+        for name in ("game.sheet", "1.plan"):
+            with (self.folder / name).open("a") as file:
+                file.write("\n")
+            self.refused(4, f"{name} isn't what split wrote", "table", self.folder)
+            self.refused(4, f"{name} isn't what split wrote", "run", self.folder, 1)
+            shutil.copy(self.root / "whole" / name, self.folder / name)
+
+    def test_pieces_of_another_program_or_verdict(self) -> None:
+        for values, said in [
+            ({"program": "0"}, "was played by another program"),
+            ({"plan": "0"}, "was played by another plan"),
+            ({"verdict": "illegal 5 Menu"}, "isn't legal"),
+            ({"more": 1}, "has a 0.json that run didn't write"),
+        ]:
+            self.altered(0, **values)
+            self.refused(4, f"piece 0 {said}", "table", self.folder)
+            shutil.copy(self.root / "whole/0.json", self.folder / "0.json")
+
+    def test_another_program_plays_nothing_but_may_play_again(self) -> None:
+        other = self.folder / "other"
+        shutil.copy(PROGRAM, other)
+        with other.open("ab") as file:
+            file.write(b"\0")
+        (self.folder / "0.json").unlink()
+        self.refused(4, "isn't the program with which", "run", self.folder, 0, CARDHOUSE=str(other))
+        self.refused(127, "No such file", "run", self.folder, 0, CARDHOUSE=str(other) + "s")
+        end = ran("again", self.folder, 2, CARDHOUSE=str(other))
+        said = "1 of 3 pieces played again, by another program than that of the series; all are the same\n"
+        self.assertEqual((end.returncode, end.stdout), (0, f"piece 2 is the same to the byte\n{said}"))
+
+    def test_pieces_that_are_played_otherwise_are_named(self) -> None:
+        file = self.folder / "1.transcript"
+        file.write_bytes(file.read_bytes() + b"x\n")
+        self.altered(1, transcript=digest(file.read_bytes()))
+        end = ran("again", self.folder, "--share", 1)
+        self.assertEqual(end.returncode, 4)
+        self.assertEqual(end.stderr, "3 of 3 pieces played again; these differ: 1\n")
+        self.assertIn("piece 0 is the same to the byte\n", end.stdout)
+
+    def test_make_is_killed_and_goes_on(self) -> None:
+        shutil.rmtree(self.folder)
+        ran("split", self.folder, SHEET, self.root / "series.plan", "--size", 30)
+        names = {**os.environ, "CARDHOUSE": str(PROGRAM)}
+        made = subprocess.Popen(["make", "-s", "-j", "4", "-C", self.folder], env=names, start_new_session=True, stdout=subprocess.DEVNULL)
+        while not Series(self.folder).played():
+            time.sleep(0.01)
+        os.killpg(made.pid, signal.SIGKILL)
+        made.wait()
+        done = Series(self.folder).played()
+        self.assertLess(done, 10)
+        end = ended(["make", "-s", "-j", 4, "-C", self.folder])
+        self.assertEqual((end.returncode, len(end.stdout.splitlines())), (0, 10 - done))
+        self.is_whole()
+
+    def test_parallel_goes_on_by_its_log(self) -> None:
+        if not shutil.which("parallel"):
+            raise skip(self.id(), "no GNU 'parallel' on the path")
+        for file in self.folder.glob("[0-9].json"):
+            file.unlink()
+        command = ["parallel", "--will-cite", "--joblog", self.folder / "joblog", "--resume", COMMAND, "run", self.folder, ":::"]
+        names = {"PARALLEL_HOME": str(self.folder)}
+        first, second = ended([*command, 0, 1], **names), ended([*command, 0, 1, 2], **names)
+        self.assertEqual((first.returncode, len(first.stdout.splitlines()), first.stderr), (0, 2, ""))
+        self.assertEqual((second.returncode, second.stdout, second.stderr), (0, "piece 2 of 3, 3 done\n", ""))
+        self.is_whole()
+
+
+class Compared(unittest.TestCase):
+    """Two duplicates on the same deals, of which the second has a script in the place of a seat that picks at random."""
+
+    @classmethod
+    def setUpClass(cls) -> None:
+        if not PROGRAM.exists():
+            raise skip(cls.__name__, "the program isn't built")
+        folder = tempfile.TemporaryDirectory()
+        cls.addClassCleanup(folder.cleanup)
+        cls.root = Path(folder.name)
+        for name, strategy in (("a", "(random 7)"), ("b", "(script)")):
+            (cls.root / name).with_suffix(".plan").write_text(PLAN.replace("300", "10").replace("(random 7)", strategy))
+            ran("split", cls.root / name, SHEET, cls.root / f"{name}.plan", "--duplicate", "--seconds", 100)
+            ran("run", cls.root / name, 0)
+
+    def rows(self, *words: object) -> list[list[str]]:
+        end = ran(*words)
+        self.assertEqual((end.returncode, end.stderr), (0, ""))
+        return [line.split() for line in end.stdout.splitlines()]
+
+    def test_the_table_is_by_deal(self) -> None:
+        text = ran("merge", self.root / "a").stdout
+        end = subprocess.run([ROOT / "tools/table", "--duplicate"], input=text, capture_output=True, text=True, timeout=60)
+        self.assertEqual(ran("table", self.root / "a").stdout, end.stdout)
+        self.assertTrue(end.stdout.startswith("20 matches of 10 deals, "))
+
+    def test_differences(self) -> None:
+        before, now = self.rows("table", self.root / "a"), self.rows("table", self.root / "b")
+        told = self.rows("compare", self.root / "a", self.root / "b")
+        self.assertEqual(" ".join(told[1]), "strategy 1: (random 7), then (script)")
+        for name in ("strategy", "seat"):
+            for number in "01":
+                (one,), (other,), (less,) = ([row for row in rows[2:] if row[:2] == [name, number]] for rows in (before, now, told))
+                self.assertEqual(int(less[2]), int(other[2]) - int(one[2]))
+        same = self.rows("compare", self.root / "a", self.root / "a")
+        self.assertEqual(same[-1], ["seat", "1", "+0", "+0.000", "0.000", "+0", "+0.000", "0.000", "+0.000", "0.000"])
+
+    def test_other_deals_are_refused(self) -> None:
+        plan = self.root / "c.plan"
+        plan.write_text(PLAN.replace("from 1 5 300", "from 2 5 10"))
+        ran("split", self.root / "c", SHEET, plan)
+        end = ran("compare", self.root / "a", self.root / "c")
+        self.assertEqual((end.returncode, end.stdout), (4, ""))
+
+
+class Refusals(unittest.TestCase):
+    def setUp(self) -> None:
+        if not PROGRAM.exists():
+            raise skip(self.id(), "the program isn't built")
+        folder = tempfile.TemporaryDirectory()
+        self.addCleanup(folder.cleanup)
+        self.root = Path(folder.name)
+
+    def check(self, status: int, said: str, plan: str, sheet: str = SHEET.read_text(), *options: object) -> None:
+        (self.root / "a.sheet").write_text(sheet)
+        (self.root / "a.plan").write_text(plan)
+        end = ran("split", self.root / "a", self.root / "a.sheet", self.root / "a.plan", *options)
+        self.assertEqual((end.returncode, end.stdout, (self.root / "a").exists()), (status, "", False))
+        self.assertEqual(end.stderr.replace(f"{self.root}/", ""), f"{said}\n")
+
+    def test_faults_are_told_where_they_stand_in_their_file(self) -> None:
+        length = len(SHEET.read_text()) + 1
+        self.check(3, f"a.plan:1:33: plan Number {length + 32}", PLAN.replace("random 7", "random x"))
+        self.check(3, f"a.plan:1:7: plan Seats {length + 6}", PLAN.replace("(random 7)", "(random 7) (script)"))
+        self.check(3, f"a.plan:2:1: plan Seats {length + 6}", PLAN.replace("(plan ", "(plan\n").replace(" (random 7)", ""))
+        self.check(1, "a.sheet:2:1: sheet Stray 1", PLAN, "\n)")
+
+    def test_what_no_piece_can_be(self) -> None:
+        self.check(3, "a piece has a multiple of 2 matches, one for each strategy in each seat, and not 1", PLAN, SHEET.read_text(), "--size", 1)
+        self.check(8, "300000000 matches are more than 100000 pieces of 2", PLAN.replace("300", "300000000"), SHEET.read_text(), "--size", 2)
+
+    def test_words(self) -> None:
+        for words in ([], ["split", "a"], ["run", "a", "x"], ["again", "a"], ["split", "a", "b", "c", "--size", "0"], ["play"]):
+            self.assertEqual(ran(*words).returncode, 2)
+
+    def test_a_folder_that_is_there(self) -> None:
+        (self.root / "a.plan").write_text(PLAN)
+        end = ran("split", self.root, SHEET, self.root / "a.plan")
+        self.assertEqual((end.returncode, end.stderr), (7, f"{self.root}: File exists\n"))
+
+
+if __name__ == "__main__":
+    unittest.main()
