@@ -26,6 +26,7 @@ QUOTING = (
     "docs/LANGUAGE.md",
     "docs/FORMATS.md",
     "docs/LINT.md",
+    "docs/SERIES.md",
     "examples/poker.md",
 )
 FREE = ("sh", "text")
