@@ -1,5 +1,6 @@
 """Tests of tools/series. Those that play need the built program."""
 
+import io
 import json
 import os
 import shutil
@@ -9,12 +10,16 @@ import sys
 import tempfile
 import time
 import unittest
+from contextlib import redirect_stderr, redirect_stdout
 from pathlib import Path
+from typing import NamedTuple
+from unittest.mock import patch
 
 from pieces.folder import Piece, Said, Series, write_object
 from pieces.plans import plan_of, size_of
 from pieces.playing import line_of, picked
-from pieces.program import digest
+from pieces.program import Program, digest
+from pieces.running import main
 from pieces.splitting import MAKEFILE
 from tables.ending import Refused
 
@@ -33,14 +38,36 @@ def skip(test: str, reason: str) -> unittest.SkipTest:
     return unittest.SkipTest(reason)
 
 
-def ran(*words: object, **environment: str) -> subprocess.CompletedProcess[str]:
-    """How a call of the command ends."""
-    return ended([COMMAND, *map(str, words)], **environment)
+class End(NamedTuple):
+    """How a call ends."""
+
+    returncode: int
+    stdout: str
+    stderr: str
 
 
-def ended(command: list[object], **environment: str) -> subprocess.CompletedProcess[str]:
+def ran(*words: object, **environment: str) -> End:
+    """How a call of the command ends. It is called in here, since to start Python takes longer than most of what is tested."""
+    out, notes = io.TextIOWrapper(io.BytesIO(), write_through=True), io.StringIO()
+    names = {"CARDHOUSE": str(PROGRAM), **environment}
+    with patch.dict(os.environ, names), patch("signal.signal"), redirect_stdout(out), redirect_stderr(notes):
+        try:
+            status = main([str(word) for word in words])
+        except SystemExit as end:
+            status = int(end.code or 0)
+    return End(status, out.buffer.getvalue().decode(), notes.getvalue())
+
+
+def ended(command: list[object], given: str = "", **environment: str) -> End:
+    """How a call of another command ends."""
     names = {**os.environ, "CARDHOUSE": str(PROGRAM), **environment}
-    return subprocess.run(list(map(str, command)), capture_output=True, text=True, env=names, timeout=300)
+    end = subprocess.run(list(map(str, command)), input=given, capture_output=True, text=True, env=names, timeout=300)
+    return End(end.returncode, end.stdout, end.stderr)
+
+
+def table_of(text: str, *options: str) -> str:
+    """The table of a transcript."""
+    return ended([ROOT / "tools/table", *options], text).stdout
 
 
 class Plans(unittest.TestCase):
@@ -144,6 +171,35 @@ class Folders(unittest.TestCase):
         self.assertEqual(made.stdout.split("\n"), ["echo run . 0", "echo run . 2", ""])
 
 
+class Programs(unittest.TestCase):
+    """Which program plays. The script of a checkout is one of a few lines here."""
+
+    def setUp(self) -> None:
+        folder = tempfile.TemporaryDirectory()
+        self.addCleanup(folder.cleanup)
+        self.root = Path(folder.name).resolve()
+        (self.root / "crates/rc_main/out").mkdir(parents=True)
+        self.script = self.root / "cardhouse"
+
+    def program(self, last: str) -> tuple[Program, str]:
+        """The program of a script that ends so, and what was told."""
+        self.script.write_text(f"#!/bin/sh\necho 'cardhouse: builds' >&2\necho 'sheet Shape 0' >&2\n{last}\n")
+        self.script.chmod(0o755)
+        notes = io.StringIO()
+        with patch.dict(os.environ, {"CARDHOUSE": str(self.script)}), redirect_stderr(notes):
+            return Program(), notes.getvalue()
+
+    def test_a_script_has_its_program_built_first(self) -> None:
+        program, told = self.program('echo built >"$(dirname "$0")/crates/rc_main/out/rc_main"; exit 1')
+        self.assertEqual((program.file, told), (self.root / "crates/rc_main/out/rc_main", "cardhouse: builds\n"))
+        self.assertEqual(program.digest(), digest(b"built\n"))
+
+    def test_a_script_without_a_program(self) -> None:
+        with self.assertRaises(Refused) as caught:
+            self.program("exit 127")
+        self.assertEqual(caught.exception.status, 127)
+
+
 class Played(unittest.TestCase):
     """A series of 300 matches of a game that ships, and its whole plan in one."""
 
@@ -157,9 +213,8 @@ class Played(unittest.TestCase):
         (cls.root / "series.plan").write_text(PLAN)
         cls.split = ran("split", cls.root / "whole", SHEET, cls.root / "series.plan", "--size", 103)
         cls.made = ended(["make", "-s", "-j", 4, "-C", cls.root / "whole", "table"])
-        source = SHEET.read_text() + PLAN
-        cls.text = subprocess.run([PROGRAM, "play"], input=source, capture_output=True, text=True, timeout=300).stdout
-        cls.table = subprocess.run([ROOT / "tools/table"], input=cls.text, capture_output=True, text=True, timeout=300).stdout
+        cls.text = ended([PROGRAM, "play"], SHEET.read_text() + PLAN).stdout
+        cls.table = table_of(cls.text)
 
     def setUp(self) -> None:
         self.folder = self.root / self.id()
@@ -193,8 +248,7 @@ class Played(unittest.TestCase):
         end = ran("merge", self.folder)
         self.assertEqual((end.returncode, end.stdout == self.text, end.stderr), (0, True, ""))
         for form in ("--csv", "--jsonl"):
-            lines = subprocess.run([ROOT / "tools/table", form], input=self.text, capture_output=True, text=True, timeout=300)
-            self.assertEqual(ran("table", form, self.folder).stdout, lines.stdout)
+            self.assertEqual(ran("table", form, self.folder).stdout, table_of(self.text, form))
 
     def test_a_lost_piece_is_told_and_made_again(self) -> None:
         for ending in ("json", "transcript"):
@@ -304,10 +358,9 @@ class Compared(unittest.TestCase):
         return [line.split() for line in end.stdout.splitlines()]
 
     def test_the_table_is_by_deal(self) -> None:
-        text = ran("merge", self.root / "a").stdout
-        end = subprocess.run([ROOT / "tools/table", "--duplicate"], input=text, capture_output=True, text=True, timeout=60)
-        self.assertEqual(ran("table", self.root / "a").stdout, end.stdout)
-        self.assertTrue(end.stdout.startswith("20 matches of 10 deals, "))
+        table = table_of(ran("merge", self.root / "a").stdout, "--duplicate")
+        self.assertEqual(ran("table", self.root / "a").stdout, table)
+        self.assertTrue(table.startswith("20 matches of 10 deals, "))
 
     def test_differences(self) -> None:
         before, now = self.rows("table", self.root / "a"), self.rows("table", self.root / "b")

@@ -3,6 +3,7 @@
 import hashlib
 import os
 import subprocess
+import sys
 import time
 from dataclasses import dataclass
 from pathlib import Path
@@ -11,6 +12,9 @@ from tables.ending import Refused
 
 ROOT = Path(__file__).resolve().parent.parent.parent
 NOT_BUILT = 127
+
+# What the program ends with where it is to read a sheet and there is none.
+NO_SHEET = 1
 
 
 def digest(data: bytes) -> str:
@@ -27,27 +31,31 @@ class Played:
 
 
 class Program:
-    """The script `cardhouse` of this checkout, or what the environment has in CARDHOUSE, another such script or the program itself."""
+    """What plays and judges: the program of this checkout; or what the environment has in CARDHOUSE, a program, or the script
+    `cardhouse` of another checkout, whose program it is then. A script is called first, which has the program built."""
 
     def __init__(self) -> None:
-        self.command = Path(os.environ.get("CARDHOUSE") or ROOT / "cardhouse").resolve()
-        crate = self.command.parent / "crates/rc_main"
-        self.file = crate / "out/rc_main" if crate.is_dir() else self.command
+        command = Path(os.environ.get("CARDHOUSE") or ROOT / "cardhouse").resolve()
+        crate = command.parent / "crates/rc_main"
+        self.file = command
+        if crate.is_dir():
+            self.file = crate / "out/rc_main"
+            build(command)
 
     def digest(self) -> str:
-        """The digest of the program itself, which is built first where it isn't there."""
-        if not self.file.exists():
-            self.call(["sheet"], b"")
         try:
             return digest(self.file.read_bytes())
         except OSError as error:
-            raise Refused(NOT_BUILT, f"{self.file}: {error.strerror}") from None
+            raise self.missing(error) from None
 
     def call(self, words: list[str], source: bytes) -> subprocess.CompletedProcess[bytes]:
         try:
-            return subprocess.run([self.command, *words], input=source, capture_output=True)
+            return subprocess.run([self.file, *words], input=source, capture_output=True)
         except OSError as error:
-            raise Refused(NOT_BUILT, f"{self.command}: {error.strerror}") from None
+            raise self.missing(error) from None
+
+    def missing(self, error: OSError) -> Refused:
+        return Refused(NOT_BUILT, f"{self.file}: {error.strerror}")
 
     def play(self, source: bytes) -> Played:
         """Plays a sheet and a plan, and has the transcript judged, which is to be legal."""
@@ -63,6 +71,17 @@ class Program:
         judged = self.call(["check"], source + b"\n" + text)
         if (judged.returncode, judged.stdout) != (0, b"legal\n"):
             raise refusal(judged)
+
+
+def build(script: Path) -> None:
+    """Has the program built where it isn't, or not of these sources, and passes on what the script says of that."""
+    with subprocess.Popen([script, "sheet"], stdin=subprocess.DEVNULL, stdout=subprocess.DEVNULL, stderr=subprocess.PIPE) as calling:
+        assert calling.stderr
+        for line in calling.stderr:
+            if line.startswith(b"cardhouse: "):
+                print(line.decode("utf-8", "replace"), end="", file=sys.stderr, flush=True)
+    if calling.returncode != NO_SHEET:
+        raise Refused(NOT_BUILT, f"{script} has no program that runs")
 
 
 def refusal(ended: subprocess.CompletedProcess[bytes]) -> Refused:

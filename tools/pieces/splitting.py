@@ -1,11 +1,12 @@
 """Splits a series into pieces: a folder with a plan for each."""
 
+import shlex
 from pathlib import Path
 
 from pieces.accepting import Sources
 from pieces.folder import PLAN, SERIES, SHEET, WHOLE, Piece, Said, write_object
 from pieces.plans import SOURCE, SeriesPlan, size_of
-from pieces.program import Program, commit, digest, kit
+from pieces.program import ROOT, Program, commit, digest, kit
 from tables.ending import WRITE_FAULT, Refused
 
 TOO_LONG = 8
@@ -85,6 +86,6 @@ def write(folder: Path, sheet: bytes, plan: SeriesPlan, said: Said) -> None:
         (folder / WHOLE).write_bytes(plan.part(0, plan.matches()))
     for number, piece in enumerate(said.pieces):
         (folder / f"{number}.plan").write_bytes(plan.part(piece.begin, piece.matches))
-    command = Path(__file__).resolve().parent.parent / "series"
+    command = shlex.quote(str(ROOT / "tools/series"))
     (folder / "Makefile").write_text(MAKEFILE.format(command=command, last=len(said.pieces) - 1))
     write_object(folder / SERIES, said)
