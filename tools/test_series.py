@@ -15,12 +15,13 @@ from pathlib import Path
 from typing import NamedTuple
 from unittest.mock import patch
 
-from pieces.folder import Piece, Said, Series, write_object
+from pieces.folder import Piece, Series, Split, write_object
 from pieces.plans import plan_of, size_of
 from pieces.playing import line_of, picked
 from pieces.program import Program, digest
 from pieces.running import main
 from pieces.splitting import MAKEFILE
+from pieces.whole import merge
 from tables.ending import Refused
 
 ROOT = Path(__file__).resolve().parent.parent
@@ -85,7 +86,8 @@ class Plans(unittest.TestCase):
 
     def test_pieces_are_as_large_as_a_plan_may_be(self) -> None:
         # 262144 / 200 is 1310 and more, and 3 times 436 is 1308. 262144 / 40 is more than 4096, and 3 times 1365 is 4095.
-        for strategies, turns, size in [(3, 200, 1308), (2, 40, 4096), (3, 40, 4095), (2, 100_000, 2), (8, 32_768, 8), (1, 100_000, 2)]:
+        sizes = [(3, 200, 1308), (2, 40, 4096), (3, 40, 4095), (2, 100_000, 2), (8, 32_768, 8), (1, 100_000, 2)]
+        for strategies, turns, size in sizes:
             plan = self.plan(strategies, turns)
             self.assertEqual(size_of(plan, plan.most()), size)
         self.assertEqual([size_of(self.plan(3, 200), wanted) for wanted in (3, 4, 5, 6, 104)], [3, 3, 3, 6, 102])
@@ -133,7 +135,8 @@ class Folders(unittest.TestCase):
 
     def write(self, pieces: int, seed: int = 0) -> None:
         parts = [Piece(2 * number, 2, "") for number in range(pieces)]
-        write_object(self.folder / "series.json", Said("", "", "", None, None, ["", ""], seed, 0, 9, False, 2 * pieces, parts))
+        (self.folder / "series.plan").write_text(PLAN)
+        write_object(self.folder / "series.json", Split(f"{seed}", digest(PLAN.encode()), "", None, None, False, parts))
 
     def test_the_share_is_picked_by_the_digest(self) -> None:
         self.write(40)
@@ -158,7 +161,16 @@ class Folders(unittest.TestCase):
 
     def test_a_file_is_written_as_a_whole(self) -> None:
         self.write(2)
-        self.assertEqual([file.name for file in self.folder.iterdir()], ["series.json"])
+        self.assertEqual({file.name for file in self.folder.iterdir()}, {"series.plan", "series.json"})
+
+    def test_a_series_that_no_text_holds(self) -> None:
+        self.write(2)
+        plan = PLAN.replace(" 300)", " 4097)")
+        (self.folder / "series.plan").write_text(plan)
+        write_object(self.folder / "series.json", Split("", digest(plan.encode()), "", None, None, False, []))
+        with self.assertRaises(Refused) as caught:
+            merge(self.folder)
+        self.assertIn("with 40 turns it has at most 4096", str(caught.exception))
 
     def test_lines_that_differ(self) -> None:
         self.assertEqual([line_of(b"a\nb\n", it) for it in (b"x\nb\n", b"a\nx\n", b"a\n", b"a\nb\nc")], [1, 2, 2, 3])
@@ -236,7 +248,7 @@ class Played(unittest.TestCase):
 
     def test_what_was_split_and_played(self) -> None:
         self.assertEqual((self.split.returncode, self.split.stderr), (0, ""))
-        self.assertTrue(self.split.stdout.startswith("3 pieces of 102 matches or fewer: "))
+        self.assertTrue(self.split.stdout.startswith("3 pieces of at most 102 matches: "))
         self.assertEqual((self.made.returncode, self.made.stderr), (0, ""))
         *pieces, told = self.made.stdout.split("\n", 3)
         self.assertEqual({line.rpartition(",")[0] for line in pieces}, {f"piece {number} of 3" for number in range(3)})
@@ -270,7 +282,7 @@ class Played(unittest.TestCase):
         self.is_whole()
 
     def test_what_was_split_is_not_to_change(self) -> None:
-        for name in ("game.sheet", "1.plan"):
+        for name in ("game.sheet", "series.plan", "1.plan"):
             with (self.folder / name).open("a") as file:
                 file.write("\n")
             self.refused(4, f"{name} isn't what split wrote", "table", self.folder)
@@ -313,7 +325,8 @@ class Played(unittest.TestCase):
         shutil.rmtree(self.folder)
         ran("split", self.folder, SHEET, self.root / "series.plan", "--size", 30)
         names = {**os.environ, "CARDHOUSE": str(PROGRAM)}
-        made = subprocess.Popen(["make", "-s", "-j", "4", "-C", self.folder], env=names, start_new_session=True, stdout=subprocess.DEVNULL)
+        command = ["make", "-s", "-j", "4", "-C", self.folder]
+        made = subprocess.Popen(command, env=names, start_new_session=True, stdout=subprocess.DEVNULL)
         while not Series(self.folder).played():
             time.sleep(0.01)
         os.killpg(made.pid, signal.SIGKILL)
@@ -389,7 +402,7 @@ class Refusals(unittest.TestCase):
         self.addCleanup(folder.cleanup)
         self.root = Path(folder.name)
 
-    def check(self, status: int, said: str, plan: str, sheet: str = SHEET.read_text(), *options: object) -> None:
+    def check(self, status: int, said: str, plan: str, *options: object, sheet: str = SHEET.read_text()) -> None:
         (self.root / "a.sheet").write_text(sheet)
         (self.root / "a.plan").write_text(plan)
         end = ran("split", self.root / "a", self.root / "a.sheet", self.root / "a.plan", *options)
@@ -401,11 +414,11 @@ class Refusals(unittest.TestCase):
         self.check(3, f"a.plan:1:33: plan Number {length + 32}", PLAN.replace("random 7", "random x"))
         self.check(3, f"a.plan:1:7: plan Seats {length + 6}", PLAN.replace("(random 7)", "(random 7) (script)"))
         self.check(3, f"a.plan:2:1: plan Seats {length + 6}", PLAN.replace("(plan ", "(plan\n").replace(" (random 7)", ""))
-        self.check(1, "a.sheet:2:1: sheet Stray 1", PLAN, "\n)")
+        self.check(1, "a.sheet:2:1: sheet Stray 1", PLAN, sheet="\n)")
 
     def test_what_no_piece_can_be(self) -> None:
-        self.check(3, "a piece has a multiple of 2 matches, one for each strategy in each seat, and not 1", PLAN, SHEET.read_text(), "--size", 1)
-        self.check(8, "300000000 matches are more than 100000 pieces of 2", PLAN.replace("300", "300000000"), SHEET.read_text(), "--size", 2)
+        self.check(3, "a piece has a multiple of 2 matches, one for each strategy in each seat, and not 1", PLAN, "--size", 1)
+        self.check(8, "300000000 matches are more than 100000 pieces of 2", PLAN.replace("300", "300000000"), "--size", 2)
 
     def test_words(self) -> None:
         for words in ([], ["split", "a"], ["run", "a", "x"], ["again", "a"], ["split", "a", "b", "c", "--size", "0"], ["play"]):

@@ -15,7 +15,7 @@ def compare(first: Path, second: Path) -> None:
     one, other = Series(first), Series(second)
     if deals(one) != deals(other):
         raise Refused(TEXT, f"{second} hasn't the deals of {first}, or not as many players")
-    counts = Counts(len(one.said.strategies), deal_matches(one))
+    counts = Counts(len(one.plan.strategies), deal_matches(one))
     for before, now in zip(matches_of(one), matches_of(other)):
         counts.add([b - a for a, b in zip(values_of(before), values_of(now))])
     print(f"{second} less {first}, match by match: {how_many(counts)}, {counts.limits.total:+} ended by the turn limit")
@@ -25,21 +25,21 @@ def compare(first: Path, second: Path) -> None:
 
 def unlike(one: Series, other: Series) -> Iterator[str]:
     """What two series don't have alike."""
-    if one.said.sheet != other.said.sheet:
+    if one.split.sheet != other.split.sheet:
         yield "the sheets differ"
-    if one.said.turns != other.said.turns:
-        yield f"turn limit: {one.said.turns}, then {other.said.turns}"
-    for number, (before, now) in enumerate(zip(one.said.strategies, other.said.strategies)):
+    if one.plan.turns != other.plan.turns:
+        yield f"turn limit: {one.plan.turns}, then {other.plan.turns}"
+    for number, (before, now) in enumerate(zip(one.plan.strategies, other.plan.strategies)):
         if before != now:
             yield f"strategy {number}: {before}, then {now}"
 
 
 def deals(series: Series) -> tuple[int, int, int, int, bool]:
     """What two series that are compared have alike: the seeds of all matches, and how many play."""
-    said = series.said
-    return said.deal, said.seats, said.matches, len(said.strategies), said.duplicate
+    plan = series.plan
+    return plan.deal, plan.seats, plan.count, len(plan.strategies), plan.duplicate
 
 
 def deal_matches(series: Series) -> int:
     """How many matches are played of a deal, over which errors are told."""
-    return len(series.said.strategies) if series.said.duplicate else 1
+    return len(series.plan.strategies) if series.plan.duplicate else 1

@@ -5,6 +5,7 @@ import os
 from dataclasses import asdict, dataclass
 from pathlib import Path
 
+from pieces.plans import plan_of
 from pieces.program import digest
 from tables.ending import READ_FAULT, TEXT, USAGE, Refused
 
@@ -23,28 +24,23 @@ class Piece:
 
 
 @dataclass(frozen=True)
-class Said:
-    """What is kept in series.json: digests of the sheet, of the whole plan as it was given and of the program; the commit and the
-    kit; and how the matches are divided."""
+class Split:
+    """What is kept in series.json: digests of the sheet, of the plan as it was given and of the program; the commit and the kit;
+    whether each deal is played several times; and the pieces."""
 
     sheet: str
     plan: str
     program: str
     commit: str | None
     kit: str | None
-    strategies: list[str]
-    deal: int
-    seats: int
-    turns: int
     duplicate: bool
-    matches: int
     pieces: list[Piece]
 
 
 @dataclass(frozen=True)
 class Done:
-    """What is kept in K.json of a piece that was played and judged: digests of its plan, its transcript and the program; where it was
-    played, in how many seconds, and what the program noted; and the verdict."""
+    """What is kept in K.json of a piece that was played and judged: digests of its plan, its transcript and the program; the
+    verdict; where it was played, in how many seconds, and what the program noted."""
 
     plan: str
     transcript: str
@@ -65,8 +61,8 @@ def write_whole(file: Path, data: bytes) -> None:
     part.replace(file)
 
 
-def write_object(file: Path, said: Said | Done) -> None:
-    write_whole(file, json.dumps(asdict(said), indent=1).encode() + b"\n")
+def write_object(file: Path, kept: Split | Done) -> None:
+    write_whole(file, json.dumps(asdict(kept), indent=1).encode() + b"\n")
 
 
 def read(file: Path) -> bytes:
@@ -84,10 +80,11 @@ class Series:
         kept = read(folder / SERIES)
         self.digest = digest(kept)
         try:
-            said = Said(**json.loads(kept))
-            self.said, self.pieces = said, [Piece(**piece) for piece in said.pieces]
+            self.split = Split(**json.loads(kept))
+            self.pieces = [Piece(**piece) for piece in self.split.pieces]
         except (TypeError, ValueError):
             raise Refused(TEXT, f"{folder / SERIES} isn't what split wrote") from None
+        self.plan = plan_of(PLAN, self.unchanged(folder / PLAN, self.split.plan), self.split.duplicate)
 
     def file(self, number: int, ending: str) -> Path:
         return self.folder / f"{number}.{ending}"
@@ -98,7 +95,7 @@ class Series:
         return self.pieces[number]
 
     def sheet(self) -> bytes:
-        return self.unchanged(self.folder / SHEET, self.said.sheet)
+        return self.unchanged(self.folder / SHEET, self.split.sheet)
 
     def source(self, number: int) -> bytes:
         """The sheet and the plan of a piece, as they were split."""
@@ -135,7 +132,7 @@ class Series:
             return MISSING
         if done.plan != piece.plan:
             return "was played by another plan"
-        if done.program != self.said.program:
+        if done.program != self.split.program:
             return "was played by another program"
         if done.verdict != "legal":
             return "isn't legal"

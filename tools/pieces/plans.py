@@ -115,8 +115,8 @@ def size_of(plan: SeriesPlan, wanted: int) -> int:
     if plan.most() < players:
         raise Refused(
             PLAN,
-            f"no piece is both within the limits of a plan and a multiple of {players} matches, one for each strategy in each seat: "
-            f"{players} matches of {plan.turns} turns are more than {TURNS} turns in all; take a lower turn limit",
+            f"no piece is both within the limits of a plan and a multiple of {players} matches, one for each strategy in each "
+            f"seat: {players} matches of {plan.turns} turns are more than {TURNS} turns in all; take a lower turn limit",
         )
     if wanted < players:
         raise Refused(PLAN, f"a piece has a multiple of {players} matches, one for each strategy in each seat, and not {wanted}")

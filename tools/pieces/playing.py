@@ -29,16 +29,15 @@ def play(series: Series, number: int, source: bytes) -> None:
     refuse_other(series, program)
     played = program.play(source)
     refuse_other(series, program)
-    done = Done(
-        series.piece(number).plan, digest(played.text), series.said.program, "legal", os.uname().nodename, round(played.seconds, 1),
-        played.note,
-    )  # fmt: skip
+    host, seconds = os.uname().nodename, round(played.seconds, 1)
+    plan, program_digest = series.piece(number).plan, series.split.program
+    done = Done(plan, digest(played.text), program_digest, "legal", host, seconds, played.note)
     write_whole(series.file(number, "transcript"), played.text)
     write_object(series.file(number, "json"), done)
 
 
 def refuse_other(series: Series, program: Program) -> None:
-    if program.digest() != series.said.program:
+    if program.digest() != series.split.program:
         raise Refused(TEXT, f"{program.file} isn't the program with which {series.folder} was split")
 
 
@@ -46,7 +45,7 @@ def again(folder: Path, numbers: list[int]) -> None:
     """Plays pieces once more, here, and says of each whether it is the same to the byte."""
     series, program = Series(folder), Program()
     differing = [number for number in numbers if not is_same(series, number, program)]
-    other = "" if program.digest() == series.said.program else ", by another program than that of the series"
+    other = "" if program.digest() == series.split.program else ", by another program than that of the series"
     told = f"{len(numbers)} of {len(series.pieces)} pieces played again{other}"
     if differing:
         raise Refused(TEXT, f"{told}; these differ: {' '.join(map(str, differing))}")
@@ -71,7 +70,8 @@ def line_of(before: bytes, now: bytes) -> int:
 
 
 def picked(folder: Path, share: float) -> list[int]:
-    """A share of the pieces, at least one, picked by the digest of series.json: those whose numbers behind it have the least digests."""
+    """A share of the pieces, at least one, picked by the digest of series.json: those whose numbers, written behind it, have the
+    least digests."""
     if not 0 < share <= 1:
         raise Refused(USAGE, f"a share is more than 0 and at most 1, and not {share}")
     series = Series(folder)

@@ -75,7 +75,8 @@ class Program:
 
 def build(script: Path) -> None:
     """Has the program built where it isn't, or not of these sources, and passes on what the script says of that."""
-    with subprocess.Popen([script, "sheet"], stdin=subprocess.DEVNULL, stdout=subprocess.DEVNULL, stderr=subprocess.PIPE) as calling:
+    nothing = subprocess.DEVNULL
+    with subprocess.Popen([script, "sheet"], stdin=nothing, stdout=nothing, stderr=subprocess.PIPE) as calling:
         assert calling.stderr
         for line in calling.stderr:
             if line.startswith(b"cardhouse: "):

@@ -18,7 +18,8 @@ from tables.running import add_forms, write
 
 def parser() -> argparse.ArgumentParser:
     """What the words may be."""
-    words = argparse.ArgumentParser("cardhouse series", description="A long series of matches, played in pieces.", allow_abbrev=False)
+    said = "A long series of matches, played in pieces."
+    words = argparse.ArgumentParser("cardhouse series", description=said, allow_abbrev=False)
     commands = words.add_subparsers(dest="command", required=True)
     of_split = add(commands, "split", "splits a series into a folder", "DIR")
     of_split.add_argument("sheet", type=Path, metavar="GAME.sheet")
@@ -28,7 +29,8 @@ def parser() -> argparse.ArgumentParser:
     sizes.add_argument("--seconds", type=positive(float), metavar="S", help="a piece takes about S seconds here")
     of_split.add_argument("--duplicate", action="store_true", help="each deal is played with each strategy in each seat")
     add(commands, "run", "plays and judges piece K, if that isn't done", "DIR").add_argument("piece", type=int, metavar="K")
-    which = add(commands, "again", "plays pieces once more, and says whether they are the same", "DIR").add_mutually_exclusive_group(required=True)
+    of_again = add(commands, "again", "plays pieces once more, and says whether they are the same", "DIR")
+    which = of_again.add_mutually_exclusive_group(required=True)
     which.add_argument("piece", type=int, nargs="?", metavar="K")
     which.add_argument("--share", type=float, metavar="PART", help="so large a part of the pieces, as 0.05")
     add_forms(add(commands, "table", "writes one table of all matches", "DIR"))

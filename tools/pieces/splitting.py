@@ -4,8 +4,8 @@ import shlex
 from pathlib import Path
 
 from pieces.accepting import Sources
-from pieces.folder import PLAN, SERIES, SHEET, WHOLE, Piece, Said, write_object
-from pieces.plans import SOURCE, SeriesPlan, size_of
+from pieces.folder import PLAN, SERIES, SHEET, WHOLE, Piece, Split, write_object
+from pieces.plans import SOURCE, size_of
 from pieces.program import ROOT, Program, commit, digest, kit
 from tables.ending import WRITE_FAULT, Refused
 
@@ -40,13 +40,10 @@ def split(folder: Path, sources: Sources, size: int | None, seconds: float | Non
     sources.accept(program, min(size_of(plan, plan.most()), plan.matches()))
     wanted = size or (matches_in(seconds, program, sources) if seconds else plan.most())
     pieces = pieces_of(sources, size_of(plan, wanted))
-    said = Said(
-        digest(sources.sheet), digest(plan.text), program.digest(), commit(), kit(), plan.strategies, plan.deal, plan.seats,
-        plan.turns, plan.duplicate, plan.matches(), pieces,
-    )  # fmt: skip
-    write(folder, sources.sheet, plan, said)
-    told = f"{len(pieces)} pieces of {pieces[0].matches} matches or fewer" if len(pieces) > 1 else f"one piece of {pieces[0].matches} matches"
-    print(f"{told}: `make -C {folder} -j 4` plays them, four at a time")
+    digests = digest(sources.sheet), digest(plan.text), program.digest()
+    write(folder, sources, Split(*digests, commit(), kit(), plan.duplicate, pieces))
+    told = f"{len(pieces)} pieces" if len(pieces) > 1 else "1 piece"
+    print(f"{told} of at most {pieces[0].matches} matches: `make -C {folder} -j 4` plays four at a time")
 
 
 def pieces_of(sources: Sources, size: int) -> list[Piece]:
@@ -74,18 +71,19 @@ def matches_in(seconds: float, program: Program, sources: Sources) -> int:
         count = min(2 * count, most)
 
 
-def write(folder: Path, sheet: bytes, plan: SeriesPlan, said: Said) -> None:
+def write(folder: Path, sources: Sources, kept: Split) -> None:
     """Writes the folder, series.json last. The whole plan is written too where the program takes it."""
+    plan = sources.plan
     try:
         folder.mkdir(parents=True)
     except OSError as error:
         raise Refused(WRITE_FAULT, f"{folder}: {error.strerror}") from None
-    (folder / SHEET).write_bytes(sheet)
+    (folder / SHEET).write_bytes(sources.sheet)
     (folder / PLAN).write_bytes(plan.text)
     if plan.matches() <= plan.most():
         (folder / WHOLE).write_bytes(plan.part(0, plan.matches()))
-    for number, piece in enumerate(said.pieces):
+    for number, piece in enumerate(kept.pieces):
         (folder / f"{number}.plan").write_bytes(plan.part(piece.begin, piece.matches))
     command = shlex.quote(str(ROOT / "tools/series"))
-    (folder / "Makefile").write_text(MAKEFILE.format(command=command, last=len(said.pieces) - 1))
-    write_object(folder / SERIES, said)
+    (folder / "Makefile").write_text(MAKEFILE.format(command=command, last=len(kept.pieces) - 1))
+    write_object(folder / SERIES, kept)

@@ -4,10 +4,10 @@ import re
 import sys
 from pathlib import Path
 
-from pieces.folder import WHOLE, Series, read
+from pieces.folder import Series, read
 from pieces.program import Program
-from tables.house import Match, Reader, standings
 from tables.ending import TEXT, Refused
+from tables.house import Match, Reader, standings
 
 # How many pieces are named where several are wrong.
 NAMED = 10
@@ -39,28 +39,22 @@ def piece_matches(series: Series, number: int) -> list[Match]:
     """The matches of a piece, which are to be those of the series."""
     piece, file = series.piece(number), series.file(number, "transcript")
     matches = Reader(str(file), read(file)).matches()
-    wanted = [seeds(series, piece.begin + at) for at in range(piece.matches)]
-    if [(it.deal, it.seats, len(it.scores)) for it in matches] != wanted:
+    wanted = [series.plan.seeds(piece.begin + at) for at in range(piece.matches)]
+    if [(it.deal, it.seats) for it in matches] != wanted or len(matches[0].scores) != len(series.plan.strategies):
         raise Refused(TEXT, f"{file} hasn't the matches of piece {number}")
     return [match._replace(number=piece.begin + match.number) for match in matches]
-
-
-def seeds(series: Series, match: int) -> tuple[int, int, int]:
-    """The deal and the seed of the seats of a match of the series, and how many play."""
-    players = len(series.said.strategies)
-    deal = match // players if series.said.duplicate else match
-    return series.said.deal + deal, series.said.seats + deal, players
 
 
 def merge(folder: Path) -> None:
     """Writes the one house text of the series, where one plan may have as many matches and turns, once it is judged legal."""
     series = Series(folder)
-    if not (folder / WHOLE).exists():
-        raise Refused(TEXT, f"the {series.said.matches} matches of {series.said.turns} turns are more than one plan and its text may have")
+    plan, count = series.plan, series.plan.matches()
+    if count > plan.most():
+        raise Refused(TEXT, f"no text has the {count} matches of the series: with {plan.turns} turns it has at most {plan.most()}")
     matches = matches_of(series)
     parts = [renumbered(read(series.file(number, "transcript")), piece.begin) for number, piece in enumerate(series.pieces)]
     text = b"house 1\n" + b"".join(parts) + "".join(standings(matches)).encode()
-    Program().judge(series.sheet() + b"\n" + read(folder / WHOLE), text)
+    Program().judge(series.sheet() + b"\n" + plan.part(0, count), text)
     sys.stdout.buffer.write(text)
 
 

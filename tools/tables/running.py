@@ -19,7 +19,7 @@ def parser() -> argparse.ArgumentParser:
         "cardhouse table", description="One table of all matches that transcripts tell.", allow_abbrev=False
     )
     add_forms(words)
-    words.add_argument("--duplicate", action="store_true", help="each deal was played once by each strategy in each seat: errors by deal")
+    words.add_argument("--duplicate", action="store_true", help="each strategy played each deal in each seat: errors by deal")
     words.add_argument("texts", nargs="*", type=Path, metavar="TEXT", help="a file with what `play` wrote; none: standard input")
     return words
 
@@ -68,7 +68,7 @@ def players_of_deals(matches: list[Match]) -> int:
     for at, match in enumerate(matches):
         first = matches[at - at % players]
         if (match.deal, match.seats) != (first.deal, first.seats) or match.number % players != at % players:
-            raise Refused(TEXT, f"match {match.number} isn't of the deal of match {first.number}: these aren't deals played {players} times")
+            raise Refused(TEXT, f"the deal of match {first.number} is to be played {players} times: match {match.number} has another")
     if len(matches) % players:
         raise Refused(TEXT, f"the last deal isn't played {players} times")
     return players
