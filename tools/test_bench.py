@@ -5,11 +5,13 @@ import unittest
 from difflib import unified_diff
 from pathlib import Path
 
+from faults.tokens import tokens
+
 ROOT = Path(__file__).resolve().parent.parent
 SHEET = ROOT / "bench/tricks.sheet"
 CODE = ROOT / "crates/rc_trick/src/lib.rt"
 
-MEND = "change the sheet behind its comments to the text of `trick_text`, which is proved to be accepted"
+MEND = "change the sheet to what `trick_text` says, which is proved to be accepted; white space and comments mean nothing"
 
 
 def byte_string(code: str) -> str:
@@ -19,9 +21,9 @@ def byte_string(code: str) -> str:
     return re.sub(r"\\(?:\n\s*|(.))", lambda found: escapes[found[1]] if found[1] else "", written)
 
 
-def without_comments(sheet: str) -> str:
-    """The sheet behind the comments at its top."""
-    return re.sub(r"\A(?:;.*\n)*", "", sheet)
+def words_of(sheet: str) -> list[str]:
+    """The parentheses and the atoms of a sheet, a line each."""
+    return [f"{token.text}\n" for token in tokens(sheet.encode("latin-1"))]
 
 
 class ByteStrings(unittest.TestCase):
@@ -33,14 +35,11 @@ class ByteStrings(unittest.TestCase):
             self.assertRaises(ValueError, byte_string, code)
         self.assertRaises(KeyError, byte_string, r'b"\x41"')
 
-    def test_comments_at_the_top_alone_are_left_out(self) -> None:
-        self.assertEqual(without_comments("; a\n;b\n(game ; c\n)\n; d\n"), "(game ; c\n)\n; d\n")
-
 
 class Tricks(unittest.TestCase):
-    def test_the_sheet_is_the_text_in_the_code(self) -> None:
-        text = byte_string(CODE.read_text("utf-8")).splitlines(keepends=True)
-        sheet = without_comments(SHEET.read_bytes().decode("latin-1")).splitlines(keepends=True)
+    def test_the_sheet_says_what_the_text_in_the_code_says(self) -> None:
+        text = words_of(byte_string(CODE.read_text("utf-8")))
+        sheet = words_of(SHEET.read_text("latin-1"))
         differing = list(unified_diff(sheet, text, str(SHEET.relative_to(ROOT)), str(CODE.relative_to(ROOT)), n=0))
         self.assertFalse(differing, f"{MEND}\n{''.join(differing)}")
 
