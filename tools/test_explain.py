@@ -3,11 +3,8 @@
 import os
 import pty
 import re
-import shutil
-import stat
 import subprocess
 import sys
-import tempfile
 import unittest
 from collections.abc import Iterator
 from dataclasses import dataclass
@@ -20,6 +17,7 @@ from faults.explaining import explanation
 from faults.forms import FORMS, MEANINGS, forms_of, forms_with, is_fixed, is_plural, meant_behind, parts_of
 from faults.places import picture, place_of, shown
 from faults.tokens import end_of, lists_around, rest_of
+from scripted import Scripted
 
 ROOT = Path(__file__).resolve().parent.parent
 PROGRAM = ROOT / "crates/rc_main/out/rc_main"
@@ -214,8 +212,8 @@ class Explanations(unittest.TestCase):
 
     def test_words_that_name_a_file(self) -> None:
         note = "usage: cardhouse play, check, sheet or bench"
-        self.assertNotIn("cat", " ".join(explanation(note, b"", ["plays"])))
-        self.assertIn("cat GAME.sheet GAME.plan", " ".join(explanation(note, b"", ["play", str(ROOT / "README.md")])))
+        self.assertNotIn("GAME.plan", " ".join(explanation(note, b"", ["plays"])))
+        self.assertIn("play GAME.sheet GAME.plan", " ".join(explanation(note, b"", [str(ROOT / "README.md")])))
 
     def test_what_isnt_known_is_left_alone(self) -> None:
         self.assertEqual(explanation("sheet Other 3", b"(game)", ["sheet"]), [])
@@ -448,32 +446,8 @@ class Program(unittest.TestCase):
         self.assertIn("1048576", said)
 
 
-FAKE = """#!/bin/sh
-[ "$1" = words ] || cat
-[ -z "$NOTE" ] || echo "$NOTE" >&2
-exit "$STATUS"
-"""
-
-
-class Script(unittest.TestCase):
+class Script(Scripted):
     """The script `cardhouse` with a program that writes what it reads, a note and ends as it is told."""
-
-    def setUp(self) -> None:
-        self.root = Path(tempfile.mkdtemp())
-        self.addCleanup(shutil.rmtree, self.root)
-        shutil.copy(ROOT / "cardhouse", self.root)
-        shutil.copytree(ROOT / "tools", self.root / "tools", ignore=shutil.ignore_patterns("__pycache__", "test_*"))
-        program = self.root / "crates/rc_main/out/rc_main"
-        program.parent.mkdir(parents=True)
-        program.write_text(FAKE)
-        program.chmod(program.stat().st_mode | stat.S_IXUSR)
-
-    def run_script(
-        self, *words: str, note: str = "sheet Stray 2", status: int = 1, **how: object
-    ) -> subprocess.CompletedProcess[bytes]:
-        env = {**os.environ, "NOTE": note, "STATUS": str(status)}
-        how = {"input": b"\n )\n", "capture_output": True, **how}
-        return subprocess.run([self.root / "cardhouse", *words], env=env, **how)  # type: ignore[call-overload, no-any-return]
 
     def test_without_a_terminal_nothing_is_explained(self) -> None:
         ran = self.run_script("sheet")

@@ -8,14 +8,16 @@ from collections.abc import Callable
 from faults import kinds
 from faults.forms import MEANINGS, is_fixed
 from faults.parts import Part
-from faults.places import Place, line_at, picture, place_of
+from faults.places import line_at, picture, place_of
+from faults.sources import File, Source
 from faults.tokens import end_of, rest_of
 
 WIDTH = 100
 
 
-def explanation(note: str, source: bytes, words: list[str]) -> list[str]:
+def explanation(note: str, text: bytes, words: list[str], files: tuple[File, ...] = ()) -> list[str]:
     """The lines that explain a note on a source that was read by these words; none where there is nothing to explain."""
+    source = Source(text, files)
     readings: list[tuple[str, Callable[[re.Match[str]], list[str]]]] = [
         (r"(sheet|plan) (\w+) (\d+)", lambda told: on_part(told[1], told[2], int(told[3]), source)),
         (r"text (\d+)", lambda told: on_line(int(told[1]), kinds.GRAMMAR, source)),
@@ -37,22 +39,30 @@ def wrapped(sentence: str | None) -> list[str]:
     return [line.replace("\xa0", " ") for line in lines]
 
 
-def on_part(what: str, kind: str, at: int, source: bytes) -> list[str]:
+def on_part(what: str, kind: str, at: int, source: Source) -> list[str]:
     """On a fault of a sheet or a plan: its place, its line, a sentence, and where its shape is wrong how it is written."""
-    part = Part(what, source, at)
+    part = Part(what, source.text, at)
     said = kinds.sentence_on(kind, part)
     if said is None:
         return []
-    place = place_of(source, at)
-    line = line_at(source, at)
+    behind = behind_sheet(source.text, at) if what == "plan" else ""
+    lines = pointed(source, at, said, behind)
+    if kind == "Shape" and part.word:
+        lines += written(part)
+    return lines
+
+
+def pointed(source: Source, at: int, said: str, behind: str = "") -> list[str]:
+    """A place, its line with a caret, and a sentence. The sentence stands beside the place in a file, where editors look for it."""
+    place = source.place(at)
+    line = line_at(source.text, at)
     shown = picture(line, place.column) if line or not place.is_end else []
-    behind = behind_sheet(source, place) if what == "plan" else ""
-    return [f"{place}{behind}:", *shown, *wrapped(said), *(written(part) if kind == "Shape" and part.word else [])]
+    return [f"{place}: {said}", *shown] if place.file else [f"{place}{behind}:", *shown, *wrapped(said)]
 
 
-def behind_sheet(source: bytes, place: Place) -> str:
+def behind_sheet(text: bytes, at: int) -> str:
     """Which line of the plan's own file that is, if it begins with the line behind the sheet."""
-    line = place.line - place_of(source, end_of(source, 1)).line
+    line = place_of(text, at).line - place_of(text, end_of(text, 1)).line
     return f" (line {line} behind the sheet)" if line > 0 else ""
 
 
@@ -74,17 +84,22 @@ def with_title(title: str, forms: list[str]) -> list[str]:
     return [title, *(f"    {form}" for form in forms)] if forms else []
 
 
-def on_line(number: int, said: str | None, source: bytes) -> list[str]:
+def on_line(number: int, said: str | None, source: Source) -> list[str]:
     """On a line of a transcript, which begins behind the sheet, the plan, and white space and comments."""
     if said is None:
         return []
-    begin = rest_of(source, 2)
-    lines = source[begin:].split(b"\n")
-    first = place_of(source, begin).line
-    where = f"line {number} of the transcript, line {first + number - 1} of the source"
+    begin = rest_of(source.text, 2)
+    lines = source.text[begin:].split(b"\n")
+    place = source.place(begin + sum(len(line) + 1 for line in lines[: number - 1]))
+    where = f"line {number} of the transcript"
+    if not place.file:
+        where += f", line {place_of(source.text, begin).line + number - 1} of the source"
     if number > len(lines) or (number == len(lines) and not lines[-1]):
-        return wrapped(f"{where}, where the text ends: more lines are to follow.") + wrapped(said)
-    return [f"{where}{match_of(lines[:number])}:", *picture(lines[number - 1], 1), *wrapped(said)]
+        where += ", where the text ends: more lines are to follow"
+        return [f"{place}: {where}. {said}"] if place.file else wrapped(f"{where}.") + wrapped(said)
+    where += f"{match_of(lines[:number])}:"
+    shown = picture(lines[number - 1], 1)
+    return [f"{place}: {where} {said}", *shown] if place.file else [where, *shown, *wrapped(said)]
 
 
 def match_of(lines: list[bytes]) -> str:
@@ -96,8 +111,8 @@ def match_of(lines: list[bytes]) -> str:
 
 
 def on_words(words: list[str]) -> list[str]:
-    """On words that are no command. Who names a file is told how it is handed over."""
+    """On words that are no command. Who names a file is told where it stands."""
     said = wrapped(kinds.WHOLE["usage"]) + ["`man -l docs/cardhouse.1` tells more."]
     if any(os.path.isfile(word) for word in words):
-        said += wrapped("Files are handed to standard input, as in `cat GAME.sheet GAME.plan | ./cardhouse play`.")
+        said += wrapped("Files stand behind the command, as in `./cardhouse play GAME.sheet GAME.plan`.")
     return said

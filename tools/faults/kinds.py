@@ -101,7 +101,8 @@ WHOLE = {
     ),
     "usage": (
         "These words are no command: write `play`, `check` or `sheet`, or `bench N` with N from 1 to 1000; `play` and "
-        "`bench` take `--workers N` (1 to 64) and `--cache N` (1 to 65536) behind that."
+        "`bench` take `--workers N` (1 to 64) and `--cache N` (1 to 65536) behind that. The other commands are `lint`, "
+        "`table` and `series`."
     ),
 }
 
@@ -177,10 +178,9 @@ EXACT = {
 
 # What stands at the end of a source, where a list is missing.
 MISSING = {
-    "sheet": "No sheet stands here: hand one to standard input, as in `./cardhouse sheet <examples/first.sheet`.",
+    "sheet": "No sheet stands here: name one, as in `./cardhouse sheet examples/first.sheet`.",
     "plan": (
-        "No plan stands behind the sheet: hand over both, as in `cat examples/first.sheet examples/first.plan | "
-        "./cardhouse play`."
+        "No plan stands behind the sheet: name both, as in `./cardhouse play examples/first.sheet examples/first.plan`."
     ),
 }
 

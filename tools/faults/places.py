@@ -9,13 +9,16 @@ BEFORE = 60
 
 @dataclass(frozen=True)
 class Place:
-    """A place in a text: its line and its column, counted from 1, and whether the text ends there."""
+    """A place in a text: its line and its column, counted from 1, whether the text ends there, and the file, if it has a name."""
 
     line: int
     column: int
     is_end: bool
+    file: str = ""
 
     def __str__(self) -> str:
+        if self.file:
+            return f"{self.file}:{self.line}:{self.column}"
         return f"line {self.line}, column {self.column}" + (", where the text ends" if self.is_end else "")
 
 

@@ -8,6 +8,8 @@ import sys
 from threading import Thread
 
 from faults.explaining import explanation
+from faults.files import FilesRefused, with_files
+from faults.sources import File
 
 CHUNK = 65536
 WRITE_FAULT = 7
@@ -67,18 +69,23 @@ def main(command: list[str]) -> int:
     """Runs the program, tells its notes and explains them, and ends with its status."""
     if signal.getsignal(signal.SIGINT) is signal.default_int_handler:
         signal.signal(signal.SIGINT, signal.SIG_DFL)
-    status, notes, source = run(command)
+    try:
+        words, files = with_files(command[1:])
+    except FilesRefused as refused:
+        tell(os.fsencode(f"cardhouse: {refused}\n"))
+        return refused.status
+    status, notes, source = run([command[0], *words])
     if not tell(notes):
         return status or WRITE_FAULT
     if status:
-        explain(notes, source, command[1:])
+        explain(notes, source, words, files)
     return status if status >= 0 else 128 - status
 
 
-def explain(notes: bytes, source: bytes, words: list[str]) -> None:
+def explain(notes: bytes, source: bytes, words: list[str], files: tuple[File, ...]) -> None:
     """Explains the first line that can be. What runs the program may have noted more, before it or behind."""
     for note in notes.decode("latin-1").splitlines():
-        lines = explanation(note, source, words)
+        lines = explanation(note, source, words, files)
         if lines:
             said = "".join(f"{line}\n" for line in ["", *lines])
             tell(said.encode(sys.stderr.encoding, "backslashreplace"))
