@@ -1,0 +1,71 @@
+"""Runs the sources without their proof by the kit's command `rt try`, as the program is run: with its words, streams and statuses."""
+
+import os
+import re
+import shutil
+import signal
+import stat
+import subprocess
+import sys
+from pathlib import Path
+
+from faults.files import LONGEST, TEXTS, hand_over
+
+CRATE = Path(__file__).resolve().parent.parent / "crates/rc_main"
+GAVE_UP = 127
+
+# The kit's own lines on standard error, and the last of them where the program ended.
+OF_KIT = re.compile(rb"(?:interpreter: |checked: |races: |run=|rt: ).*\n?")
+ENDED = re.compile(rb"run=ended status=(\d+) .*\n?")
+TOO_SLOW = b"the program did not end within the time limit"
+
+NOTHING_PROVED = "nothing was proved: these are the sources as they stand, run without their proof"
+NO_KIT = "no 'rt' on the path: install the Rattle kit"
+NO_TIME = (
+    "the kit gave up: without the proof a run may take 60 seconds, or as many as RT_SECONDS says, and is much slower; ask for fewer "
+    "matches, turns or rounds, or build the program, which runs as long as it takes"
+)
+NO_ANSWER = "the kit gave up without an answer of the program, and says why above"
+
+
+def main(words: list[str]) -> int:
+    """Runs the sources with these words, and ends with their status."""
+    if signal.getsignal(signal.SIGINT) is signal.default_int_handler:
+        signal.signal(signal.SIGINT, signal.SIG_DFL)
+    if not shutil.which("rt"):
+        return give_up(NO_KIT)
+    lines = notes_of(words)
+    ended = ENDED.fullmatch(lines[-1]) if lines else None
+    if not ended:
+        is_slow = any(TOO_SLOW in line for line in lines)
+        return give_up(NO_TIME) if is_slow else give_up(NO_ANSWER, lines)
+    note([line for line in lines if not OF_KIT.fullmatch(line)], NOTHING_PROVED)
+    return int(ended[1])
+
+
+def notes_of(words: list[str]) -> list[bytes]:
+    """The lines that a run leaves on standard error, the kit's among them."""
+    reads = words[:1] and words[0] in TEXTS
+    if reads:
+        read_to_end()
+    source = None if reads else subprocess.DEVNULL
+    ran = subprocess.run(["rt", "try", "--", *words], cwd=CRATE, stdin=source, stderr=subprocess.PIPE, check=False)
+    return ran.stderr.splitlines(keepends=True)
+
+
+def read_to_end() -> None:
+    """Reads what another program writes to standard input until it ends, since the kit doesn't wait for long."""
+    if not stat.S_ISREG(os.fstat(0).st_mode):
+        with open(0, "rb", closefd=False) as given:
+            hand_over(given.read(LONGEST + 1))
+
+
+def give_up(why: str, lines: list[bytes] | None = None) -> int:
+    note(lines or [], why)
+    return GAVE_UP
+
+
+def note(lines: list[bytes], said: str) -> None:
+    """Writes lines to standard error, and a sentence behind them."""
+    sys.stderr.buffer.write(b"".join(lines) + f"cardhouse: {said}\n".encode())
+    sys.stderr.buffer.flush()
