@@ -6,6 +6,7 @@ import textwrap
 from collections.abc import Callable
 
 from faults import kinds
+from faults.doubts import doubt_about, sentence_on_doubt
 from faults.forms import MEANINGS, is_fixed
 from faults.parts import Part
 from faults.places import line_at, picture, place_of
@@ -40,7 +41,8 @@ def wrapped(sentence: str | None) -> list[str]:
 
 
 def on_part(what: str, kind: str, at: int, source: Source) -> list[str]:
-    """On a fault of a sheet or a plan: its place, its line, a sentence, and where its shape is wrong how it is written."""
+    """On a fault of a sheet or a plan: its place, its line, a sentence, and where its shape is wrong how it is written. Where the
+    indentation tells of a `)` that is missing or too many, this is told too."""
     part = Part(what, source.text, at)
     said = kinds.sentence_on(kind, part)
     if said is None:
@@ -49,6 +51,8 @@ def on_part(what: str, kind: str, at: int, source: Source) -> list[str]:
     lines = pointed(source, at, said, behind)
     if kind == "Shape" and part.word:
         lines += written(part)
+    if doubt := doubt_about(kind, part, source):
+        lines += pointed(source, doubt.at, sentence_on_doubt(doubt, source))
     return lines
 
 

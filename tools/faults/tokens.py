@@ -33,10 +33,10 @@ def gap_end(source: bytes, at: int) -> int:
     return found.end() if found else at
 
 
-def end_of(source: bytes, lists: int) -> int:
-    """Where so many lists at the top end; else the length of the source."""
+def end_of(source: bytes, lists: int, at: int = 0) -> int:
+    """Where so many lists from a place on end that stand in no other of them; else the length of the source."""
     depth = complete = 0
-    for token in tokens(source):
+    for token in tokens(source, at):
         depth += {"(": 1, ")": -1}.get(token.text, 0)
         complete += token.text == ")" and depth == 0
         if complete == lists:
