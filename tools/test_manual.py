@@ -19,7 +19,7 @@ NOT_BUILT = 127
 
 def told_in_manual() -> dict[int, set[str]]:
     """The lines of each exit status."""
-    text = MANUAL.read_text("ascii").partition('.SH "EXIT STATUS"')[2].partition(".SH FILES")[0]
+    text = MANUAL.read_text("ascii").partition('.SH "EXIT STATUS"')[2].partition("\n.SH ")[0]
     statuses: dict[int, set[str]] = {}
     for entry in text.split(".TP\n.B ")[1:]:
         status, _, said = entry.partition("\n")
@@ -56,7 +56,7 @@ class Manual(unittest.TestCase):
         text = MANUAL.read_text("ascii")
         for command in ("play", "check", "sheet"):
             self.assertIn(f"\n.TP\n.B {command}\n", text)
-        for entry in ('.BI bench " N"', '.BI \\-\\-workers " N"', '.BI \\-\\-cache " N"', ".B \\-\\-explain"):
+        for entry in ('.BI bench " N"', '.BI \\-\\-workers " N"', '.BI \\-\\-cache " N"', ".B \\-\\-explain", ".B \\-\\-try"):
             self.assertIn(f"\n.TP\n{entry}\n", text)
 
     def test_its_files_are_there(self) -> None:
