@@ -15,7 +15,7 @@ ROOT = Path(__file__).resolve().parent.parent
 SHEETS = sorted([*ROOT.glob("examples/**/*.sheet"), ROOT / "bench/tricks.sheet"])
 
 # How many lines of each sheet are planted with either mistake.
-LINES = 6
+LINES = 4
 
 SHEET = b"""; A sheet with a ) in a comment.
 (game
@@ -47,10 +47,10 @@ def planted(text: bytes, at: int) -> Iterator[tuple[str, bytes]]:
     yield "too many", text[:at] + text[at:].replace(b")", b"))", 1)
 
 
-def told(text: bytes, begin: int = 0) -> list[tuple[str, int, int, int]]:
+def told(text: bytes) -> list[tuple[str, int, int, int]]:
     """The doubts on a text: what is doubted, from which line to which, and the line that tells it."""
-    lines = [[place_of(text, at).line for at in (it.since, it.at, it.line)] for it in doubts_on(text, begin)]
-    return [("missing" if it.missing else "too many", *places) for it, places in zip(doubts_on(text, begin), lines)]
+    lines = [(doubt, *(place_of(text, at).line for at in (doubt.since, doubt.at, doubt.line))) for doubt in doubts_on(text)]
+    return [("missing" if doubt.missing else "too many", *places) for doubt, *places in lines]
 
 
 def altered(old: str, new: str) -> bytes:

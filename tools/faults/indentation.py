@@ -6,14 +6,14 @@ from itertools import pairwise
 
 from faults.tokens import Token, tokens
 
-# A tab leads to the next column that is a multiple of this.
+# Before a line a tab leads to the next column that is a multiple of this; inside of one it's one column wide.
 TAB = 8
 
 # A text with fewer lines for each doubt isn't indented.
 LINES_A_DOUBT = 5
 
-# The parts of a sheet, which are sometimes written as far left as the sheet itself.
-PARTS = ("setup", "do", "stage", "choice", "scoring")
+# The parts of a sheet and of a plan, which are sometimes written as far left as these themselves.
+PARTS = ("setup", "do", "stage", "choice", "scoring", "seats", "matches", "turns")
 
 
 @dataclass(frozen=True)
@@ -58,7 +58,8 @@ class Reading:
     def __init__(self, text: bytes, begin: int) -> None:
         self.text = text
         self.end = begin
-        self.around = Nest(begin, 0, False)
+        self.column = 0
+        self.around = Nest(begin, -1, False)
         self.open: list[Nest] = []
         self.lines = 0
         self.doubts: list[Doubt] = []
@@ -67,23 +68,20 @@ class Reading:
         """The innermost list that is open, or what is around all lists."""
         return self.open[-1] if self.open else self.around
 
-    def column(self, at: int) -> int:
-        """The column of a place, counted from 1, with tabs as wide as they are shown."""
-        line = self.text[self.text.rfind(b"\n", 0, at) + 1 : at]
-        return len(line.expandtabs(TAB)) + 1
-
     def take(self, token: Token, head: str) -> None:
         """Reads a token, where a `(` comes with the word behind it."""
-        begins_line = not self.lines or self.text.find(b"\n", self.end, token.at) >= 0
+        _, feed, gap = self.text[self.end : token.at].rpartition(b"\n")
+        begins_line = bool(feed) or not self.lines
+        column = len(gap.expandtabs(TAB)) if begins_line else self.column + len(gap)
         if token.text == ")":
             self.close(token.at)
         else:
             if begins_line:
-                self.compare(token, head)
+                self.compare(token, column, head)
             self.inner().last = None
         if token.text == "(":
-            self.open.append(Nest(token.at, self.column(token.at), begins_line))
-        self.end = token.at + len(token.text)
+            self.open.append(Nest(token.at, column, begins_line))
+        self.end, self.column = token.at + len(token.text), column + len(token.text)
 
     def close(self, at: int) -> None:
         if self.open:
@@ -92,10 +90,9 @@ class Reading:
             if ended.nest.begins_line:
                 self.inner().begun = ended
 
-    def compare(self, token: Token, head: str) -> None:
+    def compare(self, token: Token, column: int, head: str) -> None:
         """Compares where a line begins with the lists that are open, and with those that ended last."""
         self.lines += 1
-        column = self.column(token.at)
         if ended := self.end_lists(column, head):
             self.doubts.append(Doubt(self.end, ended[0].at, token.at, len(ended)))
         elif opened := self.open_again(column, head):
