@@ -81,11 +81,15 @@ class Trying(Scripted):
         ran = self.run_script("--try", "play", env=env)
         self.assertEqual((ran.returncode, ran.stderr), (127, b"cardhouse: no 'rt' on the path: install the Rattle kit\n"))
 
-    def test_what_is_called_tries_as_well(self) -> None:
-        self.make(self.root / "tools/series", '#!/bin/sh\nexec "$(dirname "$0")/../cardhouse" "$@"\n')
-        ran = self.run_script("--try", "series", "play", kit=ENDED.format(0), status=0)
-        self.assertEqual((ran.returncode, self.said()), (0, "try -- play"))
-        self.assertIn(NOTHING_PROVED, ran.stderr)
+    def test_tools_that_need_no_program_run_as_ever(self) -> None:
+        for tool in ("lint", "table"):
+            self.make(self.root / "tools" / tool, "#!/bin/sh\nexit 9\n")
+            self.assertEqual(self.run_script("--try", tool, "a.sheet").returncode, 9)
+
+    def test_a_series_takes_the_built_program(self) -> None:
+        ran = self.run_script("--try", "series", "play")
+        self.assertEqual((ran.returncode, ran.stdout), (2, b""))
+        self.assertTrue(ran.stderr.startswith(b"cardhouse: a series takes the built program"), ran.stderr)
 
     def test_a_terminal_is_told_how_long_it_takes(self) -> None:
         status, said = self.terminal("--try", "sheet", "a.sheet", kit=ENDED.format(0), status=0)
