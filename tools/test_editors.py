@@ -102,7 +102,7 @@ class InFolder(unittest.TestCase):
         script = [f"set nocompatible runtimepath^={VIM}", "filetype plugin on", "syntax on", *commands, "qall!", ""]
         (self.folder / "script.vim").write_text("\n".join(script))
         command = ["vim", "-u", "NONE", "-es", "-S", self.folder / "script.vim"]
-        subprocess.run(command, cwd=self.folder, timeout=60, stdin=subprocess.DEVNULL, stdout=subprocess.DEVNULL)
+        subprocess.run(command, cwd=self.folder, timeout=300, stdin=subprocess.DEVNULL, stdout=subprocess.DEVNULL)
 
 
 class Colours(InFolder):

@@ -352,7 +352,7 @@ class Running(unittest.TestCase):
         self.folder = Path(folder.name)
 
     def lint(self, *words: str, out: int = subprocess.PIPE) -> tuple[int, str, str]:
-        ran = subprocess.run([LINT, *words], cwd=self.folder, stdout=out, stderr=subprocess.PIPE, text=True, timeout=60)
+        ran = subprocess.run([LINT, *words], cwd=self.folder, stdout=out, stderr=subprocess.PIPE, text=True, timeout=120)
         return ran.returncode, ran.stdout, ran.stderr
 
     def test_nothing_is_found(self) -> None:
@@ -381,6 +381,13 @@ class Running(unittest.TestCase):
         (self.folder / "a.sheet").write_text(sheet("(do (inc (game sto N) 1))"))
         with open("/dev/full", "w") as full:
             self.assertEqual(self.lint("a.sheet", out=full.fileno())[0], 7)
+
+    def test_output_that_is_closed(self) -> None:
+        (self.folder / "a.sheet").write_text(sheet("(do (inc (game sto N) 1))"))
+        for words, status in (("a.sheet >&-", 7), ("a.sheet b.sheet 2>&-", 2)):
+            with self.subTest(words):
+                ran = subprocess.run(["sh", "-c", f"{LINT} {words}"], cwd=self.folder, capture_output=True, timeout=120)
+                self.assertEqual((ran.returncode, ran.stdout, ran.stderr), (status, b"", b""))
 
 
 if __name__ == "__main__":

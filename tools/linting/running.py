@@ -1,6 +1,7 @@
 """Reads a sheet and tells what in it is likely a mistake."""
 
-import sys
+import os
+from contextlib import suppress
 
 from faults.places import place_of
 from linting.finding import Finding
@@ -12,6 +13,8 @@ from linting.trees import Node, Unreadable, read_sheet
 
 # The statuses where nothing is told, where something is, and where nothing could be looked at or written.
 CLEAN, FOUND, FAILED, WRITE_FAULT = 0, 1, 2, 7
+
+OUTPUT, ERROR = 1, 2
 
 KINDS = (on_locations, on_numbers, on_values, on_variables, on_stages)
 
@@ -40,18 +43,21 @@ def main(words: list[str]) -> int:
     except Unreadable as fault:
         return fail(f"{file} can't be read as a sheet: {fault}. `./cardhouse sheet` tells its fault.")
     try:
-        write("".join(told(file, source, finding) for finding in found))
+        write(OUTPUT, "".join(told(file, source, finding) for finding in found))
     except OSError:
         return WRITE_FAULT
     return FOUND if found else CLEAN
 
 
-def write(text: str) -> None:
-    """Writes to standard output. What isn't text in the name of the file is written as it was given."""
-    sys.stdout.buffer.write(text.encode("utf-8", "surrogateescape"))
-    sys.stdout.buffer.flush()
+def write(output: int, text: str) -> None:
+    """Writes to standard output or standard error. What isn't text in the name of the file is written as it was given."""
+    left = text.encode("utf-8", "surrogateescape")
+    while left:
+        left = left[os.write(output, left) :]
 
 
 def fail(said: str) -> int:
-    sys.stderr.write(f"lint: {said}\n")
+    """Says why nothing could be looked at, where standard error takes it."""
+    with suppress(OSError):
+        write(ERROR, f"lint: {said}\n")
     return FAILED
