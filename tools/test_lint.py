@@ -372,7 +372,7 @@ class Running(unittest.TestCase):
             self.assertEqual(self.lint(*words), (2, "", "lint: usage: cardhouse lint GAME.sheet\n"))
 
     def test_files_that_cant_be_read(self) -> None:
-        self.assertEqual(self.lint("a.sheet"), (2, "", "lint: a.sheet can't be read: No such file or directory.\n"))
+        self.assertEqual(self.lint("a.sheet"), (6, "", "lint: a.sheet can't be read: No such file or directory.\n"))
         (self.folder / "a.sheet").write_text("(game")
         said = "lint: a.sheet can't be read as a sheet: a `)` is missing. `./cardhouse sheet` tells its fault.\n"
         self.assertEqual(self.lint("a.sheet"), (2, "", said))

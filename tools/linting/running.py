@@ -11,8 +11,9 @@ from linting.on_values import on_values
 from linting.on_variables import on_variables
 from linting.trees import Node, Unreadable, read_sheet
 
-# The statuses where nothing is told, where something is, and where nothing could be looked at or written.
-CLEAN, FOUND, FAILED, WRITE_FAULT = 0, 1, 2, 7
+# The statuses where nothing is told, where something is, where words or lists are faulty, and where a file can't be read or written;
+# the last two are the program's own.
+CLEAN, FOUND, FAILED, READ_FAULT, WRITE_FAULT = 0, 1, 2, 6, 7
 
 OUTPUT, ERROR = 1, 2
 
@@ -39,7 +40,7 @@ def main(words: list[str]) -> int:
             source = opened.read()
         found = findings(read_sheet(source))
     except OSError as fault:
-        return fail(f"{file} can't be read: {fault.strerror}.")
+        return fail(f"{file} can't be read: {fault.strerror}.", READ_FAULT)
     except Unreadable as fault:
         return fail(f"{file} can't be read as a sheet: {fault}. `./cardhouse sheet` tells its fault.")
     try:
@@ -56,8 +57,8 @@ def write(output: int, text: str) -> None:
         left = left[os.write(output, left) :]
 
 
-def fail(said: str) -> int:
+def fail(said: str, status: int = FAILED) -> int:
     """Says why nothing could be looked at, where standard error takes it."""
     with suppress(OSError):
         write(ERROR, f"lint: {said}\n")
-    return FAILED
+    return status
