@@ -25,7 +25,7 @@ NO_TIME = (
     "the kit gave up: without the proof a run may take 60 seconds, or as many as RT_SECONDS says, and is much slower; ask for fewer "
     "matches, turns or rounds, or build the program, which runs as long as it takes"
 )
-NO_ANSWER = "the kit gave up without an answer of the program, and says why above"
+NO_ANSWER = "the kit gave up without an answer of the program"
 
 
 def main(words: list[str]) -> int:
