@@ -122,7 +122,9 @@ class Plans(unittest.TestCase):
             ("(turns 9)", "(turns 0)"),
             ("(turns 9)", ""),
             ("(script)", ""),
-            ("))", ")"),
+            ("(plan", "(plan ("),
+            ("(turns 9))", "(turns 9)))"),
+            ("(turns 9))", "(turns 9)) x"),
         ]:
             self.assertRaises(Refused, plan_of, "a", plan.replace(old, new).encode(), False)
 

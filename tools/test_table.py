@@ -241,6 +241,8 @@ class Commands(unittest.TestCase):
 
     def test_refusals(self) -> None:
         self.assertEqual(self.ran(given="house 1\n"), (4, "", "standard input:2: no transcript has this line here\n"))
+        closed = subprocess.run(["sh", "-c", '"$0" <&-', COMMAND], capture_output=True, text=True)
+        self.assertEqual((closed.returncode, closed.stderr), (6, "standard input: it is closed\n"))
         self.assertEqual(self.ran(f"{self.file}s"), (6, "", f"{self.file}s: No such file or directory\n"))
         shorter = self.file.with_name("b")
         shorter.write_text("house 1\nmatch 0 deal 0 seats 0\nend done 1\nscore 0 0 0\nstanding 1 strategy 0 points 0\n")

@@ -32,14 +32,14 @@ class Form:
 
 
 def forms_of(source: bytes) -> list[Form]:
-    """The forms at the top of a text. A list that is never closed is none."""
+    """The forms at the top of a text, and what closes no list. A list that is never closed is none."""
     open_lists: list[tuple[int, list[Form]]] = [(0, [])]
     for token in tokens(source):
         if token.text == "(":
             open_lists.append((token.at, []))
-        elif token.text != ")":
+        elif token.text != ")" or len(open_lists) == 1:
             open_lists[-1][1].append(Form(token.text, [], token.at, token.at + len(token.text)))
-        elif len(open_lists) > 1:
+        else:
             at, parts = open_lists.pop()
             open_lists[-1][1].append(Form("", parts, at, token.at + 1))
     return open_lists[0][1]

@@ -43,7 +43,7 @@ def split(folder: Path, sources: Sources, size: int | None, seconds: float | Non
     digests = digest(sources.sheet), digest(plan.text), program.digest()
     write(folder, sources, Split(*digests, commit(), kit(), plan.duplicate, pieces))
     told = f"{len(pieces)} pieces" if len(pieces) > 1 else "1 piece"
-    print(f"{told} of at most {pieces[0].matches} matches: `make -C {folder} -j 4` plays four at a time")
+    print(f"{told} of at most {pieces[0].matches} matches: `make -C {shlex.quote(str(folder))} -j 4` plays four at a time")
 
 
 def pieces_of(sources: Sources, size: int) -> list[Piece]:

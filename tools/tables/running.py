@@ -39,7 +39,7 @@ def main(words: list[str]) -> int:
 def matches_of(files: list[Path]) -> list[Match]:
     """The matches of all texts, which have the same number of players."""
     found: list[Match] = []
-    for name, text in [(str(file), read(file)) for file in files] or [(STANDARD_INPUT, sys.stdin.buffer.read())]:
+    for name, text in [(str(file), read(file)) for file in files] or [(STANDARD_INPUT, read_input())]:
         matches = Reader(name, text).matches()
         if found and len(matches[0].scores) != len(found[0].scores):
             raise Refused(TEXT, f"{name}:2: here {len(matches[0].scores)} play, and in {files[0]} {len(found[0].scores)}")
@@ -52,6 +52,15 @@ def read(file: Path) -> bytes:
         return file.read_bytes()
     except OSError as error:
         raise Refused(READ_FAULT, f"{file}: {error.strerror}") from None
+
+
+def read_input() -> bytes:
+    if sys.stdin is None:
+        raise Refused(READ_FAULT, f"{STANDARD_INPUT}: it is closed")
+    try:
+        return sys.stdin.buffer.read()
+    except OSError as error:
+        raise Refused(READ_FAULT, f"{STANDARD_INPUT}: {error.strerror}") from None
 
 
 def write(matches: list[Match], form: str | None, is_duplicate: bool) -> None:
