@@ -4,3 +4,4 @@ pub mod ByLocation
 pub mod Orders
 pub mod Homes
 pub mod FaceNumbers
+pub mod PutBack

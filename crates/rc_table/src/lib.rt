@@ -11,6 +11,7 @@ mod edits;
 mod faces;
 mod finding;
 mod place;
+mod restoring;
 mod shape;
 mod sight;
 mod table;
