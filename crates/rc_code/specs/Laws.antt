@@ -1,0 +1,33 @@
+-- Statements of laws of code.
+use Rattle.std.specs.Prelude.{◌≡◌, ℕ, List, [], ◌∷◌, drop, false}
+use Rattle.rc_sheet_model.specs.Sheet.{Effects, SheetItems}
+use Rattle.rc_play_model.specs.About.{About}
+use Rattle.rc_play_model.specs.Scene.{Vars}
+use Rattle.rc_play_model.specs.Effects.{Dealing, Point, does}
+use Rattle.rc_play_model.specs.Path.{Path}
+use Rattle.rc_code.specs.Instruction.{Instruction}
+use Rattle.rc_code.specs.Meaning.{effects_in, first_effects, passed_over, items_in, items_from, left_in}
+use Rattle.rc_code.specs.Stands.{EffectsStand, ItemsStand}
+use Rattle.rc_code.specs.Compiled.{items_code}
+
+-- what an instruction does, and then what those behind it do
+abbrev pub DoesInOrder : Type 0
+DoesInOrder =
+    (about : About) (dealing : Dealing ℕ) (vars : Vars) (first : Instruction) (code : List Instruction) (now : Point ℕ) →
+    does about dealing vars (effects_in (first ∷ code)) now
+    ≡ does about dealing vars (effects_in (drop (passed_over first) code)) (does about dealing vars (first_effects first code) now)
+
+-- code says what it stands for
+abbrev pub SaysWhatItStandsFor : Type 0
+SaysWhatItStandsFor =
+    ((es : Effects) (code : List Instruction) → EffectsStand es code → effects_in code ≡ es)
+    × ((items : SheetItems) (code : List Instruction) → ItemsStand items code → items_in code ≡ items)
+
+-- the code that is made of items stands for them
+abbrev pub CompiledStands : Type 0
+CompiledStands = (items : SheetItems) → ItemsStand items (items_code items)
+
+-- nothing is left where no item is next and no stage is open
+abbrev pub NothingLeft : Type 0
+NothingLeft =
+    (code : List Instruction) (path : Path) → path.at_round ≡ false → path.outer ≡ [] → items_from (drop path.next code) ≡ [] → left_in code path ≡ []

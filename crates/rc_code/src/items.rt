@@ -1,0 +1,186 @@
+//! The compiler of items.
+ghost use Rattle.std.specs.Prelude.{◌≡◌, ◌≤◌, ◌-◌, ◌++◌, length, map, OnOk, IfOk};
+ghost use Rattle.rc_sheet_model.specs.Sheet.{do_item, stage as stage_of, choice as choice_of};
+ghost use Rattle.rc_play_model.specs.Menu.{effects_of};
+ghost use Rattle.rc_ast.specs.Expressions.{test_seen};
+ghost use Rattle.rc_ast.specs.Effects.{effects_seen};
+ghost use Rattle.rc_ast.specs.Items.{alt_seen, alts_seen, item_seen, items_seen};
+ghost use Rattle.rc_code.specs.Compiled.{effects_code, alts_code, blocks_from, item_code, items_code};
+ghost use Rattle.rc_code.specs.Seen.{block_seen, list_seen};
+ghost use Rattle.rc_code.specs.Stands.{ItemsStand};
+
+use crate::code::{Block, Instruction};
+use crate::compile::{push, push_effects, write};
+use crate::operands::{copy_alts, copy_test};
+use rc_ast::{Alt, Class, Effect, SheetItem, Test};
+use rc_deck::Memory;
+use std::alloc::Global;
+
+/// Puts the code of items behind the others.
+#[cycle(items)]
+pub fn push_items(
+    alloc: Global,
+    items: &Vec<SheetItem>,
+    list: &mut Vec<Instruction>,
+) -> Result<(), Memory>
+    ensures { OnOk result (list_seen list.new.items ≡ list_seen list.old.items ++ items_code (items_seen items.now.items)) }
+{
+    for item in items {
+        match push_item(alloc, item, list) {
+            Ok(()) => {}
+            Err(Memory) => return Err(Memory),
+        }
+    }
+    Ok(())
+}
+
+#[cycle(items)]
+fn push_item(alloc: Global, item: &SheetItem, list: &mut Vec<Instruction>) -> Result<(), Memory>
+    ensures { OnOk result (list_seen list.new.items ≡ list_seen list.old.items ++ item_code (item_seen item.now)) }
+{
+    match item {
+        SheetItem::Do(effects) => push_do(alloc, effects, list),
+        SheetItem::Stage {
+            number,
+            class,
+            end,
+            body,
+        } => push_stage(alloc, body, *number, *class, end, list),
+        SheetItem::Choice { site, alts } => push_choice(alloc, *site, alts, list),
+    }
+}
+
+fn push_do(alloc: Global, effects: &Vec<Effect>, list: &mut Vec<Instruction>) -> Result<(), Memory>
+    ensures { OnOk result (list_seen list.new.items ≡ list_seen list.old.items ++ item_code (do_item (effects_seen effects.now.items))) }
+{
+    let at = list.len();
+    match push(list, Instruction::End) {
+        Ok(()) => {}
+        Err(Memory) => return Err(Memory),
+    }
+    match push_effects(alloc, effects, list) {
+        Ok(()) => {}
+        Err(Memory) => return Err(Memory),
+    }
+    let inside = list.len() - at - 1;
+    write(list, at, Instruction::Do(inside));
+    Ok(())
+}
+
+#[cycle(items)]
+fn push_stage(
+    alloc: Global,
+    body: &Vec<SheetItem>,
+    number: u16,
+    class: Class,
+    end: &Test,
+    list: &mut Vec<Instruction>,
+) -> Result<(), Memory>
+    ensures { OnOk result (list_seen list.new.items ≡ list_seen list.old.items ++ item_code (stage_of number class (test_seen end.now) (items_seen body.now.items))) }
+{
+    let end = match copy_test(alloc, end) {
+        Ok(end) => end,
+        Err(Memory) => return Err(Memory),
+    };
+    let at = list.len();
+    match push(list, Instruction::End) {
+        Ok(()) => {}
+        Err(Memory) => return Err(Memory),
+    }
+    match push_items(alloc, body, list) {
+        Ok(()) => {}
+        Err(Memory) => return Err(Memory),
+    }
+    match push(list, Instruction::End) {
+        Ok(()) => {}
+        Err(Memory) => return Err(Memory),
+    }
+    let inside = list.len() - at - 1;
+    write(list, at, Instruction::Stage {
+        number,
+        class,
+        end,
+        inside,
+    });
+    Ok(())
+}
+
+fn push_choice(
+    alloc: Global,
+    site: u8,
+    alts: &Vec<Alt>,
+    list: &mut Vec<Instruction>,
+) -> Result<(), Memory>
+    ensures { OnOk result (list_seen list.new.items ≡ list_seen list.old.items ++ item_code (choice_of site (alts_seen alts.now.items))) }
+{
+    let copy = match copy_alts(alloc, alts) {
+        Ok(copy) => copy,
+        Err(Memory) => return Err(Memory),
+    };
+    let at = list.len();
+    match push(list, Instruction::End) {
+        Ok(()) => {}
+        Err(Memory) => return Err(Memory),
+    }
+    let mut blocks = Vec::new(alloc);
+    match push_alts(alloc, alts, list, &mut blocks) {
+        Ok(()) => {}
+        Err(Memory) => return Err(Memory),
+    }
+    let inside = list.len() - at - 1;
+    write(list, at, Instruction::Choice {
+        site,
+        alts: copy,
+        blocks,
+        inside,
+    });
+    Ok(())
+}
+
+// Puts the effects of alternatives behind the others, and where each one's lie, counted from here, behind the blocks.
+fn push_alts(
+    alloc: Global,
+    alts: &Vec<Alt>,
+    list: &mut Vec<Instruction>,
+    blocks: &mut Vec<Block>,
+) -> Result<(), Memory>
+    ensures code { OnOk result (list_seen list.new.items ≡ list_seen list.old.items ++ alts_code (alts_seen alts.now.items)) }
+    ensures blocks { OnOk result (map block_seen blocks.new.items ≡ map block_seen blocks.old.items ++ blocks_from 0 (alts_seen alts.now.items)) }
+{
+    let from = list.len();
+    for alt in alts {
+        let before = list.len() - from;
+        match push_alt(alloc, alt, list) {
+            Ok(()) => {}
+            Err(Memory) => return Err(Memory),
+        }
+        let inside = list.len() - from - before;
+        match blocks.push(Block { before, inside }) {
+            Ok(()) => {}
+            Err(_) => return Err(Memory),
+        }
+    }
+    Ok(())
+}
+
+// Puts the effects of an alternative behind the others.
+fn push_alt(alloc: Global, alt: &Alt, list: &mut Vec<Instruction>) -> Result<(), Memory>
+    ensures { OnOk result (list_seen list.new.items ≡ list_seen list.old.items ++ effects_code (effects_of (alt_seen alt.now))) }
+{
+    match alt {
+        Alt::Do(effects) => push_effects(alloc, effects, list),
+        Alt::If(_, effects) => push_effects(alloc, effects, list),
+        Alt::Any(_, _, inner) => push_alt(alloc, inner, list),
+    }
+}
+
+/// The code of items.
+pub fn code_of(alloc: Global, items: &Vec<SheetItem>) -> Result<Vec<Instruction>, Memory>
+    ensures { IfOk result (λ code. ItemsStand (items_seen items.now.items) (list_seen code.items)) }
+{
+    let mut list = Vec::new(alloc);
+    match push_items(alloc, items, &mut list) {
+        Ok(()) => Ok(list),
+        Err(Memory) => Err(Memory),
+    }
+}
