@@ -13,9 +13,9 @@ use Rattle.rc_ast.specs.declared.effects.Effect.{Effect}
 use Rattle.rc_ast.specs.Effects.{effect_seen}
 use Rattle.rc_table.specs.Laid.{Laid}
 use Rattle.rc_rules.specs.declared.control.Frame.{Frame}
-use Rattle.rc_effects.specs.declared.context.Context.{Context}
-use Rattle.rc_effects.specs.Point.{point_of}
-use Rattle.rc_effects.specs.Leads.{LeadsTo}
+use Rattle.rc_state.specs.declared.context.Context.{Context}
+use Rattle.rc_state.specs.Point.{point_of}
+use Rattle.rc_state.specs.Leads.{LeadsTo}
 
 -- the same effect
 pub same_effect : (about : About) (dealing : Dealing ℕ) (vars : Vars) (e f : PureEffect) (now then' : Point ℕ) → e ≡ f →

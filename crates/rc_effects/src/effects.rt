@@ -9,19 +9,17 @@ ghost use Rattle.rc_play_model.specs.Effects.{does_one, does, times as times_in}
 ghost use Rattle.rc_ast.specs.Expressions.{coll_seen, int_seen, test_seen, domain_seen};
 ghost use Rattle.rc_ast.specs.Effects.{effect_seen, effects_seen};
 ghost use Rattle.rc_value.specs.Seen.{bind_seen};
-ghost use Rattle.rc_effects.specs.Point.{point_of};
-ghost use Rattle.rc_effects.specs.Under.{IsCollUnder, IsEffectUnder, AreEffectsUnder};
-ghost use Rattle.rc_effects.specs.Context.{scene_in, Stands};
+ghost use Rattle.rc_state.specs.Point.{point_of};
+ghost use Rattle.rc_state.specs.Under.{IsCollUnder, IsEffectUnder, AreEffectsUnder};
+ghost use Rattle.rc_state.specs.Context.{scene_in, Stands};
 
-use crate::context::Context;
-use crate::cycling::{name_next, turn_round};
 use crate::moving::{move_all, move_one};
-use crate::numbers::{Change, change_number};
-use crate::reading::{cards_now, int_now, test_now};
+use crate::numbers::change_number;
 use crate::references::{forget, remember};
 use crate::shuffling::shuffle;
 use rc_ast::{CollExpr, Domain, Effect, IntExpr, Test};
 use rc_rules::{About, Dealer, Frames};
+use rc_state::{Change, Context, cards_now, int_now, name_next, test_now, turn_round};
 use rc_table::Table;
 use rc_value::{Bind, Cards, Scope, current_of};
 

@@ -9,16 +9,15 @@ ghost use Rattle.rc_play_model.specs.Effects.{does};
 ghost use Rattle.rc_ast.specs.Expressions.{domain_seen};
 ghost use Rattle.rc_ast.specs.Items.{alt_seen, alts_seen};
 ghost use Rattle.rc_rules.specs.Control.{frames_seen};
-ghost use Rattle.rc_effects.specs.Point.{point_of};
-ghost use Rattle.rc_effects.specs.Under.{IsAltUnder, IsDomainUnder};
-ghost use Rattle.rc_effects.specs.Bindings.{AreAltsOutside};
-ghost use Rattle.rc_effects.specs.Context.{scene_in, Stands};
+ghost use Rattle.rc_state.specs.Point.{point_of};
+ghost use Rattle.rc_state.specs.Under.{IsAltUnder, IsDomainUnder};
+ghost use Rattle.rc_state.specs.Bindings.{AreAltsOutside};
+ghost use Rattle.rc_state.specs.Context.{scene_in, Stands};
 
-use crate::context::Context;
 use crate::effects::do_under;
-use crate::members::{bind_of, member_at};
 use rc_ast::{Alt, Domain};
 use rc_rules::{About, Dealer, Frames, Item};
+use rc_state::{Context, bind_of, member_at};
 use rc_table::Table;
 use rc_value::{Cards, Scope, current_of};
 

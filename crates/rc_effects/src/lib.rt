@@ -3,14 +3,10 @@
 //! Nothing here takes memory: a list that is gone over while the table changes is kept beside it first.
 #![tactic(auto)]
 
-mod context;
-mod cycling;
 mod effects;
 mod items;
-mod members;
 mod moving;
 mod numbers;
-mod reading;
 mod references;
 mod shuffling;
 

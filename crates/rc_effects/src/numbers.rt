@@ -1,28 +1,18 @@
 //! Numbers that are set and changed.
 ghost use Rattle.std.specs.Prelude.{◌≡◌};
-ghost use Rattle.rc_model.specs.Clamp.{clamped, IsWithinClamp};
+ghost use Rattle.rc_model.specs.Clamp.{IsWithinClamp};
 ghost use Rattle.rc_play_model.specs.Effects as effects;
 ghost use Rattle.rc_ast.specs.Names.{num_seen};
 ghost use Rattle.rc_ast.specs.Expressions.{int_seen};
 ghost use Rattle.rc_table.specs.Laid.{relaid};
-ghost use Rattle.rc_effects.specs.Context.{Stands};
-ghost use Rattle.rc_effects.specs.Under.{IsEffectUnder};
-ghost use Rattle.rc_effects.specs.Leads.{LeadsTo, effect_by, new_by};
+ghost use Rattle.rc_state.specs.Context.{Stands};
+ghost use Rattle.rc_state.specs.Under.{IsEffectUnder};
+ghost use Rattle.rc_state.specs.Leads.{LeadsTo, effect_by, new_by};
 
-use crate::context::Context;
-use crate::reading::{int_now, num_now};
 use rc_ast::{IntExpr, Num};
 use rc_rules::Frames;
+use rc_state::{Change, Context, changed, int_now, num_now};
 use rc_table::Table;
-use rc_value::{clamped_difference, clamped_sum};
-
-/// How a number changes by a value.
-#[derive(Clone, Copy, PartialEq, Eq, Debug)]
-pub enum Change {
-    Set,
-    Increase,
-    Decrease,
-}
 
 /// Changes a number by the value of an expression.
 pub fn change_number(
@@ -51,17 +41,4 @@ fn change_at(table: &mut Table, at: u16, how: Change, value: i64)
 {
     let old = table.number(at);
     table.set_number(at, changed(how, old, value));
-}
-
-// The nearest number in range to what a number becomes.
-fn changed(how: Change, old: i64, value: i64) -> i64
-    requires value { IsWithinClamp value }
-    ensures is { result ≡ clamped (new_by how old value) }
-    ensures within { IsWithinClamp result }
-{
-    match how {
-        Change::Set => value,
-        Change::Increase => clamped_sum(old, value),
-        Change::Decrease => clamped_difference(old, value),
-    }
 }

@@ -9,14 +9,13 @@ ghost use Rattle.rc_ast.specs.Effects.{end_seen};
 ghost use Rattle.rc_play_model.specs.Scene.{id_of as id_in};
 ghost use Rattle.rc_table.specs.Laid.{relaid};
 ghost use Rattle.rc_value.specs.Cards.{value_seen};
-ghost use Rattle.rc_effects.specs.Context.{Stands};
-ghost use Rattle.rc_effects.specs.Under.{IsEffectUnder};
-ghost use Rattle.rc_effects.specs.Leads.{LeadsTo};
+ghost use Rattle.rc_state.specs.Context.{Stands};
+ghost use Rattle.rc_state.specs.Under.{IsEffectUnder};
+ghost use Rattle.rc_state.specs.Leads.{LeadsTo};
 
-use crate::context::Context;
-use crate::reading::{card_now, loc_now};
 use rc_ast::{CardExpr, End, Loc};
 use rc_rules::Frames;
+use rc_state::{Context, card_now, loc_now};
 use rc_table::Table;
 use rc_value::Card;
 

@@ -1,20 +1,17 @@
 //! Locations that are shuffled.
-ghost use Rattle.std.specs.Prelude.{◌≡◌, ◌≤◌, ◌<◌, length};
-ghost use Rattle.rc_model.specs.Numbers.{below};
+ghost use Rattle.std.specs.Prelude.{◌≡◌, ◌<◌, length};
 ghost use Rattle.rc_sheet_model.specs.Sheet.{shuffle as shuffle_of};
 ghost use Rattle.rc_play_model.specs.Table.{list_at, reorder};
 ghost use Rattle.rc_play_model.specs.Effects.{does_one};
 ghost use Rattle.rc_ast.specs.Names.{loc_seen};
 ghost use Rattle.rc_table.specs.Laid.{relaid};
-ghost use Rattle.rc_effects.specs.Context.{Stands};
-ghost use Rattle.rc_effects.specs.Under.{IsEffectUnder};
-ghost use Rattle.rc_effects.specs.Point.{point_of};
+ghost use Rattle.rc_state.specs.Context.{Stands};
+ghost use Rattle.rc_state.specs.Under.{IsEffectUnder};
+ghost use Rattle.rc_state.specs.Point.{point_of};
 
-use crate::context::Context;
-use crate::reading::loc_now;
-use arrayvec::ArrayVec;
 use rc_ast::Loc;
 use rc_rules::{Dealer, Frames};
+use rc_state::{Context, loc_now, places};
 use rc_table::Table;
 
 /// Shuffles a location.
@@ -47,17 +44,4 @@ fn shuffle_at<D: Dealer>(table: &mut Table, at: u16, dealer: &mut D)
     let mut order = places(table.list(at).len());
     dealer.shuffle(order.as_mut_slice());
     table.reorder(at, order.as_slice());
-}
-
-// The places of a list of so many items.
-#[tactic(auto, using(crate::proofs::Orders::below_more))]
-fn places(count: usize) -> ArrayVec<u16, 512>
-    requires few { count ≤ 512 }
-    ensures { result.items ≡ below count }
-{
-    let mut places = ArrayVec::new();
-    for place in 0..count {
-        places.push(place as u16);
-    }
-    places
 }

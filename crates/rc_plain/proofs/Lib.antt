@@ -1,10 +1,7 @@
-pub mod FrameEnds
 pub mod StageLemmas
-pub mod OwnerLemmas
 pub mod PathLemmas
 pub mod StepCases
 pub mod PlayLemmas
 pub mod KeptLemmas
 pub mod SiteLemmas
-pub mod ScoreLemmas
 pub mod MachineLemmas

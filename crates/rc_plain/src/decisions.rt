@@ -5,15 +5,16 @@ ghost use Rattle.rc_play_model.specs.Step.{goes};
 ghost use Rattle.rc_play_model.specs.Decision.{choose};
 ghost use Rattle.rc_ast.specs.Items.{alts_seen};
 ghost use Rattle.rc_rules.specs.Machine.{StandsAtDecision, menu_here};
-ghost use Rattle.rc_rules.specs.Menu.{item_seen, menu_seen};
+ghost use Rattle.rc_rules.specs.Menu.{item_seen};
 ghost use Rattle.rc_plain.specs.Paths.{item_at};
 ghost use Rattle.rc_plain.specs.Plain.{IsInPlay, chosen_item};
 ghost use Rattle.rc_plain.specs.State.{IsReady, plain_of, config_at};
 
-use crate::state::{State, count_decision};
+use crate::state::State;
 use rc_ast::{Alt, Class};
 use rc_effects::do_item;
-use rc_rules::{About, Dealer, Item, Menu, current_in};
+use rc_rules::{About, Dealer, Item, current_in};
+use rc_state::count_decision;
 
 impl State {
     /// Takes an item out of the menu of the decision that is next, and does its effects.
@@ -58,16 +59,4 @@ impl State {
         count_decision(&mut self.control, seat);
         self.path.pass();
     }
-}
-
-/// The same menu once more.
-pub fn copy_of(menu: &Menu) -> Menu
-    ensures { menu_seen result.items ≡ menu_seen menu.now.items }
-{
-    let mut copy = Menu::new();
-    let _fits = menu.len();
-    for item in menu.as_slice() {
-        copy.push(item.copy());
-    }
-    copy
 }

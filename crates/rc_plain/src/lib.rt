@@ -2,7 +2,6 @@
 #![tactic(auto)]
 
 mod decisions;
-mod frames;
 mod machine;
 mod path;
 mod site;

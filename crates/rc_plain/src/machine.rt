@@ -10,14 +10,14 @@ ghost use Rattle.rc_rules.specs.Dealer.{HasShuffled};
 ghost use Rattle.rc_rules.specs.Machine.{StandsAtDecision, StandsWhereItStops, menu_here};
 ghost use Rattle.rc_plain.specs.Plain.{config_of, CanDecide};
 
-use crate::decisions::copy_of;
 use crate::path::Path;
 use crate::site::{path_of, site_of};
-use crate::state::{State, fill_menu_at, new_control};
+use crate::state::State;
 use rc_deck::Memory;
 use rc_flow::Checked;
 use rc_play_model::sites_fix_choices;
 use rc_rules::{About, Control, Dealer, Machine, Menu, Scores, Stop};
+use rc_state::{copy_menu, fill_menu_at, new_control, scores_now};
 use rc_table::{Shape, Table};
 use std::alloc::Global;
 use std::marker::Model;
@@ -178,7 +178,7 @@ impl Machine for PlainMachine {
     }
 
     fn menu(&self) -> Menu {
-        copy_of(&self.state.menu)
+        copy_menu(&self.state.menu)
     }
 
     fn menu_size(&self) -> usize
@@ -208,7 +208,7 @@ impl Machine for PlainMachine {
     }
 
     fn scores(&self) -> Scores {
-        self.state.scores(&self.about)
+        scores_now(&self.about, &self.state.table, &self.state.control)
     }
 
     fn table(&self) -> &Table {

@@ -11,12 +11,12 @@ ghost use Rattle.rc_rules.specs.Machine.{StandsWhereItStops};
 ghost use Rattle.rc_plain.specs.Paths.{item_at};
 ghost use Rattle.rc_plain.specs.State.{KeepsMenu, IsReady, config_at, next_seen, LeadsTo};
 
-use crate::frames;
-use crate::state::{State, fill_menu_at, members};
+use crate::state::State;
 use rc_ast::{Alt, Class, Effect, SheetItem, Test};
 use rc_effects::do_effects;
 use rc_play_model::{sites_fix_choices, stops_stay};
 use rc_rules::{About, Dealer, Stop, current_in};
+use rc_state::{close_frame, fill_menu_at, has_ended, member_count, open_frame, pass_frame};
 use rc_value::Scope;
 
 impl State {
@@ -93,7 +93,7 @@ impl State {
         if self.path.at_round() {
             return self.round_next(about, end);
         }
-        frames::open(&mut self.control.frames, about.sheet(), number, class);
+        open_frame(&mut self.control.frames, about.sheet(), number, class);
         self.path.open();
         None
     }
@@ -109,8 +109,8 @@ impl State {
         ensures ready { IsReady about.now self.new }
     {
         let _sheet = about.sheet();
-        if self.ends(about, end) {
-            frames::close(&mut self.control.frames);
+        if has_ended(about, &self.table, &self.control, end) {
+            close_frame(&mut self.control.frames);
             self.path.pass();
             return None;
         }
@@ -132,8 +132,8 @@ impl State {
         if !self.path.leave() {
             return Some(Stop::Done);
         }
-        let count = members(about, self.path.class(about));
-        frames::pass(&mut self.control.frames, count);
+        let count = member_count(about, self.path.class(about));
+        pass_frame(&mut self.control.frames, count);
         None
     }
 

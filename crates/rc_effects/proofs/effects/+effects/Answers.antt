@@ -4,9 +4,9 @@ use Rattle.rc_play_model.specs.Value.{player_bound}
 use Rattle.rc_play_model.specs.Effects.{does}
 use Rattle.rc_ast.specs.declared.effects.Effect.TheFolds
 use Rattle.rc_ast.specs.Effects.{effects_seen}
-use Rattle.rc_effects.specs.Point.{point_of}
-use Rattle.rc_effects.specs.Under.{IsEffectUnder, AreEffectsUnder}
-use Rattle.rc_effects.proofs.Rows.{is_if, is_repeat, is_each, effect_under}
+use Rattle.rc_state.specs.Point.{point_of}
+use Rattle.rc_state.specs.Under.{IsEffectUnder, AreEffectsUnder}
+use Rattle.rc_state.proofs.Rows.{is_if, is_repeat, is_each, effect_under}
 use Rattle.rc_effects.proofs.Steps.{same_effect, led, one_player, no_player}
 use Rattle.rc_effects.proofs.effects.+effects.Goals as goal
 

@@ -5,8 +5,8 @@ use Rattle.rc_play_model.specs.Value.{player_bound, card_bound}
 use Rattle.rc_play_model.specs.Effects.{does, again}
 use Rattle.rc_ast.specs.Effects.{effects_seen}
 use Rattle.rc_value.specs.Cards.{values_seen}
-use Rattle.rc_effects.specs.Point.{point_of}
-use Rattle.rc_effects.specs.Context.{Stands}
+use Rattle.rc_state.specs.Point.{point_of}
+use Rattle.rc_state.specs.Context.{Stands}
 use Rattle.rc_effects.proofs.effects.+effects.Given as goal
 
 -- what is left to do, from here, leads to what all leads to

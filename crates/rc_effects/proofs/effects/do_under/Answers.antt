@@ -1,4 +1,4 @@
-use Rattle.rc_effects.proofs.Rows.{effect_under}
+use Rattle.rc_state.proofs.Rows.{effect_under}
 use Rattle.rc_effects.proofs.effects.do_under.Goals as goal
 
 pub do_effect-requires-clause-well : goal.do_effect-requires-clause-well

@@ -1,8 +1,8 @@
 use Rattle.std.proofs.Common.{◌≡◌, drop}
 use Rattle.rc_play_model.specs.Effects.{does}
 use Rattle.rc_ast.specs.Effects.{effects_seen}
-use Rattle.rc_effects.specs.Point.{point_of}
-use Rattle.rc_effects.specs.Context.{Stands}
+use Rattle.rc_state.specs.Point.{point_of}
+use Rattle.rc_state.specs.Context.{Stands}
 use Rattle.rc_effects.proofs.effects.do_under.Given as goal
 
 -- what is left to do, from here, leads to what all leads to

@@ -6,10 +6,10 @@ use Rattle.rc_play_model.specs.Effects.{does}
 use Rattle.rc_ast.specs.Expressions.{domain_seen}
 use Rattle.rc_ast.specs.Items.{alt_seen}
 use Rattle.rc_value.specs.Seen.{bind_seen}
-use Rattle.rc_effects.specs.Point.{point_of}
-use Rattle.rc_effects.specs.Context.{scene_in}
-use Rattle.rc_effects.specs.Under.{IsAltUnder}
-use Rattle.rc_effects.proofs.MemberLemmas.{bare_any, bound_more}
+use Rattle.rc_state.specs.Point.{point_of}
+use Rattle.rc_state.specs.Context.{scene_in}
+use Rattle.rc_state.specs.Under.{IsAltUnder}
+use Rattle.rc_state.proofs.MemberLemmas.{bare_any, bound_more}
 use Rattle.rc_effects.proofs.items.+alternatives.Goals as goal
 
 pub do_any-returns-in-None-clause-does : goal.do_any-returns-in-None-clause-does

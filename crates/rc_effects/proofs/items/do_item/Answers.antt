@@ -1,5 +1,5 @@
 use Rattle.std.proofs.Common.{◌≡◌, ◌<◌, rules, length, slice_index_or}
-use Rattle.rc_effects.proofs.Rows.{alt_under}
+use Rattle.rc_state.proofs.Rows.{alt_under}
 use Rattle.rc_effects.proofs.items.do_item.Goals as goal
 
 pub do_alt-requires-clause-well : goal.do_alt-requires-clause-well

@@ -6,7 +6,7 @@ use Rattle.rc_plain.proofs.machine.PlainMachineMachine.menu.Goals as goal
 
 pub returns : goal.returns
 returns c =
-    c.copy_of.ensures
+    c.copy_menu.ensures
     ∙ kept_here c.self.inside.about c.self.inside.state c.self.invariant
     (subst (λ (m : Plain). StandsAtDecision m.about (config_of m)) (sym c.self.view_is) c.requires.decision)
     ∙ ap (λ (m : Plain). menu_here m.about (config_of m)) c.self.view_is

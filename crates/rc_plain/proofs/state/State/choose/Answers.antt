@@ -9,7 +9,7 @@ use Rattle.rc_play_model.specs.Step.{goes}
 use Rattle.rc_play_model.specs.Path.{stage_in, past}
 use Rattle.rc_ast.specs.Items.{alts_seen}
 use Rattle.rc_rules.specs.Control.{control_seen, frames_seen}
-use Rattle.rc_effects.specs.Point.{point_of}
+use Rattle.rc_state.specs.Point.{point_of}
 use Rattle.rc_plain.specs.Paths.{IsPath}
 use Rattle.rc_plain.specs.Plain.{config_of}
 use Rattle.rc_plain.specs.State.{plain_of}

@@ -5,7 +5,7 @@ use Rattle.rc_play_model.specs.Step.{goes, with_frames}
 use Rattle.rc_play_model.specs.Path.{stage_in}
 use Rattle.rc_ast.specs.Effects.{effects_seen}
 use Rattle.rc_rules.specs.Control.{frames_seen}
-use Rattle.rc_effects.specs.Point.{point_of}
+use Rattle.rc_state.specs.Point.{point_of}
 use Rattle.rc_plain.specs.Paths.{IsPath}
 use Rattle.rc_plain.specs.Plain.{config_of}
 use Rattle.rc_plain.specs.State.{plain_of}

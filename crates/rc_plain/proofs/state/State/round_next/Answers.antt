@@ -13,27 +13,27 @@ use Rattle.rc_plain.proofs.PlayLemmas.{goes_on, past_is_path, into_is_path, few_
 use Rattle.rc_plain.proofs.KeptLemmas.{not_offered}
 use Rattle.rc_plain.proofs.state.State.round_next.Goals as goal
 
-pub ends-requires-clause-well : goal.ends-requires-clause-well
-ends-requires-clause-well c =
+pub has_ended-requires-clause-well : goal.has_ended-requires-clause-well
+has_ended-requires-clause-well c =
     let sheet = c.args.about.now.sheet in
     let here = c.requires.here in
     let well = c.sheet-sheet.ensures.well in
     end_outside sheet here.0 here.1 (test_seen c.args.end.now) here.2
     (item_outside sheet c.args.self.now.path _ outside refl well.items here.3)
 
-pub returns-then-ends-clause-ready : goal.returns-then-ends-clause-ready
-returns-then-ends-clause-ready c =
+pub returns-then-has_ended-clause-ready : goal.returns-then-has_ended-clause-ready
+returns-then-has_ended-clause-ready c =
     let about = c.args.about.now in
     let m = plain_of about c.args.self.now in
     let play = c.requires.ready.play in
     let here = c.requires.here in
     let s : Stage = record { number = here.0; class = here.1; end = test_seen c.args.end.now; body = here.2 } in
-    let frames = frames_seen c.close.new.frames.items in
+    let frames = frames_seen c.close_frame.new.frames.items in
     record {
       laid = c.requires.ready.laid;
       play = goes_on m play c.pass.new.self m.table (with_frames m.control frames) still 0 0
           (subst (IsPath about.sheet) (sym c.pass.ensures) (past_is_path m play)) play.turn play.counts
-          (close_leads m still 0 s frames c.requires.round (ap stage_in here.3) (sym c.ends.ensures ∙ c.if-ends.true) (sym c.close.ensures)
+          (close_leads m still 0 s frames c.requires.round (ap stage_in here.3) (sym c.has_ended.ensures ∙ c.if-has_ended.true) (sym c.close_frame.ensures)
           ∙ ap (λ path. goes 0 (config_of (moved m path m.table (with_frames m.control frames)))) (sym c.pass.ensures));
       kept = λ site is. absurd (not_offered m site _ (c.requires.ready.kept site is).offered here.3 refl);
     }
@@ -49,7 +49,7 @@ returns-clause-leads c =
     let here = c.requires.here in
     let s : Stage = record { number = here.0; class = here.1; end = test_seen c.args.end.now; body = here.2 } in
     λ dealing k.
-    round_leads m dealing k s c.requires.round (ap stage_in here.3) (sym c.ends.ensures ∙ c.if-ends.false)
+    round_leads m dealing k s c.requires.round (ap stage_in here.3) (sym c.has_ended.ensures ∙ c.if-has_ended.false)
     (subst (λ n. m.control.turn < n) c.turns.ensures c.if-self-turns.false)
     ∙ ap (λ path. goes k (config_of (moved m path m.table (one_turn_more m.control)))) (sym c.enter.ensures)
 

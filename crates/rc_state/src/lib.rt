@@ -1,0 +1,27 @@
+//! What a machine reads of a match, and changes in it, whatever it plays on: what expressions stand for now, the members of domains,
+//! the frames of open stages, menus, scores and the counts of a control.
+//!
+//! Nothing here takes memory.
+#![tactic(auto)]
+
+mod change;
+mod context;
+mod counting;
+mod cycling;
+mod frames;
+mod members;
+mod menus;
+mod reading;
+mod scoring;
+mod shuffles;
+
+pub use change::{Change, changed};
+pub use context::{Context, scene_now};
+pub use counting::{count_decision, member_count, new_control};
+pub use cycling::{name_next, turn_round};
+pub use frames::{close_frame, open_frame, pass_frame};
+pub use members::{Member, bind_of, member_at};
+pub use menus::{copy_menu, fill_menu_at};
+pub use reading::{card_now, cards_now, int_now, loc_now, num_now, test_now};
+pub use scoring::{has_ended, scores_now};
+pub use shuffles::places;

@@ -1,0 +1,48 @@
+//! What is asked of a whole match: whether a stage ends, and the scores.
+ghost use Rattle.std.specs.Prelude.{◌≡◌, []};
+ghost use Rattle.rc_sheet_model.specs.WellFormed.{Around, IsTest};
+ghost use Rattle.rc_play_model.specs.Value.{test_value};
+ghost use Rattle.rc_play_model.specs.About.{scene_at};
+ghost use Rattle.rc_play_model.specs.Scores.{score_of, scores_of};
+ghost use Rattle.rc_ast.specs.Expressions.{test_seen};
+ghost use Rattle.rc_rules.specs.Control.{frames_seen, control_seen};
+
+use rc_ast::Test;
+use rc_rules::{About, Control, Scores};
+use rc_table::Table;
+use rc_value::{Bind, Scene, Scope, expressions_bind_few, int_of, test_of};
+
+/// Whether the end test of a stage holds.
+pub fn has_ended(about: &About, table: &Table, control: &Control, end: &Test) -> bool
+    requires laid { table.now.shape ≡ about.now.shape }
+    requires well { (around : Around) × (around.binders ≡ 0) × IsTest about.now.sheet around (test_seen end.now) }
+    ensures { result ≡ test_value (scene_at about.now table.now.table (frames_seen control.now.frames.items)) [] (test_seen end.now) }
+{
+    expressions_bind_few();
+    let scene = Scene::new(about.sheet(), table, control.frames.as_slice());
+    test_of(&scene, &Scope::empty(), end)
+}
+
+/// Each player's score.
+pub fn scores_now(about: &About, table: &Table, control: &Control) -> Scores
+    requires laid { table.now.shape ≡ about.now.shape }
+    ensures { result.items ≡ scores_of about.now table.now.table (control_seen control.now) }
+{
+    let sheet = about.sheet();
+    let mut scores = Scores::new();
+    for player in 0..sheet.players {
+        scores.push(score_now(about, table, control, player));
+    }
+    scores
+}
+
+fn score_now(about: &About, table: &Table, control: &Control, player: u8) -> i64
+    requires laid { table.now.shape ≡ about.now.shape }
+    ensures { result ≡ score_of about.now table.now.table (control_seen control.now) player }
+{
+    expressions_bind_few();
+    let sheet = about.sheet();
+    let scene = Scene::new(sheet, table, control.frames.as_slice());
+    let empty = Scope::empty();
+    int_of(&scene, &empty.with(Bind::Player(player)), &sheet.score)
+}
