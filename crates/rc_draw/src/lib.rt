@@ -33,12 +33,16 @@ fn scaled(word: u32, n: u32) -> u32
     (word as u64 * n as u64 / 4294967296) as u32
 }
 
-/// The pick of a key below n, by its first word.
+/// The pick of a key below n, by its first word. Below 1 it is 0 whatever the word, and none is drawn.
 pub fn pick_by(key: &[u8; 32], n: u32) -> u32
     requires { 0 < n }
     ensures value { result ≡ draws.pick_of key.now n }
     ensures bound { result < n }
 {
+    if n == 1 {
+        keys_pick_and_permute();
+        return 0;
+    }
     let mut rng = ChaCha8Rng::from_seed(*key);
     scaled(rng.next_word(), n)
 }
