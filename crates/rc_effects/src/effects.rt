@@ -40,7 +40,7 @@ pub fn do_effects<D: Dealer>(
     ensures shape { table.new.shape ≡ about.now.shape }
     ensures dealing { D.dealing dealer.new ≡ D.dealing dealer.old }
 {
-    let current = current_of(about.sheet(), frames.as_slice());
+    let current = current_of(about.sheet(), about.lookup(), frames.as_slice());
     let context = Context {
         about,
         scope,

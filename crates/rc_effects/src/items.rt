@@ -45,7 +45,7 @@ pub fn do_item<D: Dealer>(
         return;
     };
     let scope = Scope::empty();
-    let current = current_of(about.sheet(), frames.as_slice());
+    let current = current_of(about.sheet(), about.lookup(), frames.as_slice());
     let context = Context {
         about,
         scope: &scope,

@@ -59,7 +59,7 @@ impl PlainMachine {
         ensures about { IfOk result (λ m. m.about ≡ record { sheet = checked.now.value; shape = shape.now.value; turns = turns }) }
         ensures start { IfOk result (λ m. config_of m ≡ start (record { sheet = checked.now.value; shape = shape.now.value; turns = turns })) }
     {
-        let about = about_of(checked, shape, turns)?;
+        let about = about_of(alloc, checked, shape, turns)?;
         PlainMachine::at_start(alloc, about)
     }
 
@@ -85,6 +85,7 @@ impl PlainMachine {
 
     /// A match at the decision for which this table and this control stand. The shape is the sheet's.
     pub fn at(
+        alloc: Global,
         checked: &Arc<Checked>,
         shape: &Arc<Shape>,
         turns: u32,
@@ -98,7 +99,7 @@ impl PlainMachine {
         ensures at { IfOk result (λ m. config_of m
             ≡ at_site (record { sheet = checked.now.value; shape = shape.now.value; turns = turns }) table.table (control_seen control)) }
     {
-        let about = about_of(checked, shape, turns)?;
+        let about = about_of(alloc, checked, shape, turns)?;
         Ok(PlainMachine::at_decision(about, table, control))
     }
 
@@ -145,13 +146,18 @@ impl PlainMachine {
 }
 
 // What the match is played by.
-fn about_of(checked: &Arc<Checked>, shape: &Arc<Shape>, turns: u32) -> Result<About, Memory>
+fn about_of(
+    alloc: Global,
+    checked: &Arc<Checked>,
+    shape: &Arc<Shape>,
+    turns: u32,
+) -> Result<About, Memory>
     requires { shape.now.value ≡ shape_of checked.now.value }
     ensures { IfOk result (λ about. about ≡ record { sheet = checked.now.value; shape = shape.now.value; turns = turns }) }
 {
     let checked = Arc::try_clone(checked)?;
     let shape = Arc::try_clone(shape)?;
-    Ok(About::new(checked, shape, turns))
+    About::new(alloc, checked, shape, turns)
 }
 
 impl Machine for PlainMachine {

@@ -89,7 +89,11 @@ pub fn shared_about(alloc: Global, checked: Checked, turns: u32) -> Result<Arc<A
         Ok(checked) => checked,
         Err(_) => return Err(Memory),
     };
-    match Arc::new(alloc, About::new(checked, shape, turns)) {
+    let about = match About::new(alloc, checked, shape, turns) {
+        Ok(about) => about,
+        Err(Memory) => return Err(Memory),
+    };
+    match Arc::new(alloc, about) {
         Ok(about) => Ok(about),
         Err(_) => Err(Memory),
     }

@@ -4,13 +4,15 @@ use Rattle.rc_sheet_model.specs.WellFormed.{IsWellFormed}
 use Rattle.rc_sheet_model.specs.Sight.{IsInSight}
 use Rattle.rc_play_model.specs.Shape.{shape_of}
 use Rattle.rc_play_model.specs.About.{About as PureAbout}
+use Rattle.rc_rules.specs.Lookup.{IsLookup}
 use Rattle.rc_rules.specs.declared.about.About.TheInside.{Inside}
 
 abbrev pub about_seen : Inside → PureAbout
 about_seen about = record { sheet = about.checked.value; shape = about.shape.value; turns = about.turns }
 
--- the sheet is checked, and the shape is its own
+-- the sheet is checked, the shape is its own, and the names are looked up in them
 pub record IsAbout (about : Inside) : Type 0 where
   pub well : IsWellFormed about.checked.value
   pub sight : IsInSight about.checked.value
   pub shape : about.shape.value ≡ shape_of about.checked.value
+  pub looked_up : IsLookup about.checked.value about.shape.value about.lookup.value

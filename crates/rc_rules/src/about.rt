@@ -4,20 +4,25 @@ ghost use Rattle.rc_sheet_model.specs.WellFormed.{IsWellFormed};
 ghost use Rattle.rc_sheet_model.specs.Sight.{IsInSight};
 ghost use Rattle.rc_play_model.specs.Shape.{shape_of};
 ghost use Rattle.rc_ast.specs.Sheet.{sheet_seen};
+ghost use Rattle.rc_rules.specs.Lookup.{IsLookup};
 
+use crate::lookup::{Lookup, lookup_of};
 use rc_ast::Sheet;
 use rc_deck::Memory;
 use rc_flow::Checked;
 use rc_table::Shape;
+use std::alloc::Global;
 use std::marker::Model;
 use std::sync::Arc;
 
-/// A checked sheet, its shape and the turn limit. Contracts see them as the definitions of play have them.
+/// A checked sheet, its shape and the turn limit, with what its names and cards come to. Contracts see the first three as the
+/// definitions of play have them.
 #[derive(Drop)]
 pub struct About {
     checked: Arc<Checked>,
     shape: Arc<Shape>,
     turns: u32,
+    lookup: Arc<Lookup>,
 }
 
 impl Model for About {
@@ -38,16 +43,23 @@ impl Model for About {
 
 impl About {
     /// An about of these parts. The shape is the sheet's.
-    pub fn new(checked: Arc<Checked>, shape: Arc<Shape>, turns: u32) -> About
+    pub fn new(
+        alloc: Global,
+        checked: Arc<Checked>,
+        shape: Arc<Shape>,
+        turns: u32,
+    ) -> Result<About, Memory>
         requires { shape.value ≡ shape_of checked.value }
-        ensures { result ≡ record { sheet = checked.value; shape = shape.value; turns = turns } }
+        ensures { IfOk result (λ about. about ≡ record { sheet = checked.value; shape = shape.value; turns = turns }) }
     {
-        let _sheet = checked.sheet();
-        About {
+        let lookup = lookup_of(alloc, checked.sheet(), &shape)?;
+        let lookup = Arc::new(alloc, lookup)?;
+        Ok(About {
             checked,
             shape,
             turns,
-        }
+            lookup,
+        })
     }
 
     /// The sheet.
@@ -74,16 +86,25 @@ impl About {
         self.turns
     }
 
+    /// What its names and cards come to.
+    pub fn lookup(&self) -> &Lookup
+        ensures { IsLookup self.now.sheet self.now.shape result.now }
+    {
+        &self.lookup
+    }
+
     /// The same about once more.
     pub fn copy(&self) -> Result<About, Memory>
         ensures { IfOk result (λ copy. copy ≡ self.now) }
     {
         let checked = Arc::try_clone(&self.checked)?;
         let shape = Arc::try_clone(&self.shape)?;
+        let lookup = Arc::try_clone(&self.lookup)?;
         Ok(About {
             checked,
             shape,
             turns: self.turns,
+            lookup,
         })
     }
 }

@@ -27,6 +27,7 @@ pub fn scene_now<'c>(context: &Context<'c>, table: &'c Table, frames: &'c Frames
 {
     Scene::with_current(
         context.about.sheet(),
+        context.about.lookup(),
         table,
         frames.as_slice(),
         context.current,

@@ -24,7 +24,12 @@ pub fn fill_menu_at(
     requires alts { alts_seen alts.now ≡ alts_at about.now.sheet site }
     ensures { menu_seen menu.new.items ≡ menu_at about.now site table.now.table (control_seen control.now) }
 {
-    let scene = Scene::new(about.sheet(), table, control.frames.as_slice());
+    let scene = Scene::new(
+        about.sheet(),
+        about.lookup(),
+        table,
+        control.frames.as_slice(),
+    );
     fill_menu(&scene, site, alts, menu);
 }
 

@@ -19,7 +19,12 @@ pub fn has_ended(about: &About, table: &Table, control: &Control, end: &Test) ->
     ensures { result ≡ test_value (scene_at about.now table.now.table (frames_seen control.now.frames.items)) [] (test_seen end.now) }
 {
     expressions_bind_few();
-    let scene = Scene::new(about.sheet(), table, control.frames.as_slice());
+    let scene = Scene::new(
+        about.sheet(),
+        about.lookup(),
+        table,
+        control.frames.as_slice(),
+    );
     test_of(&scene, &Scope::empty(), end)
 }
 
@@ -42,7 +47,7 @@ fn score_now(about: &About, table: &Table, control: &Control, player: u8) -> i64
 {
     expressions_bind_few();
     let sheet = about.sheet();
-    let scene = Scene::new(sheet, table, control.frames.as_slice());
+    let scene = Scene::new(sheet, about.lookup(), table, control.frames.as_slice());
     let empty = Scope::empty();
     int_of(&scene, &empty.with(Bind::Player(player)), &sheet.score)
 }

@@ -35,13 +35,13 @@ fn decide_first(
 }
 
 /// What the matches are played by, with a turn limit of 100.
-fn about_on(basis: &Basis) -> Result<About, Fail>
+fn about_on(alloc: Global, basis: &Basis) -> Result<About, Fail>
     requires { basis.now.shape.value ≡ shape_for basis.now.checked.value }
     ensures { IfOk result (λ about. about ≡ record { sheet = basis.now.checked.value; shape = basis.now.shape.value; turns = 100 }) }
 {
     let checked = Arc::try_clone(&basis.checked)?;
     let shape = Arc::try_clone(&basis.shape)?;
-    Ok(About::new(checked, shape, 100))
+    Ok(About::new(alloc, checked, shape, 100)?)
 }
 
 /// A match at its first decision.
@@ -62,7 +62,7 @@ fn made_there(alloc: Global, basis: &Basis, machine: &PlainMachine) -> Result<Pl
 {
     let table = machine.table().copy(alloc)?;
     let control = machine.control().copy();
-    Ok(PlainMachine::at(&basis.checked, &basis.shape, 100, table, control)?)
+    Ok(PlainMachine::at(alloc, &basis.checked, &basis.shape, 100, table, control)?)
 }
 
 /// A machine that is made at the first decision of a match.
@@ -73,7 +73,7 @@ pub fn made_at_first(
 ) -> Result<PlainMachine, Fail>
     requires { basis.now.shape.value ≡ shape_for basis.now.checked.value }
 {
-    let about = about_on(basis)?;
+    let about = about_on(alloc, basis)?;
     let machine = first_on(alloc, &about, dealer)?;
     made_there(alloc, basis, &machine)
 }

@@ -76,7 +76,7 @@ fn plan(alloc: Global) -> Result<Plan, Fail> {
 /// A house for these matches, before the first event.
 fn opened(rt: &(impl AllocGlobal + Abort)) -> Result<House, Fail> {
     let basis = basis_in(rt, GAME)?;
-    let about = About::new(basis.checked, basis.shape, 100);
+    let about = About::new(rt.alloc(), basis.checked, basis.shape, 100)?;
     let plan = plan(rt.alloc())?;
     assert!(rt; plan.strategies.len() == about.sheet().players as usize);
     assert!(rt; plan.matches.len() == 2);

@@ -200,7 +200,7 @@ fn the_matches_behind_a_held_one_are_played(rt: HostRuntime) -> Result<(), Fail>
 /// What the matches are played by.
 fn about_in(rt: &(impl AllocGlobal + Abort)) -> Result<Arc<About>, Fail> {
     let basis = basis_in(rt, SHEET)?;
-    let about = About::new(basis.checked, basis.shape, 100);
+    let about = About::new(rt.alloc(), basis.checked, basis.shape, 100)?;
     Ok(Arc::new(rt.alloc(), about)?)
 }
 

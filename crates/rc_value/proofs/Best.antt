@@ -5,7 +5,7 @@ use Rattle.std.proofs.lemmas.List.{take_more, take_all, map-append}
 use Rattle.std.proofs.lemmas.List.Sums.{fold-append}
 use Rattle.std.specs.List.{best_of as first_best}
 use Rattle.rc_play_model.specs.Value.{beats}
-use Rattle.rc_value.proofs.Steps.{drop_here}
+use Rattle.rc_rules.proofs.Elements.{drop_here}
 
 pub sum_more : {C : Type 0} (f : C → ℤ) (cards : List C) (i : ℕ) (c : C) → i < length cards → c ≡ get_or cards i c →
     fold ◌+ℤ◌ (pos 0) (map f (take (i + 1) cards)) ≡ fold ◌+ℤ◌ (pos 0) (map f (take i cards)) +ℤ f c

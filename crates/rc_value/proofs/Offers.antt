@@ -1,15 +1,14 @@
 -- Menus that grow.
-use Rattle.std.proofs.Common.{◌≡◌, ℕ, ◌+◌, ◌<◌, ◌≤◌, Bool, true, false, ◌==◌, List, [], ◌∷◌, ◌++◌, length, get_or, take, drop, map, arith, refl, sym, ap, subst, ◌∙◌, append_assoc, append-nil}
-use Rattle.std.specs.Prelude.{All}
+use Rattle.std.proofs.Common.{◌≡◌, ℕ, ◌+◌, ◌<◌, ◌≤◌, Bool, true, false, ◌==◌, List, [], ◌∷◌, ◌++◌, length, get_or, take, drop, map, arith, refl, sym, ap, ◌∙◌, append_assoc, append-nil}
 use Rattle.std.proofs.lemmas.List.{drop_all, take_all, map-append, length-map, length-take, length-append, take-append-le}
-use Rattle.std.proofs.Math.ListN.{get_or-map}
 use Rattle.rc_play_model.specs.Menu.{Item as PureItem, from_each, item_of}
 use Rattle.rc_value.specs.Menu.{extended}
 use Rattle.rc_model.specs.Numbers.{below}
 use Rattle.rc_play_model.specs.Value.{Bind as PureBind, player_bound}
 use Rattle.rc_play_model.specs.Scene.{CardValue}
 use Rattle.std.proofs.lemmas.Bool.Decides.{nat_tests}
-use Rattle.rc_value.proofs.Steps.{drop_here, cut_more, players_count}
+use Rattle.rc_rules.proofs.Elements.{drop_here, below_length}
+use Rattle.rc_value.proofs.Steps.{cut_more}
 
 moved : (item : PureItem) (i : ℕ) (ss : List (List ℕ)) →
     map (extended (extended item (i ∷ []))) ss ≡ map (extended item) (map (λ s. i ∷ s) ss)
@@ -46,9 +45,6 @@ offered_full done more whole full told =
 pub cut_few : (xs : List PureItem) (ys : List PureItem) → xs ≡ take 256 ys → length xs ≤ 256
 cut_few xs ys is = let e : length xs ≡ length (take 256 ys) = ap length is in omega (arith, length-take 256 ys)
 
-pub map_here : {X Y : Type 0} (f : X → Y) (xs : List X) (i : ℕ) (x : X) → i < length xs → x ≡ get_or xs i x → f x ≡ get_or (map f xs) i (f x)
-map_here f xs i x lt is = ap f is ∙ sym (get_or-map f xs i x)
-
 pub full_is : (b : Bool) (n : ℕ) → b ≡ (n == 256) → b ≡ true → n ≡ 256
 full_is b n e is = grind (arith, nat_tests)
 
@@ -67,7 +63,7 @@ pub room_is : (b : Bool) (n : ℕ) → b ≡ (n == 256) → b ≡ false → n �
 room_is b n e is le = grind (arith, nat_tests)
 
 pub bound_count : (n : ℕ) → length (map {B = PureBind CardValue} (λ x. player_bound x) (below n)) ≡ n
-bound_count n = length-map {B = PureBind CardValue} (below n) (λ x. player_bound x) ∙ players_count n
+bound_count n = length-map {B = PureBind CardValue} (below n) (λ x. player_bound x) ∙ below_length n
 
 -- an alternative and those behind it
 abbrev pub begun : ℕ → PureItem
@@ -96,6 +92,3 @@ offered_alts g done whole ms i le few told =
     ∙ ap (λ xs. take 256 (done ++ map item_of (from_each g i xs))) (sym (drop_all i ms le)) ∙ told
 
 -- what holds of each holds of the one at a place
-pub each_here : {X Y : Type 0} (P : Y → Type 0) (f : X → Y) (xs : List X) (i : ℕ) (x : X) → All P (map f xs) → i < length xs → x ≡ get_or xs i x → P (f x)
-each_here P f xs i x all lt is =
-    subst P (sym (map_here f xs i x lt is)) (all i (f x) (omega (arith, length-map xs f)))

@@ -4,7 +4,6 @@ pub mod Depth
 pub mod Binding
 pub mod Readable
 pub mod Scene
-pub mod Places
 pub mod Picks
 pub mod Groups
 pub mod Menu

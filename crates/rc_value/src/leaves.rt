@@ -1,11 +1,10 @@
 //! What a scene says of cards, locations and numbers.
-ghost use Rattle.std.specs.Prelude.{◌≡◌, [], option_map, unwrap_or, IfSome, All, slice_get, slice_index_or, Some, None, if◌then◌else◌};
-ghost use Rattle.rc_deck.specs.Points.{entries_of};
+ghost use Rattle.std.specs.Prelude.{◌≡◌, option_map, slice_get, slice_index_or, Some, None, if◌then◌else◌, pos};
 ghost use Rattle.rc_model.specs.Clamp.{IsWithinClamp};
-ghost use Rattle.rc_play_model.specs.Shape.{face_eq, holds_references};
+ghost use Rattle.rc_model.specs.Deck.{value_at as value_at_of};
+ghost use Rattle.rc_play_model.specs.Shape.{face_at, face_eq, holds_references};
 ghost use Rattle.rc_play_model.specs.Value.{worth, worth_of_any, attr_of_any, both, loc_place, num_place, number_there, cards_there, cut};
 ghost use Rattle.rc_ast.specs.Names.{loc_seen, num_seen};
-ghost use Rattle.rc_table.specs.Shape.{face_or_none};
 ghost use Rattle.rc_value.specs.Cards.{value_seen};
 ghost use Rattle.rc_value.specs.Scene.{scene_seen};
 
@@ -15,41 +14,35 @@ use crate::places::{loc_at, num_at};
 use crate::scene::Scene;
 use crate::scope::Scope;
 use rc_ast::{Loc, Num};
-use rc_deck::{Face, PointMap, attr, points};
+use rc_deck::attr;
 use rc_table::{Shape, have_same_face};
 
-// The face of a card, if it is one.
-#[tactic(auto, unfolding(crate::specs::Scene::scene_seen))]
-fn face_of<'s>(scene: &Scene<'s>, card: Card) -> Option<&'s Face>
-    ensures { (scene_seen scene.now).face (value_seen card) ≡ face_or_none (option_map (λ face. face.now) result) }
-{
-    scene.table.shape().face(card.id())
-}
-
-// The point map with this number, if there is one.
-#[tactic(auto, unfolding(crate::specs::Scene::scene_seen))]
-fn map_of<'s>(scene: &Scene<'s>, map: u16) -> Option<&'s PointMap>
-    ensures is { slice_index_or (scene_seen scene.now).known.sheet.points map [] ≡ unwrap_or (option_map (λ found. entries_of found.now) result) [] }
-    ensures clamped { IfSome result (λ found. All (λ entry. IsWithinClamp entry.points) (entries_of found.now)) }
-{
-    scene.sheet.points.get(map as usize)
-}
-
 /// What a card is worth by a point map.
+#[tactic(auto, unfolding(crate::specs::Scene::scene_seen))]
+#[inline(always)]
 pub fn worth_of(scene: &Scene, card: Card, map: u16) -> i64
     ensures is { result ≡ worth (scene_seen scene.now) map (value_seen card) }
     ensures few { IsWithinClamp result }
 {
-    let Some(map) = map_of(scene, map) else {
-        return 0;
-    };
-    match face_of(scene, card) {
-        Some(face) => points(map, face),
+    match scene.lookup.worths(map) {
+        Some(row) => worth_in(row, card.id()),
+        None => 0,
+    }
+}
+
+// What a card is worth by the row of a point map; what isn't a card is worth nothing.
+#[inline(always)]
+fn worth_in(row: &[i64], id: u16) -> i64
+    ensures { result ≡ slice_index_or row.now id (pos 0) }
+{
+    match row.get(id as usize) {
+        Some(worth) => *worth,
         None => 0,
     }
 }
 
 /// What a card is worth, if there is one, and 0 else.
+#[inline(always)]
 pub fn worth_of_some(scene: &Scene, card: Option<Card>, map: u16) -> i64
     ensures { result ≡ worth_of_any (scene_seen scene.now) map (option_map value_seen card) }
 {
@@ -61,14 +54,45 @@ pub fn worth_of_some(scene: &Scene, card: Option<Card>, map: u16) -> i64
 
 /// The value of a card for an attribute, if there is a card and it has one.
 #[tactic(auto, unfolding(crate::specs::Scene::scene_seen))]
+#[inline(always)]
 pub fn attr_of(scene: &Scene, card: Option<Card>, name: u16) -> Option<u16>
     ensures { result ≡ attr_of_any (scene_seen scene.now) name (option_map value_seen card) }
 {
     match card {
-        Some(card) => match face_of(scene, card) {
-            Some(face) => attr(face, name),
-            None => None,
-        },
+        Some(card) => value_at(scene, card.id(), name),
+        None => None,
+    }
+}
+
+// The same for the card with this number.
+#[tactic(auto, unfolding(crate::specs::Scene::scene_seen))]
+#[inline(always)]
+fn value_at(scene: &Scene, id: u16, name: u16) -> Option<u16>
+    ensures { result ≡ value_at_of (face_at scene.now.table.now.shape id) name }
+{
+    match scene.lookup.values(name) {
+        Some(row) => value_in(row, id),
+        None => pairs_value(scene.table.shape(), id, name),
+    }
+}
+
+// The same, read off the pairs of the card's face.
+fn pairs_value(shape: &Shape, id: u16, name: u16) -> Option<u16>
+    ensures { result ≡ value_at_of (face_at shape.now id) name }
+{
+    match shape.face(id) {
+        Some(face) => attr(face, name),
+        None => None,
+    }
+}
+
+// The value of a card in the row of an attribute; what isn't a card has none.
+#[inline(always)]
+fn value_in(row: &[Option<u16>], id: u16) -> Option<u16>
+    ensures { result ≡ slice_index_or row.now id None }
+{
+    match row.get(id as usize) {
+        Some(value) => *value,
         None => None,
     }
 }
@@ -89,6 +113,7 @@ pub fn are_same(scene: &Scene, a: Option<Card>, b: Option<Card>) -> bool
 
 /// The value of a number that the game keeps, and 0 where there is no such number.
 #[tactic(auto, unfolding(crate::specs::Scene::scene_seen))]
+#[inline(always)]
 pub fn number_of(scene: &Scene, scope: &Scope, num: &Num) -> i64
     ensures { result ≡ number_there (scene_seen scene.now).known.numbers (num_place (scene_seen scene.now).known scope.now (num_seen num.now)) }
 {
@@ -99,6 +124,7 @@ pub fn number_of(scene: &Scene, scope: &Scope, num: &Num) -> i64
 }
 
 // The location, where it holds references.
+#[inline(always)]
 fn mem_at(shape: &Shape, loc: u16) -> Option<u16>
     ensures { result ≡ (if holds_references (slice_get shape.now.places loc) then Some loc else None) }
 {
@@ -111,6 +137,7 @@ fn mem_at(shape: &Shape, loc: u16) -> Option<u16>
 
 /// The cards of a location, and none where there is no such location.
 #[tactic(auto, unfolding(crate::specs::Scene::scene_seen))]
+#[inline(always)]
 pub fn cards_of<'a>(scene: &'a Scene, scope: &Scope, loc: &Loc) -> Collection<'a>
     ensures { result ≡ cut (cards_there (scene_seen scene.now) (loc_place (scene_seen scene.now).known scope.now (loc_seen loc.now))) }
 {

@@ -9,7 +9,8 @@ use Rattle.rc_value.specs.Cards.{value_seen, values_seen}
 use Rattle.rc_value.specs.Scene.{scene_seen}
 use Rattle.rc_sheet_model.specs.Sheet.{all_of, any_of, each_card}
 use Rattle.rc_value.proofs.Passing.{pass_step, pass_end}
-use Rattle.rc_value.proofs.Steps.{players_are, all_stop, all_on, all_end, any_stop, any_on, any_end, players_count, player_here, union_on, union_end, colls_here, tests_here, and_here, or_here, union_here, and_depth, or_depth, union_depth, inner_is, tests_on, tests_off}
+use Rattle.rc_rules.proofs.Elements.{below_length}
+use Rattle.rc_value.proofs.Steps.{players_are, all_stop, all_on, all_end, any_stop, any_on, any_end, player_here, union_on, union_end, colls_here, tests_here, and_here, or_here, union_here, and_depth, or_depth, union_depth, inner_is, tests_on, tests_off}
 use Rattle.rc_ast.specs.declared.expressions.CardExpr.TheFolds
 use Rattle.rc_value.proofs.expressions.+values.Goals as goal
 
@@ -83,14 +84,14 @@ all_cards-returns t c =
 
 pub all_players-loop-player-preserved : goal.all_players-loop-player-preserved
 all_players-loop-player-preserved t c =
-    let n = players_count c.args.scene.now.sheet.now.players in
+    let n = below_length c.args.scene.now.sheet.now.players in
     all_on (λ x. test_value (scene_seen c.args.scene.now) (c.args.scope.now ++ player_bound x ∷ []) (test_seen c.args.test.now))
     (below c.args.scene.now.sheet.now.players) c.loop-player.player c.loop-player.player (omega arith) (player_here c.args.scene.now.sheet.now.players c.loop-player.player c.loop-player-test.true)
     (inner_is (scene_seen c.args.scene.now) c.args.scope.now c.with.result (player_bound c.loop-player.player) c.args.test.now c.test_of.result c.with.ensures c.test_of.ensures ∙ c.if-not-test_of.false) c.loop-player.invariant
 
 pub all_players-returns-then-not-test_of : goal.all_players-returns-then-not-test_of
 all_players-returns-then-not-test_of t c =
-    let n = players_count c.args.scene.now.sheet.now.players in
+    let n = below_length c.args.scene.now.sheet.now.players in
     all_stop (λ m. test_value (scene_seen c.args.scene.now) (c.args.scope.now ++ m ∷ []) (test_seen c.args.test.now)) (λ x. player_bound x)
     (below c.args.scene.now.sheet.now.players) c.loop-player.player c.loop-player.player (omega arith) (player_here c.args.scene.now.sheet.now.players c.loop-player.player c.loop-player-test.true)
     (inner_is (scene_seen c.args.scene.now) c.args.scope.now c.with.result (player_bound c.loop-player.player) c.args.test.now c.test_of.result c.with.ensures c.test_of.ensures ∙ c.if-not-test_of.true) c.loop-player.invariant
@@ -98,7 +99,7 @@ all_players-returns-then-not-test_of t c =
 
 pub all_players-returns : goal.all_players-returns
 all_players-returns t c =
-    let n = players_count c.args.scene.now.sheet.now.players in
+    let n = below_length c.args.scene.now.sheet.now.players in
     all_end (λ m. test_value (scene_seen c.args.scene.now) (c.args.scope.now ++ m ∷ []) (test_seen c.args.test.now)) (λ x. player_bound x)
     (below c.args.scene.now.sheet.now.players) c.loop-player.player (omega arith) c.loop-player.invariant
     ∙ ap (λ k. list_all (λ m. test_value (scene_seen c.args.scene.now) (c.args.scope.now ++ m ∷ []) (test_seen c.args.test.now)) (map (λ x. player_bound x) (below k))) (sym (players_are c.args.scene.now))
@@ -122,14 +123,14 @@ any_card-returns t c =
 
 pub any_player-loop-player-preserved : goal.any_player-loop-player-preserved
 any_player-loop-player-preserved t c =
-    let n = players_count c.args.scene.now.sheet.now.players in
+    let n = below_length c.args.scene.now.sheet.now.players in
     any_on (λ x. test_value (scene_seen c.args.scene.now) (c.args.scope.now ++ player_bound x ∷ []) (test_seen c.args.test.now))
     (below c.args.scene.now.sheet.now.players) c.loop-player.player c.loop-player.player (omega arith) (player_here c.args.scene.now.sheet.now.players c.loop-player.player c.loop-player-test.true)
     (inner_is (scene_seen c.args.scene.now) c.args.scope.now c.with.result (player_bound c.loop-player.player) c.args.test.now c.test_of.result c.with.ensures c.test_of.ensures ∙ c.if-test_of.false) c.loop-player.invariant
 
 pub any_player-returns-then-test_of : goal.any_player-returns-then-test_of
 any_player-returns-then-test_of t c =
-    let n = players_count c.args.scene.now.sheet.now.players in
+    let n = below_length c.args.scene.now.sheet.now.players in
     any_stop (λ m. test_value (scene_seen c.args.scene.now) (c.args.scope.now ++ m ∷ []) (test_seen c.args.test.now)) (λ x. player_bound x)
     (below c.args.scene.now.sheet.now.players) c.loop-player.player c.loop-player.player (omega arith) (player_here c.args.scene.now.sheet.now.players c.loop-player.player c.loop-player-test.true)
     (inner_is (scene_seen c.args.scene.now) c.args.scope.now c.with.result (player_bound c.loop-player.player) c.args.test.now c.test_of.result c.with.ensures c.test_of.ensures ∙ c.if-test_of.true) c.loop-player.invariant
@@ -137,7 +138,7 @@ any_player-returns-then-test_of t c =
 
 pub any_player-returns : goal.any_player-returns
 any_player-returns t c =
-    let n = players_count c.args.scene.now.sheet.now.players in
+    let n = below_length c.args.scene.now.sheet.now.players in
     any_end (λ m. test_value (scene_seen c.args.scene.now) (c.args.scope.now ++ m ∷ []) (test_seen c.args.test.now)) (λ x. player_bound x)
     (below c.args.scene.now.sheet.now.players) c.loop-player.player (omega arith) c.loop-player.invariant
     ∙ ap (λ k. list_any (λ m. test_value (scene_seen c.args.scene.now) (c.args.scope.now ++ m ∷ []) (test_seen c.args.test.now)) (map (λ x. player_bound x) (below k))) (sym (players_are c.args.scene.now))

@@ -11,8 +11,9 @@ use Rattle.rc_value.specs.Scene.{scene_seen}
 use Rattle.rc_value.specs.Groups.{with_value}
 use Rattle.rc_rules.specs.Menu.{item_seen, menu_seen}
 use Rattle.rc_value.specs.Menu.{extended}
-use Rattle.rc_value.proofs.Steps.{players_are, players_count, player_here}
-use Rattle.rc_value.proofs.Offers.{offered, offered_all, offered_full, cut_few, map_here, full_is, bound_count}
+use Rattle.rc_rules.proofs.Elements.{map_here, below_length}
+use Rattle.rc_value.proofs.Steps.{players_are, player_here}
+use Rattle.rc_value.proofs.Offers.{offered, offered_all, offered_full, cut_few, full_is, bound_count}
 use Rattle.rc_value.proofs.menu.+menu.Goals as goal
 
 pub offer_cards-loop-place-preserved : goal.offer_cards-loop-place-preserved
@@ -56,7 +57,7 @@ offer_players-loop-player-preserved t c =
       told =
           offered (λ m. spots_of (scene_seen c.args.scene.now) (c.args.scope.now ++ m ∷ []) (alt_seen c.args.inner.now)) (item_seen c.args.item.now) (item_seen c.with_spot.result) (menu_seen c.loop-player.menu.items) (menu_seen c.offer.new.menu.items)
           (take 256 (menu_seen c.args.menu.now.items ++ map (extended (item_seen c.args.item.now)) (from_each (λ m. spots_of (scene_seen c.args.scene.now) (c.args.scope.now ++ m ∷ []) (alt_seen c.args.inner.now)) 0 (map (λ x. player_bound x) (below c.args.scene.now.sheet.now.players)))))
-          (map (λ x. player_bound x) (below c.args.scene.now.sheet.now.players)) c.loop-player.player (player_bound c.loop-player.player) (omega (arith, players_count c.args.scene.now.sheet.now.players)) (map_here (λ x. player_bound x) (below c.args.scene.now.sheet.now.players) c.loop-player.player c.loop-player.player (omega (arith, players_count c.args.scene.now.sheet.now.players)) (player_here c.args.scene.now.sheet.now.players c.loop-player.player c.loop-player-test.true)) c.with_spot.ensures grown c.loop-player.invariant.told;
+          (map (λ x. player_bound x) (below c.args.scene.now.sheet.now.players)) c.loop-player.player (player_bound c.loop-player.player) (omega (arith, below_length c.args.scene.now.sheet.now.players)) (map_here (λ x. player_bound x) (below c.args.scene.now.sheet.now.players) c.loop-player.player c.loop-player.player (omega (arith, below_length c.args.scene.now.sheet.now.players)) (player_here c.args.scene.now.sheet.now.players c.loop-player.player c.loop-player-test.true)) c.with_spot.ensures grown c.loop-player.invariant.told;
     }
 
 pub offer_players-returns-then-is_full : goal.offer_players-returns-then-is_full

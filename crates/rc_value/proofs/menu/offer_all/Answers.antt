@@ -6,7 +6,8 @@ use Rattle.rc_rules.specs.Menu.{item_seen, menu_seen}
 use Rattle.rc_value.specs.Binding.{BindsFew}
 use Rattle.rc_value.specs.Menu.{extended}
 use Rattle.rc_value.specs.Scene.{scene_seen}
-use Rattle.rc_value.proofs.Offers.{begun, offered_alt, offered_alts, cut_few, map_here, each_here}
+use Rattle.rc_rules.proofs.Elements.{map_here, each_here}
+use Rattle.rc_value.proofs.Offers.{begun, offered_alt, offered_alts, cut_few}
 use Rattle.rc_value.proofs.menu.offer_all.Goals as goal
 
 pub offer-requires-clause-fits : goal.offer-requires-clause-fits

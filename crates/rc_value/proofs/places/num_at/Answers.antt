@@ -1,17 +1,22 @@
-use Rattle.std.proofs.Common.{sym, ◌∙◌}
+use Rattle.std.proofs.Common.{map, slice_get, ap, ◌∙◌}
 use Rattle.rc_sheet_model.specs.Sheet.{NumName}
 use Rattle.rc_sheet_model.specs.Naming.{class_of}
-use Rattle.rc_play_model.specs.Value.{who_value}
+use Rattle.rc_play_model.specs.Owners.{place_among}
 use Rattle.rc_ast.specs.Names.{num_seen}
 use Rattle.rc_ast.specs.Sheet.{sheet_seen}
+use Rattle.rc_rules.specs.Lookup.{place_in}
 use Rattle.rc_value.specs.Scene.{scene_seen}
-use Rattle.rc_value.proofs.Placing.{place_is, placed_same}
+use Rattle.rc_rules.proofs.Ranges.{place_is}
 use Rattle.rc_value.proofs.places.num_at.Goals as goal
 
 pub returns : goal.returns
 unfolding scene_seen
 returns c =
     let sheet = sheet_seen c.args.scene.now.sheet.now in
-    c.place_from.ensures
-    ∙ placed_same sheet c.class_of.ensures c.class_of_num-class.ensures c.numbers_before-before.ensures.is c.who_of-owner.ensures
-    ∙ sym (place_is (λ (name : NumName). name.class) sheet (class_of (num_seen c.args.num.now).who) sheet.nums c.args.num.now.name (who_value (scene_seen c.args.scene.now).known c.args.scope.now (num_seen c.args.num.now).who))
+    let classes = map (λ (name : NumName). name.class) sheet.nums in
+    let name = c.args.num.now.name in
+    c.number.ensures
+    ∙ ap (λ xs. place_in c.class_of.result c.who_of-owner.result (slice_get xs name)) c.args.scene.now.looked_up.nums
+    ∙ place_is sheet c.class_of.result classes name c.who_of-owner.result
+    ∙ ap (λ wanted. place_among sheet wanted classes name c.who_of-owner.result) c.class_of.ensures
+    ∙ ap (place_among sheet (class_of (num_seen c.args.num.now).who) classes name) c.who_of-owner.ensures

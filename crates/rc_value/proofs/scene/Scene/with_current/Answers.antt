@@ -13,5 +13,6 @@ invariant_of-result c =
             clamped = λ k entries within i entry there. (well.entries k entries within i entry there).1;
             choices = λ site. c.expressions_bind_few.ensures.choices (sheet_seen c.args.sheet.now) site well;
           };
+      looked_up = c.requires.looked_up;
       current_is = c.requires.current_is;
     }

@@ -1,0 +1,56 @@
+-- What names and cards come to.
+use Rattle.std.specs.Prelude.{◌≡◌, ℕ, ◌+◌, ◌<◌, ◌&&◌, nat_lt, if◌then◌else◌, length, List, [], ◌∷◌, map, slice_get, Option, Some, None, ℤ, Vec}
+use Rattle.std.specs.Global.{Global}
+use Rattle.rc_model.specs.Numbers.{below}
+use Rattle.rc_model.specs.Deck.{Face, Entry, value_at, points_of}
+use Rattle.rc_sheet_model.specs.Sheet.{Class, Sheet}
+use Rattle.rc_sheet_model.specs.WellFormed.{owner_count}
+use Rattle.rc_play_model.specs.Owners.{class_eq, classes_in}
+use Rattle.rc_play_model.specs.Shape.{Shape}
+use Rattle.rc_rules.specs.declared.range.Range.{Range}
+use Rattle.rc_rules.specs.declared.lookup.Lookup.{Lookup}
+
+-- the places of a name of a class: the first, and how many there are
+pub record Places : Type 0 where
+  pub class : Class
+  pub first : ℕ
+  pub count : ℕ
+
+abbrev pub range_seen : Range → Places
+range_seen range = record { class = range.class; first = range.first; count = range.count }
+
+abbrev pub ranges_seen : List Range → List Places
+ranges_seen ranges = map range_seen ranges
+
+-- the places of names of these classes, one behind the other
+abbrev pub ranges_from : Sheet → ℕ → List Class → List Places
+ranges_from sheet first [] = []
+ranges_from sheet first (class ∷ classes) =
+    record { class = class; first = first; count = owner_count sheet class } ∷ ranges_from sheet (first + owner_count sheet class) classes
+
+-- an owner's place among those of a name, if there is such a name
+abbrev pub place_in : Class → ℕ → Option Places → Option ℕ
+place_in wanted owner None = None
+place_in wanted owner (Some places) =
+    if class_eq places.class wanted && nat_lt owner places.count then Some (places.first + owner) else None
+
+-- the value of each face for an attribute, and what each face is worth
+abbrev pub value_row : List Face → ℕ → List (Option ℕ)
+value_row faces attr = map (λ face. value_at face attr) faces
+
+abbrev pub worth_row : List Face → List Entry → List ℤ
+worth_row faces entries = map (points_of entries) faces
+
+abbrev pub rows_seen : {A : Type 0} → List (Vec A Global) → List (List A)
+rows_seen rows = map (λ row. row.items) rows
+
+-- the classes of the first stages, and maybe not of all
+abbrev pub AreStages : Sheet → List Class → Type 0
+AreStages sheet classes = (n : ℕ) → n < length classes → slice_get classes n ≡ slice_get (classes_in sheet.items) n
+
+pub record IsLookup (sheet : Sheet) (shape : Shape) (lookup : Lookup) : Type 0 where
+  pub locs : ranges_seen lookup.locs.items ≡ ranges_from sheet 0 (map (λ loc. loc.class) sheet.locs)
+  pub nums : ranges_seen lookup.nums.items ≡ ranges_from sheet 0 (map (λ num. num.class) sheet.nums)
+  pub stages : AreStages sheet lookup.stages.items
+  pub values : rows_seen lookup.values.items ≡ map (value_row shape.faces) (below (length lookup.values.items))
+  pub worths : rows_seen lookup.worths.items ≡ map (worth_row shape.faces) sheet.points
