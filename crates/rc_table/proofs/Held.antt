@@ -1,7 +1,7 @@
 -- How many cards and references a sound table holds: each card once, and references within their limits.
 use Rattle.std.proofs.Common.{◌≡◌, ℕ, zero, suc, ◌+◌, ◌*◌, ◌<◌, ◌≤◌, Bool, true, false, cond, ◌==◌, inl, inr, List, [], ◌∷◌, ◌++◌, length, get_or, set, slice_get, nat_lt, subst, sum_by, zip, Some, refl, sym, ap, ap₂, ◌∙◌, arith, length-append}
 use Rattle.std.specs.Prelude.{All, count_by}
-use Rattle.std.specs.List.{AllByRecursion, concat, remove}
+use Rattle.std.specs.List.{AllByRecursion, concat, insert, remove}
 use Rattle.std.proofs.lemmas.List.Edits.{length-remove}
 use Rattle.std.proofs.lemmas.Option.{slice_get_within}
 use Rattle.std.proofs.lemmas.Bool.Decides.{Decides-ltb}
@@ -20,6 +20,8 @@ use Rattle.rc_play_model.proofs.CardLemmas.{append_each}
 use Rattle.rc_play_model.proofs.Counting.{one_if, passing, same, passing-is, passing-append, passing-all, each_once}
 use Rattle.rc_table.specs.Shape.{IsShape}
 use Rattle.rc_table.specs.Laid.{most_held}
+use Rattle.rc_table.specs.Restored.{put_at}
+use Rattle.rc_table.proofs.PutBack.{one_longer}
 
 -- what the locations of cards hold
 abbrev cards_in : List Place → List (List ℕ) → List ℕ
@@ -149,6 +151,19 @@ one_fewer (list ∷ lists) (suc loc) place within =
     let after = length-append list (concat (set lists loc (remove (get_or lists loc []) place))) in
     omega (arith, rest, before, after)
 
+one_more : (lists : List (List ℕ)) (loc : ℕ) (list : List ℕ) → loc < length lists → length list ≡ length (get_or lists loc []) + 1 →
+    length (concat (set lists loc list)) ≡ length (concat lists) + 1
+one_more [] loc list within longer = absurd (omega (arith, within))
+one_more (other ∷ lists) zero list within longer =
+    let before = length-append other (concat lists) in
+    let after = length-append list (concat lists) in
+    omega (arith, longer, before, after)
+one_more (other ∷ lists) (suc loc) list within longer =
+    let rest = one_more lists loc list (omega (arith, within)) longer in
+    let before = length-append other (concat lists) in
+    let after = length-append other (concat (set lists loc list)) in
+    omega (arith, rest, before, after)
+
 module _ (shape : Shape) (table : Table) (sound : IsSound shape table) where
   few_each : AllByRecursion few (zip shape.places table.lists)
   few_each = recursion_from_All few (zip shape.places table.lists) sound.mems
@@ -202,3 +217,13 @@ noted_top shape table id loc room = subst (IsSound shape) (cond-true (has_room s
 pub noted_bottom : (shape : Shape) (table : Table) (id loc : ℕ) → has_room shape loc table ≡ true → IsSound shape (remember_bottom shape id loc table) →
     IsSound shape (under id loc table)
 noted_bottom shape table id loc room = subst (IsSound shape) (cond-true (has_room shape loc table) (under id loc table) table room)
+
+-- where a sound table has one more at a place of a location, there was room for it
+pub put_back_fits : (shape : Shape) (table : Table) → IsSound shape table → (id loc place : ℕ) → HoldsReferences shape loc →
+    IsSound shape (put_at id loc place table) → length (concat table.lists) < most_held shape
+put_back_fits shape table sound id loc place mem sound' =
+    let within = slice_get_within shape.places loc mem.0 mem.1 in
+    let longer = one_longer (list_at table loc) place id in
+    let more = one_more table.lists loc (insert (list_at table loc) place id) (omega (arith, within, sound.locations)) longer in
+    let most = all_fit shape (put_at id loc place table) sound' in
+    omega (arith, more, most)

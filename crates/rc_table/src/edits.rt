@@ -1,14 +1,12 @@
 //! What changes a table. None of it takes memory.
-ghost use Rattle.std.specs.Prelude.{◌≡◌, ◌<◌, ◌≤◌, length, take, reverse, remove, MatchOption};
+ghost use Rattle.std.specs.Prelude.{◌≡◌, ◌<◌, ◌≤◌, length, take};
 ghost use Rattle.std.specs.List.Sorted.{IsPermutation};
 ghost use Rattle.rc_model.specs.Clamp.{IsWithinClamp};
 ghost use Rattle.rc_model.specs.Numbers.{below};
 ghost use Rattle.rc_play_model.specs.Bound.{HoldsCards, HoldsReferences};
-ghost use Rattle.rc_play_model.specs.Table.{list_at, put_top, put_bottom, remember_top, remember_bottom, without_face, forget_in, set_number, taken, reorder};
+ghost use Rattle.rc_play_model.specs.Table.{list_at, put_top, put_bottom, remember_top, remember_bottom, forget_in, set_number, taken, reorder};
 ghost use Rattle.rc_table.specs.Laid.{relaid};
 
-use crate::faces::have_same_face;
-use crate::shape::Shape;
 use crate::table::{LONGEST_LIST, Table};
 use rc_play_model::edits_keep_tables_sound;
 
@@ -68,8 +66,8 @@ impl Table {
         ensures { self.new ≡ relaid self.old (forget_in self.old.shape id loc self.old.table) }
     {
         edits_keep_tables_sound();
-        if let Some(place) = topmost(self.shape(), self.list(loc), id) {
-            self.lists.take_out(loc, place);
+        if let Some(place) = self.topmost_like(id, loc) {
+            self.lists.take_out(loc, place as usize);
         }
     }
 
@@ -95,20 +93,6 @@ impl Table {
         let count = reordered(self.list(loc), order, &mut list);
         self.lists.rewrite(loc, &list[..count]);
     }
-}
-
-// The last place in a list of a card with this card's face.
-fn topmost(shape: &Shape, list: &[u16], id: u16) -> Option<usize>
-    ensures { MatchOption result
-        (reverse (without_face shape.now id (reverse list.now)) ≡ list.now)
-        (λ place. (place < length list.now) × (reverse (without_face shape.now id (reverse list.now)) ≡ remove list.now place)) }
-{
-    for place in (0..list.len()).rev() {
-        if have_same_face(shape, list[place], id) {
-            return Some(place);
-        }
-    }
-    None
 }
 
 // Writes a list in another order, and tells its length.

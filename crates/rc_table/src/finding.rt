@@ -1,10 +1,12 @@
 //! Where a card is, and how many references there are.
-ghost use Rattle.std.specs.Prelude.{◌≡◌, ◌==◌, ◌<◌, ◌&&◌, not, if◌then◌else◌, length, slice_get};
+ghost use Rattle.std.specs.Prelude.{◌≡◌, ◌==◌, ◌<◌, ◌&&◌, not, if◌then◌else◌, length, slice_get, reverse, remove, MatchOption};
 ghost use Rattle.std.specs.List.{list_any};
 ghost use Rattle.rc_play_model.specs.Shape.{holds_references};
-ghost use Rattle.rc_play_model.specs.Table.{list_at, index_in, loc_of, place_of, references, has_room};
+ghost use Rattle.rc_play_model.specs.Table.{list_at, index_in, loc_of, place_of, references, has_room, without_face, forget_in};
+ghost use Rattle.rc_table.specs.Restored.{taken_at};
 
-use crate::shape::{MOST_IN_MEM, MOST_REFERENCES};
+use crate::faces::have_same_face;
+use crate::shape::{MOST_IN_MEM, MOST_REFERENCES, Shape};
 use crate::table::Table;
 
 // The first place of an id in a list, or the list's length.
@@ -17,6 +19,20 @@ fn position(list: &[u16], id: u16) -> usize
         }
     }
     list.len()
+}
+
+// The last place in a list of a card with this card's face.
+fn topmost(shape: &Shape, list: &[u16], id: u16) -> Option<usize>
+    ensures { MatchOption result
+        (reverse (without_face shape.now id (reverse list.now)) ≡ list.now)
+        (λ place. (place < length list.now) × (reverse (without_face shape.now id (reverse list.now)) ≡ remove list.now place)) }
+{
+    for place in (0..list.len()).rev() {
+        if have_same_face(shape, list[place], id) {
+            return Some(place);
+        }
+    }
+    None
 }
 
 impl Table {
@@ -74,10 +90,22 @@ impl Table {
         sum
     }
 
-    // Whether there is room for one more reference in a location.
-    pub(crate) fn has_room(&self, loc: u16) -> bool
+    /// Whether there is room for one more reference in a location.
+    pub fn has_room(&self, loc: u16) -> bool
         ensures { result ≡ has_room self.now.shape loc self.now.table }
     {
         self.list(loc).len() < MOST_IN_MEM && self.references() < MOST_REFERENCES
+    }
+
+    /// The place of the topmost reference with a card's face in a location, which `forget` takes out, if there is one.
+    pub fn topmost_like(&self, id: u16, loc: u16) -> Option<u16>
+        ensures { MatchOption result
+            (forget_in self.now.shape id loc self.now.table ≡ self.now.table)
+            (λ place. (place < length (list_at self.now.table loc)) × (forget_in self.now.shape id loc self.now.table ≡ taken_at loc place self.now.table)) }
+    {
+        match topmost(self.shape(), self.list(loc), id) {
+            Some(place) => Some(place as u16),
+            None => None,
+        }
     }
 }

@@ -1,6 +1,6 @@
 use Rattle.std.proofs.Common.{◌≡◌, ◌++◌, take, drop, reverse}
 use Rattle.rc_play_model.specs.Table.{without_face}
-use Rattle.rc_table.proofs.edits.topmost.Given as goal
+use Rattle.rc_table.proofs.finding.topmost.Given as goal
 
 abbrev pub invariant-loop-place : goal.invariant-loop-place
 invariant-loop-place l =

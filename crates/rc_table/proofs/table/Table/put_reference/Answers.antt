@@ -1,0 +1,32 @@
+use Rattle.std.proofs.Common.{length, min, sym, ap, arith, subst, ◌∙◌, slice_index_or, []}
+use Rattle.std.specs.List.{insert}
+use Rattle.rc_play_model.specs.Bound.{HoldsReferences}
+use Rattle.rc_play_model.specs.Table.{IsSound}
+use Rattle.rc_table.specs.Laid.{Laid}
+use Rattle.rc_table.specs.Restored.{put_at}
+use Rattle.rc_table.proofs.Held.{put_back_fits}
+use Rattle.rc_table.proofs.PutBack.{insert_min}
+use Rattle.rc_table.proofs.table.Table.put_reference.Goals as goal
+
+pub put_in-requires-clause-room : goal.put_in-requires-clause-room
+put_in-requires-clause-room c =
+    let mem = subst (λ (laid : Laid). HoldsReferences laid.shape c.args.loc) (sym c.self.view_is) c.requires.mem in
+    let sound = subst (λ (laid : Laid). IsSound laid.shape (put_at c.args.id c.args.loc c.args.place laid.table)) (sym c.self.view_is) c.requires.sound in
+    let less = put_back_fits _ _ c.self.invariant.sound c.args.id c.args.loc c.args.place mem sound in
+    omega (arith, less, c.self.invariant.fits)
+
+pub invariant_of-self : goal.invariant_of-self
+invariant_of-self c =
+    let id = c.args.id in
+    let loc = c.args.loc in
+    let place = c.args.place in
+    let sound = subst (λ (laid : Laid). IsSound laid.shape (put_at id loc place laid.table)) (sym c.self.view_is) c.requires.sound in
+    let list = slice_index_or c.self.inside.lists.all loc [] in
+    let topmost = c.min-place.ensures ∙ ap (λ list. min place (length list)) c.list.ensures in
+    let clamped = ap (λ n. insert list n id) topmost ∙ insert_min list place id in
+    rw (c.put_in.ensures, clamped)
+    (record {
+      limits = c.self.invariant.limits;
+      sound = sound;
+      fits = c.self.invariant.fits;
+    })
