@@ -1,25 +1,22 @@
 -- How many cards and references a sound table holds: each card once, and references within their limits.
-use Rattle.std.proofs.Common.{◌≡◌, ℕ, zero, suc, ◌+◌, ◌*◌, ◌<◌, ◌≤◌, Bool, true, false, cond, ◌==◌, inl, inr, List, [], ◌∷◌, ◌++◌, length, get_or, set, slice_get, nat_lt, subst, sum_by, zip, Some, refl, sym, ap, ap₂, ◌∙◌, arith, length-append}
+use Rattle.std.proofs.Common.{◌≡◌, ℕ, zero, suc, ◌+◌, ◌<◌, ◌≤◌, Bool, true, false, cond, ◌==◌, if◌then◌else◌, inl, inr, List, [], ◌∷◌, ◌++◌, length, get_or, slice_get, nat_lt, subst, sum_by, zip, Some, refl, sym, ap, ap₂, ◌∙◌, arith, length-append}
 use Rattle.std.specs.Prelude.{All, count_by}
-use Rattle.std.specs.List.{AllByRecursion, concat, insert, remove}
-use Rattle.std.proofs.lemmas.List.Edits.{length-remove}
-use Rattle.std.proofs.lemmas.Option.{slice_get_within}
+use Rattle.std.specs.List.{AllByRecursion, insert}
+use Rattle.std.proofs.lemmas.Option.{slice_get_within, get_or_from_slice_get}
 use Rattle.std.proofs.lemmas.Bool.Decides.{Decides-ltb}
 use Rattle.std.proofs.lemmas.Bool.{cases_lt, cond-true}
-use Rattle.std.proofs.lemmas.List.{get_or_past}
+use Rattle.std.proofs.lemmas.List.{get_or_past, get_or-set_same}
 use Rattle.std.proofs.lemmas.List.Elements.{recursion_from_All}
 use Rattle.std.proofs.lemmas.List.FromFn.{length-range_with_len}
-use Rattle.std.proofs.lemmas.List.Sums.{sum_by-cons}
+use Rattle.std.proofs.lemmas.List.Sums.{sum_by-cons, get_or-le-sum_by}
 use Rattle.rc_model.specs.Numbers.{below}
 use Rattle.rc_sheet_model.specs.WellFormed.{is_mem}
 use Rattle.rc_play_model.specs.Shape.{Place, Shape}
-use Rattle.rc_play_model.specs.Table.{Table, IsSound, list_at, times_in, references_in, references, has_room, onto, under, remember_top, remember_bottom}
-use Rattle.rc_play_model.specs.Bound.{HoldsReferences}
-use Rattle.rc_play_model.proofs.Faces.{both_true}
+use Rattle.rc_play_model.specs.Table.{Table, IsSound, list_at, times_in, references_in, has_room, onto, under, remember_top, remember_bottom}
 use Rattle.rc_play_model.proofs.CardLemmas.{append_each}
-use Rattle.rc_play_model.proofs.Counting.{one_if, passing, same, passing-is, passing-append, passing-all, each_once}
+use Rattle.rc_play_model.proofs.Counting.{passing, same, passing-is, passing-append, passing-all, each_once}
 use Rattle.rc_table.specs.Shape.{IsShape}
-use Rattle.rc_table.specs.Laid.{most_held}
+use Rattle.rc_table.specs.Laid.{longest}
 use Rattle.rc_table.specs.Restored.{put_at}
 use Rattle.rc_table.proofs.PutBack.{one_longer}
 
@@ -61,153 +58,78 @@ cards_held shape table sound =
     (λ id less. sym (times_counted id shape.places table.lists) ∙ sound.once id less)
     ∙ passing-all (below n) ∙ length-range_with_len 0 n
 
-held_here : (m : Bool) (list : List ℕ) → length list ≡ length (cond m [] list) + cond m (length list) 0
-held_here true list = omega arith
-held_here false list = omega arith
-
--- each id in a table is a card or a reference
-all_held : (places : List Place) (lists : List (List ℕ)) → length lists ≡ length places →
-    length (concat lists) ≡ length (cards_in places lists) + sum_by references_in (zip places lists)
-all_held [] [] same = refl
-all_held [] (list ∷ lists) same = absurd (omega (arith, same))
-all_held (place ∷ places) [] same = absurd (omega (arith, same))
-all_held (place ∷ places) (list ∷ lists) same =
-    let here = held_here (is_mem place.kind) list in
-    let rest = all_held places lists (omega (arith, same)) in
-    let sum = sum_by-cons references_in (place, list) (zip places lists) in
-    let all = length-append list (concat lists) in
-    let cards = length-append (cond (is_mem place.kind) [] list) (cards_in places lists) in
-    omega (arith, here, rest, sum, all, cards)
-
 abbrev holds_notes : Place → Bool
 holds_notes place = is_mem place.kind
 
 abbrev few : Place × List ℕ → Type 0
 few at = references_in at ≤ 512
 
--- a location holds at most 512 references, and one of cards none
-notes_here : (m : Bool) (n : ℕ) → cond m n 0 ≤ 512 → cond m n 0 ≤ 512 * one_if m
-notes_here true n le = omega (arith, le)
-notes_here false n le = omega arith
+-- no list is longer than a number that is no smaller than that of the cards, nor than 512 where there is a `mem`
+short_here : (most : ℕ) (m : Bool) (list : List ℕ) → length (cond m [] list) ≤ most → cond m (length list) 0 ≤ 512 → (m ≡ true → 512 ≤ most) → length list ≤ most
+short_here most true list cards notes mem = let least = mem refl in omega (arith, notes, least)
+short_here most false list cards notes mem = cards
 
-notes_most : (places : List Place) (lists : List (List ℕ)) → AllByRecursion few (zip places lists) →
-    sum_by references_in (zip places lists) ≤ 512 * passing holds_notes places
-notes_most [] lists all = omega arith
-notes_most (place ∷ places) [] all = omega arith
-notes_most (place ∷ places) (list ∷ lists) all =
-    let here = notes_here (is_mem place.kind) (length list) all.0 in
-    let rest = notes_most places lists all.1 in
-    let sum = sum_by-cons references_in (place, list) (zip places lists) in
-    omega (arith, here, rest, sum)
-
-notes_under : (m : Bool) (n : ℕ) → m ≡ true → n < 512 → cond m n 0 < 512 * one_if m
-notes_under m n is less = let one = ap one_if is in let held = ap (λ b. cond b n 0) is in omega (arith, one, held, less)
-
--- where one of them holds fewer, there is room for one more
-notes_fewer : (places : List Place) (lists : List (List ℕ)) (loc : ℕ) (p : Place) → AllByRecursion few (zip places lists) → slice_get places loc ≡ Some p →
-    is_mem p.kind ≡ true → loc < length lists → length (get_or lists loc []) < 512 →
-    sum_by references_in (zip places lists) < 512 * passing holds_notes places
-notes_fewer [] lists loc p all is mem within less = absurd (cc)
-notes_fewer (place ∷ places) [] loc p all is mem within less = absurd (omega (arith, within))
-notes_fewer (place ∷ places) (list ∷ lists) zero p all is mem within less =
-    let kind : is_mem place.kind ≡ is_mem p.kind = ap (λ (p : Place). is_mem p.kind) (let e : place ≡ p = cc in e) in
-    let here = notes_under (is_mem place.kind) (length list) (kind ∙ mem) less in
-    let rest = notes_most places lists all.1 in
-    let sum = sum_by-cons references_in (place, list) (zip places lists) in
-    omega (arith, here, rest, sum)
-notes_fewer (place ∷ places) (list ∷ lists) (suc loc) p all is mem within less =
-    let here = notes_here (is_mem place.kind) (length list) all.0 in
-    let rest = notes_fewer places lists loc p all.1 is mem (omega (arith, within)) less in
-    let sum = sum_by-cons references_in (place, list) (zip places lists) in
-    omega (arith, here, rest, sum)
-
--- no list is longer than 512
-short_here : (m : Bool) (list : List ℕ) → length (cond m [] list) ≤ 512 → cond m (length list) 0 ≤ 512 → length list ≤ 512
-short_here true list cards notes = notes
-short_here false list cards notes = cards
-
-list_short : (places : List Place) (lists : List (List ℕ)) (loc : ℕ) → length lists ≡ length places → AllByRecursion few (zip places lists) →
-    length (cards_in places lists) ≤ 512 → loc < length lists → length (get_or lists loc []) ≤ 512
-list_short [] lists loc same all cards within = absurd (omega (arith, same, within))
-list_short (place ∷ places) [] loc same all cards within = absurd (omega (arith, within))
-list_short (place ∷ places) (list ∷ lists) zero same all cards within =
+list_short : (most : ℕ) (places : List Place) (lists : List (List ℕ)) (loc : ℕ) → length lists ≡ length places → AllByRecursion few (zip places lists) →
+    length (cards_in places lists) ≤ most → ((k : ℕ) (p : Place) → slice_get places k ≡ Some p → is_mem p.kind ≡ true → 512 ≤ most) → loc < length lists →
+    length (get_or lists loc []) ≤ most
+list_short most [] lists loc same all cards mem within = absurd (omega (arith, same, within))
+list_short most (place ∷ places) [] loc same all cards mem within = absurd (omega (arith, within))
+list_short most (place ∷ places) (list ∷ lists) zero same all cards mem within =
     let n = length-append (cond (is_mem place.kind) [] list) (cards_in places lists) in
-    short_here (is_mem place.kind) list (omega (arith, n, cards)) all.0
-list_short (place ∷ places) (list ∷ lists) (suc loc) same all cards within =
+    short_here most (is_mem place.kind) list (omega (arith, n, cards)) all.0 (mem 0 place refl)
+list_short most (place ∷ places) (list ∷ lists) (suc loc) same all cards mem within =
     let n = length-append (cond (is_mem place.kind) [] list) (cards_in places lists) in
-    list_short places lists loc (omega (arith, same)) all.1 (omega (arith, n, cards)) (omega (arith, within))
+    list_short most places lists loc (omega (arith, same)) all.1 (omega (arith, n, cards)) (λ k. mem (suc k)) (omega (arith, within))
 
-one_fewer : (lists : List (List ℕ)) (loc place : ℕ) → place < length (get_or lists loc []) →
-    length (concat (set lists loc (remove (get_or lists loc []) place))) + 1 ≡ length (concat lists)
-one_fewer [] loc place within = absurd (omega (arith, within))
-one_fewer (list ∷ lists) zero place within =
-    let here = length-remove list place within in
-    let before = length-append list (concat lists) in
-    let after = length-append (remove list place) (concat lists) in
-    omega (arith, here, before, after)
-one_fewer (list ∷ lists) (suc loc) place within =
-    let rest = one_fewer lists loc place within in
-    let before = length-append list (concat lists) in
-    let after = length-append list (concat (set lists loc (remove (get_or lists loc []) place))) in
-    omega (arith, rest, before, after)
+-- the most that a location may hold
+cards_fit_here : (n : ℕ) (b : Bool) → n ≤ 512 → n ≤ (if b then 512 else n)
+cards_fit_here n true le = le
+cards_fit_here n false le = omega arith
 
-one_more : (lists : List (List ℕ)) (loc : ℕ) (list : List ℕ) → loc < length lists → length list ≡ length (get_or lists loc []) + 1 →
-    length (concat (set lists loc list)) ≡ length (concat lists) + 1
-one_more [] loc list within longer = absurd (omega (arith, within))
-one_more (other ∷ lists) zero list within longer =
-    let before = length-append other (concat lists) in
-    let after = length-append list (concat lists) in
-    omega (arith, longer, before, after)
-one_more (other ∷ lists) (suc loc) list within longer =
-    let rest = one_more lists loc list (omega (arith, within)) longer in
-    let before = length-append other (concat lists) in
-    let after = length-append other (concat (set lists loc list)) in
-    omega (arith, rest, before, after)
+pub cards_fit : (shape : Shape) → IsShape shape → length shape.faces ≤ longest shape
+cards_fit shape limits = cards_fit_here (length shape.faces) (nat_lt 0 (count_by holds_notes shape.places)) limits.cards
 
-module _ (shape : Shape) (table : Table) (sound : IsSound shape table) where
+mem_counts : (places : List Place) (k : ℕ) (p : Place) → slice_get places k ≡ Some p → is_mem p.kind ≡ true → 0 < count_by holds_notes places
+mem_counts places k p is mem =
+    let within = slice_get_within places k p is in
+    let one = ap (λ b. cond {A = ℕ} b 1 0) (ap holds_notes (get_or_from_slice_get places k p p is) ∙ mem) in
+    let least = get_or-le-sum_by (λ (place : Place). cond {A = ℕ} (holds_notes place) 1 0) places k p within in
+    omega (arith, one, least)
+
+mem_fits : (shape : Shape) (k : ℕ) (p : Place) → slice_get shape.places k ≡ Some p → is_mem p.kind ≡ true → 512 ≤ longest shape
+mem_fits shape k p is mem =
+    let some = (Decides-ltb 0 (count_by holds_notes shape.places)).1 (mem_counts shape.places k p is mem) in
+    let long = cond-true (nat_lt 0 (count_by holds_notes shape.places)) 512 (length shape.faces) some in
+    omega (arith, long)
+
+module _ (shape : Shape) (table : Table) (sound : IsSound shape table) (limits : IsShape shape) where
   few_each : AllByRecursion few (zip shape.places table.lists)
   few_each = recursion_from_All few (zip shape.places table.lists) sound.mems
 
-  pub few_in_list : IsShape shape → (loc : ℕ) → length (list_at table loc) ≤ 512
-  few_in_list limits loc =
+  list_within : (most : ℕ) → length shape.faces ≤ most → ((k : ℕ) (p : Place) → slice_get shape.places k ≡ Some p → is_mem p.kind ≡ true → 512 ≤ most) →
+      (loc : ℕ) → length (list_at table loc) ≤ most
+  list_within most all mem loc =
       let cards = cards_held shape table sound in
       elim (cases_lt loc (length table.lists)) [
-        | inl within ↦ list_short shape.places table.lists loc sound.locations few_each (omega (arith, cards, limits.cards)) within
+        | inl within ↦ list_short most shape.places table.lists loc sound.locations few_each (omega (arith, cards, all)) mem within
         | inr past ↦ let none = ap length (get_or_past table.lists loc [] past) in omega (arith, none)
       ]
 
-  -- all that the lists hold together
-  pub all_fit : length (concat table.lists) ≤ most_held shape
-  all_fit =
-      let cards = cards_held shape table sound in
-      let all = all_held shape.places table.lists sound.locations in
-      let most = notes_most shape.places table.lists few_each in
-      let mems = passing-is holds_notes shape.places in
-      omega (arith, cards, all, most, mems, sound.together)
+  pub few_in_list : (loc : ℕ) → length (list_at table loc) ≤ 512
+  few_in_list = list_within 512 limits.cards (λ k p is mem. omega arith)
 
-  -- and where a location has room for one more reference
-  pub one_more_fits : (loc : ℕ) (p : Place) → slice_get shape.places loc ≡ Some p → is_mem p.kind ≡ true → loc < length table.lists →
-      length (list_at table loc) < 512 → references shape table < 1024 → length (concat table.lists) < most_held shape
-  one_more_fits loc p is mem within less fewer =
-      let cards = cards_held shape table sound in
-      let all = all_held shape.places table.lists sound.locations in
-      let most = notes_fewer shape.places table.lists loc p few_each is mem within less in
-      let mems = passing-is holds_notes shape.places in
-      omega (arith, cards, all, most, mems, fewer)
+  pub list_fits : (loc : ℕ) → length (list_at table loc) ≤ longest shape
+  list_fits = list_within (longest shape) (cards_fit shape limits) (mem_fits shape)
 
-  -- one fewer where one is taken out
-  pub fewer_fit : (loc place : ℕ) → place < length (list_at table loc) →
-      length (concat (set table.lists loc (remove (list_at table loc) place))) < most_held shape
-  fewer_fit loc place within = let fewer = one_fewer table.lists loc place within in omega (arith, fewer, all_fit)
-
-  -- and one more where there is room for a reference
-  pub noted_fits : (loc : ℕ) → HoldsReferences shape loc → has_room shape loc table ≡ true → length (concat table.lists) < most_held shape
-  noted_fits loc mem room =
-      let both = both_true (nat_lt (length (list_at table loc)) 512) (nat_lt (references shape table) 1024) room in
-      let within = slice_get_within shape.places loc mem.0 mem.1 in
-      let less = (Decides-ltb (length (list_at table loc)) 512).0 both.0 in
-      let fewer = (Decides-ltb (references shape table) 1024).0 both.1 in
-      one_more_fits loc mem.0 mem.1 mem.2 (omega (arith, within, sound.locations)) less fewer
+-- where a sound table has one more at a place of a location, there was room for it
+pub one_more_fits : (shape : Shape) (table : Table) (id loc place : ℕ) → IsShape shape → loc < length table.lists →
+    IsSound shape (put_at id loc place table) → length (list_at table loc) < longest shape
+one_more_fits shape table id loc place limits within sound =
+    let list = insert (list_at table loc) place id in
+    let most = list_fits shape (put_at id loc place table) sound limits loc in
+    let is = ap length (get_or-set_same table.lists loc list [] within) in
+    let longer = one_longer (list_at table loc) place id in
+    omega (arith, most, is, longer)
 
 -- what is remembered where there is room
 pub noted_top : (shape : Shape) (table : Table) (id loc : ℕ) → has_room shape loc table ≡ true → IsSound shape (remember_top shape id loc table) →
@@ -217,13 +139,3 @@ noted_top shape table id loc room = subst (IsSound shape) (cond-true (has_room s
 pub noted_bottom : (shape : Shape) (table : Table) (id loc : ℕ) → has_room shape loc table ≡ true → IsSound shape (remember_bottom shape id loc table) →
     IsSound shape (under id loc table)
 noted_bottom shape table id loc room = subst (IsSound shape) (cond-true (has_room shape loc table) (under id loc table) table room)
-
--- where a sound table has one more at a place of a location, there was room for it
-pub put_back_fits : (shape : Shape) (table : Table) → IsSound shape table → (id loc place : ℕ) → HoldsReferences shape loc →
-    IsSound shape (put_at id loc place table) → length (concat table.lists) < most_held shape
-put_back_fits shape table sound id loc place mem sound' =
-    let within = slice_get_within shape.places loc mem.0 mem.1 in
-    let longer = one_longer (list_at table loc) place id in
-    let more = one_more table.lists loc (insert (list_at table loc) place id) (omega (arith, within, sound.locations)) longer in
-    let most = all_fit shape (put_at id loc place table) sound' in
-    omega (arith, more, most)

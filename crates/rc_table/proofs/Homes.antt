@@ -1,9 +1,11 @@
 -- The lists of the start, one card after another.
-use Rattle.std.proofs.Common.{◌≡◌, ℕ, zero, suc, ◌+◌, ◌<◌, ◌==◌, Bool, true, false, cond, List, [], ◌∷◌, ◌++◌, length, map, get_or, set, replicate, slice_index, refl, sym, ap, ap₂, ◌∙◌, arith, length-append, append-nil}
+use Rattle.std.proofs.Common.{◌≡◌, ℕ, zero, suc, ◌+◌, ◌<◌, ◌≤◌, ◌==◌, Bool, true, false, cond, List, [], ◌∷◌, ◌++◌, length, map, get_or, set, replicate, slice_index, refl, sym, ap, ap₂, ◌∙◌, arith, append-nil}
 use Rattle.std.specs.Prelude.{filter}
-use Rattle.std.specs.List.{concat, range_with_len}
+use Rattle.std.specs.List.{range_with_len}
 use Rattle.std.proofs.lemmas.Bool.Decides.{Decides-eqb}
 use Rattle.std.proofs.lemmas.List.Elements.{filter-append}
+use Rattle.std.proofs.lemmas.List.FromFn.{get_or-map-range_with_len, length-range_with_len}
+use Rattle.std.proofs.lemmas.List.Sums.{length-filter, count_by-le-length}
 use Rattle.std.proofs.lemmas.Option.{slice_get_within}
 use Rattle.rc_model.specs.Numbers.{below}
 use Rattle.rc_play_model.specs.Shape.{Shape}
@@ -68,23 +70,15 @@ pub no_card : (home : List ℕ) (a count : ℕ) → replicate count [] ≡ map (
 no_card home a zero = refl
 no_card home a (suc count) = ap (λ lists. [] ∷ lists) (no_card home (a + 1) count)
 
--- they hold one more
-pub one_longer : (lists : List (List ℕ)) (k x : ℕ) → k < length lists → length (concat (set lists k (get_or lists k [] ++ x ∷ []))) ≡ length (concat lists) + 1
-one_longer [] k x within = absurd (omega (arith, within))
-one_longer (list ∷ lists) zero x within =
-    let before = length-append list (concat lists) in
-    let after = length-append (list ++ x ∷ []) (concat lists) in
-    let here = length-append list (x ∷ []) in
-    omega (arith, before, after, here)
-one_longer (list ∷ lists) (suc k) x within =
-    let rest = one_longer lists k x (omega (arith, within)) in
-    let before = length-append list (concat lists) in
-    let after = length-append list (concat (set lists k (get_or lists k [] ++ x ∷ []))) in
-    omega (arith, rest, before, after)
-
-pub none_long : (count : ℕ) → length (concat (replicate count [])) ≡ 0
-none_long zero = refl
-none_long (suc count) = none_long count
+-- no location has more than there are
+pub begun_few : (home : List ℕ) (n count loc : ℕ) (lists : List (List ℕ)) → lists ≡ map (begun home n) (below count) → loc < count →
+    length (get_or lists loc []) ≤ n
+begun_few home n count loc lists are within =
+    let here = ap (λ lists. length (get_or lists loc [])) are ∙ ap length (get_or-map-range_with_len (begun home n) 0 count loc loc [] within (omega arith)) in
+    let held = length-filter (λ id. slice_index home id == loc) (below n) in
+    let most = count_by-le-length (λ id. slice_index home id == loc) (below n) in
+    let all = length-range_with_len 0 n in
+    omega (arith, here, held, most, all)
 
 -- a card begins in a location that is there
 pub home_within : (shape : Shape) (id : ℕ) → HasHomes shape → id < length shape.faces → slice_index shape.home id < length shape.places

@@ -1,8 +1,8 @@
 -- A table with the shape that it is laid for: what contracts see of a table.
-use Rattle.std.specs.Prelude.{ℕ, ◌+◌, ◌*◌, ◌≤◌, min, length, count_by}
+use Rattle.std.specs.Prelude.{ℕ, ◌≤◌, nat_lt, if◌then◌else◌, length, count_by}
 use Rattle.rc_sheet_model.specs.WellFormed.{is_mem}
 use Rattle.rc_play_model.specs.Shape.{Place as PurePlace, Shape as PureShape}
-use Rattle.rc_play_model.specs.Table.{Table as PureTable, IsSound, most_references, most_in_mem}
+use Rattle.rc_play_model.specs.Table.{Table as PureTable, IsSound, most_in_mem}
 use Rattle.rc_table.specs.Shape.{IsShape}
 
 pub record Laid : Type 0 where
@@ -13,13 +13,12 @@ pub record Laid : Type 0 where
 abbrev pub relaid : Laid → PureTable → Laid
 relaid laid table = record { shape = laid.shape; table = table }
 
--- how many cards and references the locations of a shape can hold together
-abbrev pub most_held : PureShape → ℕ
-most_held shape =
-    length shape.faces + min most_references (most_in_mem * count_by (λ (place : PurePlace). is_mem place.kind) shape.places)
+-- the most that a location of a shape may hold: 512 where there is a `mem`, and else as many as there are cards
+abbrev pub longest : PureShape → ℕ
+longest shape = if nat_lt 0 (count_by (λ (place : PurePlace). is_mem place.kind) shape.places) then most_in_mem else length shape.faces
 
 -- what a table keeps: it is sound, and has room for all that later edits put into it
 pub record IsLaid (laid : Laid) (room : ℕ) : Type 0 where
   pub limits : IsShape laid.shape
   pub sound : IsSound laid.shape laid.table
-  pub fits : most_held laid.shape ≤ room
+  pub fits : longest laid.shape ≤ room

@@ -1,5 +1,5 @@
 pub mod Places
 pub mod Shape
-pub mod Arena
+pub mod Rows
 pub mod Laid
 pub mod Restored

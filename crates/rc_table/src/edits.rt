@@ -18,9 +18,11 @@ impl Table {
         ensures { self.new ≡ relaid self.old (put_top self.old.shape id loc self.old.table) }
     {
         edits_keep_tables_sound();
+        // what is known of a sound table
+        let _shape = self.shape();
+        let top = self.list(loc).len() as u16;
         let (from, place) = self.place_of(id);
-        self.lists.take_out(from, place as usize);
-        self.lists.put_top(loc, id);
+        self.move_between(from, place, loc, top);
     }
 
     /// Takes a card out of its place and puts it at the bottom of a location of cards.
@@ -30,9 +32,10 @@ impl Table {
         ensures { self.new ≡ relaid self.old (put_bottom self.old.shape id loc self.old.table) }
     {
         edits_keep_tables_sound();
+        // what is known of a sound table
+        let _shape = self.shape();
         let (from, place) = self.place_of(id);
-        self.lists.take_out(from, place as usize);
-        self.lists.put_bottom(loc, id);
+        self.move_between(from, place, loc, 0);
     }
 
     /// Puts a reference on top of a `mem`; nothing changes where that `mem` holds 512, or all of them 1,024.
@@ -42,8 +45,11 @@ impl Table {
         ensures { self.new ≡ relaid self.old (remember_top self.old.shape id loc self.old.table) }
     {
         edits_keep_tables_sound();
+        // what is known of a sound table
+        let _shape = self.shape();
         if self.has_room(loc) {
-            self.lists.put_top(loc, id);
+            let top = self.list(loc).len() as u16;
+            self.put_reference(id, loc, top);
         }
     }
 
@@ -54,8 +60,10 @@ impl Table {
         ensures { self.new ≡ relaid self.old (remember_bottom self.old.shape id loc self.old.table) }
     {
         edits_keep_tables_sound();
+        // what is known of a sound table
+        let _shape = self.shape();
         if self.has_room(loc) {
-            self.lists.put_bottom(loc, id);
+            self.put_reference(id, loc, 0);
         }
     }
 
@@ -66,8 +74,10 @@ impl Table {
         ensures { self.new ≡ relaid self.old (forget_in self.old.shape id loc self.old.table) }
     {
         edits_keep_tables_sound();
+        // what is known of a sound table
+        let _shape = self.shape();
         if let Some(place) = self.topmost_like(id, loc) {
-            self.lists.take_out(loc, place as usize);
+            self.take_reference(loc, place);
         }
     }
 
@@ -89,9 +99,11 @@ impl Table {
         ensures { self.new ≡ relaid self.old (reorder loc order.now self.old.table) }
     {
         edits_keep_tables_sound();
+        // what is known of a sound table
+        let _shape = self.shape();
         let mut list = [0; LONGEST_LIST];
         let count = reordered(self.list(loc), order, &mut list);
-        self.lists.rewrite(loc, &list[..count]);
+        self.relist(loc, &list[..count]);
     }
 }
 

@@ -6,12 +6,12 @@
 //! takes memory.
 #![tactic(auto)]
 
-mod arena;
+mod by_place;
 mod edits;
 mod faces;
 mod finding;
 mod place;
-mod restoring;
+mod rows;
 mod shape;
 mod sight;
 mod table;

@@ -1,7 +1,7 @@
 //! The shape of a sheet.
-ghost use Rattle.std.specs.Prelude.{◌≡◌, length, slice_get, slice_index_or, option_map, IfOk};
+ghost use Rattle.std.specs.Prelude.{◌≡◌, ◌≤◌, length, slice_get, slice_index_or, option_map, IfOk};
 ghost use Rattle.rc_play_model.specs.Shape.{team_at, face_at, holds_references};
-ghost use Rattle.rc_table.specs.Laid.{most_held};
+ghost use Rattle.rc_table.specs.Laid.{longest};
 ghost use Rattle.rc_table.specs.Places.{place_seen};
 ghost use Rattle.rc_table.specs.Shape.{IsShape, shape_of_parts, face_numbers_of, face_or_none};
 
@@ -161,9 +161,10 @@ impl Shape {
         }
     }
 
-    /// How many cards and references the locations can hold together.
-    pub(crate) fn most_held(&self) -> u16
-        ensures { result ≡ most_held self.now }
+    /// The most ids that a location may hold: 512 where there is a `mem`, and else as many as there are cards.
+    pub(crate) fn longest(&self) -> u16
+        ensures is { result ≡ longest self.now }
+        ensures cards { length self.now.faces ≤ result }
     {
         let mut mems = 0usize;
         for place in &self.places {
@@ -171,6 +172,10 @@ impl Shape {
                 mems += 1;
             }
         }
-        (self.faces.len() + (MOST_IN_MEM * mems).min(MOST_REFERENCES)) as u16
+        if mems > 0 {
+            MOST_IN_MEM as u16
+        } else {
+            self.faces.len() as u16
+        }
     }
 }

@@ -4,9 +4,9 @@ ghost use Rattle.rc_model.specs.Numbers.{below};
 ghost use Rattle.rc_model.specs.Clamp.{IsWithinClamp};
 ghost use Rattle.rc_play_model.specs.Table.{IsSound, list_at, number_at, at_home, opening};
 ghost use Rattle.rc_play_model.specs.Bound.{HasHomes};
-ghost use Rattle.rc_table.specs.Laid.{most_held};
+ghost use Rattle.rc_table.specs.Laid.{longest};
 
-use crate::arena::Arena;
+use crate::rows::Rows;
 use crate::shape::Shape;
 use rc_deck::Memory;
 use rc_play_model::opening_tables_are_sound;
@@ -22,8 +22,8 @@ pub(crate) const LONGEST_LIST: usize = 512;
 #[derive(Drop)]
 pub struct Table {
     pub(crate) shape: Arc<Shape>,
-    // with room for all cards, and for all references that there may be
-    pub(crate) lists: Arena,
+    // with room in each for all that a location may hold
+    pub(crate) lists: Rows,
     pub(crate) numbers: Vec<i64>,
 }
 
@@ -96,13 +96,15 @@ impl Table {
 }
 
 // The lists of the start: each card in its first location.
-fn homes(alloc: Global, shape: &Shape) -> Result<Arena, Memory>
+fn homes(alloc: Global, shape: &Shape) -> Result<Rows, Memory>
     requires { HasHomes shape.now }
-    ensures { IfOk result (λ lists. lists ≡ record { all = map (at_home shape.now) (below (length shape.now.places)); room = most_held shape.now }) }
+    ensures { IfOk result (λ lists. lists ≡ record { all = map (at_home shape.now) (below (length shape.now.places)); room = longest shape.now }) }
 {
-    let mut lists = Arena::new(alloc, shape.locations(), shape.most_held())?;
+    let mut lists = Rows::new(alloc, shape.locations(), shape.longest())?;
     for id in 0..shape.cards() {
-        lists.put_top(shape.home(id), id);
+        let home = shape.home(id);
+        let top = lists.list(home).len();
+        lists.put_in(home, top, id);
     }
     Ok(lists)
 }

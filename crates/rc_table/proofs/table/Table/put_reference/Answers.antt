@@ -1,10 +1,11 @@
 use Rattle.std.proofs.Common.{length, min, sym, ap, arith, subst, ◌∙◌, slice_index_or, []}
 use Rattle.std.specs.List.{insert}
+use Rattle.std.proofs.lemmas.Option.{slice_get_within}
 use Rattle.rc_play_model.specs.Bound.{HoldsReferences}
 use Rattle.rc_play_model.specs.Table.{IsSound}
 use Rattle.rc_table.specs.Laid.{Laid}
 use Rattle.rc_table.specs.Restored.{put_at}
-use Rattle.rc_table.proofs.Held.{put_back_fits}
+use Rattle.rc_table.proofs.Held.{one_more_fits}
 use Rattle.rc_table.proofs.PutBack.{insert_min}
 use Rattle.rc_table.proofs.table.Table.put_reference.Goals as goal
 
@@ -12,7 +13,8 @@ pub put_in-requires-clause-room : goal.put_in-requires-clause-room
 put_in-requires-clause-room c =
     let mem = subst (λ (laid : Laid). HoldsReferences laid.shape c.args.loc) (sym c.self.view_is) c.requires.mem in
     let sound = subst (λ (laid : Laid). IsSound laid.shape (put_at c.args.id c.args.loc c.args.place laid.table)) (sym c.self.view_is) c.requires.sound in
-    let less = put_back_fits _ _ c.self.invariant.sound c.args.id c.args.loc c.args.place mem sound in
+    let within = slice_get_within _ c.args.loc mem.0 mem.1 in
+    let less = one_more_fits _ _ c.args.id c.args.loc c.args.place c.self.invariant.limits (omega (arith, within, c.self.invariant.sound.locations)) sound in
     omega (arith, less, c.self.invariant.fits)
 
 pub invariant_of-self : goal.invariant_of-self

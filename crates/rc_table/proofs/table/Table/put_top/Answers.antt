@@ -1,16 +1,21 @@
-use Rattle.std.proofs.Common.{◌<◌, length, arith, sym, ap, subst}
-use Rattle.std.specs.List.{concat}
-use Rattle.rc_play_model.specs.Table.{list_at}
-use Rattle.rc_table.specs.Laid.{Laid}
-use Rattle.rc_table.proofs.Held.{fewer_fit}
+use Rattle.std.proofs.Common.{length, arith, ap, ◌∙◌, sym, subst}
+use Rattle.rc_play_model.specs.Table.{IsSound}
+use Rattle.rc_table.specs.Laid.{relaid}
+use Rattle.rc_table.proofs.PutBack.{put_top_is}
 use Rattle.rc_table.proofs.table.Table.put_top.Goals as goal
 
-pub put_top-requires-clause-room : goal.put_top-requires-clause-room
-put_top-requires-clause-room c =
-    let from = c.place_of-from.result.0 in
-    let place = c.place_of-from.result.1 in
-    let there = subst (λ (laid : Laid). place < length (list_at laid.table from)) (sym c.self.view_is) c.place_of-from.ensures.there in
-    let fewer = fewer_fit _ _ c.self.invariant.sound from place there in
-    let all = ap (λ lists. length (concat lists.all)) c.take_out.ensures in
-    let room = ap (λ lists. lists.room) c.take_out.ensures in
-    omega (arith, fewer, all, room, c.self.invariant.fits)
+pub move_between-requires-clause-sound : goal.move_between-requires-clause-sound
+move_between-requires-clause-sound c =
+    let laid = c.args.self.now in
+    let sound = c.shape-shape.ensures.sound in
+    let top = ap length c.list.ensures.is in
+    let is = put_top_is laid.shape laid.table sound c.args.id c.requires.card c.place_of-from.result c.args.loc (length c.list.result.now) c.place_of-from.ensures.is (omega (arith, top)) in
+    let put = c.edits_keep_tables_sound.ensures.put laid.shape laid.table c.args.id c.args.loc sound c.requires.card c.requires.loc in
+    subst (IsSound laid.shape) (sym is) put.0
+
+pub returns : goal.returns
+returns c =
+    let laid = c.args.self.now in
+    let top = ap length c.list.ensures.is in
+    let is = put_top_is laid.shape laid.table c.shape-shape.ensures.sound c.args.id c.requires.card c.place_of-from.result c.args.loc (length c.list.result.now) c.place_of-from.ensures.is (omega (arith, top)) in
+    c.move_between.ensures ∙ ap (relaid laid) is

@@ -1,6 +1,0 @@
-use Rattle.std.proofs.Common.{◌≡◌, ◌+◌, ◌++◌, map, take, drop}
-use Rattle.rc_table.proofs.arena.raise.Given as goal
-
-abbrev pub invariant-loop-start : goal.invariant-loop-start
-invariant-loop-start l =
-    l.start-items ≡ map (λ start. start + 1) (take l.start-index l.initial.start-items) ++ drop l.start-index l.initial.start-items

@@ -1,0 +1,108 @@
+//! A list of ids for each location.
+ghost use Rattle.std.specs.Prelude.{◌≡◌, ◌<◌, ◌≤◌, [], length, replicate, slice_index_or, slice_set, vec_capacity, IfOk};
+ghost use Rattle.std.specs.List.{remove, insert};
+
+use rc_deck::Memory;
+use std::alloc::Global;
+use std::marker::Model;
+
+/// Lists of ids, each in a row of its own, so that an edit of one moves no other. Edits keep within the room for which memory was
+/// taken when the rows were made.
+#[derive(Drop)]
+pub(crate) struct Rows {
+    rows: Vec<Vec<u16>>,
+    // how many ids there may be in each
+    room: u16,
+}
+
+impl Model for Rows {
+    ghost use Rattle.std.specs.Prelude.{◌≤◌, map, All, vec_capacity};
+    ghost use Rattle.rc_table.specs.Rows.{Lists};
+
+    ghost Value = { Lists };
+
+    ghost view = { λ r. record { all = map (λ row. row.items) r.rows.items; room = r.room } };
+
+    ghost invariant = { λ r. All (λ row. r.room ≤ vec_capacity row) r.rows.items };
+}
+
+// A list with room for so many ids.
+fn row_of(alloc: Global, list: &[u16], room: u16) -> Result<Vec<u16>, Memory>
+    ensures list { IfOk result (λ row. row.items ≡ list.now) }
+    ensures room { IfOk result (λ row. room ≤ vec_capacity row) }
+{
+    let mut row = Vec::with_capacity(alloc, room as usize)?;
+    row.extend_from_slice(list)?;
+    Ok(row)
+}
+
+impl Rows {
+    /// So many empty lists, with room for so many ids in each.
+    pub(crate) fn new(alloc: Global, lists: u16, room: u16) -> Result<Rows, Memory>
+        ensures { IfOk result (λ rows. rows ≡ record { all = replicate lists []; room = room }) }
+    {
+        let mut rows = Vec::with_capacity(alloc, lists as usize)?;
+        for _list in 0..lists {
+            rows.push(row_of(alloc, &[], room)?)?;
+        }
+        Ok(Rows { rows, room })
+    }
+
+    /// The same lists once more, with as much room.
+    pub(crate) fn copy(&self, alloc: Global) -> Result<Rows, Memory>
+        ensures { IfOk result (λ copy. copy ≡ self.now) }
+    {
+        let mut rows = Vec::with_capacity(alloc, self.rows.len())?;
+        for row in &self.rows {
+            rows.push(row_of(alloc, row, self.room)?)?;
+        }
+        Ok(Rows {
+            rows,
+            room: self.room,
+        })
+    }
+
+    /// A list, or an empty one where there is no such list.
+    pub(crate) fn list(&self, at: u16) -> &[u16]
+        ensures { result.now ≡ slice_index_or self.now.all at [] }
+    {
+        match self.rows.get(at as usize) {
+            Some(row) => row,
+            None => &[],
+        }
+    }
+
+    /// Takes an id out of a list.
+    pub(crate) fn take_out(&mut self, at: u16, place: usize)
+        requires list { at < length self.old.all }
+        requires place { place < length (slice_index_or self.old.all at []) }
+        ensures { self.new ≡ record {
+          all = slice_set self.old.all at (remove (slice_index_or self.old.all at []) place);
+          room = self.old.room;
+        } }
+    {
+        self.rows[at as usize].remove(place);
+    }
+
+    /// Puts an id into a list.
+    pub(crate) fn put_in(&mut self, at: u16, place: usize, id: u16)
+        requires list { at < length self.old.all }
+        requires place { place ≤ length (slice_index_or self.old.all at []) }
+        requires room { length (slice_index_or self.old.all at []) < self.old.room }
+        ensures { self.new ≡ record {
+          all = slice_set self.old.all at (insert (slice_index_or self.old.all at []) place id);
+          room = self.old.room;
+        } }
+    {
+        self.rows[at as usize].insert(place, id).unwrap();
+    }
+
+    /// Writes another list of the same length.
+    pub(crate) fn rewrite(&mut self, at: u16, list: &[u16])
+        requires list { at < length self.old.all }
+        requires length { length list.now ≡ length (slice_index_or self.old.all at []) }
+        ensures { self.new ≡ record { all = slice_set self.old.all at list.now; room = self.old.room } }
+    {
+        self.rows[at as usize].copy_from_slice(list);
+    }
+}
