@@ -5,3 +5,6 @@ pub mod Homes
 pub mod FaceNumbers
 pub mod PutBack
 pub mod RowLemmas
+pub mod OnePlace
+pub mod WhereaboutLemmas
+pub mod WhereaboutEdits

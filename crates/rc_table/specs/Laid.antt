@@ -1,9 +1,10 @@
 -- A table with the shape that it is laid for: what contracts see of a table.
-use Rattle.std.specs.Prelude.{ℕ, ◌≤◌, nat_lt, if◌then◌else◌, length, count_by}
+use Rattle.std.specs.Prelude.{◌≡◌, ℕ, List, ◌≤◌, nat_lt, if◌then◌else◌, length, count_by}
 use Rattle.rc_sheet_model.specs.WellFormed.{is_mem}
 use Rattle.rc_play_model.specs.Shape.{Place as PurePlace, Shape as PureShape}
 use Rattle.rc_play_model.specs.Table.{Table as PureTable, IsSound, most_in_mem}
 use Rattle.rc_table.specs.Shape.{IsShape}
+use Rattle.rc_table.specs.Whereabouts.{whereabouts}
 
 pub record Laid : Type 0 where
   pub shape : PureShape
@@ -17,8 +18,9 @@ relaid laid table = record { shape = laid.shape; table = table }
 abbrev pub longest : PureShape → ℕ
 longest shape = if nat_lt 0 (count_by (λ (place : PurePlace). is_mem place.kind) shape.places) then most_in_mem else length shape.faces
 
--- what a table keeps: it is sound, and has room for all that later edits put into it
-pub record IsLaid (laid : Laid) (room : ℕ) : Type 0 where
+-- what a table keeps: it is sound, has room for all that later edits put into it, and has noted where each card stands
+pub record IsLaid (laid : Laid) (room : ℕ) (stand : List (ℕ × ℕ)) : Type 0 where
   pub limits : IsShape laid.shape
   pub sound : IsSound laid.shape laid.table
   pub fits : longest laid.shape ≤ room
+  pub noted : stand ≡ whereabouts laid.shape laid.table

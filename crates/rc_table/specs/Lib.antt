@@ -3,3 +3,4 @@ pub mod Shape
 pub mod Rows
 pub mod Laid
 pub mod Restored
+pub mod Whereabouts

@@ -1,25 +1,12 @@
 //! Where a card is, and how many references there are.
-ghost use Rattle.std.specs.Prelude.{◌≡◌, ◌==◌, ◌<◌, ◌&&◌, not, if◌then◌else◌, length, slice_get, reverse, remove, MatchOption};
-ghost use Rattle.std.specs.List.{list_any};
+ghost use Rattle.std.specs.Prelude.{◌≡◌, ◌<◌, if◌then◌else◌, length, slice_get, reverse, remove, MatchOption};
 ghost use Rattle.rc_play_model.specs.Shape.{holds_references};
-ghost use Rattle.rc_play_model.specs.Table.{list_at, index_in, loc_of, place_of, references, has_room, without_face, forget_in};
+ghost use Rattle.rc_play_model.specs.Table.{list_at, place_of, references, has_room, without_face, forget_in};
 ghost use Rattle.rc_table.specs.Restored.{taken_at};
 
 use crate::faces::have_same_face;
 use crate::shape::{MOST_IN_MEM, MOST_REFERENCES, Shape};
 use crate::table::Table;
-
-// The first place of an id in a list, or the list's length.
-fn position(list: &[u16], id: u16) -> usize
-    ensures { result ≡ index_in id list.now }
-{
-    for (place, other) in list.iter().enumerate() {
-        if *other == id {
-            return place;
-        }
-    }
-    list.len()
-}
 
 // The last place in a list of a card with this card's face.
 fn topmost(shape: &Shape, list: &[u16], id: u16) -> Option<usize>
@@ -36,36 +23,13 @@ fn topmost(shape: &Shape, list: &[u16], id: u16) -> Option<usize>
 }
 
 impl Table {
-    // Whether a location holds a card, other than as a reference.
-    fn holds_card(&self, loc: u16, id: u16) -> bool
-        ensures { result ≡ (not (holds_references (slice_get self.now.shape.places loc)) && list_any (λ other. other == id) (list_at self.now.table loc)) }
-    {
-        !self.shape().holds_references(loc) && self.list(loc).contains(&id)
-    }
-
-    // The location that holds a card, or how many locations there are.
-    fn loc_of(&self, id: u16) -> u16
-        ensures { result ≡ loc_of self.now.shape self.now.table id }
-    {
-        let count = self.shape().locations();
-        for loc in 0..count {
-            if self.holds_card(loc, id) {
-                return loc;
-            }
-        }
-        count
-    }
-
     /// The location that holds a card, and the card's place there.
     pub fn place_of(&self, id: u16) -> (u16, u16)
         requires { id < length self.now.shape.faces }
         ensures is { result ≡ place_of self.now.shape self.now.table id }
         ensures there { result.1 < length (list_at self.now.table result.0) }
     {
-        // what is known of a sound table
-        let _shape = self.shape();
-        let loc = self.loc_of(id);
-        (loc, position(self.list(loc), id) as u16)
+        self.whereabouts[id as usize]
     }
 
     // How many references a location holds.

@@ -15,6 +15,7 @@ mod rows;
 mod shape;
 mod sight;
 mod table;
+mod whereabouts;
 
 pub use faces::{face_number, have_same_face};
 pub use place::{Owner, Place};

@@ -8,6 +8,7 @@ ghost use Rattle.rc_table.specs.Laid.{longest};
 
 use crate::rows::Rows;
 use crate::shape::Shape;
+use crate::whereabouts::at_home;
 use rc_deck::Memory;
 use rc_play_model::opening_tables_are_sound;
 use std::alloc::Global;
@@ -24,6 +25,8 @@ pub struct Table {
     pub(crate) shape: Arc<Shape>,
     // with room in each for all that a location may hold
     pub(crate) lists: Rows,
+    // each card's location, and its place there
+    pub(crate) whereabouts: Vec<(u16, u16)>,
     pub(crate) numbers: Vec<i64>,
 }
 
@@ -34,7 +37,7 @@ impl Model for Table {
 
     ghost view = { λ t. record { shape = t.shape.value; table = record { lists = t.lists.all; numbers = t.numbers.items } } };
 
-    ghost invariant = { λ t. IsLaid (record { shape = t.shape.value; table = record { lists = t.lists.all; numbers = t.numbers.items } }) t.lists.room };
+    ghost invariant = { λ t. IsLaid (record { shape = t.shape.value; table = record { lists = t.lists.all; numbers = t.numbers.items } }) t.lists.room t.whereabouts.items };
 }
 
 impl Table {
@@ -48,10 +51,12 @@ impl Table {
         // what a shape keeps
         let _players = shape.players();
         let lists = homes(alloc, &shape)?;
+        let whereabouts = at_home(alloc, &shape, &lists)?;
         let numbers = vec![in alloc; 0; shape.numbers() as usize]?;
         Ok(Table {
             shape,
             lists,
+            whereabouts,
             numbers,
         })
     }
@@ -63,6 +68,7 @@ impl Table {
         Ok(Table {
             shape: Arc::try_clone(&self.shape)?,
             lists: self.lists.copy(alloc)?,
+            whereabouts: Vec::from_slice(alloc, &self.whereabouts)?,
             numbers: Vec::from_slice(alloc, &self.numbers)?,
         })
     }

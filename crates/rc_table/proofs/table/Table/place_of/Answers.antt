@@ -1,18 +1,36 @@
-use Rattle.std.proofs.Common.{◌<◌, length, arith, ap, ◌∙◌}
-use Rattle.rc_play_model.specs.Table.{list_at, index_in}
-use Rattle.rc_table.proofs.ByLocation.{placed_there}
+use Rattle.std.proofs.Common.{ℕ, ◌<◌, length, get_or, arith, ap, ◌∙◌, sym, subst}
+use Rattle.std.proofs.lemmas.List.{get_or_default}
+use Rattle.rc_play_model.specs.Table.{IsSound, list_at}
+use Rattle.rc_table.specs.Laid.{Laid}
+use Rattle.rc_table.specs.Whereabouts.{whereabouts}
+use Rattle.rc_table.proofs.WhereaboutLemmas.{nowhere, noted_of, noted_all, stands}
 use Rattle.rc_table.proofs.table.Table.place_of.Goals as goal
 
-there : (c : goal.After-position) → c.position.result < length (list_at c.args.self.now.table c.loc_of-loc.result)
-there c =
-    let table = c.args.self.now.table in
-    let placed = placed_there c.args.self.now.shape table c.args.id c.shape-shape.ensures.sound c.requires in
-    let at = ap (λ loc. length (list_at table loc)) c.loc_of-loc.ensures in
-    let place = c.position.ensures ∙ ap (index_in c.args.id) (c.list.ensures.is ∙ ap (list_at table) c.loc_of-loc.ensures) in
-    omega (arith, placed, at, place)
+pub index-requires : goal.index-requires
+index-requires c =
+    let laid = c.args.self.now in
+    let noted = c.self.invariant.noted ∙ ap (λ (laid : Laid). whereabouts laid.shape laid.table) c.self.view_is in
+    let long = ap length noted ∙ noted_all laid.shape laid.table in
+    omega (arith, c.requires, long, c.self.inside.whereabouts.ok.0)
 
-pub overflow_cast-result : goal.overflow_cast-result
-overflow_cast-result c = let less = there c in let same = ap length c.list.ensures.is in omega (arith, less, same, c.list.ensures.few)
+pub returns-clause-is : goal.returns-clause-is
+returns-clause-is c =
+    let id = c.args.id in
+    let laid = c.args.self.now in
+    let stand = c.self.inside.whereabouts.items in
+    let noted = c.self.invariant.noted ∙ ap (λ (laid : Laid). whereabouts laid.shape laid.table) c.self.view_is in
+    let long = ap length noted ∙ noted_all laid.shape laid.table in
+    c.index.ensures ∙ get_or_default stand id c.index.result.now nowhere (omega (arith, c.requires, long)) ∙ ap (λ stand. get_or stand id nowhere) noted
+    ∙ noted_of laid.shape laid.table id c.requires
 
 pub returns-clause-there : goal.returns-clause-there
-returns-clause-there c = there c
+returns-clause-there c =
+    let id = c.args.id in
+    let laid = c.args.self.now in
+    let stand = c.self.inside.whereabouts.items in
+    let noted = c.self.invariant.noted ∙ ap (λ (laid : Laid). whereabouts laid.shape laid.table) c.self.view_is in
+    let long = ap length noted ∙ noted_all laid.shape laid.table in
+    let sound = subst (λ (laid : Laid). IsSound laid.shape laid.table) c.self.view_is c.self.invariant.sound in
+    let is = c.index.ensures ∙ get_or_default stand id c.index.result.now nowhere (omega (arith, c.requires, long)) ∙ ap (λ stand. get_or stand id nowhere) noted
+    ∙ noted_of laid.shape laid.table id c.requires in
+    subst (λ (at : ℕ × ℕ). at.1 < length (list_at laid.table at.0)) (sym is) (stands laid.shape laid.table sound id c.requires).1

@@ -6,6 +6,7 @@ use Rattle.rc_play_model.specs.Table.{IsSound}
 use Rattle.rc_table.specs.Laid.{Laid}
 use Rattle.rc_table.specs.Restored.{put_at}
 use Rattle.rc_table.proofs.Held.{one_more_fits}
+use Rattle.rc_table.proofs.WhereaboutEdits.{references_noted}
 use Rattle.rc_table.proofs.PutBack.{insert_min}
 use Rattle.rc_table.proofs.table.Table.put_reference.Goals as goal
 
@@ -26,9 +27,11 @@ invariant_of-self c =
     let list = slice_index_or c.self.inside.lists.all loc [] in
     let topmost = c.min-place.ensures ∙ ap (λ list. min place (length list)) c.list.ensures in
     let clamped = ap (λ n. insert list n id) topmost ∙ insert_min list place id in
+    let mem = subst (λ (laid : Laid). HoldsReferences laid.shape loc) (sym c.self.view_is) c.requires.mem in
     rw (c.put_in.ensures, clamped)
     (record {
       limits = c.self.invariant.limits;
       sound = sound;
       fits = c.self.invariant.fits;
+      noted = c.self.invariant.noted ∙ references_noted _ _ c.self.invariant.sound loc _ mem sound;
     })

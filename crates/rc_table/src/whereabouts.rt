@@ -1,0 +1,72 @@
+//! Where each card stands.
+ghost use Rattle.std.specs.Prelude.{◌≡◌, ◌<◌, ◌≤◌, [], length, drop, slice_index_or, All, IfOk};
+ghost use Rattle.rc_play_model.specs.Table.{IsSound, opening};
+ghost use Rattle.rc_table.specs.Shape.{IsShape};
+ghost use Rattle.rc_table.specs.Whereabouts.{whereabouts, noted, noted_in};
+
+use crate::rows::Rows;
+use crate::shape::Shape;
+use rc_deck::Memory;
+use std::alloc::Global;
+
+// Notes where the ids of a list stand in a location, from a place on.
+fn note(stand: &mut [(u16, u16)], loc: u16, list: &[u16], from: usize)
+    requires ids { All (λ id. id < length stand.old) list.now }
+    requires few { length list.now ≤ 512 }
+    ensures { stand.new ≡ noted loc from (drop from list.now) stand.old }
+{
+    for at in from..list.len() {
+        stand[list[at] as usize] = (loc, at as u16);
+    }
+}
+
+/// Notes where the cards that a location holds from a place on stand; of references nothing is noted.
+pub(crate) fn note_cards(
+    stand: &mut [(u16, u16)],
+    shape: &Shape,
+    lists: &Rows,
+    loc: u16,
+    from: usize,
+)
+    requires ids { All (λ id. id < length stand.old) (slice_index_or lists.now.all loc []) }
+    requires few { length (slice_index_or lists.now.all loc []) ≤ 512 }
+    ensures { stand.new ≡ noted_in shape.now lists.now.all loc from stand.old }
+{
+    if !shape.holds_references(loc) {
+        note(stand, loc, lists.list(loc), from);
+    }
+}
+
+/// The same for two locations, one after the other.
+pub(crate) fn note_move(
+    stand: &mut [(u16, u16)],
+    shape: &Shape,
+    lists: &Rows,
+    from: u16,
+    at: usize,
+    to: u16,
+    place: usize,
+)
+    requires ids { All (λ id. id < length stand.old) (slice_index_or lists.now.all from []) }
+    requires few { length (slice_index_or lists.now.all from []) ≤ 512 }
+    requires other_ids { All (λ id. id < length stand.old) (slice_index_or lists.now.all to []) }
+    requires other_few { length (slice_index_or lists.now.all to []) ≤ 512 }
+    ensures { stand.new ≡ noted_in shape.now lists.now.all to place (noted_in shape.now lists.now.all from at stand.old) }
+{
+    note_cards(stand, shape, lists, from, at);
+    note_cards(stand, shape, lists, to, place);
+}
+
+/// Where each card stands when a match begins.
+pub(crate) fn at_home(alloc: Global, shape: &Shape, lists: &Rows) -> Result<Vec<(u16, u16)>, Memory>
+    requires limits { IsShape shape.now }
+    requires sound { IsSound shape.now (opening shape.now) }
+    requires lists { lists.now.all ≡ (opening shape.now).lists }
+    ensures { IfOk result (λ stand. stand.items ≡ whereabouts shape.now (opening shape.now)) }
+{
+    let mut stand = vec![in alloc; (0, 0); shape.cards() as usize]?;
+    for loc in 0..shape.locations() {
+        note_cards(&mut stand, shape, lists, loc, 0);
+    }
+    Ok(stand)
+}
