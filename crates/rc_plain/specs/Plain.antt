@@ -1,14 +1,14 @@
 -- Machines as the definitions of play have them.
-use Rattle.std.specs.Prelude.{ℕ, ◌≤◌, ◌<◌, List, [], length, slice_index_or, All}
+use Rattle.std.specs.Prelude.{ℕ, ◌≤◌, List, [], slice_index_or, All}
 use Rattle.rc_sheet_model.specs.Sheet.{Alt}
 use Rattle.rc_sheet_model.specs.Lists.{item_list}
 use Rattle.rc_play_model.specs.Control.{Control}
 use Rattle.rc_play_model.specs.Table.{Table}
-use Rattle.rc_play_model.specs.About.{About, scene_at, menu_at}
+use Rattle.rc_play_model.specs.About.{About, scene_at}
 use Rattle.rc_play_model.specs.Menu.{Item, menu_from}
 use Rattle.rc_play_model.specs.Step.{Config}
 use Rattle.rc_play_model.specs.Path.{Path, left_of}
-use Rattle.rc_play_model.specs.Fits.{HasFrames, FitsSite}
+use Rattle.rc_play_model.specs.Fits.{HasFrames}
 use Rattle.rc_plain.specs.Paths.{IsPath}
 
 -- what a match is played by, the path to the next item, the table and the control
@@ -34,11 +34,3 @@ pub record IsInPlay (m : Plain) : Type 0 where
 abbrev pub chosen_item : Plain → List Alt → ℕ → Item
 chosen_item m alts x =
     slice_index_or (menu_from (scene_at m.about m.table m.control.frames) alts) x (record { alt = 0; spots = [] })
-
--- a table and a control at a decision of some site: the control fits the site, something is offered there, and the turn limit
--- isn't met
-pub record CanDecide (about : About) (table : Table) (control : Control) : Type 0 where
-  pub site : ℕ
-  pub fits : FitsSite about site control
-  pub some : 0 < length (menu_at about site table control)
-  pub below : control.turn < about.turns

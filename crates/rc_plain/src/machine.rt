@@ -7,8 +7,8 @@ ghost use Rattle.rc_play_model.specs.Decision.{at_site, choose};
 ghost use Rattle.rc_play_model.specs.Table.{opening};
 ghost use Rattle.rc_rules.specs.Control.{control_seen, stop_seen};
 ghost use Rattle.rc_rules.specs.Dealer.{HasShuffled};
-ghost use Rattle.rc_rules.specs.Machine.{StandsAtDecision, StandsWhereItStops, menu_here};
-ghost use Rattle.rc_plain.specs.Plain.{config_of, CanDecide};
+ghost use Rattle.rc_rules.specs.Machine.{StandsAtDecision, StandsWhereItStops, menu_here, CanDecide};
+ghost use Rattle.rc_plain.specs.Plain.{config_of};
 
 use crate::path::Path;
 use crate::site::{path_of, site_of};

@@ -1,9 +1,11 @@
--- Where a machine stands.
+-- Where a machine stands, and where it may be made.
 use Rattle.std.specs.Prelude.{ℕ, ◌<◌, List, length, unwrap_or}
 use Rattle.rc_play_model.specs.About.{About, menu_at}
 use Rattle.rc_play_model.specs.Menu.{Item}
 use Rattle.rc_play_model.specs.Step.{Config, Stop, decide, is_done, is_limit}
-use Rattle.rc_play_model.specs.Fits.{IsDecision}
+use Rattle.rc_play_model.specs.Control.{Control}
+use Rattle.rc_play_model.specs.Table.{Table}
+use Rattle.rc_play_model.specs.Fits.{IsDecision, FitsSite}
 
 -- the menu at the site of the control
 abbrev pub menu_here : About → Config → List Item
@@ -23,3 +25,11 @@ abbrev pub StandsWhereItStops : About → Stop → Config → Type 0
 StandsWhereItStops about (decide seat site) c = Decides about seat site c
 StandsWhereItStops about is_done c = Unit {0}
 StandsWhereItStops about is_limit c = Unit {0}
+
+-- a table and a control at a decision of some site: the control fits the site, something is offered there, and the turn limit
+-- isn't met
+pub record CanDecide (about : About) (table : Table) (control : Control) : Type 0 where
+  pub site : ℕ
+  pub fits : FitsSite about site control
+  pub some : 0 < length (menu_at about site table control)
+  pub below : control.turn < about.turns

@@ -72,6 +72,13 @@ impl About {
         self.checked.sheet()
     }
 
+    /// The sheet as it was checked.
+    pub fn checked(&self) -> &Arc<Checked>
+        ensures { result.now.value ≡ self.now.sheet }
+    {
+        &self.checked
+    }
+
     /// Its shape.
     pub fn shape(&self) -> &Arc<Shape>
         ensures { result.now.value ≡ self.now.shape }

@@ -8,8 +8,7 @@ use Rattle.rc_play_model.specs.Step.{Config, Stop, decide, start}
 use Rattle.rc_play_model.specs.Stop.{stop_of}
 use Rattle.rc_play_model.specs.Play.{from_stop, follow}
 use Rattle.rc_play_model.specs.ControlLaws.{ControlsFit}
-use Rattle.rc_rules.specs.Machine.{Decides, StandsWhereItStops}
-use Rattle.rc_plain.specs.Plain.{CanDecide}
+use Rattle.rc_rules.specs.Machine.{Decides, StandsWhereItStops, CanDecide}
 
 pub first_decides : (about about' : About) (dealing : Dealing ℕ) (k k' seat site : ℕ) (stop : Stop) (before c : Config) →
     ControlsFit → about.shape ≡ shape_of about.sheet → IsWellFormed about.sheet → about' ≡ about → before ≡ start about →

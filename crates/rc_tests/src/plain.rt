@@ -2,7 +2,8 @@
 ghost use Rattle.std.specs.Prelude.{◌≡◌, IfOk};
 ghost use Rattle.rc_play_model.specs.Shape.{shape_of as shape_for};
 ghost use Rattle.rc_play_model.specs.Step.{start};
-ghost use Rattle.rc_plain.specs.Plain.{CanDecide, config_of};
+ghost use Rattle.rc_rules.specs.Machine.{CanDecide};
+ghost use Rattle.rc_plain.specs.Plain.{config_of};
 
 use crate::expect::expect_same;
 use crate::house::GAME;
