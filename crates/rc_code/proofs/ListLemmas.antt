@@ -20,7 +20,6 @@ written (i ∷ old) code held one = ap (λ rest. i ∷ rest) (written old code h
 
 module _ (old pushed more : List Instruction) (code : List PureInstruction) (held : PureInstruction) (at : ℕ)
     (push : list_seen pushed ≡ list_seen old ++ held ∷ []) (inside : list_seen more ≡ list_seen pushed ++ code) (here : at ≡ length old) where
-
   -- how many stand behind the place that was held
   pub behind : length more - at - 1 ≡ length code
   behind =

@@ -8,7 +8,8 @@ ghost use Rattle.rc_code.specs.Compiled.{effect_code, effects_code};
 ghost use Rattle.rc_code.specs.Seen.{instruction_seen, list_seen};
 
 use crate::code::Instruction;
-use crate::operands::{copy_domain, copy_effect, copy_int, copy_test};
+use crate::copied_effects::copy_effect;
+use crate::copies::{copy_domain, copy_int, copy_test};
 use rc_ast::{Domain, Effect, IntExpr, Test};
 use rc_deck::Memory;
 use std::alloc::Global;
@@ -52,11 +53,7 @@ pub(crate) fn push_effects(
 
 // Puts the code of an effect behind the others.
 #[cycle(compiling)]
-fn push_effect(
-    alloc: Global,
-    effect: &Effect,
-    list: &mut Vec<Instruction>,
-) -> Result<(), Memory>
+fn push_effect(alloc: Global, effect: &Effect, list: &mut Vec<Instruction>) -> Result<(), Memory>
     ensures { OnOk result (list_seen list.new.items ≡ list_seen list.old.items ++ effect_code (effect_seen effect.now)) }
 {
     match effect {

@@ -11,7 +11,8 @@ ghost use Rattle.rc_code.specs.Stands.{ItemsStand};
 
 use crate::code::{Block, Instruction};
 use crate::compile::{push, push_effects, write};
-use crate::operands::{copy_alts, copy_test};
+use crate::copied_effects::copy_alts;
+use crate::copies::copy_test;
 use rc_ast::{Alt, Class, Effect, SheetItem, Test};
 use rc_deck::Memory;
 use std::alloc::Global;
@@ -96,12 +97,16 @@ fn push_stage(
         Err(Memory) => return Err(Memory),
     }
     let inside = list.len() - at - 1;
-    write(list, at, Instruction::Stage {
-        number,
-        class,
-        end,
-        inside,
-    });
+    write(
+        list,
+        at,
+        Instruction::Stage {
+            number,
+            class,
+            end,
+            inside,
+        },
+    );
     Ok(())
 }
 
@@ -128,12 +133,16 @@ fn push_choice(
         Err(Memory) => return Err(Memory),
     }
     let inside = list.len() - at - 1;
-    write(list, at, Instruction::Choice {
-        site,
-        alts: copy,
-        blocks,
-        inside,
-    });
+    write(
+        list,
+        at,
+        Instruction::Choice {
+            site,
+            alts: copy,
+            blocks,
+            inside,
+        },
+    );
     Ok(())
 }
 

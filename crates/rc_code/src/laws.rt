@@ -5,12 +5,10 @@ ghost use Rattle.rc_code.specs.Laws.{DoesInOrder, SaysWhatItStandsFor, CompiledS
 pub fn code_is_done_in_order()
     ensures does { DoesInOrder }
     ensures nothing { NothingLeft }
-{
-}
+{}
 
 /// Code says what it stands for, and what is compiled stands for its tree.
 pub fn code_says_what_it_stands_for()
     ensures says { SaysWhatItStandsFor }
     ensures stands { CompiledStands }
-{
-}
+{}
