@@ -2,7 +2,7 @@
 use Rattle.std.specs.Prelude.{ℕ, ◌+◌, List, [], ◌∷◌, ◌++◌, length}
 use Rattle.rc_sheet_model.specs.Sheet.{Effect, move, move_all, remember, forget, shuffle, set_to, increase, decrease, when, repeat, for_each, next_is, turn_round, Effects, no_effect, effect, Alt, SheetItem, do_item, stage, choice, SheetItems, no_item, item}
 use Rattle.rc_play_model.specs.Menu.{effects_of}
-use Rattle.rc_code.specs.Instruction.{Block, Instruction, simple, if_true, so_often, one_by_one, do_all, begin_stage, offer, end_body}
+use Rattle.rc_code.specs.Instruction.{Block, Instruction, simple, if_true, so_often, one_by_one, do_all, begin_stage, offer, end_body, SitePlace}
 
 abbrev mutual
   pub effect_code : Effect → List Instruction
@@ -45,3 +45,14 @@ abbrev mutual
   pub items_code : SheetItems → List Instruction
   items_code no_item = []
   items_code (item i items) = item_code i ++ items_code items
+
+-- the places of the choices in the code of items that begins here, inside these stages, in the order of the text
+abbrev mutual
+  pub item_sites : List ℕ → ℕ → SheetItem → List SitePlace
+  item_sites outer at (do_item effects) = []
+  item_sites outer at (stage number class end body) = items_sites (outer ++ at ∷ []) (at + 1) body
+  item_sites outer at (choice site alts) = record { outer = outer; place = at } ∷ []
+
+  pub items_sites : List ℕ → ℕ → SheetItems → List SitePlace
+  items_sites outer at no_item = []
+  items_sites outer at (item i items) = item_sites outer at i ++ items_sites outer (at + length (item_code i)) items

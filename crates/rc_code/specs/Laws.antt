@@ -5,10 +5,9 @@ use Rattle.rc_play_model.specs.About.{About}
 use Rattle.rc_play_model.specs.Scene.{Vars}
 use Rattle.rc_play_model.specs.Effects.{Dealing, Point, does}
 use Rattle.rc_play_model.specs.Path.{Path}
-use Rattle.rc_code.specs.Instruction.{Instruction}
+use Rattle.rc_code.specs.Instruction.{Instruction, SitePlace}
 use Rattle.rc_code.specs.Meaning.{effects_in, first_effects, passed_over, items_in, items_from, left_in}
 use Rattle.rc_code.specs.Stands.{EffectsStand, ItemsStand}
-use Rattle.rc_code.specs.Compiled.{items_code}
 
 -- what an instruction does, and then what those behind it do
 abbrev pub DoesInOrder : Type 0
@@ -21,11 +20,8 @@ DoesInOrder =
 abbrev pub SaysWhatItStandsFor : Type 0
 SaysWhatItStandsFor =
     ((es : Effects) (code : List Instruction) → EffectsStand es code → effects_in code ≡ es)
-    × ((items : SheetItems) (code : List Instruction) → ItemsStand items code → items_in code ≡ items)
-
--- the code that is made of items stands for them
-abbrev pub CompiledStands : Type 0
-CompiledStands = (items : SheetItems) → ItemsStand items (items_code items)
+    × ((sites : List SitePlace) (outer : List ℕ) (at : ℕ) (items : SheetItems) (code : List Instruction) → ItemsStand sites outer at items code →
+    items_in code ≡ items)
 
 -- nothing is left where no item is next and no stage is open
 abbrev pub NothingLeft : Type 0

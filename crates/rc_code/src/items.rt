@@ -1,33 +1,37 @@
-//! The compiler of items.
-ghost use Rattle.std.specs.Prelude.{◌≡◌, ◌≤◌, ◌-◌, ◌++◌, length, map, OnOk, IfOk};
+//! Code of items, and the places of the choices in it.
+ghost use Rattle.std.specs.Prelude.{◌≡◌, ◌≤◌, ◌<◌, ◌+◌, ◌-◌, [], ◌∷◌, ◌++◌, length, map, OnOk};
 ghost use Rattle.rc_sheet_model.specs.Sheet.{do_item, stage as stage_of, choice as choice_of};
 ghost use Rattle.rc_play_model.specs.Menu.{effects_of};
 ghost use Rattle.rc_ast.specs.Expressions.{test_seen};
 ghost use Rattle.rc_ast.specs.Effects.{effects_seen};
 ghost use Rattle.rc_ast.specs.Items.{alt_seen, alts_seen, item_seen, items_seen};
-ghost use Rattle.rc_code.specs.Compiled.{effects_code, alts_code, blocks_from, item_code, items_code};
-ghost use Rattle.rc_code.specs.Seen.{block_seen, list_seen};
-ghost use Rattle.rc_code.specs.Stands.{ItemsStand};
+ghost use Rattle.rc_code.specs.Compiled.{effects_code, alts_code, blocks_from, item_code, items_code, item_sites, items_sites};
+ghost use Rattle.rc_code.specs.Seen.{block_seen, list_seen, place_seen};
 
-use crate::code::{Block, Instruction};
-use crate::compile::{push, push_effects, write};
+use crate::code::{Block, Instruction, SitePlace};
 use crate::copied_effects::copy_alts;
 use crate::copies::copy_test;
+use crate::effects::{push, push_effects, write};
 use rc_ast::{Alt, Class, Effect, SheetItem, Test};
 use rc_deck::Memory;
 use std::alloc::Global;
 
-/// Puts the code of items behind the others.
+/// Puts the code of items behind the others, and the places of their choices behind the others' places. The stages that are
+/// open begin at the places `outer`, from outside to inside.
 #[cycle(items)]
-pub fn push_items(
+pub(crate) fn push_items(
     alloc: Global,
     items: &Vec<SheetItem>,
     list: &mut Vec<Instruction>,
+    outer: &mut Vec<usize>,
+    sites: &mut Vec<SitePlace>,
 ) -> Result<(), Memory>
-    ensures { OnOk result (list_seen list.new.items ≡ list_seen list.old.items ++ items_code (items_seen items.now.items)) }
+    ensures code { OnOk result (list_seen list.new.items ≡ list_seen list.old.items ++ items_code (items_seen items.now.items)) }
+    ensures places { OnOk result (map place_seen sites.new.items ≡ map place_seen sites.old.items ++ items_sites outer.old.items (length list.old.items) (items_seen items.now.items)) }
+    ensures outer { OnOk result (outer.new.items ≡ outer.old.items) }
 {
     for item in items {
-        match push_item(alloc, item, list) {
+        match push_item(alloc, item, list, outer, sites) {
             Ok(()) => {}
             Err(Memory) => return Err(Memory),
         }
@@ -36,8 +40,16 @@ pub fn push_items(
 }
 
 #[cycle(items)]
-fn push_item(alloc: Global, item: &SheetItem, list: &mut Vec<Instruction>) -> Result<(), Memory>
-    ensures { OnOk result (list_seen list.new.items ≡ list_seen list.old.items ++ item_code (item_seen item.now)) }
+fn push_item(
+    alloc: Global,
+    item: &SheetItem,
+    list: &mut Vec<Instruction>,
+    outer: &mut Vec<usize>,
+    sites: &mut Vec<SitePlace>,
+) -> Result<(), Memory>
+    ensures code { OnOk result (list_seen list.new.items ≡ list_seen list.old.items ++ item_code (item_seen item.now)) }
+    ensures places { OnOk result (map place_seen sites.new.items ≡ map place_seen sites.old.items ++ item_sites outer.old.items (length list.old.items) (item_seen item.now)) }
+    ensures outer { OnOk result (outer.new.items ≡ outer.old.items) }
 {
     match item {
         SheetItem::Do(effects) => push_do(alloc, effects, list),
@@ -46,8 +58,8 @@ fn push_item(alloc: Global, item: &SheetItem, list: &mut Vec<Instruction>) -> Re
             class,
             end,
             body,
-        } => push_stage(alloc, body, *number, *class, end, list),
-        SheetItem::Choice { site, alts } => push_choice(alloc, *site, alts, list),
+        } => push_stage(alloc, body, *number, *class, end, list, outer, sites),
+        SheetItem::Choice { site, alts } => push_choice(alloc, *site, alts, list, outer, sites),
     }
 }
 
@@ -76,8 +88,12 @@ fn push_stage(
     class: Class,
     end: &Test,
     list: &mut Vec<Instruction>,
+    outer: &mut Vec<usize>,
+    sites: &mut Vec<SitePlace>,
 ) -> Result<(), Memory>
-    ensures { OnOk result (list_seen list.new.items ≡ list_seen list.old.items ++ item_code (stage_of number class (test_seen end.now) (items_seen body.now.items))) }
+    ensures code { OnOk result (list_seen list.new.items ≡ list_seen list.old.items ++ item_code (stage_of number class (test_seen end.now) (items_seen body.now.items))) }
+    ensures places { OnOk result (map place_seen sites.new.items ≡ map place_seen sites.old.items ++ items_sites (outer.old.items ++ length list.old.items ∷ []) (length list.old.items + 1) (items_seen body.now.items)) }
+    ensures outer { OnOk result (outer.new.items ≡ outer.old.items) }
 {
     let end = match copy_test(alloc, end) {
         Ok(end) => end,
@@ -88,7 +104,7 @@ fn push_stage(
         Ok(()) => {}
         Err(Memory) => return Err(Memory),
     }
-    match push_items(alloc, body, list) {
+    match push_body(alloc, body, list, outer, sites) {
         Ok(()) => {}
         Err(Memory) => return Err(Memory),
     }
@@ -110,7 +126,72 @@ fn push_stage(
     Ok(())
 }
 
+// Puts the code of a stage's body behind the others. The stage begins at the last place.
+#[cycle(items)]
+fn push_body(
+    alloc: Global,
+    body: &Vec<SheetItem>,
+    list: &mut Vec<Instruction>,
+    outer: &mut Vec<usize>,
+    sites: &mut Vec<SitePlace>,
+) -> Result<(), Memory>
+    requires { 0 < length list.old.items }
+    ensures code { OnOk result (list_seen list.new.items ≡ list_seen list.old.items ++ items_code (items_seen body.now.items)) }
+    ensures places { OnOk result (map place_seen sites.new.items ≡ map place_seen sites.old.items ++ items_sites (outer.old.items ++ (length list.old.items - 1) ∷ []) (length list.old.items) (items_seen body.now.items)) }
+    ensures outer { OnOk result (outer.new.items ≡ outer.old.items) }
+{
+    let depth = outer.len();
+    match outer.push(list.len() - 1) {
+        Ok(()) => {}
+        Err(_) => return Err(Memory),
+    }
+    match push_items(alloc, body, list, outer, sites) {
+        Ok(()) => {}
+        Err(Memory) => return Err(Memory),
+    }
+    outer.truncate(depth);
+    Ok(())
+}
+
 fn push_choice(
+    alloc: Global,
+    site: u8,
+    alts: &Vec<Alt>,
+    list: &mut Vec<Instruction>,
+    outer: &Vec<usize>,
+    sites: &mut Vec<SitePlace>,
+) -> Result<(), Memory>
+    ensures code { OnOk result (list_seen list.new.items ≡ list_seen list.old.items ++ item_code (choice_of site (alts_seen alts.now.items))) }
+    ensures places { OnOk result (map place_seen sites.new.items ≡ map place_seen sites.old.items ++ record { outer = outer.now.items; place = length list.old.items } ∷ []) }
+{
+    match push_place(alloc, outer, list.len(), sites) {
+        Ok(()) => {}
+        Err(Memory) => return Err(Memory),
+    }
+    push_offer(alloc, site, alts, list)
+}
+
+// Puts the place of a choice behind the others.
+fn push_place(
+    alloc: Global,
+    outer: &Vec<usize>,
+    place: usize,
+    sites: &mut Vec<SitePlace>,
+) -> Result<(), Memory>
+    ensures { OnOk result (map place_seen sites.new.items ≡ map place_seen sites.old.items ++ record { outer = outer.now.items; place = place } ∷ []) }
+{
+    let outer = match outer.to_vec(alloc) {
+        Ok(outer) => outer,
+        Err(_) => return Err(Memory),
+    };
+    match sites.push(SitePlace { outer, place }) {
+        Ok(()) => Ok(()),
+        Err(_) => Err(Memory),
+    }
+}
+
+// Puts the code of a choice behind the others.
+fn push_offer(
     alloc: Global,
     site: u8,
     alts: &Vec<Alt>,
@@ -180,16 +261,5 @@ fn push_alt(alloc: Global, alt: &Alt, list: &mut Vec<Instruction>) -> Result<(),
         Alt::Do(effects) => push_effects(alloc, effects, list),
         Alt::If(_, effects) => push_effects(alloc, effects, list),
         Alt::Any(_, _, inner) => push_alt(alloc, inner, list),
-    }
-}
-
-/// The code of items.
-pub fn code_of(alloc: Global, items: &Vec<SheetItem>) -> Result<Vec<Instruction>, Memory>
-    ensures { IfOk result (λ code. ItemsStand (items_seen items.now.items) (list_seen code.items)) }
-{
-    let mut list = Vec::new(alloc);
-    match push_items(alloc, items, &mut list) {
-        Ok(()) => Ok(list),
-        Err(Memory) => Err(Memory),
     }
 }

@@ -1,5 +1,5 @@
 //! Laws of code. No function here does anything: a crate above gets a law by calling its function.
-ghost use Rattle.rc_code.specs.Laws.{DoesInOrder, SaysWhatItStandsFor, CompiledStands, NothingLeft};
+ghost use Rattle.rc_code.specs.Laws.{DoesInOrder, SaysWhatItStandsFor, NothingLeft};
 
 /// Effects are done one instruction after the other.
 pub fn code_is_done_in_order()
@@ -7,8 +7,7 @@ pub fn code_is_done_in_order()
     ensures nothing { NothingLeft }
 {}
 
-/// Code says what it stands for, and what is compiled stands for its tree.
+/// Code says what it stands for.
 pub fn code_says_what_it_stands_for()
-    ensures says { SaysWhatItStandsFor }
-    ensures stands { CompiledStands }
+    ensures { SaysWhatItStandsFor }
 {}

@@ -4,7 +4,7 @@ use Rattle.rc_code.specs.Instruction.{offer, end_body}
 use Rattle.rc_code.specs.Compiled.{alts_code, blocks_from}
 use Rattle.rc_code.specs.Seen.{block_seen}
 use Rattle.rc_code.proofs.ListLemmas.{behind, filled}
-use Rattle.rc_code.proofs.items.push_choice.Goals as goal
+use Rattle.rc_code.proofs.items.push_offer.Goals as goal
 
 pub returns : goal.returns
 returns c =

@@ -1,4 +1,4 @@
-//! The compiler.
+//! Code of effects.
 ghost use Rattle.std.specs.Prelude.{◌≡◌, ◌<◌, ◌++◌, ◌∷◌, [], length, slice_set, OnOk, IfOk};
 ghost use Rattle.rc_sheet_model.specs.Sheet.{when, repeat as repeat_of, for_each as for_each_of};
 ghost use Rattle.rc_ast.specs.Expressions.{int_seen, test_seen, domain_seen};

@@ -6,7 +6,7 @@ use Rattle.rc_code.specs.Instruction.{if_true, so_often, one_by_one, end_body}
 use Rattle.rc_code.specs.Compiled.{effect_code, effects_code}
 use Rattle.rc_code.specs.Seen.{list_seen}
 use Rattle.rc_code.proofs.ListLemmas.{behind, filled}
-use Rattle.rc_code.proofs.compile.+compiling.Goals as goal
+use Rattle.rc_code.proofs.effects.+compiling.Goals as goal
 
 pub push_if-returns : goal.push_if-returns
 push_if-returns t c =

@@ -2,7 +2,7 @@ use Rattle.std.proofs.Common.{◌≡◌, ◌++◌, drop}
 use Rattle.rc_ast.specs.Effects.{effects_seen}
 use Rattle.rc_code.specs.Compiled.{effects_code}
 use Rattle.rc_code.specs.Seen.{list_seen}
-use Rattle.rc_code.proofs.compile.+compiling.Given as goal
+use Rattle.rc_code.proofs.effects.+compiling.Given as goal
 
 -- with the code of what is left, it is the code of all
 abbrev pub invariant-push_effects-loop-effect : goal.invariant-push_effects-loop-effect
