@@ -1,13 +1,16 @@
 -- Statements of laws of code.
-use Rattle.std.specs.Prelude.{◌≡◌, ℕ, List, [], ◌∷◌, drop, false}
-use Rattle.rc_sheet_model.specs.Sheet.{Effects, SheetItems}
+use Rattle.std.specs.Prelude.{◌≡◌, ℕ, ◌<◌, List, [], ◌∷◌, length, drop, false}
+use Rattle.rc_sheet_model.specs.Sheet.{Effects, SheetItems, Sheet}
+use Rattle.rc_sheet_model.specs.Mentions.{sites_in}
+use Rattle.rc_sheet_model.specs.WellFormed.{IsWellFormed}
 use Rattle.rc_play_model.specs.About.{About}
 use Rattle.rc_play_model.specs.Scene.{Vars}
 use Rattle.rc_play_model.specs.Effects.{Dealing, Point, does}
 use Rattle.rc_play_model.specs.Path.{Path}
-use Rattle.rc_code.specs.Instruction.{Instruction, SitePlace}
+use Rattle.rc_code.specs.Instruction.{Instruction, SitePlace, Code}
 use Rattle.rc_code.specs.Meaning.{effects_in, first_effects, passed_over, items_in, items_from, left_in}
-use Rattle.rc_code.specs.Stands.{EffectsStand, ItemsStand}
+use Rattle.rc_code.specs.Stands.{EffectsStand, ItemsStand, StandsFor}
+use Rattle.rc_code.specs.Serves.{Serves, IsPlaced}
 
 -- what an instruction does, and then what those behind it do
 abbrev pub DoesInOrder : Type 0
@@ -22,6 +25,16 @@ SaysWhatItStandsFor =
     ((es : Effects) (code : List Instruction) → EffectsStand es code → effects_in code ≡ es)
     × ((sites : List SitePlace) (outer : List ℕ) (at : ℕ) (items : SheetItems) (code : List Instruction) → ItemsStand sites outer at items code →
     items_in code ≡ items)
+
+-- code that stands for a well formed sheet serves it
+abbrev pub StandingServes : Type 0
+StandingServes = (sheet : Sheet) (code : Code) → StandsFor sheet code → IsWellFormed sheet → Serves sheet code.list
+
+-- and each choice site of the sheet has its place in it
+abbrev pub SitesArePlaced : Type 0
+SitesArePlaced =
+    (sheet : Sheet) (code : Code) (site : ℕ) → StandsFor sheet code → IsWellFormed sheet → site < length (sites_in sheet.items) →
+    IsPlaced sheet code site
 
 -- nothing is left where no item is next and no stage is open
 abbrev pub NothingLeft : Type 0

@@ -1,0 +1,45 @@
+-- Code that serves a sheet, and the places of choices in it: what a machine that runs on code needs.
+use Rattle.std.specs.Prelude.{◌≡◌, ℕ, ◌+◌, ◌≤◌, false, List, length, take, drop, slice_get, Some}
+use Rattle.rc_sheet_model.specs.Sheet.{Class, Test, Alt, Sheet}
+use Rattle.rc_sheet_model.specs.WellFormed.{Around, IsTest, AreEffects, AreAlts}
+use Rattle.rc_play_model.specs.Menu.{alts_at, alt_in, effects_of}
+use Rattle.rc_play_model.specs.Decision.{left_at}
+use Rattle.rc_play_model.specs.Path.{Path}
+use Rattle.rc_code.specs.Instruction.{Block, Instruction, do_all, begin_stage, offer, SitePlace, Code}
+use Rattle.rc_code.specs.Meaning.{effects_in, items_in, left_in, block_in}
+
+-- outside all binders
+abbrev pub IsTestOutside : Sheet → Test → Type 0
+IsTestOutside sheet t = (around : Around) × (around.binders ≡ 0) × IsTest sheet around t
+
+-- the alternatives of a choice in a well formed sheet, with the code of each one's effects
+pub record IsChoiceOf (sheet : Sheet) (site : ℕ) (alts : List Alt) (blocks : List Block) (inside : List Instruction) : Type 0 where
+  pub same : alts ≡ alts_at sheet site
+  pub well : (around : Around) × (around.binders ≡ 0) × AreAlts sheet around alts
+  pub each : (n : ℕ) → effects_in (block_in (slice_get blocks n) inside) ≡ effects_of (alt_in alts n)
+
+-- Code that serves a sheet: its items are the sheet's, and all that stands in it is well formed. Code that stands for a well formed
+-- sheet serves it.
+pub record Serves (sheet : Sheet) (code : List Instruction) : Type 0 where
+  pub items : items_in code ≡ sheet.items
+  pub effects : (place inside : ℕ) → slice_get code place ≡ Some (do_all inside) →
+      (around : Around) × (around.binders ≡ 0) × AreEffects sheet around (effects_in (take inside (drop (place + 1) code)))
+  pub ends : (place number : ℕ) (class : Class) (end : Test) (inside : ℕ) → slice_get code place ≡ Some (begin_stage number class end inside) →
+      IsTestOutside sheet end
+  pub choices : (place site : ℕ) (alts : List Alt) (blocks : List Block) (inside : ℕ) → slice_get code place ≡ Some (offer site alts blocks inside) →
+      IsChoiceOf sheet site alts blocks (drop (place + 1) code)
+
+-- the place in the code, inside the stages around it
+abbrev pub path_to : SitePlace → Path
+path_to at = record { outer = at.outer; next = at.place; at_round = false }
+
+-- The table of sites has a place for this site. The choice with the sheet's alternatives there is next at it, what is left there is what
+-- the sheet leaves at the site, and few stages are open.
+pub record IsPlaced (sheet : Sheet) (code : Code) (site : ℕ) : Type 0 where
+  pub at : SitePlace
+  pub has : slice_get code.sites site ≡ Some at
+  pub blocks : List Block
+  pub inside : ℕ
+  pub there : slice_get code.list at.place ≡ Some (offer site (alts_at sheet site) blocks inside)
+  pub left : left_in code.list (path_to at) ≡ left_at sheet site
+  pub few : length at.outer ≤ 63
