@@ -1,0 +1,21 @@
+-- What effects are done under, and what they start from.
+use Rattle.std.specs.Prelude.{◌≡◌, List, All}
+use Rattle.rc_play_model.specs.About.{scene_at}
+use Rattle.rc_play_model.specs.Value.{Scene}
+use Rattle.rc_play_model.specs.Scene.{CardValue}
+use Rattle.rc_play_model.specs.Bound.{IsBindOf}
+use Rattle.rc_table.specs.Laid.{Laid}
+use Rattle.rc_rules.specs.declared.control.Frame.{Frame}
+use Rattle.rc_rules.specs.Control.{frames_seen}
+use Rattle.rc_value.specs.Current.{IsCurrent}
+use Rattle.rc_flat.specs.declared.context.Context.{Context}
+
+-- what expressions are read in
+abbrev pub scene_in : Context → Laid → List Frame → Scene CardValue
+scene_in context laid frames = scene_at context.about.now laid.table (frames_seen frames)
+
+-- the table is laid for the shape, the context knows who is current in the open stages, and variables stand for what the shape has
+abbrev pub Stands : Context → Laid → List Frame → Type 0
+Stands context laid frames =
+    (laid.shape ≡ context.about.now.shape) × IsCurrent context.about.now.sheet (frames_seen frames) context.current
+    × All (IsBindOf context.about.now.shape) context.scope.now

@@ -1,0 +1,17 @@
+pub mod Innermost
+pub mod Point
+pub mod Under
+pub mod Context
+pub mod Leads
+pub mod Bindings
+pub mod Undo
+pub mod Entry
+pub mod Board
+pub mod Places
+pub mod Shallow
+pub mod Flat
+pub mod State
+pub mod Moments
+pub mod Machine
+pub mod Codes
+pub mod MachineSeen

@@ -1,0 +1,34 @@
+//! What effects are done under.
+ghost use Rattle.std.specs.Prelude.{◌≡◌};
+ghost use Rattle.rc_ast.specs.Sheet.{sheet_seen};
+ghost use Rattle.rc_rules.specs.Control.{frames_seen};
+ghost use Rattle.rc_value.specs.Current.{IsCurrent};
+ghost use Rattle.rc_value.specs.Scene.{scene_seen};
+ghost use Rattle.rc_flat.specs.Context.{scene_in};
+
+use rc_rules::{About, Frames};
+use rc_table::Table;
+use rc_value::{Current, Scene, Scope};
+
+/// By what effects are done: what the match is played by, what variables stand for, and who is current. No effect changes any
+/// of them.
+#[derive(Drop)]
+pub struct Context<'c> {
+    pub about: &'c About,
+    pub scope: &'c Scope<'c>,
+    pub current: Current,
+}
+
+/// What expressions are read in now.
+pub fn scene_now<'c>(context: &Context<'c>, table: &'c Table, frames: &'c Frames) -> Scene<'c>
+    requires shape { table.now.shape ≡ context.now.about.now.shape }
+    requires current { IsCurrent context.now.about.now.sheet (frames_seen frames.now.items) context.now.current }
+    ensures { scene_seen result ≡ scene_in context.now table.now frames.now.items }
+{
+    Scene::with_current(
+        context.about.sheet(),
+        table,
+        frames.as_slice(),
+        context.current,
+    )
+}

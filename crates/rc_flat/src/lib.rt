@@ -1,0 +1,28 @@
+//! The flat machine: it plays a match on the code of its sheet, and can go back to where it stood before.
+#![tactic(auto)]
+
+mod blocks;
+mod board;
+mod calls;
+mod context;
+mod cycling;
+mod decisions;
+mod entry;
+mod frames;
+mod items;
+mod machine;
+mod members;
+mod moving;
+mod numbers;
+mod place;
+mod reading;
+mod references;
+mod saving;
+mod shuffling;
+mod simple;
+mod state;
+mod steps;
+mod there;
+mod undoing;
+
+pub use machine::{FlatMachine, Mark};

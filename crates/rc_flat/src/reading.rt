@@ -1,0 +1,103 @@
+//! What expressions stand for, now.
+ghost use Rattle.std.specs.Prelude.{◌≡◌, [], length, option_map, All, IfSome};
+ghost use Rattle.rc_model.specs.Clamp.{IsWithinClamp};
+ghost use Rattle.rc_sheet_model.specs.WellFormed.{holds_references};
+ghost use Rattle.rc_play_model.specs.Value.{card_value, coll_value, int_value, test_value, who_value, loc_place, num_place};
+ghost use Rattle.rc_play_model.specs.Bound.{IsCardOf};
+ghost use Rattle.rc_ast.specs.Names.{who_seen, loc_seen, num_seen};
+ghost use Rattle.rc_ast.specs.Expressions.{card_seen, coll_seen, int_seen, test_seen};
+ghost use Rattle.rc_value.specs.Cards.{value_seen, values_seen};
+ghost use Rattle.rc_flat.specs.Context.{scene_in, Stands};
+ghost use Rattle.rc_flat.specs.Under.{IsCardUnder, IsCollUnder, IsIntUnder, IsTestUnder};
+ghost use Rattle.rc_flat.specs.Leads.{HoldsAs};
+
+use crate::context::{Context, scene_now};
+use rc_ast::{CardExpr, CollExpr, IntExpr, Loc, Num, Test, Who};
+use rc_play_model::values_stay_within_limits;
+use rc_rules::Frames;
+use rc_table::Table;
+use rc_value::{
+    Card, Cards, card_of, coll_of, expressions_bind_few, int_of, loc_at, num_at, test_of, who_of,
+};
+
+/// The card that an expression stands for, if there is one.
+pub fn card_now(context: &Context, expr: &CardExpr, table: &Table, frames: &Frames) -> Option<Card>
+    requires stands { Stands context.now table.now frames.now.items }
+    requires well { IsCardUnder context.now.about.now.sheet context.now.scope.now (card_seen expr.now) }
+    ensures is { option_map value_seen result ≡ card_value (scene_in context.now table.now frames.now.items) context.now.scope.now (card_seen expr.now) }
+    ensures there { IfSome result (λ card. IsCardOf context.now.about.now.shape (value_seen card)) }
+{
+    expressions_bind_few();
+    let _fits = context.about.sheet();
+    let _sound = table.shape();
+    card_of(&scene_now(context, table, frames), context.scope, expr)
+}
+
+/// The cards that an expression stands for, written into an empty list.
+pub fn cards_now(
+    context: &Context,
+    expr: &CollExpr,
+    table: &Table,
+    frames: &Frames,
+    out: &mut Cards,
+)
+    requires stands { Stands context.now table.now frames.now.items }
+    requires well { IsCollUnder context.now.about.now.sheet context.now.scope.now (coll_seen expr.now) }
+    requires empty { out.old.items ≡ [] }
+    ensures is { values_seen out.new.items ≡ coll_value (scene_in context.now table.now frames.now.items) context.now.scope.now (coll_seen expr.now) }
+    ensures there { All (λ card. IsCardOf context.now.about.now.shape (value_seen card)) out.new.items }
+{
+    expressions_bind_few();
+    let _fits = context.about.sheet();
+    let _sound = table.shape();
+    coll_of(&scene_now(context, table, frames), context.scope, expr, out);
+}
+
+/// The number that an expression stands for.
+pub fn int_now(context: &Context, expr: &IntExpr, table: &Table, frames: &Frames) -> i64
+    requires stands { Stands context.now table.now frames.now.items }
+    requires well { IsIntUnder context.now.about.now.sheet context.now.scope.now (int_seen expr.now) }
+    ensures is { result ≡ int_value (scene_in context.now table.now frames.now.items) context.now.scope.now (int_seen expr.now) }
+    ensures clamped { IsWithinClamp result }
+{
+    expressions_bind_few();
+    values_stay_within_limits();
+    let _sound = table.shape();
+    int_of(&scene_now(context, table, frames), context.scope, expr)
+}
+
+/// Whether a test holds.
+pub fn test_now(context: &Context, expr: &Test, table: &Table, frames: &Frames) -> bool
+    requires stands { Stands context.now table.now frames.now.items }
+    requires well { IsTestUnder context.now.about.now.sheet context.now.scope.now (test_seen expr.now) }
+    ensures { result ≡ test_value (scene_in context.now table.now frames.now.items) context.now.scope.now (test_seen expr.now) }
+{
+    expressions_bind_few();
+    test_of(&scene_now(context, table, frames), context.scope, expr)
+}
+
+/// The number of an owner.
+pub fn who_now(context: &Context, who: Who, table: &Table, frames: &Frames) -> u8
+    requires stands { Stands context.now table.now frames.now.items }
+    ensures { result ≡ who_value (scene_in context.now table.now frames.now.items).known context.now.scope.now (who_seen who) }
+{
+    who_of(&scene_now(context, table, frames), context.scope, &who)
+}
+
+/// The location that is meant, if there is one.
+pub fn loc_now(context: &Context, loc: &Loc, table: &Table, frames: &Frames) -> Option<u16>
+    requires stands { Stands context.now table.now frames.now.items }
+    ensures is { result ≡ loc_place (scene_in context.now table.now frames.now.items).known context.now.scope.now (loc_seen loc.now) }
+    ensures holds { IfSome result (λ at. HoldsAs context.now.about.now.shape (holds_references context.now.about.now.sheet loc.now.name) at) }
+{
+    let _fits = context.about.sheet();
+    loc_at(&scene_now(context, table, frames), context.scope, loc)
+}
+
+/// The place of the number that is meant, if there is one.
+pub fn num_now(context: &Context, num: &Num, table: &Table, frames: &Frames) -> Option<u16>
+    requires stands { Stands context.now table.now frames.now.items }
+    ensures { result ≡ num_place (scene_in context.now table.now frames.now.items).known context.now.scope.now (num_seen num.now) }
+{
+    num_at(&scene_now(context, table, frames), context.scope, num)
+}
