@@ -20,3 +20,4 @@ pub mod KeptLemmas
 pub mod NumberLemmas
 pub mod MomentLemmas
 pub mod MachineLemmas
+pub mod SitePlaceLemmas

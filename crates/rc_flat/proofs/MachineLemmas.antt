@@ -15,7 +15,8 @@ use Rattle.rc_play_model.proofs.FrameLemmas.{start_frames}
 use Rattle.rc_code.specs.Instruction.{Instruction}
 use Rattle.rc_code.specs.Meaning.{items_in, left_in}
 use Rattle.rc_flat.specs.Shallow.{AreShallow}
-use Rattle.rc_flat.specs.Flat.{Flat, Serves, config_of, IsInPlay}
+use Rattle.rc_code.specs.Serves.{Serves}
+use Rattle.rc_flat.specs.Flat.{Flat, config_of, IsInPlay}
 use Rattle.rc_flat.proofs.ShallowLemmas.{start_shallow}
 
 -- AT THE START

@@ -8,7 +8,7 @@ use Rattle.rc_play_model.specs.About.{About, scene_at, menu_at}
 use Rattle.rc_play_model.specs.Menu.{Item, menu_from, alts_at, alt_in, effects_of}
 use Rattle.rc_play_model.specs.Step.{Config}
 use Rattle.rc_play_model.specs.Path.{Path}
-use Rattle.rc_play_model.specs.Fits.{HasFrames}
+use Rattle.rc_play_model.specs.Fits.{HasFrames, FitsSite}
 use Rattle.rc_code.specs.Instruction.{Block, Instruction, do_all, begin_stage, offer}
 use Rattle.rc_code.specs.Meaning.{effects_in, items_in, left_in, block_in}
 use Rattle.rc_flat.specs.Places.{IsPlace}
@@ -26,26 +26,8 @@ pub record Flat : Type 0 where
 abbrev pub config_of : Flat → Config
 config_of m = record { left = left_in m.code m.place; table = m.table; control = m.control }
 
--- outside all binders
-abbrev pub IsTestOutside : Sheet → Test → Type 0
-IsTestOutside sheet t = (around : Around) × (around.binders ≡ 0) × IsTest sheet around t
-
--- the alternatives of a choice in a well formed sheet, with the code of each one's effects
-pub record IsChoiceOf (sheet : Sheet) (site : ℕ) (alts : List Alt) (blocks : List Block) (inside : List Instruction) : Type 0 where
-  pub same : alts ≡ alts_at sheet site
-  pub well : (around : Around) × (around.binders ≡ 0) × AreAlts sheet around alts
-  pub each : (n : ℕ) → effects_in (block_in (slice_get blocks n) inside) ≡ effects_of (alt_in alts n)
-
--- Code that serves a sheet: its items are the sheet's, and all that stands in it is well formed. Code that stands for a well formed
--- sheet serves it.
-pub record Serves (sheet : Sheet) (code : List Instruction) : Type 0 where
-  pub items : items_in code ≡ sheet.items
-  pub effects : (place inside : ℕ) → slice_get code place ≡ Some (do_all inside) →
-      (around : Around) × (around.binders ≡ 0) × AreEffects sheet around (effects_in (take inside (drop (place + 1) code)))
-  pub ends : (place number : ℕ) (class : Class) (end : Test) (inside : ℕ) → slice_get code place ≡ Some (begin_stage number class end inside) →
-      IsTestOutside sheet end
-  pub choices : (place site : ℕ) (alts : List Alt) (blocks : List Block) (inside : ℕ) → slice_get code place ≡ Some (offer site alts blocks inside) →
-      IsChoiceOf sheet site alts blocks (drop (place + 1) code)
+abbrev pub flat_from : About → List Instruction → Path → Table → Control → Flat
+flat_from about code place table control = record { about = about; code = code; place = place; table = table; control = control }
 
 -- The place is one of the code. The frames are those of the open stages, and no more than 63 stages ever stand inside one another.
 -- The turn count is at most the turn limit, and each seat's count of decisions at most the turn count.
@@ -73,3 +55,11 @@ pub record IsOffered (m : Flat) (site : ℕ) : Type 0 where
 abbrev pub chosen_item : Flat → List Alt → ℕ → Item
 chosen_item m alts x =
     slice_index_or (menu_from (scene_at m.about m.table m.control.frames) alts) x (record { alt = 0; spots = [] })
+
+-- a table and a control at a decision of some site: the control fits the site, something is offered there, and the turn limit
+-- isn't met
+pub record CanDecide (about : About) (table : Table) (control : Control) : Type 0 where
+  pub site : ℕ
+  pub fits : FitsSite about site control
+  pub some : 0 < length (menu_at about site table control)
+  pub below : control.turn < about.turns

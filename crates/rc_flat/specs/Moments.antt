@@ -6,7 +6,8 @@ use Rattle.rc_play_model.specs.Step.{Config}
 use Rattle.rc_rules.specs.Control.{control_seen}
 use Rattle.rc_code.specs.Instruction.{Instruction}
 use Rattle.rc_flat.specs.Undo.{tables}
-use Rattle.rc_flat.specs.Flat.{Flat, config_of, IsInPlay, IsOffered, Serves}
+use Rattle.rc_code.specs.Serves.{Serves}
+use Rattle.rc_flat.specs.Flat.{Flat, config_of, IsInPlay, IsOffered}
 use Rattle.rc_flat.specs.State.{IsReady, flat_of, config_at}
 use Rattle.rc_flat.specs.declared.saving.Saved.{Saved}
 use Rattle.rc_flat.specs.declared.state.State.{State}

@@ -9,7 +9,8 @@ ghost use Rattle.rc_code.specs.Instruction.{offer};
 ghost use Rattle.rc_code.specs.Meaning.{block_in};
 ghost use Rattle.rc_code.specs.Seen.{block_seen, list_seen};
 ghost use Rattle.rc_flat.specs.Undo.{Keeps};
-ghost use Rattle.rc_flat.specs.Flat.{Serves, IsInPlay, chosen_item};
+ghost use Rattle.rc_code.specs.Serves.{Serves};
+ghost use Rattle.rc_flat.specs.Flat.{IsInPlay, chosen_item};
 ghost use Rattle.rc_flat.specs.State.{IsReady, flat_of, config_at};
 ghost use Rattle.rc_rules.specs.Dealer.{HasShuffled};
 

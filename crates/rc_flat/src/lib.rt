@@ -20,6 +20,7 @@ mod references;
 mod saving;
 mod shuffling;
 mod simple;
+mod site;
 mod state;
 mod steps;
 mod there;

@@ -6,7 +6,7 @@ ghost use Rattle.rc_play_model.specs.Step.{Config};
 ghost use Rattle.rc_ast.specs.Items.{alts_seen};
 ghost use Rattle.rc_code.specs.Instruction.{Block as PureBlock, Instruction as PureInstruction, offer};
 ghost use Rattle.rc_code.specs.Seen.{instruction_seen, list_seen};
-ghost use Rattle.rc_flat.specs.Flat.{Serves};
+ghost use Rattle.rc_code.specs.Serves.{Serves};
 ghost use Rattle.rc_flat.specs.State.{IsReady, flat_of, config_at};
 ghost use Rattle.rc_flat.specs.Moments.{AreSaved, CanGoBack, IsInMatch, moment, moments_of, past};
 ghost use Rattle.rc_flat.specs.Undo.{tables};
