@@ -4,10 +4,8 @@ ghost use Rattle.rc_play_model.specs.About.{about_of};
 ghost use Rattle.rc_play_model.specs.House.{standings_of};
 ghost use Rattle.rc_play_model.specs.Keyed.{keyed_match};
 ghost use Rattle.rc_plan_model.specs.Limits.{IsWithinLimits};
-ghost use Rattle.rc_code.specs.Seen.{code_seen};
-ghost use Rattle.rc_code.specs.Stands.{StandsFor};
-ghost use Rattle.rc_play_model.specs.About.{About as PureAbout};
 ghost use Rattle.rc_redraw.specs.Choosing.{AsksAll, AsksSome, all_costs};
+ghost use Rattle.rc_redraw.specs.Counts.{Serves};
 ghost use Rattle.rc_rules.specs.Plan.{plan_seen};
 ghost use Rattle.rc_rules.specs.Record.{record_seen, standing_seen};
 ghost use Rattle.rc_match.specs.Asks.{asks_of};
@@ -19,13 +17,12 @@ use rc_cache::{
     Book, Fresh, Naming, OwnBook, one_worker_has_the_hits_of_its_looks,
     one_worker_lacking_memory_takes_no_more_steps,
 };
-use rc_code::Code;
 use rc_deck::Memory;
-use rc_flat::FlatMachine;
 use rc_flow::Checked;
 use rc_match::{Job, play_match};
+use rc_plain::PlainMachine;
 use rc_redraw::Chooser;
-use rc_rollout::{Choices, shared_code};
+use rc_rollout::Choices;
 use rc_rules::{About, MatchRecord, Plan, shape_of};
 use rc_steps::Steps;
 use rc_text::{HouseText, standings};
@@ -43,8 +40,8 @@ pub struct Series {
     pub hits: u64,
 }
 
-/// Plays the matches of a plan for a checked sheet one after the other, on code that is made of the sheet once. The plan is within the
-/// limits, and has a strategy for each player. What rollouts find is kept in a book of so many entries, 1 to 65,536. Each playout is a step. Memory may run out; then no
+/// Plays the matches of a plan for a checked sheet one after the other. The plan is within the limits, and has a strategy for each
+/// player. What rollouts find is kept in a book of so many entries, 1 to 65,536. Each playout is a step. Memory may run out; then no
 /// more steps were counted than the whole call counts.
 pub fn series_of<L: Ledger>(
     alloc: Global,
@@ -69,15 +66,11 @@ pub fn series_of<L: Ledger>(
         Ok(about) => about,
         Err(Memory) => return Err(Memory),
     };
-    let code = match shared_code(alloc, &about) {
-        Ok(code) => code,
-        Err(Memory) => return Err(Memory),
-    };
     let plan = match Arc::new(alloc, plan) {
         Ok(plan) => plan,
         Err(_) => return Err(Memory),
     };
-    played::<Brand, L>(alloc, Fresh::new(1), &about, &plan, &code, capacity, steps)
+    played::<Brand, L>(alloc, Fresh::new(1), &about, &plan, capacity, steps)
 }
 
 /// What the matches of a checked sheet are played by. Memory may run out.
@@ -96,7 +89,11 @@ pub fn shared_about(alloc: Global, checked: Checked, turns: u32) -> Result<Arc<A
         Ok(checked) => checked,
         Err(_) => return Err(Memory),
     };
-    match Arc::new(alloc, About::new(checked, shape, turns)) {
+    let about = match About::new(alloc, checked, shape, turns) {
+        Ok(about) => about,
+        Err(Memory) => return Err(Memory),
+    };
+    match Arc::new(alloc, about) {
         Ok(about) => Ok(about),
         Err(_) => Err(Memory),
     }
@@ -108,13 +105,11 @@ fn played<N: Naming, L: Ledger>(
     fresh: Fresh,
     about: &Arc<About>,
     plan: &Arc<Plan>,
-    code: &Arc<Code>,
     capacity: u32,
     steps: &mut Steps<L>,
 ) -> Result<Series, Memory>
     requires within { IsWithinLimits (plan_seen plan.now.value) }
     requires seats { length plan.now.value.strategies.items ≡ about.now.value.sheet.players }
-    requires code { StandsFor about.now.value.sheet (code_seen code.now.value) }
     requires room { (1 ≤ capacity) × (capacity ≤ 65536) }
     requires name { (about.now.value ≡ N.about) × (capacity ≡ N.capacity) × (1 ≡ N.lanes) }
     requires names { (fresh.looks.name ≡ N.looks) × (fresh.hits.name ≡ N.hits) × (fresh.keeps.name ≡ N.keeps) }
@@ -134,12 +129,8 @@ fn played<N: Naming, L: Ledger>(
         Ok(book) => book,
         Err(Memory) => return Err(Memory),
     };
-    let to_choose = match Arc::try_clone(code) {
-        Ok(to_choose) => to_choose,
-        Err(_) => return Err(Memory),
-    };
-    let mut choices = Choices::new(to_choose, book);
-    let records = records_of(alloc, about, plan, code, &mut choices, steps);
+    let mut choices = Choices::new(book);
+    let records = records_of(alloc, about, plan, &mut choices, steps);
     let (book, lane) = choices.into_memo().parts();
     // what a book keeps
     let _journal = book.journal();
@@ -185,12 +176,10 @@ fn records_of<C: Chooser, L: Ledger>(
     alloc: Global,
     about: &Arc<About>,
     plan: &Arc<Plan>,
-    code: &Arc<Code>,
     chooser: &mut C,
     steps: &mut Steps<L>,
 ) -> Result<Vec<MatchRecord>, Memory>
-    requires code { StandsFor about.now.value.sheet (code_seen code.now.value) }
-    requires served { C.serves chooser.old about.now.value }
+    requires served { Serves (C.serves chooser.old) about.now.value }
     requires matches { length plan.now.value.matches.items ≤ 4096 }
     requires seats { length plan.now.value.strategies.items ≡ about.now.value.sheet.players }
     ensures are { IfOk result (λ records. map record_seen records.items
@@ -204,7 +193,7 @@ fn records_of<C: Chooser, L: Ledger>(
 {
     let mut records = Vec::new(alloc);
     for number in 0..plan.matches.len() as u32 {
-        let played = match record_of(alloc, about, plan, code, number, chooser, steps) {
+        let played = match record_of(alloc, about, plan, number, chooser, steps) {
             Ok(played) => played,
             Err(Memory) => return Err(Memory),
         };
@@ -216,18 +205,16 @@ fn records_of<C: Chooser, L: Ledger>(
     Ok(records)
 }
 
-/// The record of one match, by any chooser, on code that stands for the sheet. Memory may run out.
+/// The record of one match, by any chooser. Memory may run out.
 pub fn record_of<C: Chooser, L: Ledger>(
     alloc: Global,
     about: &Arc<About>,
     plan: &Arc<Plan>,
-    code: &Arc<Code>,
     number: u32,
     chooser: &mut C,
     steps: &mut Steps<L>,
 ) -> Result<MatchRecord, Memory>
-    requires code { StandsFor about.now.value.sheet (code_seen code.now.value) }
-    requires served { C.serves chooser.old about.now.value }
+    requires served { Serves (C.serves chooser.old) about.now.value }
     requires number { number < length plan.now.value.matches.items }
     requires seats { length plan.now.value.strategies.items ≡ about.now.value.sheet.players }
     ensures is { IfOk result (λ r. keyed_match about.now.value (plan_seen plan.now.value) number ≡ Some (record_seen r)) }
@@ -236,11 +223,11 @@ pub fn record_of<C: Chooser, L: Ledger>(
         (C.counts chooser.old) (C.counts chooser.new) steps.old steps.new) }
     ensures lacking { OnErr result (AsksSome (asks_of about.now.value (plan_seen plan.now.value) number)
         (C.counts chooser.old) (C.counts chooser.new) steps.old steps.new) }
-    ensures same { (other : PureAbout) → C.serves chooser.old other → C.serves chooser.new other }
+    ensures same { C.serves chooser.new ≡ C.serves chooser.old }
     ensures rises { steps.old ≤ steps.new }
     ensures bounded { steps.new ≤ steps.old + all_costs (asks_of about.now.value (plan_seen plan.now.value) number) }
 {
-    let machine = match FlatMachine::start_of(alloc, code, about) {
+    let machine = match PlainMachine::start_of(alloc, about) {
         Ok(machine) => machine,
         Err(Memory) => return Err(Memory),
     };

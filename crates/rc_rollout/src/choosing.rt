@@ -4,8 +4,6 @@ ghost use Rattle.std.specs.List.{position_or_len};
 ghost use Rattle.rc_play_model.specs.Keyed.{choice_of};
 ghost use Rattle.rc_play_model.specs.Strategy as strategy;
 ghost use Rattle.rc_play_model.specs.Tally.{tally as tally_of};
-ghost use Rattle.rc_code.specs.Seen.{code_seen};
-ghost use Rattle.rc_code.specs.Stands.{StandsFor};
 ghost use Rattle.rc_redraw.specs.Asking.{cost_of, key_seen};
 ghost use Rattle.rc_redraw.specs.Choosing.{Asks, AsksSome, Chooses, Lacks, asked_for, most_steps};
 ghost use Rattle.rc_redraw.specs.Counts.{Serves, kept_once};
@@ -14,7 +12,6 @@ ghost use Rattle.rc_rollout.specs.Alone.{IsOffhand, keys_of};
 
 use crate::offhand::{made_by, picked, scripted};
 use crate::totals::tally;
-use rc_code::Code;
 use rc_deck::Memory;
 use rc_play_model::tallies_are_bounded;
 use rc_redraw::{Ask, Key, Memo, Need, Reply};
@@ -25,17 +22,15 @@ use std::sync::Arc;
 use std::sync::ledger::Ledger;
 
 /// The item that the strategy of a need chooses. For a rollout it asks the memo once. Where the memo has no totals they are played
-/// out on the code, which stands for the sheet, a step for each playout, and given to the memo to keep. Memory may run out.
+/// out, a step for each playout, and given to the memo to keep. Memory may run out.
 pub fn choose<M: Memo, L: Ledger>(
     alloc: Global,
     need: &Need,
-    code: &Arc<Code>,
     memo: &mut M,
     steps: &mut Steps<L>,
 ) -> Result<u16, Memory>
     requires served { Serves (M.serves memo.old) (need_seen need.now).about }
     requires need { IsNeed (need_seen need.now) }
-    requires code { StandsFor (need_seen need.now).about.sheet (code_seen code.now.value) }
     ensures is { IfOk result (λ item. item
         ≡ choice_of (need_seen need.now).about (need_seen need.now).strategy (need_seen need.now).seed (need_seen need.now).view) }
     ensures counted { OnOk result (Chooses (need_seen need.now) (M.counts memo.old) (M.counts memo.new) steps.old steps.new) }
@@ -59,7 +54,7 @@ pub fn choose<M: Memo, L: Ledger>(
             need.menu,
         )),
         Strategy::Rollout { rounds, key } => match key_of(alloc, need, *rounds, *key) {
-            Ok(key) => best_of(alloc, &key, need.menu, code, memo, steps),
+            Ok(key) => best_of(alloc, &key, need.menu, memo, steps),
             Err(Memory) => Err(Memory),
         },
     }
@@ -133,14 +128,12 @@ fn best_of<M: Memo, L: Ledger>(
     alloc: Global,
     key: &Key,
     menu: u16,
-    code: &Arc<Code>,
     memo: &mut M,
     steps: &mut Steps<L>,
 ) -> Result<u16, Memory>
     requires served { Serves (M.serves memo.old) (key_seen key.now).about }
     requires at { IsAtDecision (key_seen key.now).about (key_seen key.now).ask.view }
     requires menu { menu ≡ strategy.menu_size (key_seen key.now).about (key_seen key.now).ask.view }
-    requires code { StandsFor (key_seen key.now).about.sheet (code_seen code.now.value) }
     ensures is { IfOk result (λ item. item ≡ strategy.first_largest (tally_of (key_seen key.now).about (key_seen key.now).ask)) }
     ensures counted { OnOk result (Asks (key_seen key.now) (M.counts memo.old) (M.counts memo.new) steps.old steps.new) }
     ensures lacking { OnErr result (Lacks (key_seen key.now) (M.counts memo.old) (M.counts memo.new) steps.old steps.new) }
@@ -155,7 +148,7 @@ fn best_of<M: Memo, L: Ledger>(
     };
     match reply {
         Reply::Hit(tally) => Ok(first_largest(&tally.totals) as u16),
-        Reply::Miss => best_played(alloc, key, menu, code, memo, steps),
+        Reply::Miss => best_played(alloc, key, menu, memo, steps),
     }
 }
 
@@ -164,14 +157,12 @@ fn best_played<M: Memo, L: Ledger>(
     alloc: Global,
     key: &Key,
     menu: u16,
-    code: &Arc<Code>,
     memo: &mut M,
     steps: &mut Steps<L>,
 ) -> Result<u16, Memory>
     requires served { Serves (M.serves memo.old) (key_seen key.now).about }
     requires at { IsAtDecision (key_seen key.now).about (key_seen key.now).ask.view }
     requires menu { menu ≡ strategy.menu_size (key_seen key.now).about (key_seen key.now).ask.view }
-    requires code { StandsFor (key_seen key.now).about.sheet (code_seen code.now.value) }
     ensures is { IfOk result (λ item. item ≡ strategy.first_largest (tally_of (key_seen key.now).about (key_seen key.now).ask)) }
     ensures kept { OnOk result (M.counts memo.new ≡ kept_once (key_seen key.now) (M.counts memo.old)) }
     ensures lacking { OnErr result (M.counts memo.new ≡ M.counts memo.old) }
@@ -181,7 +172,7 @@ fn best_played<M: Memo, L: Ledger>(
     ensures same { M.serves memo.new ≡ M.serves memo.old }
 {
     tallies_are_bounded();
-    let entry = match tally(alloc, key, code, steps) {
+    let entry = match tally(alloc, key, steps) {
         Ok(entry) => entry,
         Err(Memory) => return Err(Memory),
     };

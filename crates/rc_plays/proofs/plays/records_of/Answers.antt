@@ -2,6 +2,7 @@ use Rattle.std.proofs.Common.{◌≡◌, ◌≤◌, ◌+◌, ◌∷◌, [], map,
 use Rattle.std.proofs.lemmas.List.{length-append}
 use Rattle.std.proofs.lemmas.List.Elements.{All-push, All-nil}
 use Rattle.rc_redraw.specs.Choosing.{AsksAll}
+use Rattle.rc_redraw.specs.Counts.{Serves}
 use Rattle.rc_rules.specs.Plan.{plan_seen}
 use Rattle.rc_rules.specs.Record.{record_seen}
 use Rattle.rc_match.specs.Asks.{asks_of}
@@ -38,7 +39,7 @@ loop-number-preserved g c =
       each =
           subst (All (λ r. length r.scores.items ≡ c.args.about.now.value.sheet.players)) (sym c.in-Ok-push.ensures.items)
           (All-push (λ r. length r.scores.items ≡ c.args.about.now.value.sheet.players) told c.in-Ok.played c.loop-number.invariant.each c.in-Ok.ensures.each);
-      served = c.in-Ok.ensures.same about c.loop-number.invariant.served;
+      served = subst (λ served. Serves served about) (sym c.in-Ok.ensures.same) c.loop-number.invariant.served;
       asked =
           subst (λ keys. AsksAll keys (g.C.Chooser.counts c.args.chooser.now) (g.C.Chooser.counts c.record_of.new.chooser) c.args.steps.now c.record_of.new.steps)
           (looks_more about plan c.loop-number.number)
