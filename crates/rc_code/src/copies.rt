@@ -76,18 +76,9 @@ pub(crate) fn copy_int(alloc: Global, int: &IntExpr) -> Result<IntExpr, Memory>
         IntExpr::Size(cards) => Ok(IntExpr::Size(boxed_coll(alloc, cards)?)),
         IntExpr::Sum(cards, map) => Ok(IntExpr::Sum(boxed_coll(alloc, cards)?, *map)),
         IntExpr::Points(card, map) => Ok(IntExpr::Points(boxed_card(alloc, card)?, *map)),
-        IntExpr::Add(a, b) => {
-            let a = boxed_int(alloc, a)?;
-            Ok(IntExpr::Add(a, boxed_int(alloc, b)?))
-        }
-        IntExpr::Sub(a, b) => {
-            let a = boxed_int(alloc, a)?;
-            Ok(IntExpr::Sub(a, boxed_int(alloc, b)?))
-        }
-        IntExpr::Mul(a, b) => {
-            let a = boxed_int(alloc, a)?;
-            Ok(IntExpr::Mul(a, boxed_int(alloc, b)?))
-        }
+        IntExpr::Add(a, b) => Ok(IntExpr::Add(boxed_int(alloc, a)?, boxed_int(alloc, b)?)),
+        IntExpr::Sub(a, b) => Ok(IntExpr::Sub(boxed_int(alloc, a)?, boxed_int(alloc, b)?)),
+        IntExpr::Mul(a, b) => Ok(IntExpr::Mul(boxed_int(alloc, a)?, boxed_int(alloc, b)?)),
     }
 }
 
@@ -105,36 +96,18 @@ pub(crate) fn copy_test(alloc: Global, test: &Test) -> Result<Test, Memory>
     ensures { IfOk result (λ copy. test_seen copy ≡ test_seen test.now) }
 {
     match test {
-        Test::EqInt(a, b) => {
-            let a = boxed_int(alloc, a)?;
-            Ok(Test::EqInt(a, boxed_int(alloc, b)?))
-        }
-        Test::EqCard(a, b) => {
-            let a = boxed_card(alloc, a)?;
-            Ok(Test::EqCard(a, boxed_card(alloc, b)?))
-        }
+        Test::EqInt(a, b) => Ok(Test::EqInt(boxed_int(alloc, a)?, boxed_int(alloc, b)?)),
+        Test::EqCard(a, b) => Ok(Test::EqCard(boxed_card(alloc, a)?, boxed_card(alloc, b)?)),
         Test::EqAttr(a, attr, b, other) => {
             let a = boxed_card(alloc, a)?;
             Ok(Test::EqAttr(a, *attr, boxed_card(alloc, b)?, *other))
         }
         Test::EqWho(a, b) => Ok(Test::EqWho(*a, *b)),
         Test::Ne(inner) => Ok(Test::Ne(boxed_test(alloc, inner)?)),
-        Test::Less(a, b) => {
-            let a = boxed_int(alloc, a)?;
-            Ok(Test::Less(a, boxed_int(alloc, b)?))
-        }
-        Test::LessEq(a, b) => {
-            let a = boxed_int(alloc, a)?;
-            Ok(Test::LessEq(a, boxed_int(alloc, b)?))
-        }
-        Test::More(a, b) => {
-            let a = boxed_int(alloc, a)?;
-            Ok(Test::More(a, boxed_int(alloc, b)?))
-        }
-        Test::MoreEq(a, b) => {
-            let a = boxed_int(alloc, a)?;
-            Ok(Test::MoreEq(a, boxed_int(alloc, b)?))
-        }
+        Test::Less(a, b) => Ok(Test::Less(boxed_int(alloc, a)?, boxed_int(alloc, b)?)),
+        Test::LessEq(a, b) => Ok(Test::LessEq(boxed_int(alloc, a)?, boxed_int(alloc, b)?)),
+        Test::More(a, b) => Ok(Test::More(boxed_int(alloc, a)?, boxed_int(alloc, b)?)),
+        Test::MoreEq(a, b) => Ok(Test::MoreEq(boxed_int(alloc, a)?, boxed_int(alloc, b)?)),
         Test::Is(card, attr, value) => Ok(Test::Is(boxed_card(alloc, card)?, *attr, *value)),
         Test::And(tests) => Ok(Test::and_of(copy_tests(alloc, tests)?)),
         Test::Or(tests) => Ok(Test::or_of(copy_tests(alloc, tests)?)),
