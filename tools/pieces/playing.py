@@ -5,6 +5,7 @@ import math
 import os
 import sys
 from pathlib import Path
+from typing import TextIO
 
 from pieces.folder import MISSING, Done, Series, read, write_object, write_whole
 from pieces.program import Program, digest
@@ -19,8 +20,14 @@ def run(folder: Path, number: int) -> None:
     if fault:
         play(series, number, source)
     if fault and fault != MISSING:
-        print(f"piece {number} {fault}, and was played again", file=sys.stderr)
-    print(f"piece {number} of {len(series.pieces)}, {series.played()} done")
+        write_line(sys.stderr, f"piece {number} {fault}, and was played again")
+    write_line(sys.stdout, f"piece {number} of {len(series.pieces)}, {series.played()} done")
+
+
+def write_line(out: TextIO, line: str) -> None:
+    """Writes a line in one piece, with its end, since other pieces of the series may be played at the same time and told there too."""
+    out.write(f"{line}\n")
+    out.flush()
 
 
 def play(series: Series, number: int, source: bytes) -> None:
