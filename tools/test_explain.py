@@ -10,6 +10,7 @@ from collections.abc import Iterator
 from dataclasses import dataclass
 from pathlib import Path
 
+from built import PROGRAM, ROOT, Built
 from cases.pages import read_page
 from cases.sheets import read_frames
 from faults import kinds
@@ -19,8 +20,6 @@ from faults.places import picture, place_of, shown
 from faults.tokens import end_of, lists_around, rest_of
 from scripted import Scripted
 
-ROOT = Path(__file__).resolve().parent.parent
-PROGRAM = ROOT / "crates/rc_main/out/rc_main"
 PAGES = [ROOT / "docs/LANGUAGE.md", ROOT / "docs/REFUSALS.md", ROOT / "docs/FORMATS.md"]
 
 # A sheet of three lines, with more lines of the setup in the second and the items in the third.
@@ -404,15 +403,8 @@ def is_form_of(parts: list[str], words: list[str], goes_on: bool) -> bool:
     return fixed[: len(words)] == words and len(parts) == len(words) + goes_on and is_plural(parts[-1]) == goes_on
 
 
-class Program(unittest.TestCase):
+class Program(Built):
     """The program by itself and explained ends alike, but for what is said below its line."""
-
-    @classmethod
-    def setUpClass(cls) -> None:
-        if not PROGRAM.exists():
-            reason = "the program isn't built"
-            print(f"\n{cls.__module__}.{cls.__qualname__} is skipped: {reason}", file=sys.stderr)
-            raise unittest.SkipTest(reason)
 
     def run_both(self, words: list[str], source: bytes) -> tuple[int, str, str]:
         alone = subprocess.run([PROGRAM, *words], input=source, capture_output=True)

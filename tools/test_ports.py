@@ -1,24 +1,15 @@
 """How the program ends where its input or its output can't be used: by the statuses that docs/FORMATS.md names, and by no signal."""
 
 import subprocess
-import sys
 import unittest
-from pathlib import Path
 
-ROOT = Path(__file__).resolve().parent.parent
-PROGRAM = ROOT / "crates/rc_main/out/rc_main"
+from built import PROGRAM, ROOT, Built
+
 SOURCE = b"".join((ROOT / f"examples/first.{part}").read_bytes() for part in ("sheet", "plan"))
 READ_FAULT, WRITE_FAULT = 6, 7
 
 
-class Ports(unittest.TestCase):
-    @classmethod
-    def setUpClass(cls) -> None:
-        if not PROGRAM.exists():
-            reason = "the program isn't built"
-            print(f"\n{cls.__module__}.{cls.__qualname__} is skipped: {reason}", file=sys.stderr)
-            raise unittest.SkipTest(reason)
-
+class Ports(Built):
     def shell(self, command: str, source: bytes = SOURCE) -> tuple[int, bytes, bytes]:
         """The status, the output and the notes of `play` where the shell changes its ports."""
         ran = subprocess.run(["sh", "-c", f'"$0" play {command}', PROGRAM], input=source, capture_output=True)

@@ -15,6 +15,7 @@ from pathlib import Path
 from typing import NamedTuple
 from unittest.mock import patch
 
+from built import PROGRAM, ROOT, Built
 from pieces.folder import Piece, Series, Split, write_object
 from pieces.plans import plan_of, size_of
 from pieces.playing import line_of, picked
@@ -24,8 +25,6 @@ from pieces.splitting import MAKEFILE
 from pieces.whole import merge
 from tables.ending import Refused
 
-ROOT = Path(__file__).resolve().parent.parent
-PROGRAM = ROOT / "crates/rc_main/out/rc_main"
 COMMAND = ROOT / "tools/series"
 SHEET = ROOT / "examples/draws.sheet"
 
@@ -214,16 +213,23 @@ class Programs(unittest.TestCase):
         self.assertEqual(caught.exception.status, 127)
 
 
-class Played(unittest.TestCase):
+class Housed(Built):
+    """Tests in a folder of their own."""
+
+    @classmethod
+    def setUpClass(cls) -> None:
+        super().setUpClass()
+        folder = tempfile.TemporaryDirectory()
+        cls.addClassCleanup(folder.cleanup)
+        cls.root = Path(folder.name)
+
+
+class Played(Housed):
     """A series of 300 matches of a game that ships, and its whole plan in one."""
 
     @classmethod
     def setUpClass(cls) -> None:
-        if not PROGRAM.exists():
-            raise skip(cls.__name__, "the program isn't built")
-        folder = tempfile.TemporaryDirectory()
-        cls.addClassCleanup(folder.cleanup)
-        cls.root = Path(folder.name)
+        super().setUpClass()
         (cls.root / "series.plan").write_text(PLAN)
         cls.split = ran("split", cls.root / "whole", SHEET, cls.root / "series.plan", "--size", 103)
         cls.made = ended(["make", "-s", "-j", 4, "-C", cls.root / "whole", "table"])
@@ -352,16 +358,12 @@ class Played(unittest.TestCase):
         self.is_whole()
 
 
-class Compared(unittest.TestCase):
+class Compared(Housed):
     """Two duplicates on the same deals, of which the second has a script in the place of a seat that picks at random."""
 
     @classmethod
     def setUpClass(cls) -> None:
-        if not PROGRAM.exists():
-            raise skip(cls.__name__, "the program isn't built")
-        folder = tempfile.TemporaryDirectory()
-        cls.addClassCleanup(folder.cleanup)
-        cls.root = Path(folder.name)
+        super().setUpClass()
         for name, strategy in (("a", "(random 7)"), ("b", "(script)")):
             (cls.root / name).with_suffix(".plan").write_text(PLAN.replace("300", "10").replace("(random 7)", strategy))
             ran("split", cls.root / name, SHEET, cls.root / f"{name}.plan", "--duplicate", "--seconds", 100)
