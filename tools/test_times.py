@@ -9,6 +9,7 @@ from pathlib import Path
 
 import sampling
 import times
+from crates import listed
 from sampling import EDITS, PROOF, TESTS, Process, Sampler, Taken, process_of, task_of
 
 CHECK = ["/kit/bin/rattle", "check", "--crate-name", "rc_a", "src/lib.rt"]
@@ -149,7 +150,7 @@ class Page(unittest.TestCase):
         self.rows = {crate: [cell.strip() for cell in cells.split("|")] for crate, cells in rows}
 
     def test_it_has_a_row_for_each_crate(self):
-        self.assertEqual(list(self.rows), list(times.listed(times.ROOT)), "run tools/times.py")
+        self.assertEqual(list(self.rows), list(listed(times.ROOT)), "run tools/times.py")
 
     def test_its_seconds_are_those_of_the_file(self):
         taken = sampling.read_lines((times.ROOT / times.SECONDS).read_text("utf-8"))

@@ -17,6 +17,7 @@ from dataclasses import astuple, dataclass
 from pathlib import Path
 
 import sampling
+from crates import listed
 from sampling import EDITS, KINDS, PROOF, TESTS, Taken, Task
 
 ROOT = Path(__file__).resolve().parent.parent
@@ -34,13 +35,6 @@ class Size:
     definitions: int
     proofs: int
     edits: int
-
-
-def listed(root: Path) -> dict[str, list[str]]:
-    """The crates in the order of crates.txt, with the libraries that each stands on."""
-    lines = (root / "crates.txt").read_text("utf-8").splitlines()
-    pairs = (line.split(":") for line in lines if line and not line.startswith("#"))
-    return {words.split()[0]: libraries.split() for words, libraries in pairs}
 
 
 def lines_in(files: Iterable[Path]) -> int:

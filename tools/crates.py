@@ -1,0 +1,125 @@
+#!/usr/bin/env python3
+"""Holds what is said of crates against their files: `crates.txt`, the picture of docs/ARCHITECTURE.md, and the heads of the crates.
+
+- `crates.txt` lists the crates that are there, and for each the libraries that its code, definitions and proofs name. What is
+  listed and never named is told, and is no fault.
+- The picture has each crate once. A crate stands on crates of lower lines, or on one further right in its own.
+- Each crate begins with a sentence on what it does.
+- A line of docs/PROVED.md has at most 500 letters, so that a change of one sentence is a change of few.
+"""
+
+from __future__ import annotations
+
+import re
+import sys
+from collections.abc import Iterator
+from pathlib import Path
+
+ROOT = Path(__file__).resolve().parent.parent
+PICTURE, LONG_PAGE, MOST_LETTERS = "docs/ARCHITECTURE.md", "docs/PROVED.md", 500
+
+CRATE = re.compile(r"\brc_\w+")
+COMMENT = {".rt": re.compile(r"//.*"), ".antt": re.compile(r"--.*")}
+FOLDERS = ("src", "specs", "proofs")
+
+# A library in front of a path: in code as in `rc_a::f`, in definitions, proofs and ghost imports as in `Rattle.rc_a.specs.A`.
+NAMED = re.compile(r"\bRattle\.(\w+)|(?<![:\w])(\w+)::")
+
+
+def listed(root: Path) -> dict[str, list[str]]:
+    """The crates in the order of crates.txt, with the libraries that are listed for each."""
+    lines = (root / "crates.txt").read_text("utf-8").splitlines()
+    pairs = (line.split(":") for line in lines if line and not line.startswith("#"))
+    return {words.split()[0]: libraries.split() for words, libraries in pairs}
+
+
+def sources(folder: Path) -> Iterator[Path]:
+    """The code, definitions and proofs of a crate."""
+    for part in FOLDERS:
+        for suffix in COMMENT:
+            yield from sorted(folder.glob(f"{part}/**/*{suffix}"))
+
+
+def named_in(file: Path) -> set[str]:
+    """The names that stand in front of a path in a file, outside of comments."""
+    text = COMMENT[file.suffix].sub("", file.read_text("utf-8"))
+    return {found[1] or found[2] for found in NAMED.finditer(text)}
+
+
+def named_by(root: Path, crate: str, known: set[str]) -> set[str]:
+    """The libraries that a crate's files name: crates, and those of the kit that are known."""
+    names = {name for file in sources(root / "crates" / crate) for name in named_in(file)}
+    return {name for name in names if name in known or CRATE.fullmatch(name)} - {crate}
+
+
+def listing_faults(root: Path) -> Iterator[str]:
+    """What crates.txt lacks."""
+    crates = listed(root)
+    known = {*crates, *(library for libraries in crates.values() for library in libraries)}
+    there = {folder.name for folder in (root / "crates").iterdir() if (folder / "src").is_dir()}
+    for crate in sorted(there ^ {*crates}):
+        yield f"crates.txt lists {crate}, which isn't there" if crate in crates else f"crates.txt doesn't list {crate}"
+    for crate, libraries in crates.items():
+        for name in sorted(named_by(root, crate, known) - {*libraries}):
+            yield f"{crate} names {name}, which isn't listed for it"
+
+
+def never_named(root: Path) -> Iterator[str]:
+    """What crates.txt lists though the crate never names it. The kit finds a library that another one needs."""
+    crates = listed(root)
+    for crate, libraries in crates.items():
+        named = named_by(root, crate, {*libraries})
+        yield from (f"{crate} never names {name}, which is listed for it" for name in libraries if name not in named)
+
+
+def picture_of(page: str) -> list[list[str]]:
+    """The crates of each line of a page's first picture."""
+    picture = re.search(r"^```\n(.*?)^```", page, re.MULTILINE | re.DOTALL)
+    return [CRATE.findall(line) for line in picture[1].splitlines()] if picture else []
+
+
+def picture_faults(root: Path) -> Iterator[str]:
+    """What the picture says otherwise than crates.txt."""
+    lines = picture_of((root / PICTURE).read_text("utf-8"))
+    places = {crate: (at, column) for at, line in enumerate(lines) for column, crate in enumerate(line)}
+    crates = listed(root)
+    for crate in sorted({*places} ^ {*crates}):
+        yield f"the picture {'lacks' if crate in crates else 'has no such crate as'} {crate}"
+    for crate in places:
+        if sum(line.count(crate) for line in lines) > 1:
+            yield f"the picture has {crate} more than once"
+    for crate, libraries in crates.items():
+        for library in libraries:
+            if crate in places and library in places and places[library] <= places[crate]:
+                yield f"the picture has {library} above {crate}, or before it, which stands on it"
+
+
+def head_faults(root: Path) -> Iterator[str]:
+    """The crates that don't say what they do."""
+    for crate in listed(root):
+        roots = [root / "crates" / crate / "src" / name for name in ("lib.rt", "main.rt")]
+        if not any(file.is_file() and file.read_text("utf-8").startswith("//! ") for file in roots):
+            yield f"{crate} doesn't begin with a sentence on what it does"
+
+
+def line_faults(root: Path) -> Iterator[str]:
+    """The lines that are too long."""
+    for number, line in enumerate((root / LONG_PAGE).read_text("utf-8").splitlines(), 1):
+        if len(line) > MOST_LETTERS:
+            yield f"{LONG_PAGE}: line {number} has {len(line)} letters, and may have {MOST_LETTERS}: split the paragraph"
+
+
+def all_faults(root: Path) -> Iterator[str]:
+    for faults in (listing_faults, picture_faults, head_faults, line_faults):
+        yield from faults(root)
+
+
+def main() -> int:
+    faults = list(all_faults(ROOT))
+    for line in [*never_named(ROOT), *faults]:
+        print(f"tools/crates.py: {line}", file=sys.stderr)
+    return 1 if faults else 0
+
+
+if __name__ == "__main__":
+    sys.exit(main())
