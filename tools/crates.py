@@ -1,8 +1,11 @@
 #!/usr/bin/env python3
 """Holds what is said of crates against their files: `crates.txt`, the picture of docs/ARCHITECTURE.md, and the heads of the crates.
 
-- `crates.txt` lists the crates that are there, and for each the libraries that its code, definitions and proofs name. What is
-  listed and never named is told, and is no fault.
+usage: tools/crates.py          says what is wrong
+       tools/crates.py drop     takes out of crates.txt what a crate never names
+
+- `crates.txt` lists the crates that are there, and for each the libraries that its code, definitions and proofs name, and no
+  others: the kit itself finds what a library stands on.
 - The picture has each crate once. A crate stands on crates of lower lines, or on one further right in its own.
 - Each crate begins with a sentence on what it does.
 - A line of docs/PROVED.md has at most 500 letters, so that a change of one sentence is a change of few.
@@ -52,24 +55,37 @@ def named_by(root: Path, crate: str, known: set[str]) -> set[str]:
     return {name for name in names if name in known or CRATE.fullmatch(name)} - {crate}
 
 
-def listing_faults(root: Path) -> Iterator[str]:
-    """What crates.txt lacks."""
+def named_by_all(root: Path) -> dict[str, set[str]]:
+    """The libraries that the files of each crate name."""
     crates = listed(root)
     known = {*crates, *(library for libraries in crates.values() for library in libraries)}
+    return {crate: named_by(root, crate, known) for crate in crates}
+
+
+def listing_faults(root: Path) -> Iterator[str]:
+    """What crates.txt lacks, and what it has too much."""
+    crates, named = listed(root), named_by_all(root)
     there = {folder.name for folder in (root / "crates").iterdir() if (folder / "src").is_dir()}
     for crate in sorted(there ^ {*crates}):
         yield f"crates.txt lists {crate}, which isn't there" if crate in crates else f"crates.txt doesn't list {crate}"
-    for crate, libraries in crates.items():
-        for name in sorted(named_by(root, crate, known) - {*libraries}):
+    for crate in sorted(there & {*crates}):
+        for name in sorted(named[crate] - {*crates[crate]}):
             yield f"{crate} names {name}, which isn't listed for it"
+        for name in sorted({*crates[crate]} - named[crate]):
+            yield f"{crate} never names {name}, which is listed for it: tools/crates.py drop takes it out"
 
 
-def never_named(root: Path) -> Iterator[str]:
-    """What crates.txt lists though the crate never names it. The kit finds a library that another one needs."""
-    crates = listed(root)
-    for crate, libraries in crates.items():
-        named = named_by(root, crate, {*libraries})
-        yield from (f"{crate} never names {name}, which is listed for it" for name in libraries if name not in named)
+def drop(root: Path) -> None:
+    """Takes out of crates.txt what a crate never names."""
+    file, named = root / "crates.txt", named_by_all(root)
+    lines = []
+    for line in file.read_text("utf-8").splitlines():
+        words, colon, libraries = line.partition(":")
+        if colon and not line.startswith("#"):
+            kept = [name for name in libraries.split() if name in named[words.split()[0]]]
+            line = " ".join([words + colon, *kept])
+        lines.append(f"{line}\n")
+    file.write_text("".join(lines), "utf-8")
 
 
 def picture_of(page: str) -> list[list[str]]:
@@ -115,8 +131,13 @@ def all_faults(root: Path) -> Iterator[str]:
 
 
 def main() -> int:
+    if sys.argv[1:] == ["drop"]:
+        drop(ROOT)
+    elif sys.argv[1:]:
+        print((__doc__ or "").strip(), file=sys.stderr)
+        return 2
     faults = list(all_faults(ROOT))
-    for line in [*never_named(ROOT), *faults]:
+    for line in faults:
         print(f"tools/crates.py: {line}", file=sys.stderr)
     return 1 if faults else 0
 

@@ -42,7 +42,6 @@ class Faults(unittest.TestCase):
 
     def test_nothing_is_wrong(self):
         self.assertEqual(self.faults(), [])
-        self.assertEqual(list(crates.never_named(self.root)), [])
 
     def test_what_is_named_is_to_be_listed(self):
         for name, text in (
@@ -65,10 +64,13 @@ class Faults(unittest.TestCase):
         self.write("crates/rc_a/specs/A.antt", "-- as Rattle.rc_b.specs.B\na = a.rc_b\n")
         self.assertEqual(self.faults(), [])
 
-    def test_what_is_never_named_is_told(self):
-        self.write("crates.txt", "rc_a:\nrc_b: rc_a lru\nrc_c: rc_a rc_b lru\n")
-        told = [f"rc_c never names {it}, which is listed for it" for it in ("rc_a", "lru")]
-        self.assertEqual(list(crates.never_named(self.root)), told)
+    def test_what_is_never_named_is_told_and_dropped(self):
+        kept = (self.root / "crates.txt").read_text()
+        self.write("crates.txt", kept.replace("rc_c status=3: rc_b", "rc_c status=3: rc_a rc_b lru"))
+        told = [f"rc_c never names {it}, which is listed for it: tools/crates.py drop takes it out" for it in ("lru", "rc_a")]
+        self.assertEqual(self.faults(), told)
+        crates.drop(self.root)
+        self.assertEqual((self.root / "crates.txt").read_text(), kept)
 
     def test_crates_are_those_that_are_there(self):
         self.write("crates/rc_d/src/lib.rt", "//! What d does.\n")
