@@ -7,3 +7,5 @@ pub mod Best
 pub mod Firsts
 pub mod PointLemmas
 pub mod Offers
+pub mod WantedLemmas
+pub mod AskLemmas

@@ -1,10 +1,13 @@
 -- Menus that grow.
-use Rattle.std.proofs.Common.{◌≡◌, ℕ, ◌+◌, ◌<◌, ◌≤◌, Bool, true, false, ◌==◌, List, [], ◌∷◌, ◌++◌, length, get_or, take, drop, map, arith, refl, sym, ap, ◌∙◌, append_assoc, append-nil}
+use Rattle.std.proofs.Common.{◌≡◌, ℕ, ◌+◌, ◌<◌, ◌≤◌, Bool, true, false, cond, ◌==◌, List, [], ◌∷◌, ◌++◌, length, get_or, take, drop, map, arith, refl, sym, ap, ◌∙◌, append_assoc, append-nil}
 use Rattle.std.proofs.lemmas.List.{drop_all, take_all, map-append, length-map, length-take, length-append, take-append-le}
-use Rattle.rc_play_model.specs.Menu.{Item as PureItem, from_each, item_of}
+use Rattle.rc_play_model.specs.Menu.{Item as PureItem, from_each, item_of, spots_of}
 use Rattle.rc_value.specs.Menu.{extended}
 use Rattle.rc_model.specs.Numbers.{below}
-use Rattle.rc_play_model.specs.Value.{Bind as PureBind, player_bound}
+use Rattle.rc_play_model.specs.Value.{Scene as PureScene, Bind as PureBind, player_bound, card_bound}
+use mathlib.Core.Path.{fun_ext}
+use Rattle.rc_sheet_model.specs.Sheet.{Test as PureTest, Alt as PureAlt, Effects, do_alt, if_alt}
+use Rattle.rc_value.specs.Asks.{told_of}
 use Rattle.rc_play_model.specs.Scene.{CardValue}
 use Rattle.std.proofs.lemmas.Bool.Decides.{nat_tests}
 use Rattle.rc_rules.proofs.Elements.{drop_here, below_length}
@@ -91,4 +94,31 @@ offered_alts g done whole ms i le few told =
     sym (take_all 256 done few) ∙ ap (take 256) (sym (append-nil done))
     ∙ ap (λ xs. take 256 (done ++ map item_of (from_each g i xs))) (sym (drop_all i ms le)) ∙ told
 
--- what holds of each holds of the one at a place
+-- what is offered of the cards of an innermost domain
+each_mapped : {A B : Type 0} (g : B → List (List ℕ)) (f : A → B) (n : ℕ) (xs : List A) → from_each g n (map f xs) ≡ from_each (λ x. g (f x)) n xs
+each_mapped g f n [] = refl
+each_mapped g f n (x ∷ xs) = ap (λ more. map (λ s. n ∷ s) (g (f x)) ++ more) (each_mapped g f (n + 1) xs)
+
+pub none_each : {A : Type 0} (n : ℕ) (xs : List A) → from_each (λ x. []) n xs ≡ []
+none_each n [] = refl
+none_each n (x ∷ xs) = none_each (n + 1) xs
+
+pub offered_do : (s : PureScene CardValue) (vars : List (PureBind CardValue)) (alt : PureAlt) (effects : Effects) (cards : List CardValue) → alt ≡ do_alt effects →
+    from_each (λ c. [] ∷ []) 0 cards ≡ from_each (λ m. spots_of s (vars ++ m ∷ []) alt) 0 (map (λ c. card_bound c) cards)
+offered_do s vars alt effects cards is =
+    sym (each_mapped (λ m. spots_of s (vars ++ m ∷ []) (do_alt effects)) (λ c. card_bound c) 0 cards)
+    ∙ ap (λ a. from_each (λ m. spots_of s (vars ++ m ∷ []) a) 0 (map (λ c. card_bound c) cards)) (sym is)
+
+pub offered_if : (s : PureScene CardValue) (vars : List (PureBind CardValue)) (alt : PureAlt) (guard : PureTest) (effects : Effects) (cards : List CardValue) → alt ≡ if_alt guard effects →
+    from_each (λ c. cond (told_of s vars guard c) ([] ∷ []) []) 0 cards ≡ from_each (λ m. spots_of s (vars ++ m ∷ []) alt) 0 (map (λ c. card_bound c) cards)
+offered_if s vars alt guard effects cards is =
+    sym (each_mapped (λ m. spots_of s (vars ++ m ∷ []) (if_alt guard effects)) (λ c. card_bound c) 0 cards)
+    ∙ ap (λ a. from_each (λ m. spots_of s (vars ++ m ∷ []) a) 0 (map (λ c. card_bound c) cards)) (sym is)
+
+-- the same for tests that say the same of each card
+pub same_offers : (P Q : CardValue → Bool) (cards : List CardValue) → ((c : CardValue) → P c ≡ Q c) →
+    from_each (λ c. cond (P c) ([] ∷ []) []) 0 cards ≡ from_each (λ c. cond (Q c) ([] ∷ []) []) 0 cards
+same_offers P Q cards h = ap (λ f. from_each f 0 cards) (fun_ext (λ c. ap (λ b. cond b ([] ∷ []) []) (h c)))
+
+pub extended_none : (item : PureItem) → extended item [] ≡ item
+extended_none item = ap (λ xs. record { alt = item.alt; spots = xs }) (append-nil item.spots)

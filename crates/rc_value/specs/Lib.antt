@@ -9,3 +9,5 @@ pub mod Groups
 pub mod Menu
 pub mod AlikeMenus
 pub mod Current
+pub mod Wanted
+pub mod Asks

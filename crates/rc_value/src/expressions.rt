@@ -1,14 +1,15 @@
 //! The values of expressions.
-ghost use Rattle.std.specs.Prelude.{◌≡◌, ◌+◌, ◌<◌, ◌≤◌, ◌++◌, ◌∷◌, [], map, filter, length, option_map, MatchOption, true};
+ghost use Rattle.std.specs.Prelude.{◌≡◌, ◌+◌, ◌<◌, ◌≤◌, ◌++◌, ◌∷◌, [], map, filter, length, option_map, MatchOption, IfSome, true};
 ghost use Rattle.std.specs.List.{list_all, list_any};
 ghost use Rattle.rc_model.specs.Numbers.{below};
-ghost use Rattle.rc_play_model.specs.Value.{card_value, coll_value, colls_value, int_value, test_value, tests_value, card_bound, player_bound, cut};
+ghost use Rattle.rc_play_model.specs.Value.{card_value, coll_value, colls_value, int_value, test_value, tests_value, card_bound, player_bound, attr_of_any, cut};
 ghost use Rattle.rc_ast.specs.Expressions.{coll_seen, colls_seen, int_seen, test_seen, tests_seen};
 ghost use Rattle.rc_ast.specs.Expressions.{card_seen};
 ghost use Rattle.rc_value.specs.Cards.{value_seen, values_seen};
 ghost use Rattle.rc_value.specs.Depth.{card_depth, coll_depth, colls_depth, int_depth, test_depth, tests_depth, runs_over_cards};
 ghost use Rattle.rc_value.specs.Picks.{is_gathered, picked_of, measured_of};
 ghost use Rattle.rc_value.specs.Scene.{scene_seen};
+ghost use Rattle.rc_value.specs.Wanted.{IsWanted};
 
 use crate::arithmetic::{clamped_difference, clamped_product, clamped_sum};
 use crate::collection::Collection;
@@ -17,6 +18,9 @@ use crate::loops::{Measure, Pick, append, card_at, fill, keep, measure_from, pic
 use crate::places::who_of;
 use crate::scene::Scene;
 use crate::scope::{Bind, Scope};
+use crate::wanted::{
+    Wanted, all_as_wanted, is_against, is_variable, keep_as_wanted, some_as_wanted, unwanted,
+};
 use crate::{Card, Cards};
 use rc_ast::{CardExpr, CollExpr, Domain, IntExpr, Test};
 
@@ -56,10 +60,25 @@ fn pass(scene: &Scene, scope: &Scope, test: &Test, out: &mut Cards)
     requires fits { length scope.now + (1 + test_depth (test_seen test.now)) ≤ 5 }
     ensures { values_seen out.new.items ≡ filter (λ c. test_value (scene_seen scene.now) (scope.now ++ card_bound c ∷ []) (test_seen test.now)) (values_seen out.old.items) }
 {
+    let mut inside = scope.with(Bind::Player(0));
+    match wanted_of(scene, scope, &inside, test) {
+        Some(wanted) => keep_as_wanted(scene, wanted, out),
+        None => pass_asked(scene, scope, &mut inside, test, out),
+    }
+}
+
+// The same, each card asked by itself.
+#[cycle(values)]
+fn pass_asked(scene: &Scene, scope: &Scope, inside: &mut Scope, test: &Test, out: &mut Cards)
+    requires inside { inside.old ≡ scope.now ++ player_bound 0 ∷ [] }
+    requires fits { length scope.now + (1 + test_depth (test_seen test.now)) ≤ 5 }
+    ensures { values_seen out.new.items ≡ filter (λ c. test_value (scene_seen scene.now) (scope.now ++ card_bound c ∷ []) (test_seen test.now)) (values_seen out.old.items) }
+{
     let mut kept = 0;
     for place in 0..out.len() {
         let card = card_at(&*out, place);
-        let passes = test_of(scene, &scope.with(Bind::Card(card)), test);
+        inside.rebind(Bind::Card(card));
+        let passes = test_of(scene, &*inside, test);
         kept = keep(out, kept, card, passes);
     }
     out.truncate(kept);
@@ -219,6 +238,64 @@ pub fn test_of(scene: &Scene, scope: &Scope, expr: &Test) -> bool
     }
 }
 
+// A test of the innermost variable's card as a value that the card is to have, if it is one. What the card's value is compared with
+// doesn't read the variable: so it is taken once for all cards.
+#[cycle(values)]
+pub(crate) fn wanted_of(scene: &Scene, scope: &Scope, inside: &Scope, test: &Test) -> Option<Wanted>
+    requires inside { inside.now ≡ scope.now ++ player_bound 0 ∷ [] }
+    requires fits { length scope.now + (1 + test_depth (test_seen test.now)) ≤ 5 }
+    ensures { IfSome result (IsWanted (scene_seen scene.now) scope.now (test_seen test.now)) }
+{
+    match test {
+        Test::EqAttr(a, name, b, other) => {
+            if is_against(a, b, scope.len()) {
+                return Some(Wanted {
+                    name: *name,
+                    value: value_once(scene, scope, inside, b, *other),
+                    equal: true,
+                });
+            }
+            if is_against(b, a, scope.len()) {
+                return Some(Wanted {
+                    name: *other,
+                    value: value_once(scene, scope, inside, a, *name),
+                    equal: true,
+                });
+            }
+            None
+        }
+        Test::Is(card, name, value) => {
+            if is_variable(card, scope.len()) {
+                return Some(Wanted {
+                    name: *name,
+                    value: Some(*value),
+                    equal: true,
+                });
+            }
+            None
+        }
+        Test::Ne(inner) => unwanted(wanted_of(scene, scope, inside, inner)),
+        Test::Not(inner) => unwanted(wanted_of(scene, scope, inside, inner)),
+        _ => None,
+    }
+}
+
+// The value of a card that doesn't hang on the innermost variable, so that anything may stand for the variable.
+#[cycle(values)]
+fn value_once(
+    scene: &Scene,
+    scope: &Scope,
+    inside: &Scope,
+    card: &CardExpr,
+    name: u16,
+) -> Option<u16>
+    requires inside { inside.now ≡ scope.now ++ player_bound 0 ∷ [] }
+    requires fits { length scope.now + (1 + card_depth (card_seen card.now)) ≤ 5 }
+    ensures { result ≡ attr_of_any (scene_seen scene.now) name (card_value (scene_seen scene.now) (scope.now ++ player_bound 0 ∷ []) (card_seen card.now)) }
+{
+    attr_of(scene, card_of(scene, inside, card), name)
+}
+
 // A test that runs over cards which stand in no list.
 #[cycle(values)]
 fn over_built(scene: &Scene, scope: &Scope, expr: &Test) -> bool
@@ -281,8 +358,10 @@ fn all_players(scene: &Scene, scope: &Scope, test: &Test) -> bool
     requires fits { length scope.now + (1 + test_depth (test_seen test.now)) ≤ 5 }
     ensures { result ≡ list_all (λ m. test_value (scene_seen scene.now) (scope.now ++ m ∷ []) (test_seen test.now)) (map (λ n. player_bound n) (below (scene_seen scene.now).known.sheet.players)) }
 {
+    let mut inside = scope.with(Bind::Player(0));
     for player in 0..scene.sheet.players {
-        if !test_of(scene, &scope.with(Bind::Player(player)), test) {
+        inside.rebind(Bind::Player(player));
+        if !test_of(scene, &inside, test) {
             return false;
         }
     }
@@ -294,8 +373,10 @@ fn any_player(scene: &Scene, scope: &Scope, test: &Test) -> bool
     requires fits { length scope.now + (1 + test_depth (test_seen test.now)) ≤ 5 }
     ensures { result ≡ list_any (λ m. test_value (scene_seen scene.now) (scope.now ++ m ∷ []) (test_seen test.now)) (map (λ n. player_bound n) (below (scene_seen scene.now).known.sheet.players)) }
 {
+    let mut inside = scope.with(Bind::Player(0));
     for player in 0..scene.sheet.players {
-        if test_of(scene, &scope.with(Bind::Player(player)), test) {
+        inside.rebind(Bind::Player(player));
+        if test_of(scene, &inside, test) {
             return true;
         }
     }
@@ -307,8 +388,29 @@ fn all_cards(scene: &Scene, scope: &Scope, cards: &Collection, test: &Test) -> b
     requires fits { length scope.now + (1 + test_depth (test_seen test.now)) ≤ 5 }
     ensures { result ≡ list_all (λ m. test_value (scene_seen scene.now) (scope.now ++ m ∷ []) (test_seen test.now)) (map (λ c. card_bound c) cards.now) }
 {
+    let mut inside = scope.with(Bind::Player(0));
+    match wanted_of(scene, scope, &inside, test) {
+        Some(wanted) => all_as_wanted(scene, wanted, cards),
+        None => all_cards_asked(scene, scope, &mut inside, cards, test),
+    }
+}
+
+// The same, each card asked by itself.
+#[cycle(values)]
+fn all_cards_asked(
+    scene: &Scene,
+    scope: &Scope,
+    inside: &mut Scope,
+    cards: &Collection,
+    test: &Test,
+) -> bool
+    requires inside { inside.old ≡ scope.now ++ player_bound 0 ∷ [] }
+    requires fits { length scope.now + (1 + test_depth (test_seen test.now)) ≤ 5 }
+    ensures { result ≡ list_all (λ m. test_value (scene_seen scene.now) (scope.now ++ m ∷ []) (test_seen test.now)) (map (λ c. card_bound c) cards.now) }
+{
     for place in 0..cards.len() {
-        if !test_of(scene, &scope.with(Bind::Card(cards.at(place))), test) {
+        inside.rebind(Bind::Card(cards.at(place)));
+        if !test_of(scene, &*inside, test) {
             return false;
         }
     }
@@ -320,8 +422,29 @@ fn any_card(scene: &Scene, scope: &Scope, cards: &Collection, test: &Test) -> bo
     requires fits { length scope.now + (1 + test_depth (test_seen test.now)) ≤ 5 }
     ensures { result ≡ list_any (λ m. test_value (scene_seen scene.now) (scope.now ++ m ∷ []) (test_seen test.now)) (map (λ c. card_bound c) cards.now) }
 {
+    let mut inside = scope.with(Bind::Player(0));
+    match wanted_of(scene, scope, &inside, test) {
+        Some(wanted) => some_as_wanted(scene, wanted, cards),
+        None => any_card_asked(scene, scope, &mut inside, cards, test),
+    }
+}
+
+// The same, each card asked by itself.
+#[cycle(values)]
+fn any_card_asked(
+    scene: &Scene,
+    scope: &Scope,
+    inside: &mut Scope,
+    cards: &Collection,
+    test: &Test,
+) -> bool
+    requires inside { inside.old ≡ scope.now ++ player_bound 0 ∷ [] }
+    requires fits { length scope.now + (1 + test_depth (test_seen test.now)) ≤ 5 }
+    ensures { result ≡ list_any (λ m. test_value (scene_seen scene.now) (scope.now ++ m ∷ []) (test_seen test.now)) (map (λ c. card_bound c) cards.now) }
+{
     for place in 0..cards.len() {
-        if test_of(scene, &scope.with(Bind::Card(cards.at(place))), test) {
+        inside.rebind(Bind::Card(cards.at(place)));
+        if test_of(scene, &*inside, test) {
             return true;
         }
     }

@@ -2,6 +2,7 @@
 #![tactic(auto)]
 
 mod arithmetic;
+mod asks;
 mod binding;
 mod cards;
 mod collection;
@@ -11,9 +12,11 @@ mod groups;
 mod leaves;
 mod loops;
 mod menu;
+mod offering;
 mod places;
 mod scene;
 mod scope;
+mod wanted;
 
 pub use arithmetic::{clamped_difference, clamped_product, clamped_sum};
 pub use binding::expressions_bind_few;

@@ -17,21 +17,12 @@ use crate::Cards;
 use crate::collection::Collection;
 use crate::expressions::{bare, coll_of, test_of};
 use crate::groups::{Values, note_values, regroup, value_at};
+use crate::offering::{offer_every, offer_guarded, with_spot};
 use crate::scene::Scene;
 use crate::scope::{Bind, Scope};
 use rc_ast::{Alt, CollExpr, Domain};
 use rc_play_model::alike_states_have_equal_menus;
 use rc_rules::{Item, Menu, Spots};
-
-// The item with one more position.
-fn with_spot(item: &Item, spot: u16) -> Item
-    requires { length item.now.spots.items < 4 }
-    ensures { item_seen result ≡ extended (item_seen item.now) (spot ∷ []) }
-{
-    let mut next = item.copy();
-    next.spots.push(spot);
-    next
-}
 
 // Puts an item behind the others, where there is room.
 fn put(menu: &mut Menu, item: &Item)
@@ -107,6 +98,29 @@ fn offer_built(
 
 #[cycle(menu)]
 fn offer_cards(
+    scene: &Scene,
+    scope: &Scope,
+    cards: &Collection,
+    inner: &Alt,
+    item: &Item,
+    menu: &mut Menu,
+)
+    requires fits { length scope.now + (1 + alt_depth (alt_seen inner.now)) ≤ 5 }
+    requires room { length item.now.spots.items + (1 + domains_in (alt_seen inner.now)) ≤ 4 }
+    ensures { menu_seen menu.new.items ≡ take 256 (menu_seen menu.old.items
+        ++ map (extended (item_seen item.now)) (from_each (λ m. spots_of (scene_seen scene.now) (scope.now ++ m ∷ []) (alt_seen inner.now)) 0
+        (map (λ c. card_bound c) cards.now))) }
+{
+    match inner {
+        Alt::Do(_) => offer_every(cards, item, menu),
+        Alt::If(guard, _) => offer_guarded(scene, scope, cards, guard, item, menu),
+        Alt::Any(_, _, _) => offer_each(scene, scope, cards, inner, item, menu),
+    }
+}
+
+// The same, one card after the other.
+#[cycle(menu)]
+fn offer_each(
     scene: &Scene,
     scope: &Scope,
     cards: &Collection,

@@ -35,7 +35,9 @@ impl<'g> Model for Scope<'g> {
 }
 
 impl<'g> Scope<'g> {
-    ghost use Rattle.rc_play_model.specs.Value.{player_of, card_of, group_of, cut};
+    ghost use Rattle.std.specs.Prelude.{List};
+    ghost use Rattle.rc_play_model.specs.Value.{Bind as PureBind, player_of, card_of, group_of, cut};
+    ghost use Rattle.rc_play_model.specs.Scene.{CardValue};
     ghost use Rattle.rc_value.specs.Seen.{bind_seen};
     ghost use Rattle.rc_value.specs.Cards.{value_seen};
 
@@ -60,6 +62,21 @@ impl<'g> Scope<'g> {
             binds,
             count: self.count + 1,
         }
+    }
+
+    /// Lets the innermost variable stand for something else.
+    pub(crate) fn rebind(&mut self, bind: Bind<'g>)
+        requires { 0 < length self.old }
+        ensures { (vars : List (PureBind CardValue)) (m : PureBind CardValue) → self.old ≡ vars ++ m ∷ [] → self.new ≡ vars ++ bind_seen bind.entry ∷ [] }
+    {
+        self.binds[self.count - 1] = bind;
+    }
+
+    /// How many variables there are.
+    pub fn len(&self) -> usize
+        ensures { result ≡ length self.now }
+    {
+        self.count
     }
 
     // What a variable stands for, if there is one.

@@ -1,17 +1,19 @@
-use Rattle.std.proofs.Common.{◌≡◌, ◌++◌, ◌∷◌, [], map, rules, arith, ap, sym, ◌∙◌}
+use Rattle.std.proofs.Common.{◌≡◌, ◌++◌, ◌∷◌, [], map, rules, arith, ap, ap₂, sym, ◌∙◌}
 use Rattle.std.proofs.lemmas.Grind.{common_steps}
 use Rattle.std.proofs.lemmas.List.{length-map, take-map}
 use Rattle.std.specs.List.{list_all, list_any}
 use Rattle.rc_model.specs.Numbers.{below}
-use Rattle.rc_play_model.specs.Value.{card_bound, player_bound, cut, coll_value, colls_value, test_value}
-use Rattle.rc_ast.specs.Expressions.{test_seen, coll_seen, colls_seen, domain_seen}
+use Rattle.rc_play_model.specs.Value.{card_bound, player_bound, attr_of_any, cut, card_value, coll_value, colls_value, test_value}
+use Rattle.rc_ast.specs.Expressions.{test_seen, card_seen, coll_seen, colls_seen, domain_seen}
 use Rattle.rc_value.specs.Cards.{value_seen, values_seen}
 use Rattle.rc_value.specs.Scene.{scene_seen}
-use Rattle.rc_sheet_model.specs.Sheet.{all_of, any_of, each_card}
+use Rattle.rc_sheet_model.specs.Sheet.{all_of, any_of, each_card, card_var}
 use Rattle.rc_value.proofs.Passing.{pass_step, pass_end}
 use Rattle.rc_rules.proofs.Elements.{below_length}
 use Rattle.rc_value.proofs.Steps.{players_are, all_stop, all_on, all_end, any_stop, any_on, any_end, player_here, union_on, union_end, colls_here, tests_here, and_here, or_here, union_here, and_depth, or_depth, union_depth, inner_is, tests_on, tests_off}
 use Rattle.rc_ast.specs.declared.expressions.CardExpr.TheFolds
+use Rattle.rc_value.proofs.WantedLemmas.{all_wanted, any_wanted, keep_wanted, against_is, against_turned, value_is}
+use Rattle.rc_reads.specs.Reads.{reads_card}
 use Rattle.rc_value.proofs.expressions.+values.Goals as goal
 
 pub test_of-returns-in-And : goal.test_of-returns-in-And
@@ -65,82 +67,98 @@ join-returns t c =
     c.deref-part-items.result.now c.loop-part.part-index c.loop-part-test.false (omega arith) c.loop-part.invariant.told
     ∙ ap (λ xs. cut (colls_value (scene_seen c.args.scene.now) c.args.scope.now (colls_seen xs))) c.deref-part-items.ensures.value
 
-pub all_cards-loop-place-preserved : goal.all_cards-loop-place-preserved
-all_cards-loop-place-preserved t c =
-    all_on (λ x. test_value (scene_seen c.args.scene.now) (c.args.scope.now ++ card_bound x ∷ []) (test_seen c.args.test.now))
-    c.args.cards.now c.loop-place.place (value_seen c.at.result) (omega (arith, c.len-place-end.ensures.is)) c.at.ensures
-    (inner_is (scene_seen c.args.scene.now) c.args.scope.now c.with.result (card_bound (value_seen c.at.result)) c.args.test.now c.test_of.result c.with.ensures c.test_of.ensures ∙ c.if-not-test_of.false) c.loop-place.invariant
+pub all_cards_asked-loop-place-preserved : goal.all_cards_asked-loop-place-preserved
+all_cards_asked-loop-place-preserved t c =
+    record {
+      told =
+          all_on (λ x. test_value (scene_seen c.args.scene.now) (c.args.scope.now ++ card_bound x ∷ []) (test_seen c.args.test.now))
+          c.args.cards.now c.loop-place.place (value_seen c.at.result) (omega (arith, c.len-place-end.ensures.is)) c.at.ensures
+          (inner_is (scene_seen c.args.scene.now) c.args.scope.now c.rebind.new.self (card_bound (value_seen c.at.result)) c.args.test.now c.test_of.result (c.rebind.ensures c.args.scope.now c.loop-place.invariant.inside.0 c.loop-place.invariant.inside.1) c.test_of.ensures ∙ c.if-not-test_of.false) c.loop-place.invariant.told;
+      inside = (card_bound (value_seen c.at.result), (c.rebind.ensures c.args.scope.now c.loop-place.invariant.inside.0 c.loop-place.invariant.inside.1));
+    }
 
-pub all_cards-returns-then-not-test_of : goal.all_cards-returns-then-not-test_of
-all_cards-returns-then-not-test_of t c =
+pub all_cards_asked-returns-then-not-test_of : goal.all_cards_asked-returns-then-not-test_of
+all_cards_asked-returns-then-not-test_of t c =
     all_stop (λ m. test_value (scene_seen c.args.scene.now) (c.args.scope.now ++ m ∷ []) (test_seen c.args.test.now)) (λ x. card_bound x)
     c.args.cards.now c.loop-place.place (value_seen c.at.result) (omega (arith, c.len-place-end.ensures.is)) c.at.ensures
-    (inner_is (scene_seen c.args.scene.now) c.args.scope.now c.with.result (card_bound (value_seen c.at.result)) c.args.test.now c.test_of.result c.with.ensures c.test_of.ensures ∙ c.if-not-test_of.true) c.loop-place.invariant
+    (inner_is (scene_seen c.args.scene.now) c.args.scope.now c.rebind.new.self (card_bound (value_seen c.at.result)) c.args.test.now c.test_of.result (c.rebind.ensures c.args.scope.now c.loop-place.invariant.inside.0 c.loop-place.invariant.inside.1) c.test_of.ensures ∙ c.if-not-test_of.true) c.loop-place.invariant.told
 
-pub all_cards-returns : goal.all_cards-returns
-all_cards-returns t c =
+pub all_cards_asked-returns : goal.all_cards_asked-returns
+all_cards_asked-returns t c =
     all_end (λ m. test_value (scene_seen c.args.scene.now) (c.args.scope.now ++ m ∷ []) (test_seen c.args.test.now)) (λ x. card_bound x)
-    c.args.cards.now c.loop-place.place (omega (arith, c.len-place-end.ensures.is)) c.loop-place.invariant
+    c.args.cards.now c.loop-place.place (omega (arith, c.len-place-end.ensures.is)) c.loop-place.invariant.told
 
 pub all_players-loop-player-preserved : goal.all_players-loop-player-preserved
 all_players-loop-player-preserved t c =
     let n = below_length c.args.scene.now.sheet.now.players in
-    all_on (λ x. test_value (scene_seen c.args.scene.now) (c.args.scope.now ++ player_bound x ∷ []) (test_seen c.args.test.now))
-    (below c.args.scene.now.sheet.now.players) c.loop-player.player c.loop-player.player (omega arith) (player_here c.args.scene.now.sheet.now.players c.loop-player.player c.loop-player-test.true)
-    (inner_is (scene_seen c.args.scene.now) c.args.scope.now c.with.result (player_bound c.loop-player.player) c.args.test.now c.test_of.result c.with.ensures c.test_of.ensures ∙ c.if-not-test_of.false) c.loop-player.invariant
+    record {
+      told =
+          all_on (λ x. test_value (scene_seen c.args.scene.now) (c.args.scope.now ++ player_bound x ∷ []) (test_seen c.args.test.now))
+          (below c.args.scene.now.sheet.now.players) c.loop-player.player c.loop-player.player (omega arith) (player_here c.args.scene.now.sheet.now.players c.loop-player.player c.loop-player-test.true)
+          (inner_is (scene_seen c.args.scene.now) c.args.scope.now c.rebind.new.self (player_bound c.loop-player.player) c.args.test.now c.test_of.result (c.rebind.ensures c.args.scope.now c.loop-player.invariant.inside.0 c.loop-player.invariant.inside.1) c.test_of.ensures ∙ c.if-not-test_of.false) c.loop-player.invariant.told;
+      inside = (player_bound c.loop-player.player, (c.rebind.ensures c.args.scope.now c.loop-player.invariant.inside.0 c.loop-player.invariant.inside.1));
+    }
 
 pub all_players-returns-then-not-test_of : goal.all_players-returns-then-not-test_of
 all_players-returns-then-not-test_of t c =
     let n = below_length c.args.scene.now.sheet.now.players in
     all_stop (λ m. test_value (scene_seen c.args.scene.now) (c.args.scope.now ++ m ∷ []) (test_seen c.args.test.now)) (λ x. player_bound x)
     (below c.args.scene.now.sheet.now.players) c.loop-player.player c.loop-player.player (omega arith) (player_here c.args.scene.now.sheet.now.players c.loop-player.player c.loop-player-test.true)
-    (inner_is (scene_seen c.args.scene.now) c.args.scope.now c.with.result (player_bound c.loop-player.player) c.args.test.now c.test_of.result c.with.ensures c.test_of.ensures ∙ c.if-not-test_of.true) c.loop-player.invariant
+    (inner_is (scene_seen c.args.scene.now) c.args.scope.now c.rebind.new.self (player_bound c.loop-player.player) c.args.test.now c.test_of.result (c.rebind.ensures c.args.scope.now c.loop-player.invariant.inside.0 c.loop-player.invariant.inside.1) c.test_of.ensures ∙ c.if-not-test_of.true) c.loop-player.invariant.told
     ∙ ap (λ k. list_all (λ m. test_value (scene_seen c.args.scene.now) (c.args.scope.now ++ m ∷ []) (test_seen c.args.test.now)) (map (λ x. player_bound x) (below k))) (sym (players_are c.args.scene.now))
 
 pub all_players-returns : goal.all_players-returns
 all_players-returns t c =
     let n = below_length c.args.scene.now.sheet.now.players in
     all_end (λ m. test_value (scene_seen c.args.scene.now) (c.args.scope.now ++ m ∷ []) (test_seen c.args.test.now)) (λ x. player_bound x)
-    (below c.args.scene.now.sheet.now.players) c.loop-player.player (omega arith) c.loop-player.invariant
+    (below c.args.scene.now.sheet.now.players) c.loop-player.player (omega arith) c.loop-player.invariant.told
     ∙ ap (λ k. list_all (λ m. test_value (scene_seen c.args.scene.now) (c.args.scope.now ++ m ∷ []) (test_seen c.args.test.now)) (map (λ x. player_bound x) (below k))) (sym (players_are c.args.scene.now))
 
-pub any_card-loop-place-preserved : goal.any_card-loop-place-preserved
-any_card-loop-place-preserved t c =
-    any_on (λ x. test_value (scene_seen c.args.scene.now) (c.args.scope.now ++ card_bound x ∷ []) (test_seen c.args.test.now))
-    c.args.cards.now c.loop-place.place (value_seen c.at.result) (omega (arith, c.len-place-end.ensures.is)) c.at.ensures
-    (inner_is (scene_seen c.args.scene.now) c.args.scope.now c.with.result (card_bound (value_seen c.at.result)) c.args.test.now c.test_of.result c.with.ensures c.test_of.ensures ∙ c.if-test_of.false) c.loop-place.invariant
+pub any_card_asked-loop-place-preserved : goal.any_card_asked-loop-place-preserved
+any_card_asked-loop-place-preserved t c =
+    record {
+      told =
+          any_on (λ x. test_value (scene_seen c.args.scene.now) (c.args.scope.now ++ card_bound x ∷ []) (test_seen c.args.test.now))
+          c.args.cards.now c.loop-place.place (value_seen c.at.result) (omega (arith, c.len-place-end.ensures.is)) c.at.ensures
+          (inner_is (scene_seen c.args.scene.now) c.args.scope.now c.rebind.new.self (card_bound (value_seen c.at.result)) c.args.test.now c.test_of.result (c.rebind.ensures c.args.scope.now c.loop-place.invariant.inside.0 c.loop-place.invariant.inside.1) c.test_of.ensures ∙ c.if-test_of.false) c.loop-place.invariant.told;
+      inside = (card_bound (value_seen c.at.result), (c.rebind.ensures c.args.scope.now c.loop-place.invariant.inside.0 c.loop-place.invariant.inside.1));
+    }
 
-pub any_card-returns-then-test_of : goal.any_card-returns-then-test_of
-any_card-returns-then-test_of t c =
+pub any_card_asked-returns-then-test_of : goal.any_card_asked-returns-then-test_of
+any_card_asked-returns-then-test_of t c =
     any_stop (λ m. test_value (scene_seen c.args.scene.now) (c.args.scope.now ++ m ∷ []) (test_seen c.args.test.now)) (λ x. card_bound x)
     c.args.cards.now c.loop-place.place (value_seen c.at.result) (omega (arith, c.len-place-end.ensures.is)) c.at.ensures
-    (inner_is (scene_seen c.args.scene.now) c.args.scope.now c.with.result (card_bound (value_seen c.at.result)) c.args.test.now c.test_of.result c.with.ensures c.test_of.ensures ∙ c.if-test_of.true) c.loop-place.invariant
+    (inner_is (scene_seen c.args.scene.now) c.args.scope.now c.rebind.new.self (card_bound (value_seen c.at.result)) c.args.test.now c.test_of.result (c.rebind.ensures c.args.scope.now c.loop-place.invariant.inside.0 c.loop-place.invariant.inside.1) c.test_of.ensures ∙ c.if-test_of.true) c.loop-place.invariant.told
 
-pub any_card-returns : goal.any_card-returns
-any_card-returns t c =
+pub any_card_asked-returns : goal.any_card_asked-returns
+any_card_asked-returns t c =
     any_end (λ m. test_value (scene_seen c.args.scene.now) (c.args.scope.now ++ m ∷ []) (test_seen c.args.test.now)) (λ x. card_bound x)
-    c.args.cards.now c.loop-place.place (omega (arith, c.len-place-end.ensures.is)) c.loop-place.invariant
+    c.args.cards.now c.loop-place.place (omega (arith, c.len-place-end.ensures.is)) c.loop-place.invariant.told
 
 pub any_player-loop-player-preserved : goal.any_player-loop-player-preserved
 any_player-loop-player-preserved t c =
     let n = below_length c.args.scene.now.sheet.now.players in
-    any_on (λ x. test_value (scene_seen c.args.scene.now) (c.args.scope.now ++ player_bound x ∷ []) (test_seen c.args.test.now))
-    (below c.args.scene.now.sheet.now.players) c.loop-player.player c.loop-player.player (omega arith) (player_here c.args.scene.now.sheet.now.players c.loop-player.player c.loop-player-test.true)
-    (inner_is (scene_seen c.args.scene.now) c.args.scope.now c.with.result (player_bound c.loop-player.player) c.args.test.now c.test_of.result c.with.ensures c.test_of.ensures ∙ c.if-test_of.false) c.loop-player.invariant
+    record {
+      told =
+          any_on (λ x. test_value (scene_seen c.args.scene.now) (c.args.scope.now ++ player_bound x ∷ []) (test_seen c.args.test.now))
+          (below c.args.scene.now.sheet.now.players) c.loop-player.player c.loop-player.player (omega arith) (player_here c.args.scene.now.sheet.now.players c.loop-player.player c.loop-player-test.true)
+          (inner_is (scene_seen c.args.scene.now) c.args.scope.now c.rebind.new.self (player_bound c.loop-player.player) c.args.test.now c.test_of.result (c.rebind.ensures c.args.scope.now c.loop-player.invariant.inside.0 c.loop-player.invariant.inside.1) c.test_of.ensures ∙ c.if-test_of.false) c.loop-player.invariant.told;
+      inside = (player_bound c.loop-player.player, (c.rebind.ensures c.args.scope.now c.loop-player.invariant.inside.0 c.loop-player.invariant.inside.1));
+    }
 
 pub any_player-returns-then-test_of : goal.any_player-returns-then-test_of
 any_player-returns-then-test_of t c =
     let n = below_length c.args.scene.now.sheet.now.players in
     any_stop (λ m. test_value (scene_seen c.args.scene.now) (c.args.scope.now ++ m ∷ []) (test_seen c.args.test.now)) (λ x. player_bound x)
     (below c.args.scene.now.sheet.now.players) c.loop-player.player c.loop-player.player (omega arith) (player_here c.args.scene.now.sheet.now.players c.loop-player.player c.loop-player-test.true)
-    (inner_is (scene_seen c.args.scene.now) c.args.scope.now c.with.result (player_bound c.loop-player.player) c.args.test.now c.test_of.result c.with.ensures c.test_of.ensures ∙ c.if-test_of.true) c.loop-player.invariant
+    (inner_is (scene_seen c.args.scene.now) c.args.scope.now c.rebind.new.self (player_bound c.loop-player.player) c.args.test.now c.test_of.result (c.rebind.ensures c.args.scope.now c.loop-player.invariant.inside.0 c.loop-player.invariant.inside.1) c.test_of.ensures ∙ c.if-test_of.true) c.loop-player.invariant.told
     ∙ ap (λ k. list_any (λ m. test_value (scene_seen c.args.scene.now) (c.args.scope.now ++ m ∷ []) (test_seen c.args.test.now)) (map (λ x. player_bound x) (below k))) (sym (players_are c.args.scene.now))
 
 pub any_player-returns : goal.any_player-returns
 any_player-returns t c =
     let n = below_length c.args.scene.now.sheet.now.players in
     any_end (λ m. test_value (scene_seen c.args.scene.now) (c.args.scope.now ++ m ∷ []) (test_seen c.args.test.now)) (λ x. player_bound x)
-    (below c.args.scene.now.sheet.now.players) c.loop-player.player (omega arith) c.loop-player.invariant
+    (below c.args.scene.now.sheet.now.players) c.loop-player.player (omega arith) c.loop-player.invariant.told
     ∙ ap (λ k. list_any (λ m. test_value (scene_seen c.args.scene.now) (c.args.scope.now ++ m ∷ []) (test_seen c.args.test.now)) (map (λ x. player_bound x) (below k))) (sym (players_are c.args.scene.now))
 
 pub test_of-all_tests-requires : goal.test_of-all_tests-requires
@@ -156,8 +174,8 @@ coll_of-join-requires t c =
     let e = union_depth c.args.expr.now c.in-Union.parts c.in-Union.is in
     (search (rules, TheFolds.the_lemmas), (c.requires.empty, omega arith))
 
-pub pass-loop-place-preserved : goal.pass-loop-place-preserved
-pass-loop-place-preserved t c =
+pub pass_asked-loop-place-preserved : goal.pass_asked-loop-place-preserved
+pass_asked-loop-place-preserved t c =
     let n = length-map c.loop-place.out.items value_seen in
     let m = length-map c.args.out.now.items value_seen in
     let h = c.loop-place.invariant.told in
@@ -167,12 +185,13 @@ pass-loop-place-preserved t c =
           pass_step (λ x. test_value (scene_seen c.args.scene.now) (c.args.scope.now ++ card_bound x ∷ []) (test_seen c.args.test.now)) (values_seen c.args.out.now.items) _ (values_seen c.loop-place.out.items) (values_seen c.keep-kept.new.cards.items)
           c.loop-place.kept c.keep-kept.result c.loop-place.place (value_seen c.card_at-card.result) c.test_of-passes.result h
           (omega (arith, c.len-place-end.ensures.value)) c.card_at-card.ensures
-          (inner_is (scene_seen c.args.scene.now) c.args.scope.now c.with.result (card_bound (value_seen c.card_at-card.result)) c.args.test.now c.test_of-passes.result c.with.ensures c.test_of-passes.ensures)
+          (inner_is (scene_seen c.args.scene.now) c.args.scope.now c.rebind.new.self (card_bound (value_seen c.card_at-card.result)) c.args.test.now c.test_of-passes.result (c.rebind.ensures c.args.scope.now c.loop-place.invariant.inside.0 c.loop-place.invariant.inside.1) c.test_of-passes.ensures)
           c.keep-kept.ensures.is c.keep-kept.ensures.count;
+      inside = (card_bound (value_seen c.card_at-card.result), (c.rebind.ensures c.args.scope.now c.loop-place.invariant.inside.0 c.loop-place.invariant.inside.1));
     }
 
-pub pass-returns : goal.pass-returns
-pass-returns t c =
+pub pass_asked-returns : goal.pass_asked-returns
+pass_asked-returns t c =
     let m = length-map c.args.out.now.items value_seen in
     ap values_seen c.truncate.ensures.items ∙ sym (take-map value_seen c.loop-place.kept c.loop-place.out.items)
     ∙ pass_end (λ x. test_value (scene_seen c.args.scene.now) (c.args.scope.now ++ card_bound x ∷ []) (test_seen c.args.test.now)) (values_seen c.args.out.now.items) _ (values_seen c.loop-place.out.items) c.loop-place.kept c.loop-place.place c.loop-place.invariant.told
@@ -217,3 +236,37 @@ over_built-returns-in-Coll-domain t c =
     ∙ ap (λ x. list_any (λ m. test_value (scene_seen c.args.scene.now) (c.args.scope.now ++ m ∷ []) (test_seen x)) (map (λ k. card_bound k) c.built-in-Coll-domain.result)) c.deref-in-Coll-domain.ensures
     ∙ ap (λ xs. list_any (λ m. test_value (scene_seen c.args.scene.now) (c.args.scope.now ++ m ∷ []) (test_seen c.in-Any.inner.value)) (map (λ k. card_bound k) xs)) b
     ∙ ap (test_value (scene_seen c.args.scene.now) c.args.scope.now) (sym e)
+
+pub all_cards-returns-in-Some : goal.all_cards-returns-in-Some
+all_cards-returns-in-Some t c =
+    c.all_as_wanted.ensures ∙ all_wanted (scene_seen c.args.scene.now) c.args.scope.now (test_seen c.args.test.now) c.in-Some.wanted c.args.cards.now c.in-Some.ensures
+
+pub any_card-returns-in-Some : goal.any_card-returns-in-Some
+any_card-returns-in-Some t c =
+    c.some_as_wanted.ensures ∙ any_wanted (scene_seen c.args.scene.now) c.args.scope.now (test_seen c.args.test.now) c.in-Some.wanted c.args.cards.now c.in-Some.ensures
+
+pub pass-returns-in-Some : goal.pass-returns-in-Some
+pass-returns-in-Some t c =
+    c.keep_as_wanted.ensures ∙ keep_wanted (scene_seen c.args.scene.now) c.args.scope.now (test_seen c.args.test.now) c.in-Some.wanted (values_seen c.args.out.now.items) c.in-Some.ensures
+
+pub wanted_of-returns-then-is_against : goal.wanted_of-returns-then-is_against
+wanted_of-returns-then-is_against t c =
+    against_is (scene_seen c.args.scene.now) c.args.scope.now (test_seen c.args.test.now) (card_seen c.in-EqAttr.a.value) (card_seen c.in-EqAttr.b.value) c.in-EqAttr.name c.in-EqAttr.other c.value_once.result
+    (ap test_seen c.in-EqAttr.is)
+    (sym (ap card_seen c.deref.ensures) ∙ c.is_against.ensures.variable c.if-is_against.true ∙ ap card_var c.len.ensures)
+    (ap₂ (λ k e. reads_card k (card_seen e)) (sym c.len.ensures) (sym c.deref-in-EqAttr.ensures) ∙ c.is_against.ensures.unread c.if-is_against.true)
+    (c.value_once.ensures ∙ ap (λ e. attr_of_any (scene_seen c.args.scene.now) c.in-EqAttr.other (card_value (scene_seen c.args.scene.now) (c.args.scope.now ++ player_bound 0 ∷ []) (card_seen e))) c.deref-then-is_against.ensures)
+
+pub wanted_of-returns-then-is_against-2 : goal.wanted_of-returns-then-is_against-2
+wanted_of-returns-then-is_against-2 t c =
+    against_turned (scene_seen c.args.scene.now) c.args.scope.now (test_seen c.args.test.now) (card_seen c.in-EqAttr.a.value) (card_seen c.in-EqAttr.b.value) c.in-EqAttr.name c.in-EqAttr.other c.value_once-then-is_against-2.result
+    (ap test_seen c.in-EqAttr.is)
+    (sym (ap card_seen c.deref-in-EqAttr-2.ensures) ∙ c.is_against-in-EqAttr.ensures.variable c.if-is_against-2.true ∙ ap card_var c.len-in-EqAttr.ensures)
+    (ap₂ (λ k e. reads_card k (card_seen e)) (sym c.len-in-EqAttr.ensures) (sym c.deref-in-EqAttr-3.ensures) ∙ c.is_against-in-EqAttr.ensures.unread c.if-is_against-2.true)
+    (c.value_once-then-is_against-2.ensures ∙ ap (λ e. attr_of_any (scene_seen c.args.scene.now) c.in-EqAttr.name (card_value (scene_seen c.args.scene.now) (c.args.scope.now ++ player_bound 0 ∷ []) (card_seen e))) c.deref-then-is_against-2.ensures)
+
+pub wanted_of-returns-then-is_variable : goal.wanted_of-returns-then-is_variable
+wanted_of-returns-then-is_variable t c =
+    value_is (scene_seen c.args.scene.now) c.args.scope.now (test_seen c.args.test.now) (card_seen c.in-Is.card.value) c.in-Is.name c.in-Is.value
+    (ap test_seen c.in-Is.is)
+    (sym (ap card_seen c.deref-in-Is.ensures) ∙ c.is_variable.ensures c.if-is_variable.true ∙ ap card_var c.len-in-Is.ensures)

@@ -1,7 +1,8 @@
 use Rattle.std.proofs.Common.{◌≡◌, ◌+◌, ◌≤◌, ◌++◌, ◌∷◌, [], length, drop}
 use Rattle.std.specs.List.{list_all, list_any, filter}
 use Rattle.rc_model.specs.Numbers.{below}
-use Rattle.rc_play_model.specs.Value.{card_bound, player_bound, cut, colls_value, test_value, tests_value}
+use Rattle.rc_play_model.specs.Scene.{CardValue}
+use Rattle.rc_play_model.specs.Value.{Bind as PureBind, card_bound, player_bound, cut, colls_value, test_value, tests_value}
 use Rattle.rc_ast.specs.Expressions.{colls_seen, test_seen, tests_seen}
 use Rattle.rc_value.specs.Cards.{values_seen}
 use Rattle.rc_value.specs.Depth.{colls_depth, tests_depth}
@@ -9,10 +10,11 @@ use Rattle.rc_value.specs.Scene.{scene_seen}
 use Rattle.rc_value.proofs.Passing.{Passed}
 use Rattle.rc_value.proofs.expressions.+values.Given as goal
 
-abbrev pub invariant-pass-loop-place : goal.invariant-pass-loop-place
-invariant-pass-loop-place l = record {
+abbrev pub invariant-pass_asked-loop-place : goal.invariant-pass_asked-loop-place
+invariant-pass_asked-loop-place l = record {
   told : Passed (λ c. test_value (scene_seen l.scene) (l.scope ++ card_bound c ∷ []) (test_seen l.test)) (values_seen l.fn.out.items)
       (filter (λ c. test_value (scene_seen l.scene) (l.scope ++ card_bound c ∷ []) (test_seen l.test)) (values_seen l.fn.out.items)) (values_seen l.out.items) l.kept l.place;
+  inside : (m : PureBind CardValue) × (l.inside ≡ l.scope ++ m ∷ []);
 }
 
 abbrev pub invariant-join-loop-part : goal.invariant-join-loop-part
@@ -38,21 +40,29 @@ invariant-any_test-loop-test l = record {
 }
 
 abbrev pub invariant-all_players-loop-player : goal.invariant-all_players-loop-player
-invariant-all_players-loop-player l =
-    list_all (λ n. test_value (scene_seen l.scene) (l.scope ++ player_bound n ∷ []) (test_seen l.test)) (drop l.player (below l.scene.sheet.now.players))
-    ≡ list_all (λ n. test_value (scene_seen l.scene) (l.scope ++ player_bound n ∷ []) (test_seen l.test)) (below l.scene.sheet.now.players)
+invariant-all_players-loop-player l = record {
+  told : list_all (λ n. test_value (scene_seen l.scene) (l.scope ++ player_bound n ∷ []) (test_seen l.test)) (drop l.player (below l.scene.sheet.now.players))
+      ≡ list_all (λ n. test_value (scene_seen l.scene) (l.scope ++ player_bound n ∷ []) (test_seen l.test)) (below l.scene.sheet.now.players);
+  inside : (m : PureBind CardValue) × (l.inside ≡ l.scope ++ m ∷ []);
+}
 
 abbrev pub invariant-any_player-loop-player : goal.invariant-any_player-loop-player
-invariant-any_player-loop-player l =
-    list_any (λ n. test_value (scene_seen l.scene) (l.scope ++ player_bound n ∷ []) (test_seen l.test)) (drop l.player (below l.scene.sheet.now.players))
-    ≡ list_any (λ n. test_value (scene_seen l.scene) (l.scope ++ player_bound n ∷ []) (test_seen l.test)) (below l.scene.sheet.now.players)
+invariant-any_player-loop-player l = record {
+  told : list_any (λ n. test_value (scene_seen l.scene) (l.scope ++ player_bound n ∷ []) (test_seen l.test)) (drop l.player (below l.scene.sheet.now.players))
+      ≡ list_any (λ n. test_value (scene_seen l.scene) (l.scope ++ player_bound n ∷ []) (test_seen l.test)) (below l.scene.sheet.now.players);
+  inside : (m : PureBind CardValue) × (l.inside ≡ l.scope ++ m ∷ []);
+}
 
-abbrev pub invariant-all_cards-loop-place : goal.invariant-all_cards-loop-place
-invariant-all_cards-loop-place l =
-    list_all (λ c. test_value (scene_seen l.scene) (l.scope ++ card_bound c ∷ []) (test_seen l.test)) (drop l.place l.cards)
-    ≡ list_all (λ c. test_value (scene_seen l.scene) (l.scope ++ card_bound c ∷ []) (test_seen l.test)) l.cards
+abbrev pub invariant-all_cards_asked-loop-place : goal.invariant-all_cards_asked-loop-place
+invariant-all_cards_asked-loop-place l = record {
+  told : list_all (λ c. test_value (scene_seen l.scene) (l.scope ++ card_bound c ∷ []) (test_seen l.test)) (drop l.place l.cards)
+      ≡ list_all (λ c. test_value (scene_seen l.scene) (l.scope ++ card_bound c ∷ []) (test_seen l.test)) l.cards;
+  inside : (m : PureBind CardValue) × (l.inside ≡ l.scope ++ m ∷ []);
+}
 
-abbrev pub invariant-any_card-loop-place : goal.invariant-any_card-loop-place
-invariant-any_card-loop-place l =
-    list_any (λ c. test_value (scene_seen l.scene) (l.scope ++ card_bound c ∷ []) (test_seen l.test)) (drop l.place l.cards)
-    ≡ list_any (λ c. test_value (scene_seen l.scene) (l.scope ++ card_bound c ∷ []) (test_seen l.test)) l.cards
+abbrev pub invariant-any_card_asked-loop-place : goal.invariant-any_card_asked-loop-place
+invariant-any_card_asked-loop-place l = record {
+  told : list_any (λ c. test_value (scene_seen l.scene) (l.scope ++ card_bound c ∷ []) (test_seen l.test)) (drop l.place l.cards)
+      ≡ list_any (λ c. test_value (scene_seen l.scene) (l.scope ++ card_bound c ∷ []) (test_seen l.test)) l.cards;
+  inside : (m : PureBind CardValue) × (l.inside ≡ l.scope ++ m ∷ []);
+}

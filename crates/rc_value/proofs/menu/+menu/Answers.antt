@@ -1,23 +1,24 @@
-use Rattle.std.proofs.Common.{◌≡◌, ◌<◌, ◌++◌, ◌∷◌, [], length, map, take, arith, ap, sym, ◌∙◌}
+use Rattle.std.proofs.Common.{◌≡◌, ◌<◌, ◌++◌, ◌∷◌, [], cond, length, map, take, arith, ap, sym, ◌∙◌}
 use Rattle.std.proofs.lemmas.List.{length-map}
 use Rattle.rc_model.specs.Numbers.{below}
 use Rattle.rc_sheet_model.specs.Sheet.{any_alt, each_player, each_card, each_group}
 use Rattle.rc_play_model.specs.Value.{card_bound, player_bound, group_bound, coll_value, groups_by}
 use Rattle.rc_play_model.specs.Menu.{spots_of, from_each}
-use Rattle.rc_ast.specs.Expressions.{domain_seen, coll_seen}
+use Rattle.rc_ast.specs.Expressions.{domain_seen, coll_seen, test_seen}
 use Rattle.rc_ast.specs.Items.{alt_seen}
 use Rattle.rc_value.specs.Cards.{value_seen, values_seen}
 use Rattle.rc_value.specs.Scene.{scene_seen}
 use Rattle.rc_value.specs.Groups.{with_value}
 use Rattle.rc_rules.specs.Menu.{item_seen, menu_seen}
 use Rattle.rc_value.specs.Menu.{extended}
+use Rattle.rc_value.specs.Asks.{told_of}
 use Rattle.rc_rules.proofs.Elements.{map_here, below_length}
 use Rattle.rc_value.proofs.Steps.{players_are, player_here}
-use Rattle.rc_value.proofs.Offers.{offered, offered_all, offered_full, cut_few, full_is, bound_count}
+use Rattle.rc_value.proofs.Offers.{offered_do, offered_if, offered, offered_all, offered_full, cut_few, full_is, bound_count}
 use Rattle.rc_value.proofs.menu.+menu.Goals as goal
 
-pub offer_cards-loop-place-preserved : goal.offer_cards-loop-place-preserved
-offer_cards-loop-place-preserved t c =
+pub offer_each-loop-place-preserved : goal.offer_each-loop-place-preserved
+offer_each-loop-place-preserved t c =
     let n = length-map c.args.cards.now (λ x. card_bound x) in
     let grown : menu_seen c.offer.new.menu.items ≡ take 256 (menu_seen c.loop-place.menu.items ++ map (extended (item_seen c.with_spot.result)) (spots_of (scene_seen c.args.scene.now) (c.args.scope.now ++ card_bound (value_seen c.at.result) ∷ []) (alt_seen c.args.inner.now))) =
     c.offer.ensures
@@ -32,13 +33,13 @@ offer_cards-loop-place-preserved t c =
           (map (λ x. card_bound x) c.args.cards.now) c.loop-place.place (card_bound (value_seen c.at.result)) (omega (arith, c.len-place-end.ensures.is)) (map_here (λ x. card_bound x) c.args.cards.now c.loop-place.place (value_seen c.at.result) (omega (arith, c.len-place-end.ensures.is)) c.at.ensures) c.with_spot.ensures grown c.loop-place.invariant.told;
     }
 
-pub offer_cards-returns-then-is_full : goal.offer_cards-returns-then-is_full
-offer_cards-returns-then-is_full t c =
+pub offer_each-returns-then-is_full : goal.offer_each-returns-then-is_full
+offer_each-returns-then-is_full t c =
     let n = length-map c.loop-place.menu.items item_seen in
     offered_full (menu_seen c.loop-place.menu.items) _ _ (n ∙ full_is _ _ c.is_full.ensures.value c.if-is_full.true) c.loop-place.invariant.told
 
-pub offer_cards-returns : goal.offer_cards-returns
-offer_cards-returns t c =
+pub offer_each-returns : goal.offer_each-returns
+offer_each-returns t c =
     let n = length-map c.args.cards.now (λ x. card_bound x) in
     let count = length-map c.loop-place.menu.items item_seen in
     offered_all (λ m. spots_of (scene_seen c.args.scene.now) (c.args.scope.now ++ m ∷ []) (alt_seen c.args.inner.now)) (item_seen c.args.item.now) (menu_seen c.loop-place.menu.items) _
@@ -138,3 +139,16 @@ offer_parts-returns t c =
     (map (λ x. group_bound x) (map (with_value (scene_seen c.args.scene.now) c.args.name c.built-all.result) c.note_values.new.values.items)) c.loop-place.place (omega (arith, c.len-place-end.ensures.value)) (omega arith) c.loop-place.invariant.told
     ∙ ap (λ xs. take 256 (menu_seen c.args.menu.now.items ++ map (extended (item_seen c.args.item.now)) (from_each (λ m. spots_of (scene_seen c.args.scene.now) (c.args.scope.now ++ m ∷ []) (alt_seen c.args.inner.now)) 0 (map (λ x. group_bound x) (map (with_value (scene_seen c.args.scene.now) c.args.name c.built-all.result) xs))))) c.note_values.ensures
     ∙ ap (λ xs. take 256 (menu_seen c.args.menu.now.items ++ map (extended (item_seen c.args.item.now)) (from_each (λ m. spots_of (scene_seen c.args.scene.now) (c.args.scope.now ++ m ∷ []) (alt_seen c.args.inner.now)) 0 (map (λ x. group_bound x) (groups_by (scene_seen c.args.scene.now) c.args.name xs))))) b
+
+pub offer_cards-returns-in-Do : goal.offer_cards-returns-in-Do
+offer_cards-returns-in-Do t c =
+    c.offer_every.ensures
+    ∙ ap (λ ps. take 256 (menu_seen c.args.menu.now.items ++ map (extended (item_seen c.args.item.now)) ps))
+    (offered_do (scene_seen c.args.scene.now) c.args.scope.now (alt_seen c.args.inner.now) _ c.args.cards.now (ap alt_seen c.in-Do.is))
+
+pub offer_cards-returns-in-If : goal.offer_cards-returns-in-If
+offer_cards-returns-in-If t c =
+    c.offer_guarded.ensures
+    ∙ ap (λ x. take 256 (menu_seen c.args.menu.now.items ++ map (extended (item_seen c.args.item.now)) (from_each (λ k. cond (told_of (scene_seen c.args.scene.now) c.args.scope.now (test_seen x) k) ([] ∷ []) []) 0 c.args.cards.now))) c.deref.ensures
+    ∙ ap (λ ps. take 256 (menu_seen c.args.menu.now.items ++ map (extended (item_seen c.args.item.now)) ps))
+    (offered_if (scene_seen c.args.scene.now) c.args.scope.now (alt_seen c.args.inner.now) _ _ c.args.cards.now (ap alt_seen c.in-If.is))

@@ -9,8 +9,8 @@ use Rattle.rc_rules.specs.Menu.{item_seen, menu_seen}
 use Rattle.rc_value.specs.Menu.{extended}
 use Rattle.rc_value.proofs.menu.+menu.Given as goal
 
-abbrev pub invariant-offer_cards-loop-place : goal.invariant-offer_cards-loop-place
-invariant-offer_cards-loop-place l = record {
+abbrev pub invariant-offer_each-loop-place : goal.invariant-offer_each-loop-place
+invariant-offer_each-loop-place l = record {
   few : length l.menu.items ≤ 256;
   told : take 256 (menu_seen l.menu.items ++ map (extended (item_seen l.item)) (from_each (λ m. spots_of (scene_seen l.scene) (l.scope ++ m ∷ []) (alt_seen l.inner)) l.place (drop l.place (map (λ c. card_bound c) l.cards))))
       ≡ take 256 (menu_seen l.fn.menu.items ++ map (extended (item_seen l.item)) (from_each (λ m. spots_of (scene_seen l.scene) (l.scope ++ m ∷ []) (alt_seen l.inner)) 0 (map (λ c. card_bound c) l.cards)));

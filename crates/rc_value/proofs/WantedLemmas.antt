@@ -1,0 +1,94 @@
+-- Tests of a card's value, which cards are to have.
+use Rattle.std.proofs.Common.{◌≡◌, ℕ, zero, suc, ◌+◌, ◌==◌, not, Bool, true, false, List, [], ◌∷◌, ◌++◌, length, map, filter, slice_get, Option, Some, None, option_map, arith, refl, sym, ap, ap₂, ◌∙◌}
+use Rattle.std.specs.Prelude.{IfSome}
+use mathlib.Core.Path.{fun_ext}
+use Rattle.std.specs.List.{list_any, list_all}
+use Rattle.std.proofs.lemmas.Bool.Decides.{nat_tests}
+use Rattle.rc_sheet_model.specs.Sheet.{CardExpr, card_var, Test, eq_attr, has_value, not_of}
+use Rattle.rc_play_model.specs.Scene.{CardValue}
+use Rattle.rc_play_model.specs.Value.{Scene as PureScene, Bind as PureBind, card_bound, player_bound, both, nat_same, card_of, attr_of_any, card_value, test_value}
+use Rattle.rc_reads.specs.Reads.{reads_card}
+use Rattle.rc_reads.proofs.Unread.{unread_card}
+use Rattle.rc_value.specs.declared.wanted.Wanted.{Wanted}
+use Rattle.rc_value.specs.Wanted.{wanted_value, turned, IsWanted}
+use Rattle.rc_value.proofs.Steps.{all-map, any-map}
+
+at_end : {B : Type 0} (vars : List B) (m : B) → slice_get (vars ++ m ∷ []) (length vars) ≡ Some m
+at_end [] m = refl
+at_end (b ∷ vars) m = at_end vars m
+
+nat_turned : (a b : ℕ) → (a == b) ≡ (b == a)
+nat_turned a b = grind (arith, nat_tests)
+
+both_turned : (a b : Option ℕ) → both nat_same a b ≡ both nat_same b a
+both_turned None None = refl
+both_turned None (Some b) = refl
+both_turned (Some a) None = refl
+both_turned (Some a) (Some b) = nat_turned a b
+
+not_twice : (b : Bool) → not (not b) ≡ b
+not_twice true = refl
+not_twice false = refl
+
+module _ (s : PureScene CardValue) (vars : List (PureBind CardValue)) where
+  variable_is : (c : CardValue) (e : CardExpr) → e ≡ card_var (length vars) → card_value s (vars ++ card_bound c ∷ []) e ≡ Some c
+  variable_is c e is = ap (card_value s (vars ++ card_bound c ∷ [])) is ∙ ap card_of (at_end vars (card_bound c))
+
+  once_is : (c : CardValue) (e : CardExpr) (other : ℕ) (value : Option ℕ) → reads_card (length vars) e ≡ false →
+      value ≡ attr_of_any s other (card_value s (vars ++ player_bound 0 ∷ []) e) →
+      attr_of_any s other (card_value s (vars ++ card_bound c ∷ []) e) ≡ value
+  once_is c e other value unread is = ap (attr_of_any s other) (unread_card s vars (card_bound c) (player_bound 0) [] e unread) ∙ sym is
+
+  pub against_is : (t : Test) (a b : CardExpr) (name other : ℕ) (value : Option ℕ) → t ≡ eq_attr a name b other → a ≡ card_var (length vars) →
+      reads_card (length vars) b ≡ false → value ≡ attr_of_any s other (card_value s (vars ++ player_bound 0 ∷ []) b) →
+      IsWanted s vars t (record { name = name; value = value; equal = true })
+  against_is t a b name other value is variable unread once = λ c.
+      ap (test_value s (vars ++ card_bound c ∷ [])) is
+      ∙ ap₂ (λ x y. both nat_same (attr_of_any s name x) y) (variable_is c a variable) (once_is c b other value unread once)
+
+  pub against_turned : (t : Test) (a b : CardExpr) (name other : ℕ) (value : Option ℕ) → t ≡ eq_attr a name b other → b ≡ card_var (length vars) →
+      reads_card (length vars) a ≡ false → value ≡ attr_of_any s name (card_value s (vars ++ player_bound 0 ∷ []) a) →
+      IsWanted s vars t (record { name = other; value = value; equal = true })
+  against_turned t a b name other value is variable unread once = λ c.
+      ap (test_value s (vars ++ card_bound c ∷ [])) is
+      ∙ ap₂ (λ x y. both nat_same x (attr_of_any s other y)) (once_is c a name value unread once) (variable_is c b variable)
+      ∙ both_turned value (attr_of_any s other (Some c))
+
+  pub value_is : (t : Test) (a : CardExpr) (name value : ℕ) → t ≡ has_value a name value → a ≡ card_var (length vars) →
+      IsWanted s vars t (record { name = name; value = Some value; equal = true })
+  value_is t a name value is variable = λ c.
+      ap (test_value s (vars ++ card_bound c ∷ [])) is
+      ∙ ap (λ x. both nat_same (attr_of_any s name x) (Some value)) (variable_is c a variable)
+
+  turned_is : (w : Wanted) (c : CardValue) (equal : Bool) → w.equal ≡ equal → not (wanted_value s w c) ≡ wanted_value s (turned w) c
+  turned_is w c true is = rw is refl
+  turned_is w c false is = rw is (not_twice _)
+
+  -- the opposite of a test
+  pub opposite_is : (t t' : Test) (w w' : Option Wanted) → ((vs : List (PureBind CardValue)) → test_value s vs t' ≡ not (test_value s vs t)) → w' ≡ option_map turned w →
+      IfSome w (IsWanted s vars t) → IfSome w' (IsWanted s vars t')
+  opposite_is t t' None None opposite is h = h
+  opposite_is t t' None (Some v) opposite is h = absurd (cc)
+  opposite_is t t' (Some w) None opposite is h = absurd (cc)
+  opposite_is t t' (Some w) (Some w') opposite is h = λ c.
+      opposite (vars ++ card_bound c ∷ []) ∙ ap not (h c) ∙ turned_is w c w.equal refl
+      ∙ ap (λ o. wanted_value s (some_or w o) c) (sym is) where
+        some_or : Wanted → Option Wanted → Wanted
+        some_or d None = d
+        some_or d (Some x) = x
+
+  pub all_wanted : (t : Test) (w : Wanted) (cards : List CardValue) → IsWanted s vars t w →
+      list_all (wanted_value s w) cards ≡ list_all (λ m. test_value s (vars ++ m ∷ []) t) (map (λ c. card_bound c) cards)
+  all_wanted t w cards h =
+      ap (λ f. list_all f cards) (fun_ext (λ c. sym (h c)))
+      ∙ sym (all-map (λ m. test_value s (vars ++ m ∷ []) t) (λ c. card_bound c) cards)
+
+  pub any_wanted : (t : Test) (w : Wanted) (cards : List CardValue) → IsWanted s vars t w →
+      list_any (wanted_value s w) cards ≡ list_any (λ m. test_value s (vars ++ m ∷ []) t) (map (λ c. card_bound c) cards)
+  any_wanted t w cards h =
+      ap (λ f. list_any f cards) (fun_ext (λ c. sym (h c)))
+      ∙ sym (any-map (λ m. test_value s (vars ++ m ∷ []) t) (λ c. card_bound c) cards)
+
+  pub keep_wanted : (t : Test) (w : Wanted) (cards : List CardValue) → IsWanted s vars t w →
+      filter (wanted_value s w) cards ≡ filter (λ c. test_value s (vars ++ card_bound c ∷ []) t) cards
+  keep_wanted t w cards h = ap (λ f. filter f cards) (fun_ext (λ c. sym (h c)))

@@ -1,0 +1,19 @@
+-- Values that cards are to have.
+use Rattle.std.specs.Prelude.{◌≡◌, ◌++◌, ◌∷◌, [], not, Bool, if◌then◌else◌, List}
+use Rattle.rc_sheet_model.specs.Sheet.{Test}
+use Rattle.rc_play_model.specs.Value.{Scene as PureScene, Bind as PureBind, card_bound, attr_of, both, nat_same, test_value}
+use Rattle.rc_play_model.specs.Scene.{CardValue}
+use Rattle.rc_value.specs.declared.wanted.Wanted.{Wanted}
+
+-- whether a card has the value for the attribute, or has it not
+abbrev pub wanted_value : PureScene CardValue → Wanted → CardValue → Bool
+wanted_value s w c =
+    if w.equal then both nat_same (attr_of s w.name c) w.value else not (both nat_same (attr_of s w.name c) w.value)
+
+-- the opposite
+abbrev pub turned : Wanted → Wanted
+turned w = record { name = w.name; value = w.value; equal = not w.equal }
+
+-- whether it is what a test says of the card that the innermost variable stands for
+abbrev pub IsWanted : PureScene CardValue → List (PureBind CardValue) → Test → Wanted → Type 0
+IsWanted s vars t w = (c : CardValue) → test_value s (vars ++ card_bound c ∷ []) t ≡ wanted_value s w c

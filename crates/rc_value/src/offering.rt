@@ -1,0 +1,120 @@
+//! Menus that grow by the cards of an innermost domain.
+ghost use Rattle.std.specs.Prelude.{◌≡◌, ◌<◌, ◌+◌, ◌≤◌, ◌++◌, ◌∷◌, [], length, map, take, if◌then◌else◌};
+ghost use Rattle.rc_play_model.specs.Value.{player_bound};
+ghost use Rattle.rc_play_model.specs.Menu.{from_each};
+ghost use Rattle.rc_ast.specs.Expressions.{test_seen};
+ghost use Rattle.rc_rules.specs.Menu.{item_seen, menu_seen};
+ghost use Rattle.rc_value.specs.Asks.{ask_value, AllFit, joined, told_of};
+ghost use Rattle.rc_value.specs.Depth.{test_depth};
+ghost use Rattle.rc_value.specs.Menu.{extended};
+ghost use Rattle.rc_value.specs.Scene.{scene_seen};
+
+use crate::asks::{Ask, Asks, joined_answer, parts_of};
+use crate::collection::Collection;
+use crate::scene::Scene;
+use crate::scope::{Bind, Scope};
+use rc_ast::Test;
+use rc_rules::{Item, Menu};
+
+/// The item with one more position.
+pub(crate) fn with_spot(item: &Item, spot: u16) -> Item
+    requires { length item.now.spots.items < 4 }
+    ensures { item_seen result ≡ extended (item_seen item.now) (spot ∷ []) }
+{
+    let mut next = item.copy();
+    next.spots.push(spot);
+    next
+}
+
+// Puts the item with one more position behind the others, where there is room.
+fn put_at(menu: &mut Menu, item: &Item, spot: u16)
+    requires { length item.now.spots.items < 4 }
+    ensures { menu_seen menu.new.items ≡ take 256 (menu_seen menu.old.items ++ extended (extended (item_seen item.now) (spot ∷ [])) [] ∷ []) }
+{
+    if !menu.is_full() {
+        menu.push(with_spot(item, spot));
+    }
+}
+
+// The same where it passes.
+fn put_at_if(menu: &mut Menu, item: &Item, spot: u16, passes: bool)
+    requires { length item.now.spots.items < 4 }
+    ensures { menu_seen menu.new.items ≡ take 256 (menu_seen menu.old.items ++ (if passes then extended (extended (item_seen item.now) (spot ∷ [])) [] ∷ [] else [])) }
+{
+    let _count = menu.len();
+    if passes {
+        put_at(menu, item, spot);
+    }
+}
+
+/// Offers each of the cards.
+pub(crate) fn offer_every(cards: &Collection, item: &Item, menu: &mut Menu)
+    requires { length item.now.spots.items < 4 }
+    ensures { menu_seen menu.new.items ≡ take 256 (menu_seen menu.old.items
+        ++ map (extended (item_seen item.now)) (from_each (λ c. [] ∷ []) 0 cards.now)) }
+{
+    let _count = menu.len();
+    for place in 0..cards.len() {
+        put_at(menu, item, place as u16);
+    }
+}
+
+// Offers those of the cards for which the answers say so.
+fn offer_asked(
+    scene: &Scene,
+    scope: &Scope,
+    inside: &mut Scope,
+    cards: &Collection,
+    asks: &[Ask],
+    any: bool,
+    item: &Item,
+    menu: &mut Menu,
+)
+    requires inside { inside.old ≡ scope.now ++ player_bound 0 ∷ [] }
+    requires fits { AllFit scope.now asks.now }
+    requires room { length item.now.spots.items < 4 }
+    ensures { menu_seen menu.new.items ≡ take 256 (menu_seen menu.old.items
+        ++ map (extended (item_seen item.now)) (from_each (λ c. if joined any (map (ask_value (scene_seen scene.now) scope.now c) asks.now) then [] ∷ [] else []) 0 cards.now)) }
+{
+    let _count = menu.len();
+    for place in 0..cards.len() {
+        let card = cards.at(place);
+        inside.rebind(Bind::Card(card));
+        let passes = joined_answer(scene, scope, &*inside, asks, any, card);
+        put_at_if(menu, item, place as u16, passes);
+    }
+}
+
+/// Offers those of the cards for which a guard holds.
+pub(crate) fn offer_guarded(
+    scene: &Scene,
+    scope: &Scope,
+    cards: &Collection,
+    guard: &Test,
+    item: &Item,
+    menu: &mut Menu,
+)
+    requires deep { length scope.now + (1 + test_depth (test_seen guard.now)) ≤ 5 }
+    requires room { length item.now.spots.items < 4 }
+    ensures { menu_seen menu.new.items ≡ take 256 (menu_seen menu.old.items
+        ++ map (extended (item_seen item.now)) (from_each (λ c. if told_of (scene_seen scene.now) scope.now (test_seen guard.now) c then [] ∷ [] else []) 0 cards.now)) }
+{
+    let _count = menu.len();
+    let mut inside = scope.with(Bind::Player(0));
+    let mut asks = Asks::new();
+    let parts = parts_of(scene, scope, &inside, guard, &mut asks);
+    if !parts.settled {
+        offer_asked(
+            scene,
+            scope,
+            &mut inside,
+            cards,
+            asks.as_slice(),
+            parts.any,
+            item,
+            menu,
+        );
+    } else if parts.any {
+        offer_every(cards, item, menu);
+    }
+}
