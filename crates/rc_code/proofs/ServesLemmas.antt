@@ -12,7 +12,7 @@ use Rattle.rc_play_model.proofs.SiteLemmas.{IsIn, IsIn-left, IsIn-right, only_on
 use Rattle.rc_code.specs.Instruction.{Block, Instruction, simple, if_true, so_often, one_by_one, do_all, begin_stage, offer, end_body, SitePlace, Code}
 use Rattle.rc_code.specs.Meaning.{effects_in, block_in}
 use Rattle.rc_code.specs.Stands.{EffectStands, EffectsStand, AltStands, AltsStand, ItemStands, ItemsStand, StandsFor}
-use Rattle.rc_code.specs.Serves.{IsTestOutside, IsChoiceOf, Serves}
+use Rattle.rc_code.specs.Serves.{HoldsNone, IsSimple, AreSimple, IsTestOutside, IsChoiceOf, Serves}
 use Rattle.rc_code.proofs.CompiledLemmas.{says_effects, says_items}
 
 -- THE BLOCKS OF ALTERNATIVES
@@ -52,7 +52,7 @@ each_block front (alt ∷ alts) blocks code rest (suc n) stands =
 module _ (sheet : Sheet) where
   -- an instruction, before the code behind it
   abbrev Fits : Instruction → List Instruction → Type 0
-  Fits (simple e) behind = Unit {0}
+  Fits (simple e) behind = HoldsNone e
   Fits (if_true test inside) behind = Unit {0}
   Fits (so_often count inside) behind = Unit {0}
   Fits (one_by_one domain bound inside) behind = Unit {0}
@@ -76,6 +76,20 @@ module _ (sheet : Sheet) where
   fit_there (j ∷ code) rest (suc n) i all is =
       let more : suc n + 1 ≡ suc (n + 1) = omega arith in
       subst (λ k. Fits i (drop k (j ∷ code) ++ rest)) (sym more) (fit_there code rest n i all.1 is)
+
+  fit_simple : (i : Instruction) (behind : List Instruction) → Fits i behind → IsSimple i
+  fit_simple (simple e) behind fits = fits
+  fit_simple (if_true test inside) behind fits = tt
+  fit_simple (so_often count inside) behind fits = tt
+  fit_simple (one_by_one domain bound inside) behind fits = tt
+  fit_simple (do_all inside) behind fits = tt
+  fit_simple (begin_stage number class end inside) behind fits = tt
+  fit_simple (offer site alts blocks inside) behind fits = tt
+  fit_simple end_body behind fits = tt
+
+  all_simple : (code rest : List Instruction) → AllFit code rest → AreSimple code
+  all_simple [] rest all = tt
+  all_simple (i ∷ code) rest all = (fit_simple i (code ++ rest) all.0, all_simple code rest all.1)
 
   -- the code of effects
   mutual
@@ -179,6 +193,7 @@ standing_serves sheet code stands formed =
     let all = items_fit sheet code.sites outside [] 0 sheet.items [] code.list [] refl formed.items (same_alts sheet formed) stands.items in
     record {
       items = says_items code.sites [] 0 sheet.items code.list stands.items;
+      simples = all_simple sheet code.list [] all;
       effects = λ place inside is. at place (do_all inside) all is;
       ends = λ place number class end inside is. at place (begin_stage number class end inside) all is;
       choices = λ place site alts blocks inside is. at place (offer site alts blocks inside) all is;

@@ -1,11 +1,11 @@
 -- Code that serves a sheet, and the places of choices in it: what a machine that runs on code needs.
-use Rattle.std.specs.Prelude.{◌≡◌, ℕ, ◌+◌, ◌≤◌, false, List, length, take, drop, slice_get, Some}
-use Rattle.rc_sheet_model.specs.Sheet.{Class, Test, Alt, Sheet}
+use Rattle.std.specs.Prelude.{◌≡◌, ℕ, ◌+◌, ◌≤◌, false, List, [], ◌∷◌, length, take, drop, slice_get, Some}
+use Rattle.rc_sheet_model.specs.Sheet.{Class, Test, Effect, move, move_all, remember, forget, shuffle, set_to, increase, decrease, when, repeat, for_each, next_is, turn_round, Alt, Sheet}
 use Rattle.rc_sheet_model.specs.WellFormed.{Around, IsTest, AreEffects, AreAlts}
 use Rattle.rc_play_model.specs.Menu.{alts_at, alt_in, effects_of}
 use Rattle.rc_play_model.specs.Decision.{left_at}
 use Rattle.rc_play_model.specs.Path.{Path}
-use Rattle.rc_code.specs.Instruction.{Block, Instruction, do_all, begin_stage, offer, SitePlace, Code}
+use Rattle.rc_code.specs.Instruction.{Block, Instruction, simple, if_true, so_often, one_by_one, do_all, begin_stage, offer, end_body, SitePlace, Code}
 use Rattle.rc_code.specs.Meaning.{effects_in, items_in, left_in, block_in}
 
 -- outside all binders
@@ -18,10 +18,41 @@ pub record IsChoiceOf (sheet : Sheet) (site : ℕ) (alts : List Alt) (blocks : L
   pub well : (around : Around) × (around.binders ≡ 0) × AreAlts sheet around alts
   pub each : (n : ℕ) → effects_in (block_in (slice_get blocks n) inside) ≡ effects_of (alt_in alts n)
 
+abbrev pub HoldsNone : Effect → Type 0
+HoldsNone (move card end loc) = Unit {0}
+HoldsNone (move_all cards end loc) = Unit {0}
+HoldsNone (remember card end loc) = Unit {0}
+HoldsNone (forget card) = Unit {0}
+HoldsNone (shuffle loc) = Unit {0}
+HoldsNone (set_to num value) = Unit {0}
+HoldsNone (increase num value) = Unit {0}
+HoldsNone (decrease num value) = Unit {0}
+HoldsNone (when test effects) = ⊥
+HoldsNone (repeat count effects) = ⊥
+HoldsNone (for_each domain bound effects) = ⊥
+HoldsNone (next_is who) = Unit {0}
+HoldsNone turn_round = Unit {0}
+
+-- an instruction that is an effect is one that holds no others
+abbrev pub IsSimple : Instruction → Type 0
+IsSimple (simple e) = HoldsNone e
+IsSimple (if_true test inside) = Unit {0}
+IsSimple (so_often count inside) = Unit {0}
+IsSimple (one_by_one domain bound inside) = Unit {0}
+IsSimple (do_all inside) = Unit {0}
+IsSimple (begin_stage number class end inside) = Unit {0}
+IsSimple (offer site alts blocks inside) = Unit {0}
+IsSimple end_body = Unit {0}
+
+abbrev pub AreSimple : List Instruction → Type 0
+AreSimple [] = Unit {0}
+AreSimple (i ∷ code) = IsSimple i × AreSimple code
+
 -- Code that serves a sheet: its items are the sheet's, and all that stands in it is well formed. Code that stands for a well formed
 -- sheet serves it.
 pub record Serves (sheet : Sheet) (code : List Instruction) : Type 0 where
   pub items : items_in code ≡ sheet.items
+  pub simples : AreSimple code
   pub effects : (place inside : ℕ) → slice_get code place ≡ Some (do_all inside) →
       (around : Around) × (around.binders ≡ 0) × AreEffects sheet around (effects_in (take inside (drop (place + 1) code)))
   pub ends : (place number : ℕ) (class : Class) (end : Test) (inside : ℕ) → slice_get code place ≡ Some (begin_stage number class end inside) →
