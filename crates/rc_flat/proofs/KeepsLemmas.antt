@@ -1,0 +1,30 @@
+-- Tables that stay.
+use Rattle.std.proofs.Common.{◌≡◌, List, [], ◌∷◌, ◌++◌, Result, Ok, Err, OnOk, refl, sym, ap, ◌∙◌, append_assoc}
+use Rattle.rc_play_model.specs.Table.{Table}
+use Rattle.rc_flat.specs.Undo.{Kept, tables, edited, Keeps, GoesBack}
+
+pub keeps_all : (a b : Kept) → b ≡ a → Keeps a b
+keeps_all a b same = record { shape = ap (λ k. k.laid.shape) same; more = []; behind = ap tables same }
+
+pub keeps_edit : (a b : Kept) (t : Table) → b ≡ edited a t → Keeps a b
+keeps_edit a b t is = record { shape = ap (λ k. k.laid.shape) is; more = t ∷ []; behind = ap tables is }
+
+pub keeps_then : (a b c : Kept) → Keeps a b → Keeps b c → Keeps a c
+keeps_then a b c first second =
+    record {
+      shape = second.shape ∙ first.shape;
+      more = second.more ++ first.more;
+      behind = second.behind ∙ ap (λ ts. second.more ++ ts) first.behind ∙ sym (append_assoc second.more first.more (tables a));
+    }
+
+-- what follows where a call answered Ok
+pub on_ok : {A E : Type 0} (P Q : Type 0) (r : Result A E) → OnOk r P → (P → Q) → OnOk r Q
+on_ok P Q (Ok a) holds f = f holds
+on_ok P Q (Err e) holds f = tt
+
+pub goes_then : (a b c : Kept) (gone gone' : List Table) → GoesBack a b gone → GoesBack b c gone' → GoesBack a c (gone ++ gone')
+goes_then a b c gone gone' first second =
+    record {
+      shape = second.shape ∙ first.shape;
+      behind = first.behind ∙ ap (λ ts. gone ++ ts) second.behind ∙ sym (append_assoc gone gone' (tables c));
+    }

@@ -1,0 +1,15 @@
+pub mod EffectSteps
+pub mod UndoLemmas
+pub mod StepCases
+pub mod PlayLemmas
+pub mod ShallowLemmas
+pub mod PlaceLemmas
+pub mod ListLemmas
+pub mod KeepsLemmas
+pub mod ShuffleLemmas
+pub mod OfferedLemmas
+pub mod KeptLemmas
+pub mod NumberLemmas
+pub mod MomentLemmas
+pub mod MachineLemmas
+pub mod SitePlaceLemmas

@@ -1,0 +1,57 @@
+use Rattle.std.proofs.Common.{◌≡◌, ◌+◌, ◌≤◌, [], All, drop, map, ap, sym, ◌∙◌, subst, arith}
+use Rattle.rc_play_model.specs.Owners.{mover}
+use Rattle.rc_play_model.specs.About.{scene_at}
+use Rattle.rc_play_model.specs.Menu.{Item, alt_in, effects_of, bindings_of}
+use Rattle.rc_play_model.specs.Effects.{does}
+use Rattle.rc_play_model.specs.Step.{goes}
+use Rattle.rc_ast.specs.Items.{alts_seen}
+use Rattle.rc_rules.specs.Control.{control_seen, frames_seen}
+use Rattle.rc_code.specs.Seen.{block_seen, list_seen}
+use Rattle.rc_play_model.specs.Control.{Control}
+use Rattle.rc_flat.specs.Places.{went_to, IsPlace}
+use Rattle.rc_flat.proofs.PlayLemmas.{one_decision_counts}
+use Rattle.rc_flat.proofs.PlaceLemmas.{goes_on_behind, went_place}
+use Rattle.rc_state.specs.Point.{point_of}
+use Rattle.rc_flat.specs.Flat.{config_of}
+use Rattle.rc_flat.specs.State.{flat_of}
+use Rattle.rc_flat.proofs.StepCases.{moved, choose_leads}
+use Rattle.rc_flat.proofs.state.State.choose.Goals as goal
+
+pub returns-clause-leads : goal.returns-clause-leads
+returns-clause-leads g c =
+    let about = c.args.about.now in
+    let m = flat_of about (list_seen c.args.code.now) c.args.self.now in
+    let alts = alts_seen c.args.alts.now in
+    let dealing = g.D.Dealer.dealing c.args.dealer.now in
+    let k = g.D.Dealer.state c.args.dealer.now in
+    let seat = c.current_in-seat.result in
+    let before = point_of c.args.self.now.board.laid c.args.self.now.control.frames.items k in
+    let after = point_of c.do_item.new.board.laid c.do_item.new.frames.items (g.D.Dealer.state c.do_item.new.dealer) in
+    let scene = scene_at about m.table m.control.frames in
+    let moves = c.current_in-seat.ensures ∙ ap (λ sheet. mover sheet (frames_seen c.as_slice.result.now)) c.sheet.ensures.same
+    ∙ ap (λ frames. mover about.sheet (frames_seen frames)) c.as_slice.ensures.value in
+    λ x chosen.
+    choose_leads m dealing k c.requires.here.0 alts (map block_seen c.args.blocks.now) c.args.inside c.requires.round c.requires.here.1
+    x seat c.behind.result after (c.behind.ensures ∙ ap (λ n. drop (n + 1 + c.args.inside) m.code) c.next-next.ensures)
+    (ap (λ (i : Item). does about dealing (bindings_of scene [] (alt_in alts i.alt) i.spots) (effects_of (alt_in alts i.alt)) before) chosen
+    ∙ c.in-Ok.ensures.does) moves
+    ∙ ap (λ control. goes after.dealer (config_of (moved m (went_to c.behind.result m.place) after.table control))) (sym c.count_decision.ensures)
+    ∙ ap (λ path. goes after.dealer (config_of (moved m path after.table (control_seen c.count_decision.new.control)))) (sym c.go_to.ensures)
+
+pub returns-clause-ready : goal.returns-clause-ready
+returns-clause-ready g c =
+    let about = c.args.about.now in
+    let m = flat_of about (list_seen c.args.code.now) c.args.self.now in
+    let play = c.requires.play in
+    let below = c.requires.below in
+    record {
+      laid = c.in-Ok.ensures.keeps.shape ∙ c.requires.laid;
+      play = goes_on_behind m play c.go_to.new.self c.do_item.new.board.laid.table (control_seen c.count_decision.new.control)
+          (g.D.Dealer.dealing c.args.dealer.now) c.requires.offered.0 (g.D.Dealer.state c.args.dealer.now) (g.D.Dealer.state c.do_item.new.dealer)
+          (subst (IsPlace m.code) (sym c.go_to.ensures) (went_place m play c.behind.result))
+          (subst (λ (control : Control). control.turn ≤ about.turns) (sym c.count_decision.ensures) (omega (arith, below)))
+          (subst (λ (control : Control). All (λ n. n ≤ control.turn) control.made) (sym c.count_decision.ensures)
+          (one_decision_counts m.control.turn c.current_in-seat.result m.control.made play.counts))
+          (returns-clause-leads g c c.requires.offered.0 c.requires.offered.1);
+      kept = λ site is. absurd (let none = ap (λ (control : Control). control.site) c.count_decision.ensures in cc);
+    }

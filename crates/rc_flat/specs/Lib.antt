@@ -1,0 +1,11 @@
+pub mod Undo
+pub mod Entry
+pub mod Board
+pub mod Places
+pub mod Shallow
+pub mod Flat
+pub mod State
+pub mod Moments
+pub mod Machine
+pub mod Codes
+pub mod MachineSeen

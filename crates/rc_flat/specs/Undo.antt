@@ -1,0 +1,67 @@
+-- Edits of a table that can be taken back.
+use Rattle.std.specs.Prelude.{◌≡◌, ℕ, ◌<◌, nat_lt, if◌then◌else◌, List, [], ◌∷◌, ◌++◌, length, ℤ}
+use Rattle.rc_model.specs.Clamp.{IsWithinClamp}
+use Rattle.rc_play_model.specs.Shape.{Shape}
+use Rattle.rc_play_model.specs.Bound.{HoldsReferences}
+use Rattle.rc_play_model.specs.Table.{Table, IsSound, list_at, set_number}
+use Rattle.rc_table.specs.Laid.{Laid, relaid}
+use Rattle.rc_table.specs.Restored.{put_at, taken_at, moved_between, relisted}
+
+-- what was before an edit: a card that moved stood at this place and stands at that one now, a number had this value, a location had
+-- this list, a reference wasn't there, or one stood at this place
+pub data Edit : Type 0 where
+  moved : (from place to at : ℕ) → Edit
+  changed : (num : ℕ) (value : ℤ) → Edit
+  ordered : (loc : ℕ) (list : List ℕ) → Edit
+  noted : (loc at : ℕ) → Edit
+  forgotten : (id loc place : ℕ) → Edit
+
+-- the table before the edit
+abbrev pub undone : Edit → Table → Table
+undone (moved from place to at) table =
+    if nat_lt at (length (list_at table to)) then moved_between to at from place table else table
+undone (changed num value) table = set_number num value table
+undone (ordered loc list) table = relisted loc list table
+undone (noted loc at) table = if nat_lt at (length (list_at table loc)) then taken_at loc at table else table
+undone (forgotten id loc place) table = put_at id loc place table
+
+-- the tables before edits, the last edit first
+abbrev pub before_of : List Edit → Table → List Table
+before_of [] table = []
+before_of (e ∷ edits) table = undone e table ∷ before_of edits (undone e table)
+
+-- locations that are there and hold what the edit is of, and numbers within the clamp
+abbrev pub IsEditOf : Shape → Edit → Type 0
+IsEditOf shape (moved from place to at) = from < length shape.places
+IsEditOf shape (changed num value) = IsWithinClamp value
+IsEditOf shape (ordered loc list) = loc < length shape.places
+IsEditOf shape (noted loc at) = HoldsReferences shape loc
+IsEditOf shape (forgotten id loc place) = HoldsReferences shape loc
+
+-- each edit leads back to a sound table
+abbrev pub CanUndo : Shape → List Edit → Table → Type 0
+CanUndo shape [] table = Unit {0}
+CanUndo shape (e ∷ edits) table = IsEditOf shape e × IsSound shape (undone e table) × CanUndo shape edits (undone e table)
+
+-- a table with those before it, the last one first
+pub record Kept : Type 0 where
+  pub laid : Laid
+  pub before : List Table
+
+abbrev pub tables : Kept → List Table
+tables kept = kept.laid.table ∷ kept.before
+
+-- after one more edit
+abbrev pub edited : Kept → Table → Kept
+edited kept table = record { laid = relaid kept.laid table; before = tables kept }
+
+-- all tables that were there are there, with others behind them
+pub record Keeps (old new : Kept) : Type 0 where
+  pub shape : new.laid.shape ≡ old.laid.shape
+  pub more : List Table
+  pub behind : tables new ≡ more ++ tables old
+
+-- the last tables are gone, and those before them are there
+pub record GoesBack (old new : Kept) (gone : List Table) : Type 0 where
+  pub shape : new.laid.shape ≡ old.laid.shape
+  pub behind : tables old ≡ gone ++ tables new

@@ -1,0 +1,381 @@
+//! Blocks of code: effects, one after the other.
+ghost use Rattle.std.specs.Prelude.{◌≡◌, ◌+◌, ◌<◌, ◌≤◌, [], ◌∷◌, ◌++◌, length, take, drop, map, fold, OnOk};
+ghost use Rattle.rc_model.specs.Numbers.{below};
+ghost use Rattle.rc_sheet_model.specs.Sheet.{when, repeat as repeat_of, for_each as for_each_of};
+ghost use Rattle.rc_sheet_model.specs.WellFormed.{Around, AreEffects};
+ghost use Rattle.rc_play_model.specs.Value.{Bind as PureBind, player_bound, card_bound, coll_value};
+ghost use Rattle.rc_play_model.specs.Scene.{CardValue};
+ghost use Rattle.rc_play_model.specs.Bound.{IsBindOf};
+ghost use Rattle.rc_play_model.specs.Effects.{does_one, does, times as times_in};
+ghost use Rattle.rc_ast.specs.Expressions.{coll_seen, int_seen, test_seen, domain_seen};
+ghost use Rattle.rc_value.specs.Seen.{bind_seen};
+ghost use Rattle.rc_state.specs.Point.{point_of};
+ghost use Rattle.rc_state.specs.Under.{IsCollUnder, IsEffectUnder, AreEffectsUnder};
+ghost use Rattle.rc_state.specs.Context.{scene_in, Stands};
+ghost use Rattle.rc_code.specs.Meaning.{effects_in, first_effects, passed_over};
+ghost use Rattle.rc_code.specs.Seen.{instruction_seen, list_seen};
+ghost use Rattle.rc_code.specs.Serves.{IsSimple, AreSimple};
+ghost use Rattle.rc_flat.specs.Undo.{Keeps};
+ghost use Rattle.rc_rules.specs.Dealer.{HasShuffled};
+
+use crate::board::Board;
+use crate::simple::do_simple;
+use rc_ast::{CollExpr, Domain, IntExpr, Test};
+use rc_code::Instruction;
+use rc_deck::Memory;
+use rc_rules::{About, Dealer, Frames};
+use rc_state::{Context, cards_now, int_now, test_now};
+use rc_value::{Bind, Cards, Scope, current_of};
+
+/// The first instructions, so many of them.
+#[tactic(auto, using(crate::proofs::ListLemmas::front_seen, crate::proofs::ListLemmas::all_seen, crate::proofs::ListLemmas::front_simple))]
+pub fn front(code: &[Instruction], count: usize) -> &[Instruction]
+    ensures is { list_seen result.now ≡ take count (list_seen code.now) }
+    ensures simple { AreSimple (list_seen code.now) → AreSimple (list_seen result.now) }
+    ensures shorter { length result.now ≤ length code.now }
+{
+    if count < code.len() {
+        return &code[..count];
+    }
+    code
+}
+
+/// The instructions behind so many.
+#[tactic(auto, using(crate::proofs::ListLemmas::past_rest, crate::proofs::ListLemmas::none_seen, crate::proofs::ListLemmas::past_simple))]
+pub fn past(code: &[Instruction], count: usize) -> &[Instruction]
+    ensures is { list_seen result.now ≡ drop count (list_seen code.now) }
+    ensures simple { AreSimple (list_seen code.now) → AreSimple (list_seen result.now) }
+    ensures shorter { length result.now ≤ length code.now }
+{
+    if count < code.len() {
+        return &code[count..];
+    }
+    &[]
+}
+
+// How many instructions are passed with this one where effects are done.
+fn passed_with(first: &Instruction) -> usize
+    ensures { result ≡ passed_over (instruction_seen first.now) }
+{
+    match first {
+        Instruction::If(_, inside) => *inside,
+        Instruction::Repeat(_, inside) => *inside,
+        Instruction::Each(_, _, inside) => *inside,
+        Instruction::Simple(_) => 0,
+        Instruction::Do(_) => 0,
+        Instruction::Stage { .. } => 0,
+        Instruction::Choice { .. } => 0,
+        Instruction::End => 0,
+    }
+}
+
+/// Does the effects of a block.
+#[tactic(auto, using(crate::proofs::ShuffleLemmas::not_shuffled))]
+#[cycle(blocks)]
+pub fn do_block<D: Dealer>(
+    context: &Context,
+    code: &[Instruction],
+    board: &mut Board,
+    frames: &mut Frames,
+    dealer: &mut D,
+) -> Result<(), Memory>
+    requires stands { Stands context.now board.old.laid frames.old.items }
+    requires well { AreEffectsUnder context.now.about.now.sheet context.now.scope.now (effects_in (list_seen code.now)) }
+    requires simple { AreSimple (list_seen code.now) }
+    ensures does { OnOk result (does context.now.about.now (D.dealing dealer.old) context.now.scope.now (effects_in (list_seen code.now))
+        (point_of board.old.laid frames.old.items (D.state dealer.old)) ≡ point_of board.new.laid frames.new.items (D.state dealer.new)) }
+    ensures stands { OnOk result (Stands context.now board.new.laid frames.new.items) }
+    ensures keeps { Keeps board.old board.new }
+    ensures shuffled { HasShuffled (D.dealing dealer.old) (D.state dealer.old) (D.state dealer.new) }
+    ensures dealing { D.dealing dealer.new ≡ D.dealing dealer.old }
+{
+    let mut rest = code;
+    while let Some((first, behind)) = rest.split_first() {
+        match do_first(context, first, behind, board, frames, dealer) {
+            Ok(()) => {}
+            Err(Memory) => return Err(Memory),
+        }
+        rest = past(behind, passed_with(first));
+    }
+    Ok(())
+}
+
+// Does the effects of an instruction, with those inside it.
+#[tactic(auto, using(crate::proofs::ShuffleLemmas::not_shuffled))]
+#[cycle(blocks)]
+fn do_first<D: Dealer>(
+    context: &Context,
+    first: &Instruction,
+    behind: &[Instruction],
+    board: &mut Board,
+    frames: &mut Frames,
+    dealer: &mut D,
+) -> Result<(), Memory>
+    requires stands { Stands context.now board.old.laid frames.old.items }
+    requires well { AreEffectsUnder context.now.about.now.sheet context.now.scope.now (first_effects (instruction_seen first.now) (list_seen behind.now)) }
+    requires simple { IsSimple (instruction_seen first.now) }
+    requires inside { AreSimple (list_seen behind.now) }
+    ensures does { OnOk result (does context.now.about.now (D.dealing dealer.old) context.now.scope.now (first_effects (instruction_seen first.now) (list_seen behind.now))
+        (point_of board.old.laid frames.old.items (D.state dealer.old)) ≡ point_of board.new.laid frames.new.items (D.state dealer.new)) }
+    ensures stands { OnOk result (Stands context.now board.new.laid frames.new.items) }
+    ensures keeps { Keeps board.old board.new }
+    ensures shuffled { HasShuffled (D.dealing dealer.old) (D.state dealer.old) (D.state dealer.new) }
+    ensures dealing { D.dealing dealer.new ≡ D.dealing dealer.old }
+{
+    match first {
+        Instruction::Simple(effect) => do_simple(context, effect, board, frames, dealer),
+        Instruction::If(test, inside) => {
+            do_if(context, test, front(behind, *inside), board, frames, dealer)
+        }
+        Instruction::Repeat(count, inside) => {
+            repeat(
+                context,
+                count,
+                front(behind, *inside),
+                board,
+                frames,
+                dealer,
+            )
+        }
+        Instruction::Each(domain, bound, inside) => for_each(
+            context,
+            domain,
+            *bound,
+            front(behind, *inside),
+            board,
+            frames,
+            dealer,
+        ),
+        Instruction::Do(_) => Ok(()),
+        Instruction::Stage { .. } => Ok(()),
+        Instruction::Choice { .. } => Ok(()),
+        Instruction::End => Ok(()),
+    }
+}
+
+#[tactic(auto, using(crate::proofs::ShuffleLemmas::not_shuffled))]
+#[cycle(blocks)]
+fn do_if<D: Dealer>(
+    context: &Context,
+    test: &Test,
+    inside: &[Instruction],
+    board: &mut Board,
+    frames: &mut Frames,
+    dealer: &mut D,
+) -> Result<(), Memory>
+    requires stands { Stands context.now board.old.laid frames.old.items }
+    requires well { IsEffectUnder context.now.about.now.sheet context.now.scope.now (when (test_seen test.now) (effects_in (list_seen inside.now))) }
+    requires simple { AreSimple (list_seen inside.now) }
+    ensures does { OnOk result (does_one context.now.about.now (D.dealing dealer.old) context.now.scope.now (when (test_seen test.now) (effects_in (list_seen inside.now)))
+        (point_of board.old.laid frames.old.items (D.state dealer.old)) ≡ point_of board.new.laid frames.new.items (D.state dealer.new)) }
+    ensures stands { OnOk result (Stands context.now board.new.laid frames.new.items) }
+    ensures keeps { Keeps board.old board.new }
+    ensures shuffled { HasShuffled (D.dealing dealer.old) (D.state dealer.old) (D.state dealer.new) }
+    ensures dealing { D.dealing dealer.new ≡ D.dealing dealer.old }
+{
+    if test_now(context, test, board.table(), &*frames) {
+        return do_block(context, inside, board, frames, dealer);
+    }
+    Ok(())
+}
+
+#[tactic(auto, using(crate::proofs::ShuffleLemmas::not_shuffled))]
+#[cycle(blocks)]
+fn repeat<D: Dealer>(
+    context: &Context,
+    count: &IntExpr,
+    inside: &[Instruction],
+    board: &mut Board,
+    frames: &mut Frames,
+    dealer: &mut D,
+) -> Result<(), Memory>
+    requires stands { Stands context.now board.old.laid frames.old.items }
+    requires well { IsEffectUnder context.now.about.now.sheet context.now.scope.now (repeat_of (int_seen count.now) (effects_in (list_seen inside.now))) }
+    requires simple { AreSimple (list_seen inside.now) }
+    ensures does { OnOk result (does_one context.now.about.now (D.dealing dealer.old) context.now.scope.now (repeat_of (int_seen count.now) (effects_in (list_seen inside.now)))
+        (point_of board.old.laid frames.old.items (D.state dealer.old)) ≡ point_of board.new.laid frames.new.items (D.state dealer.new)) }
+    ensures stands { OnOk result (Stands context.now board.new.laid frames.new.items) }
+    ensures keeps { Keeps board.old board.new }
+    ensures shuffled { HasShuffled (D.dealing dealer.old) (D.state dealer.old) (D.state dealer.new) }
+    ensures dealing { D.dealing dealer.new ≡ D.dealing dealer.old }
+{
+    let times = times_of(int_now(context, count, board.table(), &*frames));
+    for _ in 0..times {
+        match do_block(context, inside, board, frames, dealer) {
+            Ok(()) => {}
+            Err(Memory) => return Err(Memory),
+        }
+    }
+    Ok(())
+}
+
+const MOST_REPEATS: i64 = 1000;
+
+// How often effects are repeated, by a count.
+fn times_of(count: i64) -> u16
+    ensures { result ≡ times_in count }
+{
+    count.clamp(0, MOST_REPEATS) as u16
+}
+
+#[tactic(auto, using(crate::proofs::ShuffleLemmas::not_shuffled))]
+#[cycle(blocks)]
+fn for_each<D: Dealer>(
+    context: &Context,
+    domain: &Domain,
+    bound: u32,
+    inside: &[Instruction],
+    board: &mut Board,
+    frames: &mut Frames,
+    dealer: &mut D,
+) -> Result<(), Memory>
+    requires stands { Stands context.now board.old.laid frames.old.items }
+    requires well { IsEffectUnder context.now.about.now.sheet context.now.scope.now (for_each_of (domain_seen domain.now) bound (effects_in (list_seen inside.now))) }
+    requires simple { AreSimple (list_seen inside.now) }
+    ensures does { OnOk result (does_one context.now.about.now (D.dealing dealer.old) context.now.scope.now (for_each_of (domain_seen domain.now) bound (effects_in (list_seen inside.now)))
+        (point_of board.old.laid frames.old.items (D.state dealer.old)) ≡ point_of board.new.laid frames.new.items (D.state dealer.new)) }
+    ensures stands { OnOk result (Stands context.now board.new.laid frames.new.items) }
+    ensures keeps { Keeps board.old board.new }
+    ensures shuffled { HasShuffled (D.dealing dealer.old) (D.state dealer.old) (D.state dealer.new) }
+    ensures dealing { D.dealing dealer.new ≡ D.dealing dealer.old }
+{
+    match domain {
+        Domain::Players => for_players(context, inside, board, frames, dealer),
+        Domain::Coll(cards) => for_cards(context, cards, inside, board, frames, dealer),
+        Domain::Parts(_, _) => unreachable!(),
+    }
+}
+
+#[tactic(auto, using(crate::proofs::ShuffleLemmas::not_shuffled))]
+#[cycle(blocks)]
+fn for_players<D: Dealer>(
+    context: &Context,
+    inside: &[Instruction],
+    board: &mut Board,
+    frames: &mut Frames,
+    dealer: &mut D,
+) -> Result<(), Memory>
+    requires stands { Stands context.now board.old.laid frames.old.items }
+    requires room { length context.now.scope.now < 5 }
+    requires well { (member : PureBind CardValue) → AreEffectsUnder context.now.about.now.sheet (context.now.scope.now ++ member ∷ []) (effects_in (list_seen inside.now)) }
+    requires simple { AreSimple (list_seen inside.now) }
+    ensures does { OnOk result (fold (λ mid member. does context.now.about.now (D.dealing dealer.old) (context.now.scope.now ++ member ∷ []) (effects_in (list_seen inside.now)) mid)
+        (point_of board.old.laid frames.old.items (D.state dealer.old)) (map (λ n. player_bound n) (below context.now.about.now.sheet.players))
+        ≡ point_of board.new.laid frames.new.items (D.state dealer.new)) }
+    ensures stands { OnOk result (Stands context.now board.new.laid frames.new.items) }
+    ensures keeps { Keeps board.old board.new }
+    ensures shuffled { HasShuffled (D.dealing dealer.old) (D.state dealer.old) (D.state dealer.new) }
+    ensures dealing { D.dealing dealer.new ≡ D.dealing dealer.old }
+{
+    for player in 0..context.about.sheet().players {
+        match do_for(context, inside, Bind::Player(player), board, frames, dealer) {
+            Ok(()) => {}
+            Err(Memory) => return Err(Memory),
+        }
+    }
+    Ok(())
+}
+
+// Which cards they are is read before the first one's effects are done.
+#[tactic(auto, using(crate::proofs::ShuffleLemmas::not_shuffled))]
+#[cycle(blocks)]
+fn for_cards<D: Dealer>(
+    context: &Context,
+    cards: &CollExpr,
+    inside: &[Instruction],
+    board: &mut Board,
+    frames: &mut Frames,
+    dealer: &mut D,
+) -> Result<(), Memory>
+    requires stands { Stands context.now board.old.laid frames.old.items }
+    requires cards { IsCollUnder context.now.about.now.sheet context.now.scope.now (coll_seen cards.now) }
+    requires room { length context.now.scope.now < 5 }
+    requires well { (member : PureBind CardValue) → AreEffectsUnder context.now.about.now.sheet (context.now.scope.now ++ member ∷ []) (effects_in (list_seen inside.now)) }
+    requires simple { AreSimple (list_seen inside.now) }
+    ensures does { OnOk result (fold (λ mid member. does context.now.about.now (D.dealing dealer.old) (context.now.scope.now ++ member ∷ []) (effects_in (list_seen inside.now)) mid)
+        (point_of board.old.laid frames.old.items (D.state dealer.old))
+        (map (λ c. card_bound c) (coll_value (scene_in context.now board.old.laid frames.old.items) context.now.scope.now (coll_seen cards.now)))
+        ≡ point_of board.new.laid frames.new.items (D.state dealer.new)) }
+    ensures stands { OnOk result (Stands context.now board.new.laid frames.new.items) }
+    ensures keeps { Keeps board.old board.new }
+    ensures shuffled { HasShuffled (D.dealing dealer.old) (D.state dealer.old) (D.state dealer.new) }
+    ensures dealing { D.dealing dealer.new ≡ D.dealing dealer.old }
+{
+    let mut room = Cards::new();
+    cards_now(context, cards, board.table(), &*frames, &mut room);
+    for card in room.as_slice() {
+        match do_for(context, inside, Bind::Card(*card), board, frames, dealer) {
+            Ok(()) => {}
+            Err(Memory) => return Err(Memory),
+        }
+    }
+    Ok(())
+}
+
+// Does effects with one variable more.
+#[tactic(auto, using(crate::proofs::ShuffleLemmas::not_shuffled))]
+#[cycle(blocks)]
+fn do_for<D: Dealer>(
+    context: &Context,
+    inside: &[Instruction],
+    member: Bind,
+    board: &mut Board,
+    frames: &mut Frames,
+    dealer: &mut D,
+) -> Result<(), Memory>
+    requires stands { Stands context.now board.old.laid frames.old.items }
+    requires room { length context.now.scope.now < 5 }
+    requires member { IsBindOf context.now.about.now.shape (bind_seen member) }
+    requires well { AreEffectsUnder context.now.about.now.sheet (context.now.scope.now ++ bind_seen member ∷ []) (effects_in (list_seen inside.now)) }
+    requires simple { AreSimple (list_seen inside.now) }
+    ensures does { OnOk result (does context.now.about.now (D.dealing dealer.old) (context.now.scope.now ++ bind_seen member.entry ∷ []) (effects_in (list_seen inside.now))
+        (point_of board.old.laid frames.old.items (D.state dealer.old)) ≡ point_of board.new.laid frames.new.items (D.state dealer.new)) }
+    ensures stands { OnOk result (Stands context.now board.new.laid frames.new.items) }
+    ensures keeps { Keeps board.old board.new }
+    ensures shuffled { HasShuffled (D.dealing dealer.old) (D.state dealer.old) (D.state dealer.new) }
+    ensures dealing { D.dealing dealer.new ≡ D.dealing dealer.old }
+{
+    let scope = context.scope.with(member);
+    let inner = Context {
+        about: context.about,
+        scope: &scope,
+        current: context.current,
+    };
+    do_block(&inner, inside, board, frames, dealer)
+}
+
+/// Where the code behind so many instructions begins, that stand from a place on.
+pub fn behind(code: &[Instruction], from: usize, inside: usize) -> usize
+    requires { from ≤ length code.now }
+    ensures { drop result (list_seen code.now) ≡ drop (from + inside) (list_seen code.now) }
+{
+    from + inside.min(code.len() - from)
+}
+
+/// Does the effects of a block outside all binders.
+#[tactic(auto, using(crate::proofs::ShuffleLemmas::not_shuffled))]
+pub fn do_outside<D: Dealer>(
+    about: &About,
+    code: &[Instruction],
+    board: &mut Board,
+    frames: &mut Frames,
+    dealer: &mut D,
+) -> Result<(), Memory>
+    requires laid { board.old.laid.shape ≡ about.now.shape }
+    requires well { (around : Around) × (around.binders ≡ 0) × AreEffects about.now.sheet around (effects_in (list_seen code.now)) }
+    requires simple { AreSimple (list_seen code.now) }
+    ensures does { OnOk result (does about.now (D.dealing dealer.old) [] (effects_in (list_seen code.now))
+        (point_of board.old.laid frames.old.items (D.state dealer.old)) ≡ point_of board.new.laid frames.new.items (D.state dealer.new)) }
+    ensures keeps { Keeps board.old board.new }
+    ensures shuffled { HasShuffled (D.dealing dealer.old) (D.state dealer.old) (D.state dealer.new) }
+    ensures dealing { D.dealing dealer.new ≡ D.dealing dealer.old }
+{
+    let scope = Scope::empty();
+    let current = current_of(about.sheet(), about.lookup(), frames.as_slice());
+    let context = Context {
+        about,
+        scope: &scope,
+        current,
+    };
+    do_block(&context, code, board, frames, dealer)
+}

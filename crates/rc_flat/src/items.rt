@@ -1,0 +1,151 @@
+//! The effects of an item that was chosen.
+ghost use Rattle.std.specs.Prelude.{◌≡◌, ◌<◌, [], ◌∷◌, ◌++◌, length, OnOk};
+ghost use Rattle.rc_sheet_model.specs.Sheet.{any_alt};
+ghost use Rattle.rc_play_model.specs.Value.{Bind as PureBind};
+ghost use Rattle.rc_play_model.specs.Scene.{CardValue};
+ghost use Rattle.rc_play_model.specs.About.{scene_at};
+ghost use Rattle.rc_play_model.specs.Menu.{alt_in, bindings_of, effects_of};
+ghost use Rattle.rc_play_model.specs.Effects.{does};
+ghost use Rattle.rc_ast.specs.Expressions.{domain_seen};
+ghost use Rattle.rc_ast.specs.Items.{alt_seen, alts_seen};
+ghost use Rattle.rc_rules.specs.Control.{frames_seen};
+ghost use Rattle.rc_state.specs.Point.{point_of};
+ghost use Rattle.rc_state.specs.Under.{IsAltUnder, IsDomainUnder};
+ghost use Rattle.rc_state.specs.Bindings.{AreAltsOutside};
+ghost use Rattle.rc_state.specs.Context.{scene_in, Stands};
+ghost use Rattle.rc_flat.specs.Undo.{Keeps};
+ghost use Rattle.rc_code.specs.Meaning.{effects_in};
+ghost use Rattle.rc_code.specs.Seen.{list_seen};
+ghost use Rattle.rc_code.specs.Serves.{AreSimple};
+ghost use Rattle.rc_rules.specs.Dealer.{HasShuffled};
+
+use crate::blocks::do_block;
+use crate::board::Board;
+use rc_ast::{Alt, Domain};
+use rc_code::Instruction;
+use rc_deck::Memory;
+use rc_rules::{About, Dealer, Frames, Item};
+use rc_state::{Context, bind_of, member_at};
+use rc_value::{Cards, Scope, current_of};
+
+/// Does the effects of an item of a menu, with its variables bound. Their code is a block.
+///
+/// An alternative that isn't there has no effects, and a position that isn't there stands for player 0.
+#[tactic(auto, using(crate::proofs::ShuffleLemmas::not_shuffled))]
+pub fn do_item<D: Dealer>(
+    about: &About,
+    alts: &[Alt],
+    block: &[Instruction],
+    item: &Item,
+    board: &mut Board,
+    frames: &mut Frames,
+    dealer: &mut D,
+) -> Result<(), Memory>
+    requires shape { board.old.laid.shape ≡ about.now.shape }
+    requires well { AreAltsOutside about.now.sheet (alts_seen alts.now) }
+    requires block { effects_in (list_seen block.now) ≡ effects_of (alt_in (alts_seen alts.now) item.now.alt) }
+    requires simple { AreSimple (list_seen block.now) }
+    ensures does { OnOk result (let alt = alt_in (alts_seen alts.now) item.now.alt in
+        does about.now (D.dealing dealer.old)
+        (bindings_of (scene_at about.now board.old.laid.table (frames_seen frames.old.items)) [] alt item.now.spots.items) (effects_of alt)
+        (point_of board.old.laid frames.old.items (D.state dealer.old)) ≡ point_of board.new.laid frames.new.items (D.state dealer.new)) }
+    ensures keeps { Keeps board.old board.new }
+    ensures shuffled { HasShuffled (D.dealing dealer.old) (D.state dealer.old) (D.state dealer.new) }
+    ensures dealing { D.dealing dealer.new ≡ D.dealing dealer.old }
+{
+    let Some(alt) = alts.get(item.alt as usize) else {
+        return Ok(());
+    };
+    let scope = Scope::empty();
+    let current = current_of(about.sheet(), about.lookup(), frames.as_slice());
+    let context = Context {
+        about,
+        scope: &scope,
+        current,
+    };
+    do_alt(
+        &context,
+        alt,
+        block,
+        item.spots.as_slice(),
+        board,
+        frames,
+        dealer,
+    )
+}
+
+// Does the effects of an alternative whose variables these positions bind. Where none is left, nothing more is bound.
+#[tactic(auto, using(crate::proofs::ShuffleLemmas::not_shuffled))]
+#[cycle(alternatives)]
+fn do_alt<D: Dealer>(
+    context: &Context,
+    alt: &Alt,
+    block: &[Instruction],
+    spots: &[u16],
+    board: &mut Board,
+    frames: &mut Frames,
+    dealer: &mut D,
+) -> Result<(), Memory>
+    requires stands { Stands context.now board.old.laid frames.old.items }
+    requires well { IsAltUnder context.now.about.now.sheet context.now.scope.now (alt_seen alt.now) }
+    requires block { effects_in (list_seen block.now) ≡ effects_of (alt_seen alt.now) }
+    requires simple { AreSimple (list_seen block.now) }
+    ensures does { OnOk result (does context.now.about.now (D.dealing dealer.old)
+        (bindings_of (scene_in context.now board.old.laid frames.old.items) context.now.scope.now (alt_seen alt.now) spots.now) (effects_of (alt_seen alt.now))
+        (point_of board.old.laid frames.old.items (D.state dealer.old)) ≡ point_of board.new.laid frames.new.items (D.state dealer.new)) }
+    ensures keeps { Keeps board.old board.new }
+    ensures shuffled { HasShuffled (D.dealing dealer.old) (D.state dealer.old) (D.state dealer.new) }
+    ensures dealing { D.dealing dealer.new ≡ D.dealing dealer.old }
+{
+    match alt {
+        Alt::Do(_) => do_block(context, block, board, frames, dealer),
+        Alt::If(_, _) => do_block(context, block, board, frames, dealer),
+        Alt::Any(domain, _, inner) => {
+            do_any(context, inner, domain, block, spots, board, frames, dealer)
+        }
+    }
+}
+
+// The same with the alternative inside a domain.
+#[tactic(auto, using(crate::proofs::ShuffleLemmas::not_shuffled))]
+#[cycle(alternatives)]
+fn do_any<D: Dealer>(
+    context: &Context,
+    inner: &Alt,
+    domain: &Domain,
+    block: &[Instruction],
+    spots: &[u16],
+    board: &mut Board,
+    frames: &mut Frames,
+    dealer: &mut D,
+) -> Result<(), Memory>
+    requires stands { Stands context.now board.old.laid frames.old.items }
+    requires domain { IsDomainUnder context.now.about.now.sheet context.now.scope.now (domain_seen domain.now) }
+    requires room { length context.now.scope.now < 5 }
+    requires well { (member : PureBind CardValue) → IsAltUnder context.now.about.now.sheet (context.now.scope.now ++ member ∷ []) (alt_seen inner.now) }
+    requires bare { IsAltUnder context.now.about.now.sheet context.now.scope.now (alt_seen inner.now) }
+    requires block { effects_in (list_seen block.now) ≡ effects_of (alt_seen inner.now) }
+    requires simple { AreSimple (list_seen block.now) }
+    ensures does { OnOk result (does context.now.about.now (D.dealing dealer.old)
+        (bindings_of (scene_in context.now board.old.laid frames.old.items) context.now.scope.now (any_alt (domain_seen domain.now) 0 (alt_seen inner.now)) spots.now)
+        (effects_of (alt_seen inner.now))
+        (point_of board.old.laid frames.old.items (D.state dealer.old)) ≡ point_of board.new.laid frames.new.items (D.state dealer.new)) }
+    ensures keeps { Keeps board.old board.new }
+    ensures shuffled { HasShuffled (D.dealing dealer.old) (D.state dealer.old) (D.state dealer.new) }
+    ensures dealing { D.dealing dealer.new ≡ D.dealing dealer.old }
+{
+    match spots.split_first() {
+        None => do_alt(context, inner, block, spots, board, frames, dealer),
+        Some((spot, rest)) => {
+            let mut room = Cards::new();
+            let member = member_at(context, domain, *spot, board.table(), &*frames, &mut room);
+            let scope = context.scope.with(bind_of(member, &room));
+            let within = Context {
+                about: context.about,
+                scope: &scope,
+                current: context.current,
+            };
+            do_alt(&within, inner, block, rest, board, frames, dealer)
+        }
+    }
+}

@@ -1,0 +1,190 @@
+//! Machines that are made at the start of a match or at a decision.
+ghost use Rattle.std.specs.Prelude.{◌≡◌, false, IfOk};
+ghost use Rattle.rc_play_model.specs.Step.{start};
+ghost use Rattle.rc_play_model.specs.Shape.{shape_of};
+ghost use Rattle.rc_play_model.specs.Decision.{at_site};
+ghost use Rattle.rc_play_model.specs.Table.{opening};
+ghost use Rattle.rc_rules.specs.Control.{control_seen};
+ghost use Rattle.rc_rules.specs.Machine.{CanDecide};
+ghost use Rattle.rc_code.specs.Seen.{list_seen, code_seen};
+ghost use Rattle.rc_code.specs.Stands.{StandsFor};
+ghost use Rattle.rc_flat.specs.Flat.{flat_from, config_of};
+ghost use Rattle.rc_flat.specs.Moments.{IsInMatch};
+
+use crate::board::Board;
+use crate::machine::FlatMachine;
+use crate::place::Place;
+use crate::site::{place_of, site_of};
+use crate::state::State;
+use rc_code::{Code, sites_are_placed, standing_code_serves};
+use rc_deck::Memory;
+use rc_flow::Checked;
+use rc_rules::{About, Control, Menu};
+use rc_state::new_control;
+use rc_table::{Shape, Table};
+use std::alloc::Global;
+use std::sync::Arc;
+
+impl FlatMachine {
+    /// A match at its start. The shape is the sheet's, and the code stands for the sheet.
+    pub fn start(
+        alloc: Global,
+        code: &Arc<Code>,
+        checked: &Arc<Checked>,
+        shape: &Arc<Shape>,
+        turns: u32,
+    ) -> Result<FlatMachine, Memory>
+        requires shape { shape.now.value ≡ shape_of checked.now.value }
+        requires stands { StandsFor checked.now.value (code_seen code.now.value) }
+        ensures about { IfOk result (λ m. m.about ≡ record { sheet = checked.now.value; shape = shape.now.value; turns = turns }) }
+        ensures start { IfOk result (λ m. m.config ≡ start (record { sheet = checked.now.value; shape = shape.now.value; turns = turns })) }
+        ensures fresh { IfOk result (λ m. m.spent ≡ false) }
+    {
+        let about = about_of(alloc, checked, shape, turns)?;
+        FlatMachine::at_start(alloc, code, about)
+    }
+
+    /// A match at its start, in matches of this about, which is copied. The code stands for its sheet.
+    pub fn start_of(alloc: Global, code: &Arc<Code>, about: &About) -> Result<FlatMachine, Memory>
+        requires { StandsFor about.now.sheet (code_seen code.now.value) }
+        ensures about { IfOk result (λ m. m.about ≡ about.now) }
+        ensures start { IfOk result (λ m. m.config ≡ start about.now) }
+        ensures fresh { IfOk result (λ m. m.spent ≡ false) }
+    {
+        match about.copy() {
+            Ok(about) => FlatMachine::at_start(alloc, code, about),
+            Err(Memory) => Err(Memory),
+        }
+    }
+
+    /// A match at its start, in matches of this about. The code stands for its sheet.
+    pub fn at_start(alloc: Global, code: &Arc<Code>, about: About) -> Result<FlatMachine, Memory>
+        requires { StandsFor about.sheet (code_seen code.now.value) }
+        ensures about { IfOk result (λ m. m.about ≡ about) }
+        ensures start { IfOk result (λ m. m.config ≡ start about) }
+        ensures fresh { IfOk result (λ m. m.spent ≡ false) }
+    {
+        let code = Arc::try_clone(code)?;
+        let table = Table::new(alloc, about.shape())?;
+        Ok(FlatMachine::with_opening(alloc, code, about, table))
+    }
+
+    fn with_opening(alloc: Global, code: Arc<Code>, about: About, table: Table) -> FlatMachine
+        requires stands { StandsFor about.sheet (code_seen code.value) }
+        requires opens { table ≡ record { shape = about.shape; table = opening about.shape } }
+        ensures about { result.about ≡ about }
+        ensures start { result.config ≡ start about }
+        ensures fresh { result.spent ≡ false }
+    {
+        standing_code_serves();
+        let _sheet = about.sheet();
+        let control = new_control(&about);
+        FlatMachine {
+            about,
+            code,
+            state: State {
+                board: Board::new(alloc, table),
+                control,
+                place: Place::start(),
+                menu: Menu::new(),
+            },
+            saves: Vec::new(alloc),
+            spent: false,
+        }
+    }
+
+    /// A match at the decision for which this table and this control stand. The shape is the sheet's, and the code stands for the
+    /// sheet.
+    pub fn at(
+        alloc: Global,
+        code: &Arc<Code>,
+        checked: &Arc<Checked>,
+        shape: &Arc<Shape>,
+        turns: u32,
+        table: Table,
+        control: Control,
+    ) -> Result<FlatMachine, Memory>
+        requires shape { shape.now.value ≡ shape_of checked.now.value }
+        requires stands { StandsFor checked.now.value (code_seen code.now.value) }
+        requires laid { table.shape ≡ shape.now.value }
+        requires decides { CanDecide (record { sheet = checked.now.value; shape = shape.now.value; turns = turns }) table.table (control_seen control) }
+        ensures about { IfOk result (λ m. m.about ≡ record { sheet = checked.now.value; shape = shape.now.value; turns = turns }) }
+        ensures at { IfOk result (λ m. m.config
+            ≡ at_site (record { sheet = checked.now.value; shape = shape.now.value; turns = turns }) table.table (control_seen control)) }
+        ensures fresh { IfOk result (λ m. m.spent ≡ false) }
+    {
+        let about = about_of(alloc, checked, shape, turns)?;
+        FlatMachine::at_decision(alloc, code, about, table, control)
+    }
+
+    /// A match at the decision for which this table and this control stand, in matches of this about. The code stands for its sheet.
+    pub fn at_decision(
+        alloc: Global,
+        code: &Arc<Code>,
+        about: About,
+        table: Table,
+        control: Control,
+    ) -> Result<FlatMachine, Memory>
+        requires stands { StandsFor about.sheet (code_seen code.now.value) }
+        requires laid { table.shape ≡ about.shape }
+        requires decides { CanDecide about table.table (control_seen control) }
+        ensures about { IfOk result (λ m. m.about ≡ about) }
+        ensures at { IfOk result (λ m. m.config ≡ at_site about table.table (control_seen control)) }
+        ensures fresh { IfOk result (λ m. m.spent ≡ false) }
+    {
+        sites_are_placed();
+        let _sheet = about.sheet();
+        let place = place_of(code, site_of(&control));
+        let code = Arc::try_clone(code)?;
+        Ok(FlatMachine::at_place(alloc, code, about, table, control, place))
+    }
+
+    // A match at this place of its code.
+    fn at_place(
+        alloc: Global,
+        code: Arc<Code>,
+        about: About,
+        table: Table,
+        control: Control,
+        place: Place,
+    ) -> FlatMachine
+        requires stands { StandsFor about.sheet (code_seen code.value) }
+        requires laid { table.shape ≡ about.shape }
+        requires on { IsInMatch (flat_from about (list_seen code.value.list.items) place table.table (control_seen control)) }
+        ensures about { result.about ≡ about }
+        ensures at { result.config ≡ config_of (flat_from about (list_seen code.value.list.items) place table.table (control_seen control)) }
+        ensures fresh { result.spent ≡ false }
+    {
+        standing_code_serves();
+        let _sheet = about.sheet();
+        let mut state = State {
+            board: Board::new(alloc, table),
+            control,
+            place,
+            menu: Menu::new(),
+        };
+        state.refill(&about, &code.list);
+        FlatMachine {
+            about,
+            code,
+            state,
+            saves: Vec::new(alloc),
+            spent: false,
+        }
+    }
+}
+
+// What the match is played by.
+fn about_of(
+    alloc: Global,
+    checked: &Arc<Checked>,
+    shape: &Arc<Shape>,
+    turns: u32,
+) -> Result<About, Memory>
+    requires { shape.now.value ≡ shape_of checked.now.value }
+    ensures { IfOk result (λ about. about ≡ record { sheet = checked.now.value; shape = shape.now.value; turns = turns }) }
+{
+    let checked = Arc::try_clone(checked)?;
+    let shape = Arc::try_clone(shape)?;
+    About::new(alloc, checked, shape, turns)
+}

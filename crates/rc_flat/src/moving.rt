@@ -1,0 +1,107 @@
+//! Cards that go somewhere else.
+ghost use Rattle.std.specs.Prelude.{◌≡◌, ◌<◌, length, fold, All, OnOk};
+ghost use Rattle.rc_sheet_model.specs.Sheet.{move, move_all as move_all_of};
+ghost use Rattle.rc_play_model.specs.Bound.{HoldsCards, IsCardOf};
+ghost use Rattle.rc_play_model.specs.Effects.{move_card, put as put_of};
+ghost use Rattle.rc_ast.specs.Names.{loc_seen};
+ghost use Rattle.rc_ast.specs.Expressions.{card_seen, coll_seen};
+ghost use Rattle.rc_ast.specs.Effects.{end_seen};
+ghost use Rattle.rc_table.specs.Laid.{relaid};
+ghost use Rattle.rc_value.specs.Cards.{value_seen, values_seen};
+ghost use Rattle.rc_state.specs.Context.{Stands};
+ghost use Rattle.rc_state.specs.Under.{IsEffectUnder};
+ghost use Rattle.rc_state.specs.Leads.{LeadsTo};
+ghost use Rattle.rc_flat.specs.Undo.{Keeps};
+
+use crate::board::Board;
+use rc_ast::{CardExpr, CollExpr, End, Loc};
+use rc_deck::Memory;
+use rc_rules::Frames;
+use rc_state::{Context, card_now, cards_now, loc_now};
+use rc_value::{Card, Cards};
+
+/// Moves a card to an end of a location.
+pub fn move_one(
+    context: &Context,
+    card: &CardExpr,
+    end: End,
+    loc: &Loc,
+    board: &mut Board,
+    frames: &Frames,
+) -> Result<(), Memory>
+    requires stands { Stands context.now board.old.laid frames.now.items }
+    requires well { IsEffectUnder context.now.about.now.sheet context.now.scope.now (move (card_seen card.now) (end_seen end) (loc_seen loc.now)) }
+    ensures leads { OnOk result (LeadsTo context.now (move (card_seen card.now) (end_seen end) (loc_seen loc.now)) board.old.laid frames.now.items board.new.laid frames.now.items) }
+    ensures keeps { Keeps board.old board.new }
+{
+    let Some(at) = loc_now(context, loc, board.table(), frames) else {
+        return Ok(());
+    };
+    let Some(card) = card_now(context, card, board.table(), frames) else {
+        return Ok(());
+    };
+    put(board, card, end, at)
+}
+
+/// Moves all cards of a collection, one after the other. Which cards they are is read before the first one moves.
+pub fn move_all(
+    context: &Context,
+    cards: &CollExpr,
+    end: End,
+    loc: &Loc,
+    board: &mut Board,
+    frames: &Frames,
+) -> Result<(), Memory>
+    requires stands { Stands context.now board.old.laid frames.now.items }
+    requires well { IsEffectUnder context.now.about.now.sheet context.now.scope.now (move_all_of (coll_seen cards.now) (end_seen end) (loc_seen loc.now)) }
+    ensures leads { OnOk result (LeadsTo context.now (move_all_of (coll_seen cards.now) (end_seen end) (loc_seen loc.now)) board.old.laid frames.now.items board.new.laid frames.now.items) }
+    ensures keeps { Keeps board.old board.new }
+{
+    let Some(at) = loc_now(context, loc, board.table(), frames) else {
+        return Ok(());
+    };
+    let mut room = Cards::new();
+    cards_now(context, cards, board.table(), frames, &mut room);
+    put_all(board, room.as_slice(), end, at)
+}
+
+// Puts these cards there, the first one first.
+fn put_all(board: &mut Board, cards: &[Card], end: End, at: u16) -> Result<(), Memory>
+    requires cards { All (λ card. IsCardOf board.old.laid.shape (value_seen card)) cards.now }
+    requires holds { HoldsCards board.old.laid.shape at }
+    ensures leads { OnOk result (board.new.laid ≡ relaid board.old.laid (fold (move_card board.old.laid.shape (end_seen end) at) board.old.laid.table (values_seen cards.now))) }
+    ensures keeps { Keeps board.old board.new }
+{
+    for card in cards {
+        match put(board, *card, end, at) {
+            Ok(()) => {}
+            Err(Memory) => return Err(Memory),
+        }
+    }
+    Ok(())
+}
+
+// Puts a card there. A reference stays where it is.
+fn put(board: &mut Board, card: Card, end: End, at: u16) -> Result<(), Memory>
+    requires card { IsCardOf board.old.laid.shape (value_seen card) }
+    requires holds { HoldsCards board.old.laid.shape at }
+    ensures leads { OnOk result (board.new.laid ≡ relaid board.old.laid (move_card board.old.laid.shape (end_seen end) at board.old.laid.table (value_seen card))) }
+    ensures keeps { Keeps board.old board.new }
+{
+    match card {
+        Card::Held(id) => put_card(board, id, end, at),
+        Card::Noted { .. } => Ok(()),
+    }
+}
+
+fn put_card(board: &mut Board, id: u16, end: End, at: u16) -> Result<(), Memory>
+    requires card { id < length board.old.laid.shape.faces }
+    requires holds { HoldsCards board.old.laid.shape at }
+    ensures leads { OnOk result (board.new.laid ≡ relaid board.old.laid (put_of board.old.laid.shape (end_seen end) id at board.old.laid.table)) }
+    ensures keeps { Keeps board.old board.new }
+{
+    match end {
+        End::Top => board.put_top(id, at),
+        End::Bottom => board.put_bottom(id, at),
+    }
+}

@@ -1,0 +1,51 @@
+//! Numbers that are set and changed.
+ghost use Rattle.std.specs.Prelude.{◌≡◌, OnOk};
+ghost use Rattle.rc_model.specs.Clamp.{IsWithinClamp};
+ghost use Rattle.rc_play_model.specs.Effects as effects;
+ghost use Rattle.rc_ast.specs.Names.{num_seen};
+ghost use Rattle.rc_ast.specs.Expressions.{int_seen};
+ghost use Rattle.rc_table.specs.Laid.{relaid};
+ghost use Rattle.rc_state.specs.Context.{Stands};
+ghost use Rattle.rc_state.specs.Under.{IsEffectUnder};
+ghost use Rattle.rc_state.specs.Leads.{LeadsTo, effect_by, new_by};
+ghost use Rattle.rc_flat.specs.Undo.{Keeps};
+
+use crate::board::Board;
+use rc_ast::{IntExpr, Num};
+use rc_deck::Memory;
+use rc_rules::Frames;
+use rc_state::{Change, Context, changed, int_now, num_now};
+
+/// Changes a number by the value of an expression.
+pub fn change_number(
+    context: &Context,
+    how: Change,
+    num: &Num,
+    value: &IntExpr,
+    board: &mut Board,
+    frames: &Frames,
+) -> Result<(), Memory>
+    requires stands { Stands context.now board.old.laid frames.now.items }
+    requires well { IsEffectUnder context.now.about.now.sheet context.now.scope.now (effect_by how (num_seen num.now) (int_seen value.now)) }
+    ensures leads { OnOk result (LeadsTo context.now (effect_by how (num_seen num.now) (int_seen value.now)) board.old.laid frames.now.items board.new.laid frames.now.items) }
+    ensures keeps { Keeps board.old board.new }
+{
+    let table = board.table();
+    let Some(at) = num_now(context, num, table, frames) else {
+        return Ok(());
+    };
+    let value = int_now(context, value, table, frames);
+    match change_at(board, at, how, value) {
+        Ok(()) => Ok(()),
+        Err(Memory) => Err(Memory),
+    }
+}
+
+fn change_at(board: &mut Board, at: u16, how: Change, value: i64) -> Result<(), Memory>
+    requires clamped { IsWithinClamp value }
+    ensures leads { OnOk result (board.new.laid ≡ relaid board.old.laid (effects.change (new_by how) value at board.old.laid.table)) }
+    ensures keeps { Keeps board.old board.new }
+{
+    let old = board.table().number(at);
+    board.set_number(at, changed(how, old, value))
+}

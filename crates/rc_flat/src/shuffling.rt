@@ -1,0 +1,58 @@
+//! Locations that are shuffled.
+ghost use Rattle.std.specs.Prelude.{◌≡◌, ◌<◌, length, OnOk};
+ghost use Rattle.rc_sheet_model.specs.Sheet.{shuffle as shuffle_of};
+ghost use Rattle.rc_play_model.specs.Table.{list_at, reorder};
+ghost use Rattle.rc_play_model.specs.Effects.{does_one};
+ghost use Rattle.rc_ast.specs.Names.{loc_seen};
+ghost use Rattle.rc_table.specs.Laid.{relaid};
+ghost use Rattle.rc_state.specs.Context.{Stands};
+ghost use Rattle.rc_state.specs.Under.{IsEffectUnder};
+ghost use Rattle.rc_state.specs.Point.{point_of};
+ghost use Rattle.rc_flat.specs.Undo.{Keeps};
+ghost use Rattle.rc_rules.specs.Dealer.{HasShuffled};
+
+use crate::board::Board;
+use rc_ast::Loc;
+use rc_deck::Memory;
+use rc_rules::{Dealer, Frames};
+use rc_state::{Context, loc_now, places};
+
+/// Shuffles a location.
+#[tactic(auto, using(crate::proofs::ShuffleLemmas::not_shuffled))]
+pub fn shuffle<D: Dealer>(
+    context: &Context,
+    loc: &Loc,
+    board: &mut Board,
+    frames: &Frames,
+    dealer: &mut D,
+) -> Result<(), Memory>
+    requires stands { Stands context.now board.old.laid frames.now.items }
+    requires well { IsEffectUnder context.now.about.now.sheet context.now.scope.now (shuffle_of (loc_seen loc.now)) }
+    ensures does { OnOk result (does_one context.now.about.now (D.dealing dealer.old) context.now.scope.now (shuffle_of (loc_seen loc.now))
+        (point_of board.old.laid frames.now.items (D.state dealer.old)) ≡ point_of board.new.laid frames.now.items (D.state dealer.new)) }
+    ensures keeps { Keeps board.old board.new }
+    ensures shuffled { HasShuffled (D.dealing dealer.old) (D.state dealer.old) (D.state dealer.new) }
+    ensures dealing { D.dealing dealer.new ≡ D.dealing dealer.old }
+{
+    let Some(at) = loc_now(context, loc, board.table(), frames) else {
+        return Ok(());
+    };
+    shuffle_at(board, at, dealer)
+}
+
+#[tactic(auto, using(crate::proofs::ShuffleLemmas::not_shuffled, crate::proofs::ShuffleLemmas::one_shuffle))]
+fn shuffle_at<D: Dealer>(board: &mut Board, at: u16, dealer: &mut D) -> Result<(), Memory>
+    requires there { at < length board.old.laid.shape.places }
+    ensures table { OnOk result (board.new.laid ≡ relaid board.old.laid (reorder at ((D.dealing dealer.old).order (D.state dealer.old) (length (list_at board.old.laid.table at))) board.old.laid.table)) }
+    ensures keeps { Keeps board.old board.new }
+    ensures next { D.state dealer.new ≡ (D.dealing dealer.old).next (D.state dealer.old) (length (list_at board.old.laid.table at)) }
+    ensures shuffled { HasShuffled (D.dealing dealer.old) (D.state dealer.old) (D.state dealer.new) }
+    ensures dealing { D.dealing dealer.new ≡ D.dealing dealer.old }
+{
+    let mut order = places(board.table().list(at).len());
+    dealer.shuffle(order.as_mut_slice());
+    match board.reorder(at, order.as_slice()) {
+        Ok(()) => Ok(()),
+        Err(Memory) => Err(Memory),
+    }
+}
