@@ -18,7 +18,7 @@ use Rattle.rc_play_model.proofs.FoundLemmas.{found, index_found}
 use Rattle.rc_play_model.proofs.SoundLemmas.{put_top_sound, remember_top_sound}
 use Rattle.rc_play_model.proofs.OpeningLemmas.{opening_sound}
 use Rattle.rc_redraw.specs.Laying.{put_each, remember_each, lay_at, lay_from}
-use Rattle.rc_redraw.proofs.OnePlace.{one_place, is_card}
+use Rattle.rc_table.proofs.OnePlace.{one_place, is_card}
 use Rattle.rc_redraw.proofs.Standing.{no_references, only_references, are_cards, are_references, changed, changed_here, changed_there, by_equal, Stands, stands-same, onto_stands, put_stands}
 
 -- how many references a location holds, by its number

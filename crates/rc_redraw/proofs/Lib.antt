@@ -1,4 +1,3 @@
-mod OnePlace
 mod Standing
 mod Laid
 mod FillSteps

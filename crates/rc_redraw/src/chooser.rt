@@ -1,8 +1,8 @@
 //! What chooses for the seats.
-ghost use Rattle.std.specs.Prelude.{◌≡◌, ◌≤◌, ◌+◌, Option, IfOk, OnOk, OnErr};
+ghost use Rattle.std.specs.Prelude.{◌≡◌, ◌≤◌, ◌+◌, IfOk, OnOk, OnErr};
 ghost use Rattle.rc_play_model.specs.About.{About as PureAbout};
 ghost use Rattle.rc_play_model.specs.Keyed.{choice_of};
-ghost use Rattle.rc_redraw.specs.Counts.{Counts, Serves};
+ghost use Rattle.rc_redraw.specs.Counts.{Counts};
 ghost use Rattle.rc_redraw.specs.Need.{need_seen, IsNeed};
 ghost use Rattle.rc_redraw.specs.Choosing.{Chooses, AsksSome, asked_for, most_steps};
 
@@ -15,7 +15,7 @@ use std::sync::ledger::Ledger;
 /// Chooses as strategies do. For a rollout it asks a memo once, and what that misses is played out, a step for each playout. Other
 /// strategies ask nothing. Where memory runs out, nothing was kept.
 pub trait Chooser {
-    ghost serves: { Self → Option PureAbout };
+    ghost serves: { Self → PureAbout → Type 0 };
 
     ghost counts: { Self → Counts };
 
@@ -26,7 +26,7 @@ pub trait Chooser {
         need: &Need,
         steps: &mut Steps<L>,
     ) -> Result<u16, Memory>
-        requires served { Serves (serves self.old) (need_seen need.now).about }
+        requires served { serves self.old (need_seen need.now).about }
         requires need { IsNeed (need_seen need.now) }
         ensures is { IfOk result (λ item. item
             ≡ choice_of (need_seen need.now).about (need_seen need.now).strategy (need_seen need.now).seed (need_seen need.now).view) }
@@ -34,5 +34,5 @@ pub trait Chooser {
         ensures lacking { OnErr result (AsksSome (asked_for (need_seen need.now)) (counts self.old) (counts self.new) steps.old steps.new) }
         ensures rises { steps.old ≤ steps.new }
         ensures bounded { steps.new ≤ steps.old + most_steps (need_seen need.now) }
-        ensures same { serves self.new ≡ serves self.old };
+        ensures same { (about : PureAbout) → serves self.old about → serves self.new about };
 }
