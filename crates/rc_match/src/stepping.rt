@@ -54,14 +54,8 @@ pub(crate) fn go_on<M: Machine>(
 {
     // what an about keeps
     let _sheet = job.about.sheet();
-    match take_any(&job.about, pick, machine, dealer, notes) {
-        Ok(()) => {}
-        Err(Memory) => return Err(Memory),
-    }
-    let stop = match machine.advance(dealer) {
-        Ok(stop) => stop,
-        Err(Memory) => return Err(Memory),
-    };
+    take_any(&job.about, pick, machine, dealer, notes)?;
+    let stop = machine.advance(dealer)?;
     arrive(alloc, job, stop, machine, dealer, notes)
 }
 
@@ -114,10 +108,7 @@ fn take<M: Machine>(
     ensures head { HaveSameHead (record_seen notes.old) (record_seen notes.new) }
 {
     let pick = pick_of(about, machine, item);
-    match notes.picks.push(pick) {
-        Ok(()) => {}
-        Err(_) => return Err(Memory),
-    }
+    notes.picks.push(pick)?;
     machine.apply(item, dealer)
 }
 
@@ -159,10 +150,7 @@ fn arrive<M: Machine>(
     ensures head { HaveSameHead (record_seen notes.old) (record_seen notes.new) }
 {
     match stop {
-        Stop::Decide { seat, .. } => match need_of(alloc, job, seat, machine) {
-            Ok(need) => Ok(Phase::Asks(need)),
-            Err(Memory) => Err(Memory),
-        },
+        Stop::Decide { seat, .. } => Ok(Phase::Asks(need_of(alloc, job, seat, machine)?)),
         Stop::Done => end(alloc, job, Ended::Done, machine, dealer, notes),
         Stop::Limit => end(alloc, job, Ended::Limit, machine, dealer, notes),
     }
@@ -181,24 +169,15 @@ fn need_of<M: Machine>(alloc: Global, job: &Job, seat: u8, machine: &M) -> Resul
 {
     // what an about keeps
     let _sheet = job.about.sheet();
-    let view = match view_of(
+    let view = view_of(
         alloc,
         job.about.shape(),
         machine.table(),
         machine.control(),
         seat,
-    ) {
-        Ok(view) => view,
-        Err(Memory) => return Err(Memory),
-    };
-    let strategy = match strategy_of(&job.plan, job.number, seat).copy(alloc) {
-        Ok(strategy) => strategy,
-        Err(Memory) => return Err(Memory),
-    };
-    let about = match Arc::try_clone(&job.about) {
-        Ok(about) => about,
-        Err(_) => return Err(Memory),
-    };
+    )?;
+    let strategy = strategy_of(&job.plan, job.number, seat).copy(alloc)?;
+    let about = Arc::try_clone(&job.about)?;
     Ok(Need {
         about,
         strategy,
@@ -224,8 +203,6 @@ fn end<M: Machine>(
         ≡ completed job.now.about.value (record_seen notes.old) (ending_seen stop) (M.config machine.now) dealer.now.count) }
     ensures head { HaveSameHead (record_seen notes.old) (record_seen notes.new) }
 {
-    match complete(alloc, &job.about, machine, dealer, stop, notes) {
-        Ok(()) => Ok(Phase::Over),
-        Err(Memory) => Err(Memory),
-    }
+    complete(alloc, &job.about, machine, dealer, stop, notes)?;
+    Ok(Phase::Over)
 }
