@@ -1,5 +1,5 @@
 -- What a rollout asks, and what that costs.
-use Rattle.std.proofs.Common.{◌≡◌, ℕ, ◌*◌, inl, List, [], ◌∷◌, Result, Ok, Err, OnOk, OnErr, refl, sym, ap, ◌∙◌}
+use Rattle.std.proofs.Common.{◌≡◌, ℕ, ◌*◌, List, [], ◌∷◌, Result, Ok, Err, OnOk, refl, sym, ap, ◌∙◌}
 use Rattle.rc_play_model.specs.About.{About}
 use Rattle.rc_play_model.specs.Strategy.{menu_size}
 use Rattle.rc_play_model.specs.Tally.{tally}
@@ -8,7 +8,7 @@ use Rattle.rc_rules.specs.Plan.{strategy_seen}
 use Rattle.rc_redraw.specs.declared.asking.Ask.{Ask}
 use Rattle.rc_redraw.specs.declared.need.Need.{Need}
 use Rattle.rc_redraw.specs.Asking.{Key, ask_seen, cost_of}
-use Rattle.rc_redraw.specs.Choosing.{Asks, AsksAll, AsksSome, Lacks, unasked, asked_by, asked_for}
+use Rattle.rc_redraw.specs.Choosing.{Asks, AsksAll, asked_by, asked_for}
 use Rattle.rc_redraw.specs.Counts.{Counts}
 use Rattle.rc_redraw.specs.Need.{need_seen}
 
@@ -39,15 +39,3 @@ asks_alone key before after n n' asks = (after, n', asks, (refl, refl))
 pub on_ok : {T E : Type 0} (r : Result T E) (P Q : Type 0) → (P → Q) → OnOk r P → OnOk r Q
 on_ok (Ok x) P Q so is = so is
 on_ok (Err e) P Q so is = tt
-
-pub lacks_alone : (key : Key) (before after : Counts) (n n' : ℕ) → Lacks key before after n n' → AsksSome (key ∷ []) before after n n'
-lacks_alone key before after n n' lacks = inl lacks
-
--- where nothing was asked yet
-pub none_asked : (keys : List Key) (before : Counts) (n : ℕ) → AsksSome keys before before n n
-none_asked [] before n = (refl, refl)
-none_asked (key ∷ keys) before n = inl (unasked refl refl)
-
-pub on_err : {T E : Type 0} (r : Result T E) (P Q : Type 0) → (P → Q) → OnErr r P → OnErr r Q
-on_err (Ok x) P Q so is = tt
-on_err (Err e) P Q so is = so is

@@ -4,6 +4,8 @@ ghost use Rattle.std.specs.List.{position_or_len};
 ghost use Rattle.rc_play_model.specs.Keyed.{choice_of};
 ghost use Rattle.rc_play_model.specs.Strategy as strategy;
 ghost use Rattle.rc_play_model.specs.Tally.{tally as tally_of};
+ghost use Rattle.rc_code.specs.Seen.{code_seen};
+ghost use Rattle.rc_code.specs.Stands.{StandsFor};
 ghost use Rattle.rc_redraw.specs.Asking.{cost_of, key_seen};
 ghost use Rattle.rc_redraw.specs.Choosing.{Asks, AsksSome, Chooses, Lacks, asked_for, most_steps};
 ghost use Rattle.rc_redraw.specs.Counts.{Serves, kept_once};
@@ -12,6 +14,7 @@ ghost use Rattle.rc_rollout.specs.Alone.{IsOffhand, keys_of};
 
 use crate::offhand::{made_by, picked, scripted};
 use crate::totals::tally;
+use rc_code::Code;
 use rc_deck::Memory;
 use rc_play_model::tallies_are_bounded;
 use rc_redraw::{Ask, Key, Memo, Need, Reply};
@@ -22,15 +25,17 @@ use std::sync::Arc;
 use std::sync::ledger::Ledger;
 
 /// The item that the strategy of a need chooses. For a rollout it asks the memo once. Where the memo has no totals they are played
-/// out, a step for each playout, and given to the memo to keep. Memory may run out.
+/// out on the code, which stands for the sheet, a step for each playout, and given to the memo to keep. Memory may run out.
 pub fn choose<M: Memo, L: Ledger>(
     alloc: Global,
     need: &Need,
+    code: &Arc<Code>,
     memo: &mut M,
     steps: &mut Steps<L>,
 ) -> Result<u16, Memory>
     requires served { Serves (M.serves memo.old) (need_seen need.now).about }
     requires need { IsNeed (need_seen need.now) }
+    requires code { StandsFor (need_seen need.now).about.sheet (code_seen code.now.value) }
     ensures is { IfOk result (λ item. item
         ≡ choice_of (need_seen need.now).about (need_seen need.now).strategy (need_seen need.now).seed (need_seen need.now).view) }
     ensures counted { OnOk result (Chooses (need_seen need.now) (M.counts memo.old) (M.counts memo.new) steps.old steps.new) }
@@ -53,10 +58,10 @@ pub fn choose<M: Memo, L: Ledger>(
             view.control.turn,
             need.menu,
         )),
-        Strategy::Rollout { rounds, key } => match key_of(alloc, need, *rounds, *key) {
-            Ok(key) => best_of(alloc, &key, need.menu, memo, steps),
-            Err(Memory) => Err(Memory),
-        },
+        Strategy::Rollout { rounds, key } => {
+            let key = key_of(alloc, need, *rounds, *key)?;
+            best_of(alloc, &key, need.menu, code, memo, steps)
+        }
     }
 }
 
@@ -88,10 +93,7 @@ pub fn asked_key(alloc: Global, need: &Need) -> Result<Option<Key>, Memory>
     ensures { IfOk result (λ key. asked_for (need_seen need.now) ≡ keys_of key) }
 {
     match &need.strategy {
-        Strategy::Rollout { rounds, key } => match key_of(alloc, need, *rounds, *key) {
-            Ok(key) => Ok(Some(key)),
-            Err(Memory) => Err(Memory),
-        },
+        Strategy::Rollout { rounds, key } => Ok(Some(key_of(alloc, need, *rounds, *key)?)),
         _ => Ok(None),
     }
 }
@@ -103,24 +105,16 @@ fn key_of(alloc: Global, need: &Need, rounds: u16, number: u64) -> Result<Key, M
       ask = record { rounds = rounds; key = number; seed = (need_seen need.now).seed; view = (need_seen need.now).view };
     }) }
 {
-    let view = match need.view.copy(alloc) {
-        Ok(view) => view,
-        Err(Memory) => return Err(Memory),
-    };
+    let view = need.view.copy(alloc)?;
     let ask = Ask {
         rounds,
         key: number,
         seed: need.seed,
         view,
     };
-    let ask = match Arc::new(alloc, ask) {
-        Ok(ask) => ask,
-        Err(_) => return Err(Memory),
-    };
-    match Arc::try_clone(&need.about) {
-        Ok(about) => Ok(Key { about, ask }),
-        Err(_) => Err(Memory),
-    }
+    let ask = Arc::new(alloc, ask)?;
+    let about = Arc::try_clone(&need.about)?;
+    Ok(Key { about, ask })
 }
 
 // The first item of those with the largest total, out of a menu of so many, as the memo has the totals or playouts give them.
@@ -128,12 +122,14 @@ fn best_of<M: Memo, L: Ledger>(
     alloc: Global,
     key: &Key,
     menu: u16,
+    code: &Arc<Code>,
     memo: &mut M,
     steps: &mut Steps<L>,
 ) -> Result<u16, Memory>
     requires served { Serves (M.serves memo.old) (key_seen key.now).about }
     requires at { IsAtDecision (key_seen key.now).about (key_seen key.now).ask.view }
     requires menu { menu ≡ strategy.menu_size (key_seen key.now).about (key_seen key.now).ask.view }
+    requires code { StandsFor (key_seen key.now).about.sheet (code_seen code.now.value) }
     ensures is { IfOk result (λ item. item ≡ strategy.first_largest (tally_of (key_seen key.now).about (key_seen key.now).ask)) }
     ensures counted { OnOk result (Asks (key_seen key.now) (M.counts memo.old) (M.counts memo.new) steps.old steps.new) }
     ensures lacking { OnErr result (Lacks (key_seen key.now) (M.counts memo.old) (M.counts memo.new) steps.old steps.new) }
@@ -142,13 +138,10 @@ fn best_of<M: Memo, L: Ledger>(
     ensures same { M.serves memo.new ≡ M.serves memo.old }
 {
     tallies_are_bounded();
-    let reply = match memo.look(alloc, key) {
-        Ok(reply) => reply,
-        Err(Memory) => return Err(Memory),
-    };
+    let reply = memo.look(alloc, key)?;
     match reply {
         Reply::Hit(tally) => Ok(first_largest(&tally.totals) as u16),
-        Reply::Miss => best_played(alloc, key, menu, memo, steps),
+        Reply::Miss => best_played(alloc, key, menu, code, memo, steps),
     }
 }
 
@@ -157,12 +150,14 @@ fn best_played<M: Memo, L: Ledger>(
     alloc: Global,
     key: &Key,
     menu: u16,
+    code: &Arc<Code>,
     memo: &mut M,
     steps: &mut Steps<L>,
 ) -> Result<u16, Memory>
     requires served { Serves (M.serves memo.old) (key_seen key.now).about }
     requires at { IsAtDecision (key_seen key.now).about (key_seen key.now).ask.view }
     requires menu { menu ≡ strategy.menu_size (key_seen key.now).about (key_seen key.now).ask.view }
+    requires code { StandsFor (key_seen key.now).about.sheet (code_seen code.now.value) }
     ensures is { IfOk result (λ item. item ≡ strategy.first_largest (tally_of (key_seen key.now).about (key_seen key.now).ask)) }
     ensures kept { OnOk result (M.counts memo.new ≡ kept_once (key_seen key.now) (M.counts memo.old)) }
     ensures lacking { OnErr result (M.counts memo.new ≡ M.counts memo.old) }
@@ -172,15 +167,10 @@ fn best_played<M: Memo, L: Ledger>(
     ensures same { M.serves memo.new ≡ M.serves memo.old }
 {
     tallies_are_bounded();
-    let entry = match tally(alloc, key, steps) {
-        Ok(entry) => entry,
-        Err(Memory) => return Err(Memory),
-    };
+    let entry = tally(alloc, key, code, steps)?;
     let item = first_largest(&entry.tally().totals) as u16;
-    match memo.keep(alloc, entry) {
-        Ok(()) => Ok(item),
-        Err(Memory) => Err(Memory),
-    }
+    memo.keep(alloc, entry)?;
+    Ok(item)
 }
 
 /// The place of the first of the largest totals.
