@@ -1,5 +1,5 @@
 -- What the calls of a house leave of it.
-use Rattle.std.proofs.Common.{◌≡◌, ℕ, zero, suc, ◌<◌, ◌⊎◌, inl, inr, List, [], ◌∷◌, length, map, get_or, slice_get, slice_set, false, Result, Ok, Err, OnOk, OnErr, Option, Some, None, refl, sym, ap, ◌∙◌, subst}
+use Rattle.std.proofs.Common.{◌≡◌, ℕ, zero, suc, ◌<◌, ◌⊎◌, inl, inr, List, [], ◌∷◌, length, map, get_or, slice_get, slice_set, Bool, false, Result, Ok, Err, OnOk, OnErr, Option, Some, None, refl, sym, ap, ◌∙◌, subst}
 use Rattle.std.specs.Prelude.{IfSome}
 use Rattle.std.proofs.lemmas.List.{map-set}
 use Rattle.std.proofs.lemmas.Option.{slice_get_read}
@@ -11,7 +11,7 @@ use Rattle.rc_play_model.specs.About.{About}
 use Rattle.rc_play_model.specs.Plan.{Plan}
 use Rattle.rc_rules.specs.Plan.{plan_seen}
 use Rattle.rc_redraw.specs.Asking.{Key}
-use Rattle.rc_plain.specs.Plain.{Plain}
+use Rattle.rc_flat.specs.Machine.{Machine}
 use Rattle.rc_match.specs.Lane.{Phase, ready, asks, missed, holds, over, spent, Lane, phase_seen}
 use Rattle.rc_match.specs.Way.{IsFresh}
 use Rattle.rc_match.specs.declared.lane.Phase.{Phase as StoredPhase}
@@ -57,7 +57,7 @@ pub checked_of : (a about : About) → a ≡ about → a.shape ≡ shape_of a.sh
 checked_of a about same shape well sight = subst IsChecked same (record { shape = shape; well = well; sight = sight })
 
 -- a match that waits for something else
-abbrev pub waiting : LaneState Plain → StoredPhase → LaneState Plain
+abbrev pub waiting : LaneState Machine → StoredPhase → LaneState Machine
 waiting state phase = record { machine = state.machine; dealer = state.dealer; notes = state.notes; phase = phase }
 
 never_spent : (phase : Phase) → IsFresh phase false
@@ -68,11 +68,23 @@ never_spent (holds need key) = refl
 never_spent over = refl
 never_spent spent = tt
 
-own_waiting : (about : About) (plan : Plan) (m : ℕ) (state : LaneState Plain) (phase : StoredPhase) → IsOwn about plan m state → IsOwn about plan m (waiting state phase)
-own_waiting about plan m state phase own = record { about = own.about; deal = own.deal; fresh = never_spent (phase_seen phase) }
+-- the machine of a match that isn't spent isn't either
+not_gone : (phase : Phase) (is_spent : Bool) → (phase ≡ spent → ⊥) → IsFresh phase is_spent → is_spent ≡ false
+not_gone (ready pick) is_spent going fresh = fresh
+not_gone (asks need) is_spent going fresh = fresh
+not_gone (missed need) is_spent going fresh = fresh
+not_gone (holds need key) is_spent going fresh = fresh
+not_gone over is_spent going fresh = fresh
+not_gone spent is_spent going fresh = absurd (going refl)
+
+-- and it stays so behind a call that doesn't touch it, which is refused where the match is spent
+still_fresh : {T E : Type 0} (r : Result T E) (Q : Type 0) (phase phase' : Phase) (is_spent : Bool) → OnOk r (phase ≡ spent → ⊥) → OnErr r ((phase' ≡ phase) × Q) →
+    IsFresh phase is_spent → IsFresh phase' is_spent
+still_fresh (Ok x) Q phase phase' is_spent going lacks fresh = subst (IsFresh phase') (sym (not_gone phase is_spent going fresh)) (never_spent phase')
+still_fresh (Err x) Q phase phase' is_spent going lacks fresh = subst (λ ph. IsFresh ph is_spent) (sym lacks.0) fresh
 
 -- a house with another match and other entries
-abbrev pub put_in : Inside → ℕ → LaneState Plain → List Key → House
+abbrev pub put_in : Inside → ℕ → LaneState Machine → List Key → House
 put_in i m state entries =
     record {
       about = i.about.value;
@@ -83,7 +95,7 @@ put_in i m state entries =
     }
 
 -- a match that is there, in a house as its type keeps it
-module _ (i : Inside) (kept : IsKept i) (m : ℕ) (state : LaneState Plain) (lt : m < length i.matches.items)
+module _ (i : Inside) (kept : IsKept i) (m : ℕ) (state : LaneState Machine) (lt : m < length i.matches.items)
     (value : state ≡ get_or i.matches.items m state) where
   there : slice_get i.matches.items m ≡ Some state
   there = slice_get_read i.matches.items (length i.matches.items) m state refl lt value
@@ -91,7 +103,7 @@ module _ (i : Inside) (kept : IsKept i) (m : ℕ) (state : LaneState Plain) (lt 
   seen_there : slice_get (map lane_in i.matches.items) m ≡ Some (lane_in state)
   seen_there = lane_there i.matches.items m state there
 
-  put_is : (state' : LaneState Plain) (entries : List Key) → put_in i m state' entries ≡ with_match (with_entries (house_seen i) entries) m (lane_in state')
+  put_is : (state' : LaneState Machine) (entries : List Key) → put_in i m state' entries ≡ with_match (with_entries (house_seen i) entries) m (lane_in state')
   put_is state' entries =
       ap (λ ms. record { about = i.about.value; plan = plan_seen i.plan.value; capacity = i.capacity; matches = ms; entries = entries })
       (map-set lane_in i.matches.items m state')
@@ -111,22 +123,29 @@ module _ (i : Inside) (kept : IsKept i) (m : ℕ) (state : LaneState Plain) (lt 
       ∙ ap (λ ms. record { about = i.about.value; plan = plan_seen i.plan.value; capacity = i.capacity; matches = ms; entries = i.entries.items })
       (set_same (map lane_in i.matches.items) m (lane_in state) seen_there)
 
-  pub own_put : (state' : LaneState Plain) → IsOwn i.about.value (plan_seen i.plan.value) m state' →
+  pub own_put : (state' : LaneState Machine) → IsOwn i.about.value (plan_seen i.plan.value) m state' →
       AreOwn i.about.value (plan_seen i.plan.value) (slice_set i.matches.items m state')
   own_put state' own = own_set i.about.value (plan_seen i.plan.value) i.matches.items m state' kept.own own
 
-  -- where it waits for something else
-  pub own_waits : (phase : StoredPhase) → AreOwn i.about.value (plan_seen i.plan.value) (slice_set i.matches.items m (waiting state phase))
-  own_waits phase = own_put (waiting state phase) (own_waiting i.about.value (plan_seen i.plan.value) m state phase own_there)
-
   module _ {T E : Type 0} (r : Result T E) where
+    -- where it waits for something else
+    pub own_waits : (Q : Type 0) (phase : StoredPhase) → OnOk r ((lane_in state).phase ≡ spent → ⊥) → OnErr r ((phase_seen phase ≡ (lane_in state).phase) × Q) →
+        AreOwn i.about.value (plan_seen i.plan.value) (slice_set i.matches.items m (waiting state phase))
+    own_waits Q phase going lacks =
+        own_put (waiting state phase)
+        (record {
+          about = own_there.about;
+          deal = own_there.deal;
+          fresh = still_fresh r Q (lane_in state).phase (phase_seen phase) state.machine.spent going lacks own_there.fresh;
+        })
+
     module _ {h : House} (view : house_seen i ≡ h) where
       pub named_open : (event : Event) → named_by event ≡ Some m → OnOk r ((lane_in state).phase ≡ spent → ⊥) → OnOk r (FindsSpent h event → ⊥)
       named_open event names isnt =
           on_ok_weaker r (λ e. subst (λ x. FindsSpent x event → ⊥) view (not_spent (house_seen i) m (lane_in state) seen_there event names e)) isnt
 
       -- behind work
-      module _ (state' : LaneState Plain) where
+      module _ (state' : LaneState Machine) where
         pub work_leaves : OnOk r (lane_in state' ≡ worked i.about.value (plan_seen i.plan.value) m (lane_in state) (lane_in state).phase) →
             OnOk r (put_in i m state' i.entries.items ≡ after_event h (works m))
         work_leaves is =
@@ -168,7 +187,7 @@ module _ (i : Inside) (kept : IsKept i) (m : ℕ) (state : LaneState Plain) (lt 
             ∙ sym (put_is state i.entries.items) ∙ same_there)) lacks
 
     module _ (checked : IsChecked i.about.value) where
-      pub work_kept : (state' : LaneState Plain) →
+      pub work_kept : (state' : LaneState Machine) →
           OnOk r (lane_in state' ≡ worked i.about.value (plan_seen i.plan.value) m (lane_in state) (lane_in state).phase) →
           OnErr r ((lane_in state' ≡ lane_in state) ⊎ ((lane_in state').phase ≡ spent)) → IsSound (put_in i m state' i.entries.items)
       work_kept state' is lacks =

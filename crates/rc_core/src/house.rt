@@ -1,6 +1,8 @@
 //! The house.
 ghost use Rattle.std.specs.Prelude.{◌≡◌, ◌<◌, ◌≤◌, ◌^◌, length, map, slice_get, IfSome, IfOk, OnOk, OnErr};
 ghost use Rattle.rc_model.specs.Numbers.{below};
+ghost use Rattle.rc_code.specs.Seen.{code_seen};
+ghost use Rattle.rc_code.specs.Stands.{StandsFor};
 ghost use Rattle.rc_rules.specs.Plan.{plan_seen};
 ghost use Rattle.rc_rules.specs.Record.{record_seen};
 ghost use Rattle.rc_redraw.specs.Asking.{key_seen};
@@ -16,10 +18,12 @@ use crate::entries::taken;
 use crate::event::Event;
 use crate::sharing::{hand_over, look_up};
 use crate::working::work;
+use rc_code::Code;
 use rc_deck::Memory;
+use rc_flat::FlatMachine;
 use rc_match::{Job, LaneState, Phase, begin};
-use rc_plain::PlainMachine;
 use rc_redraw::{Entry, Key};
+use rc_rollout::shared_code;
 use rc_rules::{About, MatchRecord, Plan};
 use std::alloc::Global;
 use std::marker::Model;
@@ -31,8 +35,10 @@ use std::sync::Arc;
 pub struct House {
     about: Arc<About>,
     plan: Arc<Plan>,
+    // made of the sheet once: machines and playouts run on it
+    code: Arc<Code>,
     capacity: u32,
-    matches: Vec<LaneState<PlainMachine>>,
+    matches: Vec<LaneState<FlatMachine>>,
     entries: Vec<Entry>,
 }
 
@@ -55,7 +61,7 @@ impl Model for House {
 
 impl House {
     /// A house in which nothing was done yet: no entries, and each match is ready without a pick. The plan has a strategy for each
-    /// player, and fewer matches than 2^32. Memory may run out.
+    /// player, and fewer matches than 2^32. The code of the sheet is made here, once. Memory may run out.
     pub fn new(
         alloc: Global,
         about: Arc<About>,
@@ -68,13 +74,18 @@ impl House {
         ensures is { IfOk result (λ house. house ≡ opened about.value (plan_seen plan.value) capacity) }
         ensures sound { IfOk result (λ house. IsSound house) }
     {
-        let matches = match matches_of(alloc, &about, &plan) {
+        let code = match shared_code(alloc, &about) {
+            Ok(code) => code,
+            Err(Memory) => return Err(Memory),
+        };
+        let matches = match matches_of(alloc, &about, &plan, &code) {
             Ok(matches) => matches,
             Err(Memory) => return Err(Memory),
         };
         Ok(House {
             about,
             plan,
+            code,
             capacity,
             matches,
             entries: Vec::new(alloc),
@@ -136,7 +147,7 @@ impl House {
         // the sheet is well formed and in sight
         let _sheet = self.about.sheet();
         match job_of(&self.about, &self.plan, m) {
-            Ok(job) => work(alloc, &job, &mut self.matches[m as usize]),
+            Ok(job) => work(alloc, &job, &self.code, &mut self.matches[m as usize]),
             Err(Memory) => Err(Memory),
         }
     }
@@ -218,15 +229,17 @@ fn matches_of(
     alloc: Global,
     about: &Arc<About>,
     plan: &Arc<Plan>,
-) -> Result<Vec<LaneState<PlainMachine>>, Memory>
-    requires { length plan.now.value.matches.items < 2 ^ 32 }
+    code: &Arc<Code>,
+) -> Result<Vec<LaneState<FlatMachine>>, Memory>
+    requires few { length plan.now.value.matches.items < 2 ^ 32 }
+    requires code { StandsFor about.now.value.sheet (code_seen code.now.value) }
     ensures are { IfOk result (λ states. map lane_in states.items
         ≡ map (begun about.now.value (plan_seen plan.now.value)) (below (length plan.now.value.matches.items))) }
     ensures own { IfOk result (λ states. AreOwn about.now.value (plan_seen plan.now.value) states.items) }
 {
     let mut states = Vec::new(alloc);
     for number in 0..plan.matches.len() as u32 {
-        let state = match started(alloc, about, plan, number) {
+        let state = match started(alloc, about, plan, code, number) {
             Ok(state) => state,
             Err(Memory) => return Err(Memory),
         };
@@ -243,13 +256,15 @@ fn started(
     alloc: Global,
     about: &Arc<About>,
     plan: &Arc<Plan>,
+    code: &Arc<Code>,
     number: u32,
-) -> Result<LaneState<PlainMachine>, Memory>
-    requires { number < length plan.now.value.matches.items }
+) -> Result<LaneState<FlatMachine>, Memory>
+    requires number { number < length plan.now.value.matches.items }
+    requires code { StandsFor about.now.value.sheet (code_seen code.now.value) }
     ensures is { IfOk result (λ state. lane_in state ≡ begun about.now.value (plan_seen plan.now.value) number) }
     ensures own { IfOk result (λ state. IsOwn about.now.value (plan_seen plan.now.value) number state) }
 {
-    let machine = match PlainMachine::start_of(alloc, about) {
+    let machine = match FlatMachine::start_of(alloc, code, about) {
         Ok(machine) => machine,
         Err(Memory) => return Err(Memory),
     };

@@ -1,4 +1,4 @@
-use Rattle.std.proofs.Common.{refl, rules}
+use Rattle.std.proofs.Common.{◌≡◌, refl, rules}
 use Rattle.rc_core.specs.Events.{keeps}
 use Rattle.rc_core.proofs.HouseSteps.{checked_of, wants_there, own_waits, keep_kept, keep_leaves, nothing_left, named_open}
 use Rattle.rc_core.proofs.house.House.keep.Goals as goal
@@ -18,9 +18,11 @@ invariant_of-self c =
     record {
       sound = keep_kept i kept c.args.m state (search rules) c.index_mut.ensures.value c.hand_over.result checked phase c.hand_over.new.entries.items
           c.hand_over.ensures.lacking c.hand_over.ensures.is;
-      own = own_waits i kept c.args.m state (search rules) c.index_mut.ensures.value phase;
+      own = own_waits i kept c.args.m state (search rules) c.index_mut.ensures.value c.hand_over.result
+          (c.hand_over.new.entries.items ≡ i.entries.items) phase c.hand_over.ensures.open c.hand_over.ensures.lacking;
       seats = kept.seats;
       some = kept.some;
+      stands = kept.stands;
     }
 
 pub returns-clause-is : goal.returns-clause-is

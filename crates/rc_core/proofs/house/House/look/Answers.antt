@@ -1,4 +1,4 @@
-use Rattle.std.proofs.Common.{refl, rules}
+use Rattle.std.proofs.Common.{◌≡◌, refl, rules}
 use Rattle.rc_core.specs.Events.{looks}
 use Rattle.rc_core.proofs.HouseSteps.{checked_of, wants_there, own_waits, look_kept, look_leaves, nothing_left, named_open}
 use Rattle.rc_core.proofs.house.House.look.Goals as goal
@@ -18,9 +18,11 @@ invariant_of-self c =
     record {
       sound = look_kept i kept c.args.m state (search rules) c.index_mut.ensures.value c.look_up.result checked phase c.look_up.new.entries.items
           c.look_up.ensures.lacking c.look_up.ensures.is;
-      own = own_waits i kept c.args.m state (search rules) c.index_mut.ensures.value phase;
+      own = own_waits i kept c.args.m state (search rules) c.index_mut.ensures.value c.look_up.result
+          (c.look_up.new.entries.items ≡ i.entries.items) phase c.look_up.ensures.open c.look_up.ensures.lacking;
       seats = kept.seats;
       some = kept.some;
+      stands = kept.stands;
     }
 
 pub returns-clause-is : goal.returns-clause-is

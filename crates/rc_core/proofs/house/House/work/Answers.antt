@@ -1,11 +1,18 @@
-use Rattle.std.proofs.Common.{◌≡◌, OnOk, rules, refl, sym, ap}
+use Rattle.std.proofs.Common.{◌≡◌, OnOk, rules, refl, sym, ap, subst}
+use Rattle.rc_play_model.specs.About.{About}
 use Rattle.rc_rules.specs.Plan.{plan_seen}
+use Rattle.rc_code.specs.Seen.{code_seen}
+use Rattle.rc_code.specs.Stands.{StandsFor}
 use Rattle.rc_match.specs.Sound.{IsSound as IsSoundMatch}
 use Rattle.rc_core.specs.Events.{works, worked}
 use Rattle.rc_core.specs.Sound.{UnlessSpent}
 use Rattle.rc_core.specs.Stored.{lane_in, IsOwn}
 use Rattle.rc_core.proofs.HouseSteps.{along, checked_of, known, own_there, own_put, work_kept, work_leaves, work_lacks, named_open}
 use Rattle.rc_core.proofs.house.House.work.Goals as goal
+
+pub work-requires-clause-code : goal.work-requires-clause-code
+work-requires-clause-code c =
+    subst (λ (a : About). StandsFor a.sheet (code_seen c.self.inside.code.value)) (sym c.in-Ok.ensures.about) c.self.invariant.stands
 
 pub work-requires-clause-own : goal.work-requires-clause-own
 work-requires-clause-own c =
@@ -36,6 +43,7 @@ invariant_of-self c =
           (along (λ a p n. IsOwn a p n state') c.in-Ok.ensures.about plans c.in-Ok.ensures.number c.work.ensures.own);
       seats = kept.seats;
       some = kept.some;
+      stands = kept.stands;
     }
 
 pub returns-in-Ok-clause-is : goal.returns-in-Ok-clause-is
