@@ -1,11 +1,12 @@
 //! Plays of all matches, one after the other, over one book.
 ghost use Rattle.std.specs.Prelude.{◌≡◌, ◌<◌, ◌≤◌, ◌+◌, [], map, length, Some, All, IfOk, OnOk, OnErr};
-ghost use Rattle.rc_play_model.specs.About.{about_of};
+ghost use Rattle.rc_play_model.specs.About.{about_of, About as PureAbout};
 ghost use Rattle.rc_play_model.specs.House.{standings_of};
 ghost use Rattle.rc_play_model.specs.Keyed.{keyed_match};
 ghost use Rattle.rc_plan_model.specs.Limits.{IsWithinLimits};
+ghost use Rattle.rc_code.specs.Seen.{code_seen};
+ghost use Rattle.rc_code.specs.Stands.{StandsFor};
 ghost use Rattle.rc_redraw.specs.Choosing.{AsksAll, AsksSome, all_costs};
-ghost use Rattle.rc_redraw.specs.Counts.{Serves};
 ghost use Rattle.rc_rules.specs.Plan.{plan_seen};
 ghost use Rattle.rc_rules.specs.Record.{record_seen, standing_seen};
 ghost use Rattle.rc_match.specs.Asks.{asks_of};
@@ -17,12 +18,13 @@ use rc_cache::{
     Book, Fresh, Naming, OwnBook, one_worker_has_the_hits_of_its_looks,
     one_worker_lacking_memory_takes_no_more_steps,
 };
+use rc_code::Code;
 use rc_deck::Memory;
+use rc_flat::OnwardMachine;
 use rc_flow::Checked;
 use rc_match::{Job, play_match};
-use rc_plain::PlainMachine;
 use rc_redraw::Chooser;
-use rc_rollout::Choices;
+use rc_rollout::{Choices, shared_code};
 use rc_rules::{About, MatchRecord, Plan, shape_of};
 use rc_steps::Steps;
 use rc_text::{HouseText, standings};
@@ -40,9 +42,9 @@ pub struct Series {
     pub hits: u64,
 }
 
-/// Plays the matches of a plan for a checked sheet one after the other. The plan is within the limits, and has a strategy for each
-/// player. What rollouts find is kept in a book of so many entries, 1 to 65,536. Each playout is a step. Memory may run out; then no
-/// more steps were counted than the whole call counts.
+/// Plays the matches of a plan for a checked sheet one after the other, on code that is made of the sheet once. The plan is within the
+/// limits, and has a strategy for each player. What rollouts find is kept in a book of so many entries, 1 to 65,536. Each playout is a
+/// step. Memory may run out; then no more steps were counted than the whole call counts.
 pub fn series_of<L: Ledger>(
     alloc: Global,
     checked: Checked,
@@ -66,11 +68,15 @@ pub fn series_of<L: Ledger>(
         Ok(about) => about,
         Err(Memory) => return Err(Memory),
     };
+    let code = match shared_code(alloc, &about) {
+        Ok(code) => code,
+        Err(Memory) => return Err(Memory),
+    };
     let plan = match Arc::new(alloc, plan) {
         Ok(plan) => plan,
         Err(_) => return Err(Memory),
     };
-    played::<Brand, L>(alloc, Fresh::new(1), &about, &plan, capacity, steps)
+    played::<Brand, L>(alloc, Fresh::new(1), &about, &plan, &code, capacity, steps)
 }
 
 /// What the matches of a checked sheet are played by. Memory may run out.
@@ -105,11 +111,13 @@ fn played<N: Naming, L: Ledger>(
     fresh: Fresh,
     about: &Arc<About>,
     plan: &Arc<Plan>,
+    code: &Arc<Code>,
     capacity: u32,
     steps: &mut Steps<L>,
 ) -> Result<Series, Memory>
     requires within { IsWithinLimits (plan_seen plan.now.value) }
     requires seats { length plan.now.value.strategies.items ≡ about.now.value.sheet.players }
+    requires code { StandsFor about.now.value.sheet (code_seen code.now.value) }
     requires room { (1 ≤ capacity) × (capacity ≤ 65536) }
     requires name { (about.now.value ≡ N.about) × (capacity ≡ N.capacity) × (1 ≡ N.lanes) }
     requires names { (fresh.looks.name ≡ N.looks) × (fresh.hits.name ≡ N.hits) × (fresh.keeps.name ≡ N.keeps) }
@@ -129,8 +137,12 @@ fn played<N: Naming, L: Ledger>(
         Ok(book) => book,
         Err(Memory) => return Err(Memory),
     };
-    let mut choices = Choices::new(book);
-    let records = records_of(alloc, about, plan, &mut choices, steps);
+    let to_choose = match Arc::try_clone(code) {
+        Ok(to_choose) => to_choose,
+        Err(_) => return Err(Memory),
+    };
+    let mut choices = Choices::new(to_choose, book);
+    let records = records_of(alloc, about, plan, code, &mut choices, steps);
     let (book, lane) = choices.into_memo().parts();
     // what a book keeps
     let _journal = book.journal();
@@ -176,10 +188,12 @@ fn records_of<C: Chooser, L: Ledger>(
     alloc: Global,
     about: &Arc<About>,
     plan: &Arc<Plan>,
+    code: &Arc<Code>,
     chooser: &mut C,
     steps: &mut Steps<L>,
 ) -> Result<Vec<MatchRecord>, Memory>
-    requires served { Serves (C.serves chooser.old) about.now.value }
+    requires code { StandsFor about.now.value.sheet (code_seen code.now.value) }
+    requires served { C.serves chooser.old about.now.value }
     requires matches { length plan.now.value.matches.items ≤ 4096 }
     requires seats { length plan.now.value.strategies.items ≡ about.now.value.sheet.players }
     ensures are { IfOk result (λ records. map record_seen records.items
@@ -193,28 +207,24 @@ fn records_of<C: Chooser, L: Ledger>(
 {
     let mut records = Vec::new(alloc);
     for number in 0..plan.matches.len() as u32 {
-        let played = match record_of(alloc, about, plan, number, chooser, steps) {
-            Ok(played) => played,
-            Err(Memory) => return Err(Memory),
-        };
-        match records.push(played) {
-            Ok(()) => {}
-            Err(_) => return Err(Memory),
-        }
+        let played = record_of(alloc, about, plan, code, number, chooser, steps)?;
+        records.push(played)?;
     }
     Ok(records)
 }
 
-/// The record of one match, by any chooser. Memory may run out.
+/// The record of one match, by any chooser, on code that stands for the sheet. Memory may run out.
 pub fn record_of<C: Chooser, L: Ledger>(
     alloc: Global,
     about: &Arc<About>,
     plan: &Arc<Plan>,
+    code: &Arc<Code>,
     number: u32,
     chooser: &mut C,
     steps: &mut Steps<L>,
 ) -> Result<MatchRecord, Memory>
-    requires served { Serves (C.serves chooser.old) about.now.value }
+    requires code { StandsFor about.now.value.sheet (code_seen code.now.value) }
+    requires served { C.serves chooser.old about.now.value }
     requires number { number < length plan.now.value.matches.items }
     requires seats { length plan.now.value.strategies.items ≡ about.now.value.sheet.players }
     ensures is { IfOk result (λ r. keyed_match about.now.value (plan_seen plan.now.value) number ≡ Some (record_seen r)) }
@@ -223,18 +233,12 @@ pub fn record_of<C: Chooser, L: Ledger>(
         (C.counts chooser.old) (C.counts chooser.new) steps.old steps.new) }
     ensures lacking { OnErr result (AsksSome (asks_of about.now.value (plan_seen plan.now.value) number)
         (C.counts chooser.old) (C.counts chooser.new) steps.old steps.new) }
-    ensures same { C.serves chooser.new ≡ C.serves chooser.old }
+    ensures same { (other : PureAbout) → C.serves chooser.old other → C.serves chooser.new other }
     ensures rises { steps.old ≤ steps.new }
     ensures bounded { steps.new ≤ steps.old + all_costs (asks_of about.now.value (plan_seen plan.now.value) number) }
 {
-    let machine = match PlainMachine::start_of(alloc, about) {
-        Ok(machine) => machine,
-        Err(Memory) => return Err(Memory),
-    };
-    let job = match job_of(about, plan, number) {
-        Ok(job) => job,
-        Err(Memory) => return Err(Memory),
-    };
+    let machine = OnwardMachine::start_of(alloc, code, about)?;
+    let job = job_of(about, plan, number)?;
     play_match(alloc, &job, machine, chooser, steps)
 }
 
@@ -244,14 +248,8 @@ fn job_of(about: &Arc<About>, plan: &Arc<Plan>, number: u32) -> Result<Job, Memo
     ensures plan { IfOk result (λ job. job.plan.value ≡ plan.now.value) }
     ensures number { IfOk result (λ job. job.number ≡ number) }
 {
-    let about = match Arc::try_clone(about) {
-        Ok(about) => about,
-        Err(_) => return Err(Memory),
-    };
-    let plan = match Arc::try_clone(plan) {
-        Ok(plan) => plan,
-        Err(_) => return Err(Memory),
-    };
+    let about = Arc::try_clone(about)?;
+    let plan = Arc::try_clone(plan)?;
     Ok(Job {
         about,
         plan,

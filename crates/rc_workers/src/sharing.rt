@@ -10,14 +10,15 @@ use crate::playing::play_claimed;
 use rc_cache::{Book, Lane, Naming, SharedBook};
 use rc_deck::Memory;
 use rc_outside::Gate;
+use rc_rollout::shared_code;
 use rc_rules::{About, MatchRecord, Plan};
 use std::alloc::Global;
 use std::sync::{Arc, Mutex, Wait};
 use std::thread::Threads;
 
-/// Plays every match of a plan, with one worker for each lane to the book. The records are those of the matches, in order. The lanes
-/// come back in the order of the memos, and their numbers rise together by what the matches ask: each decision that asks for totals is
-/// one look, and each look hits, or is followed by a keep. Memory may run out.
+/// Plays every match of a plan, with one worker for each lane to the book, on code that is made of the sheet once. The records are
+/// those of the matches, in order. The lanes come back in the order of the memos, and their numbers rise together by what the matches
+/// ask: each decision that asks for totals is one look, and each look hits, or is followed by a keep. Memory may run out.
 pub fn play_shared<'a, N: Naming + Send + Sync, R: Threads + Wait + Sync, G: Gate>(
     rt: &R,
     alloc: Global,
@@ -37,7 +38,11 @@ pub fn play_shared<'a, N: Naming + Send + Sync, R: Threads + Wait + Sync, G: Gat
         (map shared_counts memos.entry.items) (map shared_counts r.1.items)) }
     ensures lanes { IfOk result (λ r. length r.1.items ≡ length memos.entry.items) }
 {
-    let (records, memos) = match play_claimed(rt, alloc, about, plan, memos, gate) {
+    let code = match shared_code(alloc, about) {
+        Ok(code) => code,
+        Err(Memory) => return Err(Memory),
+    };
+    let (records, memos) = match play_claimed(rt, alloc, about, plan, &code, memos, gate) {
         Ok(played) => played,
         Err(Memory) => return Err(Memory),
     };

@@ -1,15 +1,19 @@
 //! What one worker does.
 ghost use Rattle.std.specs.Prelude.{◌≡◌, ◌<◌, ◌≤◌, [], length, All, IfOk, OnOk};
+ghost use Rattle.rc_play_model.specs.About.{About as PureAbout};
 ghost use Rattle.rc_rules.specs.Plan.{plan_seen};
+ghost use Rattle.rc_code.specs.Seen.{code_seen};
+ghost use Rattle.rc_code.specs.Stands.{StandsFor};
 ghost use Rattle.rc_redraw.specs.Counts.{Serves};
 ghost use Rattle.rc_match.specs.Asks.{asks_of};
 ghost use Rattle.rc_workers.specs.Turns.{IsRecordIn, IsTurn, IsWork, Rise};
 
 use rc_claims::{Claims, Pass};
+use rc_code::Code;
 use rc_deck::Memory;
 use rc_outside::Gate;
 use rc_plays::record_of;
-use rc_redraw::Memo;
+use rc_redraw::{Chooser, Memo};
 use rc_rollout::Choices;
 use rc_rules::{About, MatchRecord, Plan};
 use rc_steps::Steps;
@@ -33,11 +37,12 @@ pub(crate) struct Turn<M: Drop> {
     pub(crate) memo: M,
 }
 
-/// Claims matches and plays them, until none is left.
+/// Claims matches and plays them, until none is left, on code that stands for the sheet.
 pub(crate) fn take_turn<M: Memo + Drop, G: Gate>(
     alloc: Global,
     about: &Arc<About>,
     plan: &Arc<Plan>,
+    code: &Arc<Code>,
     claims: &Claims,
     gate: &G,
     worker: Worker<M>,
@@ -47,9 +52,19 @@ pub(crate) fn take_turn<M: Memo + Drop, G: Gate>(
     requires count { claims.now.count ≡ length plan.now.value.matches.items }
     requires seats { length plan.now.value.strategies.items ≡ about.now.value.sheet.players }
     requires served { Serves (M.serves worker.memo) about.now.value }
+    requires code { StandsFor about.now.value.sheet (code_seen code.now.value) }
     ensures { IfOk result (IsTurn M.counts about.now.value (plan_seen plan.now.value) worker) }
 {
-    counted_turn::<M, G, Brand>(alloc, about, plan, claims, gate, worker, Blank::new(1))
+    counted_turn::<M, G, Brand>(
+        alloc,
+        about,
+        plan,
+        code,
+        claims,
+        gate,
+        worker,
+        Blank::new(1),
+    )
 }
 
 // The same, with a counter of its own for the playouts.
@@ -57,6 +72,7 @@ fn counted_turn<M: Memo + Drop, G: Gate, L: Ledger>(
     alloc: Global,
     about: &Arc<About>,
     plan: &Arc<Plan>,
+    code: &Arc<Code>,
     claims: &Claims,
     gate: &G,
     worker: Worker<M>,
@@ -70,15 +86,21 @@ fn counted_turn<M: Memo + Drop, G: Gate, L: Ledger>(
     requires count { claims.now.count ≡ length plan.now.value.matches.items }
     requires seats { length plan.now.value.strategies.items ≡ about.now.value.sheet.players }
     requires served { Serves (M.serves worker.memo) about.now.value }
+    requires code { StandsFor about.now.value.sheet (code_seen code.now.value) }
     ensures { IfOk result (IsTurn M.counts about.now.value (plan_seen plan.now.value) worker) }
 {
     let Worker { mut pass, memo } = worker;
-    let mut choices = Choices::new(memo);
+    let to_choose = match Arc::try_clone(code) {
+        Ok(to_choose) => to_choose,
+        Err(_) => return Err(Memory),
+    };
+    let mut choices = Choices::new(to_choose, memo);
     let mut steps = Steps::<L>::new(blank);
     let records = match work(
         alloc,
         about,
         plan,
+        code,
         claims,
         gate,
         &mut pass,
@@ -96,27 +118,29 @@ fn counted_turn<M: Memo + Drop, G: Gate, L: Ledger>(
 }
 
 // The records of all matches that a pass claims.
-fn work<M: Memo + Drop, G: Gate, L: Ledger>(
+fn work<C: Chooser, G: Gate, L: Ledger>(
     alloc: Global,
     about: &Arc<About>,
     plan: &Arc<Plan>,
+    code: &Arc<Code>,
     claims: &Claims,
     gate: &G,
     pass: &mut Pass,
-    choices: &mut Choices<M>,
+    chooser: &mut C,
     steps: &mut Steps<L>,
 ) -> Result<Vec<MatchRecord>, Memory>
     requires own { pass.old.table ≡ claims.now.table }
     requires none { pass.old.numbers ≡ [] }
     requires count { claims.now.count ≡ length plan.now.value.matches.items }
     requires seats { length plan.now.value.strategies.items ≡ about.now.value.sheet.players }
-    requires served { Serves (M.serves choices.old) about.now.value }
-    ensures { IfOk result (λ records. IsWork about.now.value (plan_seen plan.now.value) pass.old pass.new (M.counts choices.old) (M.counts choices.new) records.items) }
+    requires served { C.serves chooser.old about.now.value }
+    requires code { StandsFor about.now.value.sheet (code_seen code.now.value) }
+    ensures { IfOk result (λ records. IsWork about.now.value (plan_seen plan.now.value) pass.old pass.new (C.counts chooser.old) (C.counts chooser.new) records.items) }
 {
     let mut records = Vec::new(alloc);
     while let Some(number) = claims.claim(pass) {
         gate.enter(number);
-        let record = match play(alloc, about, plan, number, choices, steps) {
+        let record = match play(alloc, about, plan, code, number, chooser, steps) {
             Ok(record) => record,
             Err(Memory) => return Err(Memory),
         };
@@ -128,22 +152,24 @@ fn work<M: Memo + Drop, G: Gate, L: Ledger>(
     Ok(records)
 }
 
-// The record of one match. The memo's counts rise by what it asks.
-fn play<M: Memo + Drop, L: Ledger>(
+// The record of one match. The chooser's counts rise by what it asks.
+fn play<C: Chooser, L: Ledger>(
     alloc: Global,
     about: &Arc<About>,
     plan: &Arc<Plan>,
+    code: &Arc<Code>,
     number: u32,
-    choices: &mut Choices<M>,
+    chooser: &mut C,
     steps: &mut Steps<L>,
 ) -> Result<MatchRecord, Memory>
-    requires served { Serves (M.serves choices.old) about.now.value }
+    requires served { C.serves chooser.old about.now.value }
+    requires code { StandsFor about.now.value.sheet (code_seen code.now.value) }
     requires number { number < length plan.now.value.matches.items }
     requires seats { length plan.now.value.strategies.items ≡ about.now.value.sheet.players }
     ensures number { IfOk result (λ r. r.number ≡ number) }
     ensures is { IfOk result (IsRecordIn about.now.value (plan_seen plan.now.value)) }
-    ensures rise { OnOk result (Rise (length (asks_of about.now.value (plan_seen plan.now.value) number)) (M.counts choices.old) (M.counts choices.new)) }
-    ensures same { M.serves choices.new ≡ M.serves choices.old }
+    ensures rise { OnOk result (Rise (length (asks_of about.now.value (plan_seen plan.now.value) number)) (C.counts chooser.old) (C.counts chooser.new)) }
+    ensures same { (other : PureAbout) → C.serves chooser.old other → C.serves chooser.new other }
 {
-    record_of(alloc, about, plan, number, choices, steps)
+    record_of(alloc, about, plan, code, number, chooser, steps)
 }

@@ -13,7 +13,7 @@ pub returns-clause-looks : goal.returns-clause-looks
 returns-clause-looks g c =
     let rise = looks_rise _ _ _ _ _ c.in-Ok-records.ensures.asked in
     let same = ap length (all_looks c.args.about.now.value c.args.plan.now.value) in
-    let none = ap (λ own. own.1.looks) (c.new-choices.ensures ∙ c.in-Ok.ensures) in
+    let none = ap (λ own. own.1.looks) (c.new-choices.ensures.memo ∙ c.in-Ok.ensures) in
     let told = c.looks.ensures ∙ ap (λ own. own.1.looks) (c.parts-book.ensures ∙ c.into_memo.ensures) in
     omega (arith, rise, same, none, told)
 
@@ -23,11 +23,11 @@ returns-clause-hits g c =
     let plan = plan_seen c.args.plan.now.value in
     let now = c.parts-book.ensures ∙ c.into_memo.ensures in
     let legal = subst (λ own. is_legal g.N.Naming.capacity (calls_of own.0) ≡ true) now c.journal-journal.ensures.legal in
-    let tells = ap (λ own. (own_counts own).calls) (c.new-choices.ensures ∙ c.in-Ok.ensures) in
+    let tells = ap (λ own. (own_counts own).calls) (c.new-choices.ensures.memo ∙ c.in-Ok.ensures) in
     let law = c.one_worker_has_the_hits_of_its_looks.ensures g.N.Naming.capacity _ _ _ _ _ tells c.in-Ok-records.ensures.asked legal in
     let rise = law.0 in
     let same = ap (λ keys. hits keys g.N.Naming.capacity) (all_looks about c.args.plan.now.value) ∙ ap (hits (looks_of about plan)) (sym c.requires.name.1) in
-    let none = ap (λ own. own.1.hits) (c.new-choices.ensures ∙ c.in-Ok.ensures) in
+    let none = ap (λ own. own.1.hits) (c.new-choices.ensures.memo ∙ c.in-Ok.ensures) in
     let told = c.hits.ensures ∙ ap (λ own. own.1.hits) now in
     omega (arith, rise, same, none, told)
 
@@ -37,7 +37,7 @@ returns-clause-counted g c =
     let plan = plan_seen c.args.plan.now.value in
     let now = c.parts-book.ensures ∙ c.into_memo.ensures in
     let legal = subst (λ own. is_legal g.N.Naming.capacity (calls_of own.0) ≡ true) now c.journal-journal.ensures.legal in
-    let tells = ap (λ own. (own_counts own).calls) (c.new-choices.ensures ∙ c.in-Ok.ensures) in
+    let tells = ap (λ own. (own_counts own).calls) (c.new-choices.ensures.memo ∙ c.in-Ok.ensures) in
     let law = c.one_worker_has_the_hits_of_its_looks.ensures g.N.Naming.capacity _ _ _ _ _ tells c.in-Ok-records.ensures.asked legal in
     let rise = law.1 in
     let same = ap (λ keys. cost keys g.N.Naming.capacity) (all_looks about c.args.plan.now.value) ∙ ap (cost (looks_of about plan)) (sym c.requires.name.1) in
@@ -47,7 +47,7 @@ pub returns-clause-rises : goal.returns-clause-rises
 returns-clause-rises g c =
     let now = c.parts-book.ensures ∙ c.into_memo.ensures in
     let legal = subst (λ own. is_legal g.N.Naming.capacity (calls_of own.0) ≡ true) now c.journal-journal.ensures.legal in
-    let tells = ap (λ own. (own_counts own).calls) (c.new-choices.ensures ∙ c.in-Ok.ensures) in
+    let tells = ap (λ own. (own_counts own).calls) (c.new-choices.ensures.memo ∙ c.in-Ok.ensures) in
     let law = c.one_worker_has_the_hits_of_its_looks.ensures g.N.Naming.capacity _ _ _ _ _ tells c.in-Ok-records.ensures.asked legal in
     let rise = law.1 in
     omega (arith, rise)
@@ -58,7 +58,7 @@ returns-clause-bounded g c =
     let plan = plan_seen c.args.plan.now.value in
     let now = c.parts-book.ensures ∙ c.into_memo.ensures in
     let legal = subst (λ own. is_legal g.N.Naming.capacity (calls_of own.0) ≡ true) now c.journal-journal.ensures.legal in
-    let tells = ap (λ own. (own_counts own).calls) (c.new-choices.ensures ∙ c.in-Ok.ensures) in
+    let tells = ap (λ own. (own_counts own).calls) (c.new-choices.ensures.memo ∙ c.in-Ok.ensures) in
     let law = c.one_worker_has_the_hits_of_its_looks.ensures g.N.Naming.capacity _ _ _ _ _ tells c.in-Ok-records.ensures.asked legal in
     let rise = law.1 in
     let same = ap (λ keys. cost keys g.N.Naming.capacity) (all_looks about c.args.plan.now.value) ∙ ap (cost (looks_of about plan)) (sym c.requires.name.1) in
@@ -68,7 +68,7 @@ pub returns-in-Err-standings-clause-rises : goal.returns-in-Err-standings-clause
 returns-in-Err-standings-clause-rises g c =
     let now = c.parts-book.ensures ∙ c.into_memo.ensures in
     let legal = subst (λ own. is_legal g.N.Naming.capacity (calls_of own.0) ≡ true) now c.journal-journal.ensures.legal in
-    let tells = ap (λ own. (own_counts own).calls) (c.new-choices.ensures ∙ c.in-Ok.ensures) in
+    let tells = ap (λ own. (own_counts own).calls) (c.new-choices.ensures.memo ∙ c.in-Ok.ensures) in
     let law = c.one_worker_has_the_hits_of_its_looks.ensures g.N.Naming.capacity _ _ _ _ _ tells c.in-Ok-records.ensures.asked legal in
     let rise = law.1 in
     omega (arith, rise)
@@ -79,7 +79,7 @@ returns-in-Err-standings-clause-bounded g c =
     let plan = plan_seen c.args.plan.now.value in
     let now = c.parts-book.ensures ∙ c.into_memo.ensures in
     let legal = subst (λ own. is_legal g.N.Naming.capacity (calls_of own.0) ≡ true) now c.journal-journal.ensures.legal in
-    let tells = ap (λ own. (own_counts own).calls) (c.new-choices.ensures ∙ c.in-Ok.ensures) in
+    let tells = ap (λ own. (own_counts own).calls) (c.new-choices.ensures.memo ∙ c.in-Ok.ensures) in
     let law = c.one_worker_has_the_hits_of_its_looks.ensures g.N.Naming.capacity _ _ _ _ _ tells c.in-Ok-records.ensures.asked legal in
     let rise = law.1 in
     let same = ap (λ keys. cost keys g.N.Naming.capacity) (all_looks about c.args.plan.now.value) ∙ ap (cost (looks_of about plan)) (sym c.requires.name.1) in
@@ -89,7 +89,7 @@ pub returns-in-Err-records-clause-rises : goal.returns-in-Err-records-clause-ris
 returns-in-Err-records-clause-rises g c =
     let now = c.parts-book.ensures ∙ c.into_memo.ensures in
     let legal = subst (λ own. is_legal g.N.Naming.capacity (calls_of own.0) ≡ true) now c.journal-journal.ensures.legal in
-    let tells = ap (λ own. (own_counts own).calls) (c.new-choices.ensures ∙ c.in-Ok.ensures) in
+    let tells = ap (λ own. (own_counts own).calls) (c.new-choices.ensures.memo ∙ c.in-Ok.ensures) in
     let law = c.one_worker_lacking_memory_takes_no_more_steps.ensures g.N.Naming.capacity _ _ _ _ _ tells c.in-Err-records.ensures.lacking legal in
     law.0
 
@@ -99,7 +99,7 @@ returns-in-Err-records-clause-bounded g c =
     let plan = plan_seen c.args.plan.now.value in
     let now = c.parts-book.ensures ∙ c.into_memo.ensures in
     let legal = subst (λ own. is_legal g.N.Naming.capacity (calls_of own.0) ≡ true) now c.journal-journal.ensures.legal in
-    let tells = ap (λ own. (own_counts own).calls) (c.new-choices.ensures ∙ c.in-Ok.ensures) in
+    let tells = ap (λ own. (own_counts own).calls) (c.new-choices.ensures.memo ∙ c.in-Ok.ensures) in
     let law = c.one_worker_lacking_memory_takes_no_more_steps.ensures g.N.Naming.capacity _ _ _ _ _ tells c.in-Err-records.ensures.lacking legal in
     let most = law.1 in
     let same = ap (λ keys. cost keys g.N.Naming.capacity) (all_looks about c.args.plan.now.value) ∙ ap (cost (looks_of about plan)) (sym c.requires.name.1) in

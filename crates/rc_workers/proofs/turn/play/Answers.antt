@@ -14,4 +14,4 @@ returns-clause-is g c =
 pub returns-clause-rise : goal.returns-clause-rise
 returns-clause-rise g c =
     rises_so (asks_of c.args.about.now.value (plan_seen c.args.plan.now.value) c.args.number) c.record_of.result
-    (g.M.Memo.counts c.args.choices.now) (g.M.Memo.counts c.record_of.new.chooser) c.args.steps.now c.record_of.new.steps c.record_of.ensures.asked
+    (g.C.Chooser.counts c.args.chooser.now) (g.C.Chooser.counts c.record_of.new.chooser) c.args.steps.now c.record_of.new.steps c.record_of.ensures.asked

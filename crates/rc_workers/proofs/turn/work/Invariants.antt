@@ -1,7 +1,6 @@
 use Rattle.std.proofs.Common.{◌≡◌, ◌<◌, ◌-◌, length, map, All}
 use Rattle.std.specs.List.{AllByRecursion}
 use Rattle.rc_rules.specs.Plan.{plan_seen}
-use Rattle.rc_redraw.specs.Counts.{Serves}
 use Rattle.rc_workers.specs.Turns.{IsRecordIn, number_of, asked_by_all, Rise}
 use Rattle.rc_workers.proofs.turn.work.Given as goal
 
@@ -13,8 +12,8 @@ invariant-loop-number g l =
       counted : All (λ n. n < l.claims.count) l.pass.numbers;
       numbers : l.pass.numbers ≡ map number_of l.records.items;
       are : AllByRecursion (IsRecordIn l.about.value (plan_seen l.plan.value)) l.records.items;
-      served : Serves (g.M.Memo.serves l.choices) l.about.value;
-      rise : Rise (asked_by_all l.about.value (plan_seen l.plan.value) (map number_of l.records.items)) (g.M.Memo.counts l.fn.choices) (g.M.Memo.counts l.choices);
+      served : g.C.Chooser.serves l.chooser l.about.value;
+      rise : Rise (asked_by_all l.about.value (plan_seen l.plan.value) (map number_of l.records.items)) (g.C.Chooser.counts l.fn.chooser) (g.C.Chooser.counts l.chooser);
     }
 
 abbrev pub decreases-loop-number : goal.decreases-loop-number
