@@ -31,7 +31,7 @@ const END: &[u8] = b"\
 (scoring max 0))";
 
 /// Its text. Each of 8 players has 31 locations and 31 numbers more.
-fn largest(alloc: Global) -> Result<Vec<u8>, AllocError> {
+pub fn largest(alloc: Global) -> Result<Vec<u8>, AllocError> {
     let mut text = BEGINNING.to_vec(alloc)?;
     for name in 0..31u8 {
         let line = format!(in alloc; "(set ('P sto N{name}) (size ('P iloc L{name})))\n")?;

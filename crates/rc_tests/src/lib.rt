@@ -9,6 +9,8 @@ mod draw;
 #[cfg(test)]
 mod expect;
 #[cfg(test)]
+mod flat;
+#[cfg(test)]
 mod form;
 #[cfg(test)]
 mod house;

@@ -20,7 +20,7 @@ use std::test::Fail;
 
 /// Two seats with two cards each, two open cards that are remembered, and two of the four others laid on a pile. The ten cards are
 /// numbered in the order of the deck, so the numbers of their faces are 0, 1, 1, 3, 1, 3, 6, 0, 6 and 3.
-const PILES: &[u8] = b"\
+pub const PILES: &[u8] = b"\
 (game
 (setup (create players 2)
 (create deck (game hloc STOCK) (deck (RANK (1 2 2 3 2 3 4 1 4 3)))))

@@ -41,7 +41,7 @@ fn put_four(later: bool, list: &mut [u16])
 }
 
 /// Two rows of four cards, of which each is shuffled once.
-const ROWS: &[u8] = b"\
+pub const ROWS: &[u8] = b"\
 (game
 (setup (create players 1)
 (create deck (game vloc FIRST) (deck (RANK (1 2 3 4))))

@@ -19,7 +19,7 @@ use std::sync::Arc;
 use std::test::Fail;
 
 /// The trick game of `bench/tricks.sheet`: 35 cards, of which each of four seats is dealt six from the top.
-const TRICKS: &[u8] = b"\
+pub const TRICKS: &[u8] = b"\
 (game
 (setup (create players 4)
 (create deck (game hloc STOCK) (deck (RANK (3 4 5 6 7 8 9 10)) (SUIT (C D H S))))
@@ -179,7 +179,7 @@ fn dealt(
     decision_of(rt, &machine)
 }
 
-fn are_same_controls(one: &Control, other: &Control) -> bool {
+pub fn are_same_controls(one: &Control, other: &Control) -> bool {
     one.site == other.site
         && one.frames.as_slice() == other.frames.as_slice()
         && one.turn == other.turn
@@ -207,7 +207,7 @@ fn are_same_views(one: &View, other: &View) -> bool {
         && are_same_sights(&one.sights, &other.sights)
 }
 
-fn are_same_menus(one: &Menu, other: &Menu) -> bool {
+pub fn are_same_menus(one: &Menu, other: &Menu) -> bool {
     for (one, other) in one.as_slice().iter().zip(other.as_slice()) {
         if one.alt != other.alt || one.spots.as_slice() != other.spots.as_slice() {
             return false;
