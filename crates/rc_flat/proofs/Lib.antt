@@ -11,5 +11,6 @@ pub mod OfferedLemmas
 pub mod KeptLemmas
 pub mod NumberLemmas
 pub mod MomentLemmas
+pub mod MarkLemmas
 pub mod MachineLemmas
 pub mod SitePlaceLemmas

@@ -1,5 +1,5 @@
 -- Parts of code as the definitions have it.
-use Rattle.std.proofs.Common.{◌≡◌, ℕ, zero, suc, ◌+◌, ◌-◌, ◌≤◌, List, [], ◌∷◌, length, take, drop, map, refl, sym, ap, ◌∙◌, subst, arith}
+use Rattle.std.proofs.Common.{◌≡◌, ℕ, zero, suc, ◌-◌, ◌≤◌, List, [], ◌∷◌, length, take, drop, refl, sym, ap, ◌∙◌, subst, arith}
 use Rattle.std.proofs.lemmas.List.{take_all, take_rest, drop_all, length-map}
 use Rattle.rc_code.specs.declared.code.Instruction.{Instruction}
 use Rattle.rc_code.specs.Seen.{instruction_seen, list_seen}

@@ -1,5 +1,5 @@
 -- Machines at the start, and at the same place.
-use Rattle.std.proofs.Common.{◌≡◌, ℕ, zero, suc, ◌≤◌, List, [], ◌∷◌, ◌++◌, All, replicate, true, false, None, true≢false, sym, ap, ◌∙◌, subst, append-nil, arith}
+use Rattle.std.proofs.Common.{◌≡◌, ℕ, zero, suc, ◌≤◌, List, [], replicate, false, None, true≢false, sym, ap, ◌∙◌, subst, append-nil, arith}
 use Rattle.std.specs.List.{AllByRecursion}
 use Rattle.std.proofs.lemmas.List.Elements.{All-from_recursion}
 use Rattle.rc_sheet_model.specs.Sheet.{SheetItems}
@@ -13,7 +13,7 @@ use Rattle.rc_play_model.specs.Step.{Config, todos, start}
 use Rattle.rc_play_model.specs.Fits.{HasFrames}
 use Rattle.rc_play_model.proofs.FrameLemmas.{start_frames}
 use Rattle.rc_code.specs.Instruction.{Instruction}
-use Rattle.rc_code.specs.Meaning.{items_in, left_in}
+use Rattle.rc_code.specs.Meaning.{items_in}
 use Rattle.rc_flat.specs.Shallow.{AreShallow}
 use Rattle.rc_code.specs.Serves.{Serves}
 use Rattle.rc_flat.specs.Flat.{Flat, config_of, IsInPlay}

@@ -1,10 +1,10 @@
 -- Which instruction is next where a choice is offered.
-use Rattle.std.proofs.Common.{◌≡◌, ℕ, ◌+◌, List, [], ◌∷◌, drop, slice_get, Option, Some, None, sym, ap, ◌∙◌, true≢false}
-use Rattle.rc_sheet_model.specs.Sheet.{Alt, SheetItem, choice}
+use Rattle.std.proofs.Common.{◌≡◌, ℕ, ◌+◌, List, [], drop, slice_get, Option, Some, sym, ap, ◌∙◌}
+use Rattle.rc_sheet_model.specs.Sheet.{Alt}
 use Rattle.rc_sheet_model.specs.Lists.{item_list}
 use Rattle.rc_play_model.specs.Menu.{alts_at}
-use Rattle.rc_code.specs.Instruction.{Block, Instruction, simple, if_true, so_often, one_by_one, do_all, begin_stage, offer, end_body}
-use Rattle.rc_code.specs.Meaning.{items_in, items_from}
+use Rattle.rc_code.specs.Instruction.{Block, Instruction, offer}
+use Rattle.rc_code.specs.Meaning.{items_from}
 use Rattle.rc_code.proofs.MeaningLemmas.{items_choice}
 use Rattle.rc_code.proofs.LeftLemmas.{first_there}
 use Rattle.rc_flat.specs.Flat.{Flat, IsOffered}

@@ -1,17 +1,17 @@
 -- Places in the code as stages open and close, and how many are open.
-use Rattle.std.proofs.Common.{◌≡◌, ℕ, ◌+◌, ◌<◌, ◌≤◌, true, false, List, [], ◌∷◌, ◌++◌, length, drop, reverse, slice_get, Some, All, refl, sym, ap, ◌∙◌, subst, true≢false, arith, length-append}
+use Rattle.std.proofs.Common.{◌≡◌, ℕ, ◌<◌, ◌≤◌, false, List, [], ◌∷◌, ◌++◌, length, drop, reverse, slice_get, Some, All, refl, sym, ap, subst, true≢false, arith, length-append}
 use Rattle.std.proofs.lemmas.List.{length-map, length-reverse}
-use Rattle.rc_sheet_model.specs.Sheet.{SheetItem, Class, Test, stage}
+use Rattle.rc_sheet_model.specs.Sheet.{SheetItem, Class, Test}
 use Rattle.rc_play_model.specs.Control.{Frame, Control}
 use Rattle.rc_play_model.specs.Table.{Table}
 use Rattle.rc_play_model.specs.Effects.{Dealing}
-use Rattle.rc_play_model.specs.Step.{Stage, Part, todo, round, turn, todos, goes, step}
+use Rattle.rc_play_model.specs.Step.{Stage, Part, todos, goes, step}
 use Rattle.rc_play_model.specs.Decision.{choose}
 use Rattle.rc_play_model.specs.Path.{Path}
 use Rattle.rc_play_model.specs.Fits.{around}
 use Rattle.rc_play_model.proofs.FrameLemmas.{step_frames, choice_frames}
 use Rattle.rc_code.specs.Instruction.{Instruction, begin_stage}
-use Rattle.rc_code.specs.Meaning.{items_from, stage_at, behind_at, left_behind, left_by, left_in}
+use Rattle.rc_code.specs.Meaning.{items_from, stage_at, behind_at, left_behind}
 use Rattle.rc_code.proofs.LeftLemmas.{left_here, left_stage}
 use Rattle.rc_flat.specs.Places.{went_to, at_round_of, opened_at, closed_to, but_last, IsStageAt, AreStages, IsPlace}
 use Rattle.rc_flat.specs.Shallow.{AreShallow}

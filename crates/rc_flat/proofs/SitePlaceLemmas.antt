@@ -5,7 +5,7 @@ use Rattle.std.specs.List.{AllByRecursion, AllZip}
 use Rattle.std.proofs.lemmas.List.{reverse-reverse}
 use Rattle.std.proofs.lemmas.Grind.{reverse_onto}
 use Rattle.std.proofs.lemmas.Option.{same_Some}
-use Rattle.rc_sheet_model.specs.Sheet.{Class, game_class, player_class, team_class, Test, SheetItem, do_item, stage, choice, SheetItems, no_item, item, Sheet}
+use Rattle.rc_sheet_model.specs.Sheet.{Class, game_class, player_class, team_class, SheetItem, do_item, stage, choice, SheetItems, no_item, item, Sheet}
 use Rattle.rc_sheet_model.specs.Lists.{item_list}
 use Rattle.rc_sheet_model.specs.WellFormed.{Around, outside, in_stage, IsItem, AreItems, IsWellFormed}
 use Rattle.rc_play_model.specs.Control.{Frame, Control}
@@ -13,12 +13,12 @@ use Rattle.rc_play_model.specs.Step.{Stage, Part, todo, round, turn, todos}
 use Rattle.rc_play_model.specs.Decision.{left_in_item, left_in, left_at, at_site}
 use Rattle.rc_play_model.specs.Path.{Path}
 use Rattle.rc_play_model.specs.Fits.{around, IsFrameOf, FitsSite}
-use Rattle.rc_code.specs.Instruction.{Block, Instruction, simple, if_true, so_often, one_by_one, do_all, begin_stage, offer, end_body}
+use Rattle.rc_code.specs.Instruction.{Instruction, simple, if_true, so_often, one_by_one, do_all, begin_stage, offer, end_body}
 use Rattle.rc_code.specs.Meaning.{items_from, first_stage, stage_at, behind_at, left_behind, left_by}
 use Rattle.rc_code.specs.Meaning as meaning
 use Rattle.rc_code.proofs.LeftLemmas.{first_there}
 use Rattle.rc_flat.specs.Shallow.{AreShallow}
-use Rattle.rc_flat.specs.Places.{IsStageAt, AreStages, IsPlace}
+use Rattle.rc_flat.specs.Places.{IsStageAt, AreStages}
 use Rattle.rc_play_model.specs.Table.{Table}
 use Rattle.rc_play_model.specs.About.{About, menu_at}
 use Rattle.rc_rules.specs.Machine.{CanDecide}

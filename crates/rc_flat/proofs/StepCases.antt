@@ -2,8 +2,7 @@
 use Rattle.std.proofs.Common.{◌≡◌, ℕ, ◌+◌, ◌≤◌, ◌<◌, nat_le, true, false, List, [], ◌∷◌, ◌++◌, length, take, drop, reverse, slice_get, Some, refl, sym, ap, ◌∙◌, arith}
 use Rattle.std.proofs.lemmas.Bool.{cond-true, cond-false, le-leb, lt-leb}
 use Rattle.std.proofs.lemmas.List.{nil_from_length}
-use Rattle.rc_sheet_model.specs.Sheet.{Effects, do_item, stage, choice, Alt, Class, Test, SheetItem, SheetItems}
-use Rattle.rc_sheet_model.specs.Lists.{item_list}
+use Rattle.rc_sheet_model.specs.Sheet.{choice, Alt, Class, Test}
 use Rattle.rc_sheet_model.specs.WellFormed.{owner_count}
 use Rattle.rc_play_model.specs.Control.{Control, Frame}
 use Rattle.rc_play_model.specs.Owners.{mover}
@@ -15,7 +14,7 @@ use Rattle.rc_play_model.specs.Effects.{Dealing, Point, does}
 use Rattle.rc_play_model.specs.Step.{Stage, Part, todo, round, turn, todos, Next, goes, stops, is_limit, is_done, decide, with_site, with_frames, at_menu, first_step, step, behind, opened, closed, passed, one_turn_more, at_round}
 use Rattle.rc_play_model.specs.Decision.{chosen_point, choose_first, choose, with_choice}
 use Rattle.rc_play_model.specs.Path.{Path}
-use Rattle.rc_code.specs.Instruction.{Block, Instruction, do_all, begin_stage, offer}
+use Rattle.rc_code.specs.Instruction.{Block, do_all, begin_stage, offer}
 use Rattle.rc_code.specs.Meaning.{effects_in, items_in, items_from, stage_at, behind_at, left_behind, left_in}
 use Rattle.rc_code.proofs.LeftLemmas.{left_do, left_choice, left_stage, left_opened, left_done, left_turn, left_round, left_from, left_body, stage_there, behind_there}
 use Rattle.rc_flat.specs.Places.{went_to, at_round_of, opened_at, closed_to, but_last}

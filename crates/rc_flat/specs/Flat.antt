@@ -1,16 +1,15 @@
 -- Machines as the definitions of play have them.
-use Rattle.std.specs.Prelude.{◌≡◌, ℕ, ◌+◌, ◌≤◌, ◌<◌, false, List, [], length, take, drop, slice_get, slice_index_or, Some, All}
-use Rattle.rc_sheet_model.specs.Sheet.{Class, Test, Alt, Sheet}
-use Rattle.rc_sheet_model.specs.WellFormed.{Around, IsTest, AreEffects, AreAlts}
+use Rattle.std.specs.Prelude.{◌≡◌, ℕ, ◌≤◌, ◌<◌, false, List, [], length, slice_get, slice_index_or, Some, All}
+use Rattle.rc_sheet_model.specs.Sheet.{Alt}
 use Rattle.rc_play_model.specs.Control.{Control}
 use Rattle.rc_play_model.specs.Table.{Table}
 use Rattle.rc_play_model.specs.About.{About, scene_at, menu_at}
-use Rattle.rc_play_model.specs.Menu.{Item, menu_from, alts_at, alt_in, effects_of}
+use Rattle.rc_play_model.specs.Menu.{Item, menu_from, alts_at}
 use Rattle.rc_play_model.specs.Step.{Config}
 use Rattle.rc_play_model.specs.Path.{Path}
 use Rattle.rc_play_model.specs.Fits.{HasFrames}
-use Rattle.rc_code.specs.Instruction.{Block, Instruction, do_all, begin_stage, offer}
-use Rattle.rc_code.specs.Meaning.{effects_in, items_in, left_in, block_in}
+use Rattle.rc_code.specs.Instruction.{Block, Instruction, offer}
+use Rattle.rc_code.specs.Meaning.{left_in}
 use Rattle.rc_flat.specs.Places.{IsPlace}
 use Rattle.rc_flat.specs.Shallow.{AreShallow}
 

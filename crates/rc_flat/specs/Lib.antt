@@ -7,5 +7,6 @@ pub mod Flat
 pub mod State
 pub mod Moments
 pub mod Machine
+pub mod Marks
 pub mod Codes
 pub mod MachineSeen

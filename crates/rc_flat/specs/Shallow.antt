@@ -1,5 +1,5 @@
 -- How many stages stand inside one another in what is left to run.
-use Rattle.std.specs.Prelude.{ℕ, ◌+◌, ◌≤◌, List, [], ◌∷◌, length}
+use Rattle.std.specs.Prelude.{◌+◌, ◌≤◌, List, [], ◌∷◌, length}
 use Rattle.rc_play_model.specs.Step.{Part, todo, round, turn}
 use Rattle.rc_play_model.specs.Path.{item_depth, items_depth}
 use Rattle.rc_play_model.specs.Fits.{around}

@@ -1,5 +1,5 @@
 -- Edits of a table that can be taken back.
-use Rattle.std.specs.Prelude.{◌≡◌, ℕ, ◌<◌, nat_lt, if◌then◌else◌, List, [], ◌∷◌, ◌++◌, length, ℤ}
+use Rattle.std.specs.Prelude.{◌≡◌, ℕ, ◌<◌, nat_lt, if◌then◌else◌, Bool, true, false, List, [], ◌∷◌, ◌++◌, length, ℤ}
 use Rattle.rc_model.specs.Clamp.{IsWithinClamp}
 use Rattle.rc_play_model.specs.Shape.{Shape}
 use Rattle.rc_play_model.specs.Bound.{HoldsReferences}
@@ -43,25 +43,33 @@ abbrev pub CanUndo : Shape → List Edit → Table → Type 0
 CanUndo shape [] table = Unit {0}
 CanUndo shape (e ∷ edits) table = IsEditOf shape e × IsSound shape (undone e table) × CanUndo shape edits (undone e table)
 
--- a table with those before it, the last one first
+-- one more in front of others, where it is noted
+abbrev pub noting : {X : Type 0} → Bool → X → List X → List X
+noting true x xs = x ∷ xs
+noting false x xs = xs
+
+-- a table with those before it, the last one first, and whether edits are noted
 pub record Kept : Type 0 where
   pub laid : Laid
   pub before : List Table
+  pub notes : Bool
 
 abbrev pub tables : Kept → List Table
 tables kept = kept.laid.table ∷ kept.before
 
 -- after one more edit
 abbrev pub edited : Kept → Table → Kept
-edited kept table = record { laid = relaid kept.laid table; before = tables kept }
+edited kept table =
+    record { laid = relaid kept.laid table; before = noting kept.notes kept.laid.table kept.before; notes = kept.notes }
 
--- all tables that were there are there, with others behind them
+-- where edits are noted, all tables that were there are there, with others behind them
 pub record Keeps (old new : Kept) : Type 0 where
   pub shape : new.laid.shape ≡ old.laid.shape
-  pub more : List Table
-  pub behind : tables new ≡ more ++ tables old
+  pub notes : new.notes ≡ old.notes
+  pub behind : old.notes ≡ true → (more : List Table) × (tables new ≡ more ++ tables old)
 
 -- the last tables are gone, and those before them are there
 pub record GoesBack (old new : Kept) (gone : List Table) : Type 0 where
   pub shape : new.laid.shape ≡ old.laid.shape
+  pub notes : new.notes ≡ old.notes
   pub behind : tables old ≡ gone ++ tables new

@@ -1,5 +1,5 @@
 //! A table whose edits can be taken back.
-ghost use Rattle.std.specs.Prelude.{◌≡◌, ◌<◌, ◌≤◌, List, [], ◌∷◌, length, slice_index, MatchOption, OnOk, OnErr};
+ghost use Rattle.std.specs.Prelude.{◌≡◌, ◌<◌, ◌≤◌, true, false, List, [], ◌∷◌, length, slice_index, MatchOption, OnOk, OnErr};
 ghost use Rattle.std.specs.List.Sorted.{IsPermutation};
 ghost use Rattle.rc_model.specs.Numbers.{below};
 ghost use Rattle.rc_model.specs.Clamp.{IsWithinClamp};
@@ -7,8 +7,8 @@ ghost use Rattle.rc_play_model.specs.Bound.{HoldsCards, HoldsReferences};
 ghost use Rattle.rc_play_model.specs.Table.{Table as PureTable, list_at, place_of, without, put_top, put_bottom, remember_top, remember_bottom, forget_in, set_number, reorder};
 ghost use Rattle.rc_table.specs.Laid.{relaid};
 ghost use Rattle.rc_table.specs.Restored.{taken_at};
-ghost use Rattle.rc_flat.specs.Entry.{entry_seen, log_seen};
-ghost use Rattle.rc_flat.specs.Undo.{changed, edited, Keeps, GoesBack};
+ghost use Rattle.rc_flat.specs.Entry.{entry_seen, log_seen, kept_log};
+ghost use Rattle.rc_flat.specs.Undo.{changed, noting, edited, Keeps, GoesBack};
 
 use crate::entry::{Entry, take_back};
 use rc_deck::Memory;
@@ -17,11 +17,13 @@ use rc_table::Table;
 use std::alloc::Global;
 use std::marker::Model;
 
-/// A table, with what takes each of its edits back, the last one at the end.
+/// A table, with what takes each of its edits back, the last one at the end, where it notes them.
 #[derive(Drop)]
 pub struct Board {
     alloc: Global,
     table: Table,
+    // whether edits are noted; else the log stays as it is
+    notes: bool,
     log: Vec<Entry>,
 }
 
@@ -38,13 +40,26 @@ impl Model for Board {
 }
 
 impl Board {
-    /// A table with none before it.
+    /// A table with none before it, whose edits are noted.
     pub fn new(alloc: Global, table: Table) -> Board
-        ensures { result ≡ record { laid = table; before = [] } }
+        ensures { result ≡ record { laid = table; before = []; notes = true } }
     {
         Board {
             alloc,
             table,
+            notes: true,
+            log: Vec::new(alloc),
+        }
+    }
+
+    /// A table whose edits are not noted.
+    pub fn onward(alloc: Global, table: Table) -> Board
+        ensures { result ≡ record { laid = table; before = []; notes = false } }
+    {
+        Board {
+            alloc,
+            table,
+            notes: false,
             log: Vec::new(alloc),
         }
     }
@@ -58,6 +73,7 @@ impl Board {
 
     /// How many edits can be taken back.
     pub fn edits(&self) -> usize
+        requires { self.now.notes ≡ true }
         ensures { result ≡ length self.now.before }
     {
         self.log.len()
@@ -80,7 +96,7 @@ impl Board {
             to: loc,
             at,
         };
-        match note(&mut self.log, entry) {
+        match note(self.notes, &mut self.log, entry) {
             Ok(()) => {}
             Err(Memory) => return Err(Memory),
         }
@@ -104,7 +120,7 @@ impl Board {
             to: loc,
             at: 0,
         };
-        match note(&mut self.log, entry) {
+        match note(self.notes, &mut self.log, entry) {
             Ok(()) => {}
             Err(Memory) => return Err(Memory),
         }
@@ -125,7 +141,7 @@ impl Board {
             return Ok(());
         }
         let at = count_of(&self.table, loc);
-        match note(&mut self.log, Entry::Noted { loc, at }) {
+        match note(self.notes, &mut self.log, Entry::Noted { loc, at }) {
             Ok(()) => {}
             Err(Memory) => return Err(Memory),
         }
@@ -145,7 +161,7 @@ impl Board {
         if !self.table.has_room(loc) {
             return Ok(());
         }
-        match note(&mut self.log, Entry::Noted { loc, at: 0 }) {
+        match note(self.notes, &mut self.log, Entry::Noted { loc, at: 0 }) {
             Ok(()) => {}
             Err(Memory) => return Err(Memory),
         }
@@ -172,7 +188,7 @@ impl Board {
             loc,
             place,
         };
-        match note(&mut self.log, entry) {
+        match note(self.notes, &mut self.log, entry) {
             Ok(()) => {}
             Err(Memory) => return Err(Memory),
         }
@@ -189,7 +205,7 @@ impl Board {
     {
         let _sound = self.table.shape();
         let entry = changed_entry(num, self.table.number(num));
-        match note(&mut self.log, entry) {
+        match note(self.notes, &mut self.log, entry) {
             Ok(()) => {}
             Err(Memory) => return Err(Memory),
         }
@@ -210,7 +226,7 @@ impl Board {
             Ok(list) => list,
             Err(_) => return Err(Memory),
         };
-        match note(&mut self.log, Entry::Ordered { loc, list }) {
+        match note(self.notes, &mut self.log, Entry::Ordered { loc, list }) {
             Ok(()) => {}
             Err(Memory) => return Err(Memory),
         }
@@ -218,16 +234,10 @@ impl Board {
         Ok(())
     }
 
-    /// Drops what takes edits back. The table is the same, and none is before it.
-    pub fn settle(&mut self)
-        ensures { self.new ≡ record { laid = self.old.laid; before = [] } }
-    {
-        self.log.clear();
-    }
-
     // Takes the last edit back.
     fn undo(&mut self)
-        requires { 0 < length self.old.before }
+        requires notes { self.old.notes ≡ true }
+        requires some { 0 < length self.old.before }
         ensures { GoesBack self.old self.new (self.old.laid.table ∷ []) }
     {
         match take_last(&mut self.log) {
@@ -238,7 +248,8 @@ impl Board {
 
     /// Takes edits back until so many are left.
     pub fn go_back(&mut self, edits: usize)
-        requires { edits ≤ length self.old.before }
+        requires notes { self.old.notes ≡ true }
+        requires fits { edits ≤ length self.old.before }
         ensures back { (undone : List PureTable) × GoesBack self.old self.new undone }
         ensures count { length self.new.before ≡ edits }
     {
@@ -281,12 +292,16 @@ fn take_last(log: &mut Vec<Entry>) -> Option<Entry>
     log.pop()
 }
 
-// Puts an entry behind the others.
+// Puts an entry behind the others, where edits are noted.
 #[tactic(auto, using(crate::proofs::UndoLemmas::log_more))]
-fn note(log: &mut Vec<Entry>, entry: Entry) -> Result<(), Memory>
-    ensures noted { OnOk result (log_seen log.new.items ≡ entry_seen entry ∷ log_seen log.old.items) }
+fn note(notes: bool, log: &mut Vec<Entry>, entry: Entry) -> Result<(), Memory>
+    ensures noted { OnOk result (kept_log notes log.new.items ≡ noting notes (entry_seen entry) (kept_log notes log.old.items)) }
+    ensures still { notes ≡ false → log.new.items ≡ log.old.items }
     ensures lacking { OnErr result (log.new.items ≡ log.old.items) }
 {
+    if !notes {
+        return Ok(());
+    }
     match log.push(entry) {
         Ok(()) => Ok(()),
         Err(_) => Err(Memory),

@@ -1,44 +1,44 @@
 //! The calls of the machine.
 ghost use Rattle.std.specs.Prelude.{◌≡◌, ◌<◌, ◌≤◌, ◌++◌, List, true, false, length, Some, is_err, IfOk, OnOk, OnErr};
+ghost use Rattle.rc_play_model.specs.Table.{Table as PureTable};
 ghost use Rattle.rc_play_model.specs.Step.{Config, goes};
 ghost use Rattle.rc_play_model.specs.Stop.{stop_of};
 ghost use Rattle.rc_play_model.specs.Decision.{choose};
 ghost use Rattle.rc_rules.specs.Control.{stop_seen};
 ghost use Rattle.rc_rules.specs.Dealer.{HasShuffled};
 ghost use Rattle.rc_rules.specs.Machine.{StandsAtDecision, StandsWhereItStops, menu_here};
-ghost use Rattle.rc_flat.specs.Moments.{moment};
-ghost use Rattle.rc_flat.specs.Machine.{moments};
+ghost use Rattle.rc_flat.specs.Machine.{KeepsTables, tables_of};
+ghost use Rattle.rc_flat.specs.Marks.{IsMark};
 
 use crate::machine::{FlatMachine, Mark};
-use crate::saving::save;
-use crate::undoing::{go_back, take_back};
 use rc_deck::Memory;
 use rc_rules::{Control, Dealer, Machine, Menu, Scores, Stop};
 use rc_state::copy_menu;
 use rc_table::Table;
 
 impl FlatMachine {
-    /// The moment at which it stands.
+    /// The moment at which it stands. Its edits are noted.
     pub fn mark(&self) -> Mark
-        requires { self.now.spent ≡ false }
-        ensures now { moment (moments self.now) result.calls ≡ Some self.now.config }
-        ensures calls { result.calls ≡ length self.now.before }
+        requires fresh { self.now.spent ≡ false }
+        requires notes { self.now.notes ≡ true }
+        ensures now { IsMark self.now result self.now.config }
+        ensures edits { result.edits ≡ length self.now.before }
     {
-        Mark {
-            calls: self.saves.len(),
-        }
+        self.state.mark()
     }
 
     /// Goes back to a moment. A machine that was spent is whole again.
     pub fn undo_to(&mut self, mark: Mark)
-        requires { mark.calls ≤ length self.old.before }
-        ensures there { moment (moments self.old) mark.calls ≡ Some self.new.config }
-        ensures before { (gone : List Config) × (moments self.old ≡ gone ++ moments self.new) }
-        ensures calls { length self.new.before ≡ mark.calls }
+        requires { (config : Config) × IsMark self.old mark config }
+        ensures there { IsMark self.old mark self.new.config }
+        ensures before { (gone : List PureTable) × (tables_of self.old ≡ gone ++ tables_of self.new) }
+        ensures edits { length self.new.before ≡ mark.edits }
         ensures fresh { self.new.spent ≡ false }
         ensures about { self.new.about ≡ self.old.about }
+        ensures code { self.new.code ≡ self.old.code }
+        ensures notes { self.new.notes ≡ self.old.notes }
     {
-        go_back(&mut self.state, &mut self.saves, mark.calls);
+        self.state.go_back(mark);
         self.state.refill(&self.about, &self.code.list);
         self.spent = false;
     }
@@ -63,27 +63,14 @@ impl Machine for FlatMachine {
         ensures idle { self.old.spent ≡ true → D.state dealer.new ≡ D.state dealer.old }
         ensures same { self.new.about ≡ self.old.about }
         ensures dealing { D.dealing dealer.new ≡ D.dealing dealer.old }
-        ensures keeps { (more : List Config) × (moments self.new ≡ more ++ moments self.old) }
+        ensures keeps { KeepsTables self.old self.new }
     {
         if self.spent {
             return Err(Memory);
         }
-        match save(&self.state, &mut self.saves) {
-            Ok(()) => {}
-            Err(Memory) => {
-                self.spent = true;
-                return Err(Memory);
-            }
-        }
         match self.state.advance(&self.about, &self.code.list, dealer) {
             Ok(stop) => Ok(stop),
             Err(Memory) => {
-                take_back(
-                    &self.about,
-                    &self.code.list,
-                    &mut self.state,
-                    &mut self.saves,
-                );
                 self.spent = true;
                 Err(Memory)
             }
@@ -116,27 +103,14 @@ impl Machine for FlatMachine {
         ensures idle { self.old.spent ≡ true → D.state dealer.new ≡ D.state dealer.old }
         ensures same { self.new.about ≡ self.old.about }
         ensures dealing { D.dealing dealer.new ≡ D.dealing dealer.old }
-        ensures keeps { (more : List Config) × (moments self.new ≡ more ++ moments self.old) }
+        ensures keeps { KeepsTables self.old self.new }
     {
         if self.spent {
             return Err(Memory);
         }
-        match save(&self.state, &mut self.saves) {
-            Ok(()) => {}
-            Err(Memory) => {
-                self.spent = true;
-                return Err(Memory);
-            }
-        }
         match self.state.apply(&self.about, &self.code.list, item, dealer) {
             Ok(()) => Ok(()),
             Err(Memory) => {
-                take_back(
-                    &self.about,
-                    &self.code.list,
-                    &mut self.state,
-                    &mut self.saves,
-                );
                 self.spent = true;
                 Err(Memory)
             }

@@ -14,7 +14,6 @@ mod numbers;
 mod onward;
 mod place;
 mod references;
-mod saving;
 mod shuffling;
 mod simple;
 mod site;

@@ -1,20 +1,19 @@
 //! The machine.
 
-use crate::saving::Saved;
+use crate::place::Place;
 use crate::state::State;
 use rc_code::Code;
-use rc_rules::About;
+use rc_rules::{About, Control};
 use std::marker::Model;
 use std::sync::Arc;
 
-/// A match that is played on the code of its sheet. It keeps what takes each of its calls back.
+/// A match that is played on the code of its sheet. It keeps what takes each edit of its table back.
 #[derive(Drop)]
 pub struct FlatMachine {
     pub(crate) about: About,
     pub(crate) code: Arc<Code>,
+    // any, but for its board, where the machine is spent
     pub(crate) state: State,
-    // where it stood when each call began
-    pub(crate) saves: Vec<Saved>,
     pub(crate) spent: bool,
 }
 
@@ -35,8 +34,10 @@ impl Model for FlatMachine {
     ghost invariant = { KeepsMachine };
 }
 
-/// A moment of a machine: how many calls were made before it.
-#[derive(Clone, Copy, PartialEq, Eq, Debug)]
+/// A moment of a machine: where its match stood beside its table, in the code, and after how many edits of its table.
+#[derive(Drop)]
 pub struct Mark {
-    pub(crate) calls: usize,
+    pub(crate) control: Control,
+    pub(crate) place: Place,
+    pub(crate) edits: usize,
 }

@@ -1,5 +1,5 @@
 //! Machines that are made at the start of a match or at a decision.
-ghost use Rattle.std.specs.Prelude.{◌≡◌, false, IfOk};
+ghost use Rattle.std.specs.Prelude.{◌≡◌, true, false, IfOk};
 ghost use Rattle.rc_play_model.specs.Step.{start};
 ghost use Rattle.rc_play_model.specs.Shape.{shape_of};
 ghost use Rattle.rc_play_model.specs.Decision.{at_site};
@@ -39,6 +39,7 @@ impl FlatMachine {
         ensures about { IfOk result (λ m. m.about ≡ record { sheet = checked.now.value; shape = shape.now.value; turns = turns }) }
         ensures start { IfOk result (λ m. m.config ≡ start (record { sheet = checked.now.value; shape = shape.now.value; turns = turns })) }
         ensures fresh { IfOk result (λ m. m.spent ≡ false) }
+        ensures notes { IfOk result (λ m. m.notes ≡ true) }
     {
         let about = about_of(alloc, checked, shape, turns)?;
         FlatMachine::at_start(alloc, code, about)
@@ -50,6 +51,7 @@ impl FlatMachine {
         ensures about { IfOk result (λ m. m.about ≡ about.now) }
         ensures start { IfOk result (λ m. m.config ≡ start about.now) }
         ensures fresh { IfOk result (λ m. m.spent ≡ false) }
+        ensures notes { IfOk result (λ m. m.notes ≡ true) }
     {
         match about.copy() {
             Ok(about) => FlatMachine::at_start(alloc, code, about),
@@ -63,18 +65,39 @@ impl FlatMachine {
         ensures about { IfOk result (λ m. m.about ≡ about) }
         ensures start { IfOk result (λ m. m.config ≡ start about) }
         ensures fresh { IfOk result (λ m. m.spent ≡ false) }
+        ensures notes { IfOk result (λ m. m.notes ≡ true) }
     {
         let code = Arc::try_clone(code)?;
         let table = Table::new(alloc, about.shape())?;
-        Ok(FlatMachine::with_opening(alloc, code, about, table))
+        Ok(FlatMachine::with_opening(code, about, Board::new(alloc, table)))
     }
 
-    fn with_opening(alloc: Global, code: Arc<Code>, about: About, table: Table) -> FlatMachine
+    /// A match at its start, in matches of this about, that notes nothing.
+    pub(crate) fn onward_start(
+        alloc: Global,
+        code: &Arc<Code>,
+        about: &About,
+    ) -> Result<FlatMachine, Memory>
+        requires { StandsFor about.now.sheet (code_seen code.now.value) }
+        ensures about { IfOk result (λ m. m.about ≡ about.now) }
+        ensures start { IfOk result (λ m. m.config ≡ start about.now) }
+        ensures fresh { IfOk result (λ m. m.spent ≡ false) }
+        ensures notes { IfOk result (λ m. m.notes ≡ false) }
+    {
+        let about = about.copy()?;
+        let code = Arc::try_clone(code)?;
+        let table = Table::new(alloc, about.shape())?;
+        Ok(FlatMachine::with_opening(code, about, Board::onward(alloc, table)))
+    }
+
+    // A match at its start, with the opening table on its board.
+    fn with_opening(code: Arc<Code>, about: About, board: Board) -> FlatMachine
         requires stands { StandsFor about.sheet (code_seen code.value) }
-        requires opens { table ≡ record { shape = about.shape; table = opening about.shape } }
+        requires opens { board.laid ≡ record { shape = about.shape; table = opening about.shape } }
         ensures about { result.about ≡ about }
         ensures start { result.config ≡ start about }
         ensures fresh { result.spent ≡ false }
+        ensures notes { result.notes ≡ board.notes }
     {
         standing_code_serves();
         let _sheet = about.sheet();
@@ -83,12 +106,11 @@ impl FlatMachine {
             about,
             code,
             state: State {
-                board: Board::new(alloc, table),
+                board,
                 control,
                 place: Place::start(),
                 menu: Menu::new(),
             },
-            saves: Vec::new(alloc),
             spent: false,
         }
     }
@@ -112,6 +134,7 @@ impl FlatMachine {
         ensures at { IfOk result (λ m. m.config
             ≡ at_site (record { sheet = checked.now.value; shape = shape.now.value; turns = turns }) table.table (control_seen control)) }
         ensures fresh { IfOk result (λ m. m.spent ≡ false) }
+        ensures notes { IfOk result (λ m. m.notes ≡ true) }
     {
         let about = about_of(alloc, checked, shape, turns)?;
         FlatMachine::at_decision(alloc, code, about, table, control)
@@ -131,6 +154,7 @@ impl FlatMachine {
         ensures about { IfOk result (λ m. m.about ≡ about) }
         ensures at { IfOk result (λ m. m.config ≡ at_site about table.table (control_seen control)) }
         ensures fresh { IfOk result (λ m. m.spent ≡ false) }
+        ensures notes { IfOk result (λ m. m.notes ≡ true) }
     {
         sites_are_placed();
         let _sheet = about.sheet();
@@ -154,6 +178,7 @@ impl FlatMachine {
         ensures about { result.about ≡ about }
         ensures at { result.config ≡ config_of (flat_from about (list_seen code.value.list.items) place table.table (control_seen control)) }
         ensures fresh { result.spent ≡ false }
+        ensures notes { result.notes ≡ true }
     {
         standing_code_serves();
         let _sheet = about.sheet();
@@ -168,7 +193,6 @@ impl FlatMachine {
             about,
             code,
             state,
-            saves: Vec::new(alloc),
             spent: false,
         }
     }

@@ -1,5 +1,5 @@
 //! Machines that never go back.
-ghost use Rattle.std.specs.Prelude.{◌≡◌, false, [], IfOk};
+ghost use Rattle.std.specs.Prelude.{◌≡◌, false, IfOk};
 ghost use Rattle.rc_play_model.specs.Step.{start};
 ghost use Rattle.rc_code.specs.Seen.{code_seen};
 ghost use Rattle.rc_code.specs.Stands.{StandsFor};
@@ -12,21 +12,7 @@ use rc_table::Table;
 use std::alloc::Global;
 use std::sync::Arc;
 
-impl FlatMachine {
-    /// Drops what takes its calls back. It stands where it stood, and can go back no further.
-    pub fn settle(&mut self)
-        ensures about { self.new.about ≡ self.old.about }
-        ensures config { self.new.config ≡ self.old.config }
-        ensures spent { self.new.spent ≡ self.old.spent }
-        ensures none { self.new.before ≡ [] }
-    {
-        self.state.board.settle();
-        self.saves.clear();
-    }
-}
-
-/// A match that is played on the code of its sheet and never goes back. Each call drops what would take the calls before it back. So
-/// it takes the memory of one call, however many there are.
+/// A match that is played on the code of its sheet and never goes back. It notes nothing of its edits.
 #[derive(Drop)]
 pub struct OnwardMachine {
     machine: FlatMachine,
@@ -40,7 +26,7 @@ impl OnwardMachine {
         ensures start { IfOk result (λ m. m.machine.config ≡ start about.now) }
         ensures fresh { IfOk result (λ m. m.machine.spent ≡ false) }
     {
-        let machine = FlatMachine::start_of(alloc, code, about)?;
+        let machine = FlatMachine::onward_start(alloc, code, about)?;
         Ok(OnwardMachine { machine })
     }
 }
@@ -53,7 +39,6 @@ impl Machine for OnwardMachine {
     ghost spent = { λ m. m.machine.spent };
 
     fn advance<D: Dealer>(&mut self, dealer: &mut D) -> Result<Stop, Memory> {
-        self.machine.settle();
         self.machine.advance(dealer)
     }
 
@@ -66,7 +51,6 @@ impl Machine for OnwardMachine {
     }
 
     fn apply<D: Dealer>(&mut self, item: u16, dealer: &mut D) -> Result<(), Memory> {
-        self.machine.settle();
         self.machine.apply(item, dealer)
     }
 

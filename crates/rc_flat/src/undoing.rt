@@ -1,40 +1,51 @@
 //! Back to where a match stood.
-ghost use Rattle.std.specs.Prelude.{◌≡◌, ◌<◌, ◌≤◌, ◌++◌, List, length, reverse, Some};
+ghost use Rattle.std.specs.Prelude.{◌≡◌, ◌≤◌, true, List, length};
+ghost use Rattle.rc_play_model.specs.Table.{Table as PureTable};
 ghost use Rattle.rc_play_model.specs.About.{About as PureAbout};
-ghost use Rattle.rc_play_model.specs.Step.{Config};
+ghost use Rattle.rc_rules.specs.Control.{control_seen};
 ghost use Rattle.rc_code.specs.Instruction.{Instruction as PureInstruction};
 ghost use Rattle.rc_code.specs.Seen.{list_seen};
 ghost use Rattle.rc_code.specs.Serves.{Serves};
-ghost use Rattle.rc_flat.specs.State.{IsReady, flat_of, config_at};
-ghost use Rattle.rc_flat.specs.Moments.{AreSaved, CanGoBack, IsInMatch, moment, moments_of, past};
-ghost use Rattle.rc_flat.specs.Undo.{tables};
+ghost use Rattle.rc_flat.specs.Undo.{GoesBack, tables};
+ghost use Rattle.rc_flat.specs.State.{IsReady, flat_of};
+ghost use Rattle.rc_flat.specs.Moments.{IsInMatch, flat_marked};
 
-use crate::saving::{Saved, undo_call};
+use crate::machine::Mark;
 use crate::state::State;
 use crate::there::choice_there;
 use rc_code::Instruction;
 use rc_rules::About;
 use rc_state::fill_menu_at;
 
-/// Goes back until so many calls are left.
-pub fn go_back(state: &mut State, saves: &mut Vec<Saved>, calls: usize)
-    requires few { calls ≤ length saves.old.items }
-    requires edits { AreSaved (length state.old.board.before) (reverse saves.old.items) }
-    ensures there { (about : PureAbout) (code : List PureInstruction) →
-        moment (moments_of about code state.old saves.old.items) calls ≡ Some (config_at about code state.new) }
-    ensures before { (about : PureAbout) (code : List PureInstruction) →
-        (gone : List Config) × (moments_of about code state.old saves.old.items ≡ gone ++ moments_of about code state.new saves.new.items) }
-    ensures on { (about : PureAbout) (code : List PureInstruction) → CanGoBack about code state.old saves.old.items →
-        IsInMatch (flat_of about code state.old) → IsInMatch (flat_of about code state.new) × CanGoBack about code state.new saves.new.items }
-    ensures shape { state.new.board.laid.shape ≡ state.old.board.laid.shape }
-    ensures count { length saves.new.items ≡ calls }
-{
-    while saves.len() > calls {
-        undo_call(state, saves);
-    }
-}
-
 impl State {
+    /// Where it stands.
+    pub fn mark(&self) -> Mark
+        requires { self.now.board.notes ≡ true }
+        ensures control { control_seen result.control ≡ control_seen self.now.control }
+        ensures place { result.place ≡ self.now.place }
+        ensures edits { result.edits ≡ length self.now.board.before }
+    {
+        Mark {
+            control: self.control.copy(),
+            place: self.place.copy(),
+            edits: self.board.edits(),
+        }
+    }
+
+    /// Goes back to where a match stood. The menu is any.
+    pub fn go_back(&mut self, mark: Mark)
+        requires notes { self.old.board.notes ≡ true }
+        requires fits { mark.edits ≤ length self.old.board.before }
+        ensures there { (about : PureAbout) (code : List PureInstruction) →
+            flat_marked about code (tables self.old.board) mark ≡ flat_of about code self.new }
+        ensures back { (gone : List PureTable) × GoesBack self.old.board self.new.board gone }
+        ensures count { length self.new.board.before ≡ mark.edits }
+    {
+        self.board.go_back(mark.edits);
+        self.control = mark.control;
+        self.place = mark.place;
+    }
+
     /// Fills the menu anew where a decision is next.
     pub fn refill(&mut self, about: &About, code: &[Instruction])
         requires serves { Serves about.now.sheet (list_seen code.now) }
@@ -58,19 +69,4 @@ impl State {
             &mut self.menu,
         );
     }
-}
-
-/// Goes back to where the last call began.
-pub fn take_back(about: &About, code: &[Instruction], state: &mut State, saves: &mut Vec<Saved>)
-    requires serves { Serves about.now.sheet (list_seen code.now) }
-    requires laid { state.old.board.laid.shape ≡ about.now.shape }
-    requires some { 0 < length saves.old.items }
-    requires back { CanGoBack about.now (list_seen code.now) state.old saves.old.items }
-    ensures ready { IsReady about.now (list_seen code.now) state.new }
-    ensures back { CanGoBack about.now (list_seen code.now) state.new saves.new.items }
-    ensures before { past about.now (list_seen code.now) (tables state.old.board) (reverse saves.old.items)
-        ≡ moments_of about.now (list_seen code.now) state.new saves.new.items }
-{
-    undo_call(state, saves);
-    state.refill(about, code);
 }

@@ -1,8 +1,8 @@
-use Rattle.std.proofs.Common.{◌≡◌, ◌+◌, ◌*◌, ◌<◌, ◌++◌, ◌∷◌, [], length, drop, rules, sym, ap, ◌∙◌, subst, arith}
+use Rattle.std.proofs.Common.{◌+◌, ◌*◌, ◌<◌, ◌++◌, ◌∷◌, [], length, drop, sym, ap, ◌∙◌, subst, arith}
 use Rattle.std.proofs.lemmas.Grind.{common_steps}
 use Rattle.rc_sheet_model.specs.Sheet.{Sheet}
 use Rattle.rc_sheet_model.specs.WellFormed.{AreEffects}
-use Rattle.rc_play_model.specs.Value.{player_bound, card_bound}
+use Rattle.rc_play_model.specs.Value.{player_bound}
 use Rattle.rc_play_model.specs.Effects.{does}
 use Rattle.rc_code.specs.Meaning.{effects_in, first_effects, passed_over}
 use Rattle.rc_code.specs.Seen.{instruction_seen, list_seen}
@@ -10,8 +10,7 @@ use Rattle.rc_code.specs.Serves.{AreSimple}
 use Rattle.rc_code.proofs.MeaningLemmas.{are_first, does_first}
 use Rattle.rc_state.specs.Point.{point_of}
 use Rattle.rc_state.specs.Under.{AreEffectsUnder}
-use Rattle.rc_flat.proofs.EffectSteps.{one_player, no_player, one_card, once_more}
-use Rattle.rc_value.specs.Cards.{value_seen}
+use Rattle.rc_flat.proofs.EffectSteps.{one_player, no_player, once_more}
 use Rattle.rc_flat.proofs.KeepsLemmas.{keeps_then}
 use Rattle.rc_flat.proofs.ShuffleLemmas.{shuffled_then}
 use Rattle.rc_flat.proofs.blocks.+blocks.Goals as goal

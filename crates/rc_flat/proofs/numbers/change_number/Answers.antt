@@ -1,4 +1,4 @@
-use Rattle.std.proofs.Common.{◌≡◌, Some, ap, sym, ◌∙◌, rules, SFits, w64}
+use Rattle.std.proofs.Common.{ap, sym, ◌∙◌, rules, SFits, w64}
 use Rattle.std.proofs.lemmas.Int.{to_z-of_z}
 use Rattle.rc_play_model.specs.Effects.{change}
 use Rattle.rc_state.specs.Leads.{new_by}

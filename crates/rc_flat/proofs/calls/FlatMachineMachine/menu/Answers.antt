@@ -9,6 +9,6 @@ pub returns : goal.returns
 returns c =
     let m = c.self.inside in
     c.copy_menu.ensures
-    ∙ kept_here m.about (list_seen m.code.value.list.items) m.state c.self.invariant.ready
+    ∙ kept_here m.about (list_seen m.code.value.list.items) m.state (c.self.invariant.ready (ap (λ (m : Machine). m.spent) c.self.view_is ∙ c.requires.fresh))
     (subst (λ (m : Machine). StandsAtDecision m.about m.config) (sym c.self.view_is) c.requires.decision)
     ∙ ap (λ (m : Machine). menu_here m.about m.config) c.self.view_is

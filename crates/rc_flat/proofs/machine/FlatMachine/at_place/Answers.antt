@@ -1,10 +1,7 @@
-use Rattle.std.proofs.Common.{◌≡◌, List, length, reverse, rules, sym, subst}
+use Rattle.std.proofs.Common.{◌≡◌, rules, sym, subst}
 use Rattle.rc_code.specs.Seen.{list_seen, code_seen}
 use Rattle.rc_code.specs.Serves.{Serves}
-use Rattle.rc_flat.specs.declared.saving.Saved.{Saved}
-use Rattle.rc_flat.specs.Undo.{tables}
 use Rattle.rc_flat.specs.State.{IsReady}
-use Rattle.rc_flat.specs.Moments.{AreSaved, AreInMatch}
 use Rattle.rc_flat.proofs.machine.FlatMachine.at_place.Goals as goal
 
 pub refill-requires-clause-serves : goal.refill-requires-clause-serves
@@ -20,9 +17,6 @@ invariant_of-result c =
     let same : c.deref-2.result.now ≡ c.args.code.value.list.items = search rules in
     record {
       serves = c.standing_code_serves.ensures about.sheet (code_seen c.args.code.value) c.requires.stands c.sheet-sheet.ensures.well;
-      ready = subst (λ list. IsReady about (list_seen list) c.refill.new.self) same c.refill.ensures.ready;
-      back = record {
-        stacked = subst (λ (saves : List Saved). AreSaved (length c.refill.new.self.board.before) (reverse saves)) (sym c.new-3.ensures.items) tt;
-        goes_on = subst (λ (saves : List Saved). AreInMatch about code (tables c.refill.new.self.board) (reverse saves)) (sym c.new-3.ensures.items) tt;
-      };
+      laid = c.refill.ensures.ready.laid;
+      ready = λ fresh. subst (λ list. IsReady about (list_seen list) c.refill.new.self) same c.refill.ensures.ready;
     }

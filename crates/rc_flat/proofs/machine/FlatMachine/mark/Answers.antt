@@ -1,22 +1,23 @@
-use Rattle.std.proofs.Common.{◌≡◌, [], length, reverse, rules, ap, arith}
-use Rattle.std.proofs.lemmas.List.{length-reverse}
+use Rattle.std.proofs.Common.{sym, ap, ◌∙◌, subst, arith}
 use Rattle.rc_code.specs.Seen.{list_seen}
-use Rattle.rc_flat.specs.Undo.{tables}
+use Rattle.rc_flat.specs.Flat.{config_of}
 use Rattle.rc_flat.specs.Machine.{Machine}
-use Rattle.rc_flat.proofs.MomentLemmas.{past_long, moment_behind}
+use Rattle.rc_flat.specs.Moments.{IsInMatch}
+use Rattle.rc_flat.specs.Marks.{IsMark}
+use Rattle.rc_flat.proofs.MomentLemmas.{in_match, marked_here}
 use Rattle.rc_flat.proofs.machine.FlatMachine.mark.Goals as goal
 
-calls_are : (c : goal.After-len) → c.len.result ≡ length c.args.self.now.before
-calls_are c =
-    let m = c.self.inside in
-    let many : c.len.result ≡ length m.saves.items = search rules in
-    let long = past_long m.about (list_seen m.code.value.list.items) (tables m.state.board) (reverse m.saves.items) in
-    let back = length-reverse m.saves.items in
-    let seen = ap (λ (m : Machine). length m.before) c.self.view_is in
-    omega (arith, many, long, back, seen)
-
 pub returns-clause-now : goal.returns-clause-now
-returns-clause-now c = moment_behind [] c.args.self.now.config c.args.self.now.before c.len.result (calls_are c)
-
-pub returns-clause-calls : goal.returns-clause-calls
-returns-clause-calls c = calls_are c
+returns-clause-now c =
+    let m = c.self.inside in
+    let code = list_seen m.code.value.list.items in
+    let mark = c.mark.ensures in
+    let fresh = ap (λ (m : Machine). m.spent) c.self.view_is ∙ c.requires.fresh in
+    let here = marked_here m.about code m.state c.mark.result mark.control mark.place mark.edits in
+    subst (λ (m : Machine). IsMark m c.mark.result m.config) c.self.view_is
+    (record {
+      notes = ap (λ (m : Machine). m.notes) c.self.view_is ∙ c.requires.notes;
+      edits = omega (arith, mark.edits);
+      on = subst IsInMatch (sym here) (in_match m.about code m.state (c.self.invariant.ready fresh));
+      there = ap config_of here;
+    })

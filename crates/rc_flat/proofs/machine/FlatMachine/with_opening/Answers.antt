@@ -1,12 +1,9 @@
-use Rattle.std.proofs.Common.{List, length, reverse, sym, ap, ◌∙◌, subst}
+use Rattle.std.proofs.Common.{ap}
 use Rattle.rc_play_model.specs.Control.{Control}
 use Rattle.rc_table.specs.Laid.{Laid}
 use Rattle.rc_rules.specs.Control.{control_seen}
 use Rattle.rc_code.specs.Seen.{list_seen, code_seen}
 use Rattle.rc_code.specs.Serves.{Serves}
-use Rattle.rc_flat.specs.declared.saving.Saved.{Saved}
-use Rattle.rc_flat.specs.Undo.{Kept, tables}
-use Rattle.rc_flat.specs.Moments.{AreSaved, AreInMatch}
 use Rattle.rc_flat.proofs.MachineLemmas.{start_ready}
 use Rattle.rc_flat.proofs.machine.FlatMachine.with_opening.Goals as goal
 
@@ -16,18 +13,15 @@ invariant_of-result c =
     let code = list_seen c.args.code.value.list.items in
     let formed = c.sheet-sheet.ensures.well in
     let serves : Serves about.sheet code = c.standing_code_serves.ensures about.sheet (code_seen c.args.code.value) c.requires.stands formed in
-    let table = ap (λ (k : Kept). k.laid.table) c.new.ensures ∙ ap (λ (l : Laid). l.table) c.requires.opens in
+    let table = ap (λ (l : Laid). l.table) c.requires.opens in
     record {
       serves = serves;
-      ready = record {
-        laid = ap (λ (k : Kept). k.laid.shape) c.new.ensures ∙ ap (λ (l : Laid). l.shape) c.requires.opens;
-        play = (start_ready about code c.start.result c.new.result.laid.table (control_seen c.new_control-control.result) serves
+      laid = ap (λ (l : Laid). l.shape) c.requires.opens;
+      ready = λ fresh. record {
+        laid = ap (λ (l : Laid). l.shape) c.requires.opens;
+        play = (start_ready about code c.start.result c.args.board.laid.table (control_seen c.new_control-control.result) serves
             formed c.start.ensures table c.new_control-control.ensures).0;
         kept = λ site is. absurd (let none = ap (λ (control : Control). control.site) c.new_control-control.ensures in cc);
-      };
-      back = record {
-        stacked = subst (λ (saves : List Saved). AreSaved (length c.new.result.before) (reverse saves)) (sym c.new-3.ensures.items) tt;
-        goes_on = subst (λ (saves : List Saved). AreInMatch about code (tables c.new.result) (reverse saves)) (sym c.new-3.ensures.items) tt;
       };
     }
 
@@ -37,6 +31,6 @@ returns-clause-start c =
     let code = list_seen c.args.code.value.list.items in
     let formed = c.sheet-sheet.ensures.well in
     let serves : Serves about.sheet code = c.standing_code_serves.ensures about.sheet (code_seen c.args.code.value) c.requires.stands formed in
-    let table = ap (λ (k : Kept). k.laid.table) c.new.ensures ∙ ap (λ (l : Laid). l.table) c.requires.opens in
-    (start_ready about code c.start.result c.new.result.laid.table (control_seen c.new_control-control.result) serves formed c.start.ensures table
+    let table = ap (λ (l : Laid). l.table) c.requires.opens in
+    (start_ready about code c.start.result c.args.board.laid.table (control_seen c.new_control-control.result) serves formed c.start.ensures table
     c.new_control-control.ensures).1

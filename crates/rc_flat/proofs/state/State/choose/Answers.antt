@@ -1,4 +1,4 @@
-use Rattle.std.proofs.Common.{◌≡◌, ◌+◌, ◌≤◌, [], All, drop, map, ap, sym, ◌∙◌, subst, arith}
+use Rattle.std.proofs.Common.{◌+◌, ◌≤◌, [], All, drop, map, ap, sym, ◌∙◌, subst, arith}
 use Rattle.rc_play_model.specs.Owners.{mover}
 use Rattle.rc_play_model.specs.About.{scene_at}
 use Rattle.rc_play_model.specs.Menu.{Item, alt_in, effects_of, bindings_of}

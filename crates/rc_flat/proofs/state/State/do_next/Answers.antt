@@ -1,4 +1,4 @@
-use Rattle.std.proofs.Common.{◌≡◌, ◌+◌, [], take, drop, ap, sym, ◌∙◌, subst}
+use Rattle.std.proofs.Common.{◌+◌, [], take, drop, ap, sym, ◌∙◌, subst}
 use Rattle.rc_play_model.specs.Effects.{does}
 use Rattle.rc_play_model.specs.Step.{goes, with_frames}
 use Rattle.rc_code.specs.Meaning.{effects_in}

@@ -1,4 +1,4 @@
-use Rattle.std.proofs.Common.{◌≡◌, List, [], Option, Some, ap, sym, ◌∙◌, slice_get}
+use Rattle.std.proofs.Common.{List, [], Option, Some, ap, sym, ◌∙◌, slice_get}
 use Rattle.rc_sheet_model.specs.Sheet.{Alt}
 use Rattle.rc_play_model.specs.Menu.{alts_at}
 use Rattle.rc_code.specs.Instruction.{Instruction, offer}

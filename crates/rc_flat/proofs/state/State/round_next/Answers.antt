@@ -1,4 +1,4 @@
-use Rattle.std.proofs.Common.{◌≡◌, ◌+◌, ◌<◌, ◌≤◌, ap, sym, ◌∙◌, subst, true≢false, arith}
+use Rattle.std.proofs.Common.{◌+◌, ◌<◌, ◌≤◌, ap, sym, ◌∙◌, subst, true≢false, arith}
 use Rattle.rc_play_model.specs.Step.{goes, with_frames, one_turn_more}
 use Rattle.rc_ast.specs.Expressions.{test_seen}
 use Rattle.rc_rules.specs.Control.{frames_seen}
