@@ -1,0 +1,24 @@
+use Rattle.std.proofs.Common.{◌≡◌, refl, sym, ap, ap₂, slice_index, ◌∙◌, arith, add-one}
+use Rattle.rand_chacha.specs.Block.{add32, column_round, diagonal_round, double_rounds, block_word}
+use Rattle.rc_lanes.proofs.LaneLemmas.{slice_index-lane}
+use Rattle.rc_lanes.proofs.lanes.first_words.Goals as goal
+
+pub rounds-init : goal.rounds-init
+unfolding double_rounds
+rounds-init c j h = refl
+
+pub rounds-preserved : goal.rounds-preserved
+unfolding double_rounds
+rounds-preserved c j h =
+    rw add-one (c.diagonal_round-x.ensures j h
+    ∙ ap diagonal_round (c.column_round.ensures j h ∙ ap column_round (c.rounds.invariant j h)))
+
+pub returns : goal.returns
+unfolding block_word
+returns c j lane =
+    let done : c.rounds._round ≡ 4 = omega arith in
+    let first = c.initial_states-first.ensures j lane in
+    c.add.ensures j lane
+    ∙ ap₂ add32
+    (sym (slice_index-lane c.rounds.x j 0 (omega arith)) ∙ ap (λ x. slice_index x 0) (c.rounds.invariant j lane ∙ ap₂ double_rounds done first))
+    (sym (slice_index-lane c.initial_states-first.result j 0 (omega arith)) ∙ ap (λ x. slice_index x 0) first)

@@ -1,0 +1,3 @@
+pub mod Kept
+pub mod Neighbours
+pub mod Series

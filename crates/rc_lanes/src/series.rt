@@ -1,0 +1,95 @@
+//! Picks by keys of four numbers that differ in the lower half of the last.
+ghost use Rattle.std.specs.Prelude.{◌≡◌, ◌<◌};
+ghost use Rattle.rc_play_model.specs.Draws as draws;
+ghost use Rattle.rc_lanes.specs.Series.{AreFirstWords, key_at};
+
+use crate::lanes::first_words;
+use rc_play_model::keys_pick_and_permute;
+use std::marker::Model;
+
+/// The keys of four numbers whose last has a given upper half. Its lower half numbers them. The first words of four keys with
+/// numbers in a row are generated together and kept, since most picks are by the number behind that of the last pick.
+#[derive(Debug, Drop)]
+pub struct KeySeries {
+    a: u64,
+    b: u64,
+    c: u64,
+    upper: u32,
+    first: u32,
+    kept: u32,
+    words: [u32; 4],
+}
+
+impl Model for KeySeries {
+    ghost use Rattle.rc_lanes.specs.Series.{Series};
+
+    ghost Value = { Series };
+
+    ghost use Rattle.rc_lanes.specs.Kept.{series_seen, KeepsWords};
+
+    ghost view = { series_seen };
+
+    ghost invariant = { KeepsWords };
+}
+
+impl KeySeries {
+    /// The keys of these numbers. No word is generated yet.
+    pub fn new(a: u64, b: u64, c: u64, upper: u32) -> KeySeries
+        ensures { result ≡ record { a = a; b = b; c = c; upper = upper } }
+    {
+        KeySeries {
+            a,
+            b,
+            c,
+            upper,
+            first: 0,
+            kept: 0,
+            words: [0; 4],
+        }
+    }
+
+    /// The pick below n of the key of this number, by its first word. Below 1 it is 0 whatever the word, and none is generated.
+    pub fn pick(&mut self, number: u32, n: u32) -> u32
+        requires { 0 < n }
+        ensures value { result ≡ draws.pick_of (key_at self.old number) n }
+        ensures bound { result < n }
+        ensures same { self.new ≡ self.old }
+    {
+        keys_pick_and_permute();
+        if n == 1 {
+            return 0;
+        }
+        (self.word(number) as u64 * n as u64 / 4294967296) as u32
+    }
+
+    // The first word of the key of this number.
+    fn word(&mut self, number: u32) -> u32
+        ensures is { result ≡ draws.word_of (key_at self.old number) 0 }
+        ensures same { self.new ≡ self.old }
+    {
+        let at = number.wrapping_sub(self.first);
+        if at < self.kept {
+            return self.words[at as usize];
+        }
+        self.words = words_from(self.a, self.b, self.c, self.upper, number);
+        self.first = number;
+        self.kept = 4;
+        self.words[0]
+    }
+}
+
+// The first words of four keys from this number on.
+fn words_from(a: u64, b: u64, c: u64, upper: u32, first: u32) -> [u32; 4]
+    ensures { AreFirstWords (record { a = a; b = b; c = c; upper = upper }) first 4 result }
+{
+    first_words(&[
+        (a % 4294967296) as u32,
+        (a / 4294967296) as u32,
+        (b % 4294967296) as u32,
+        (b / 4294967296) as u32,
+        (c % 4294967296) as u32,
+        (c / 4294967296) as u32,
+        first,
+        upper,
+    ])
+}
