@@ -1,5 +1,5 @@
 -- What a rollout asks, and what that costs.
-use Rattle.std.proofs.Common.{◌≡◌, ℕ, ◌*◌, List, [], ◌∷◌, Result, Ok, Err, OnOk, refl, sym, ap, ◌∙◌}
+use Rattle.std.proofs.Common.{◌≡◌, ℕ, ◌*◌, [], ◌∷◌, Result, Ok, Err, OnOk, refl, sym, ap, ◌∙◌}
 use Rattle.rc_play_model.specs.About.{About}
 use Rattle.rc_play_model.specs.Strategy.{menu_size}
 use Rattle.rc_play_model.specs.Tally.{tally}
