@@ -1,10 +1,10 @@
 //! The flat machine: side by side with the tree machine from stop to stop, and back at a decision behind playouts.
-ghost use Rattle.std.specs.Prelude.{◌≡◌, ◌<◌, false, length, IfOk};
+ghost use Rattle.std.specs.Prelude.{◌≡◌, ◌<◌, true, false, length, IfOk};
 ghost use Rattle.rc_play_model.specs.Shape.{shape_of as shape_for};
 ghost use Rattle.rc_code.specs.Seen.{code_seen};
 ghost use Rattle.rc_code.specs.Stands.{StandsFor};
 ghost use Rattle.rc_rules.specs.Machine.{StandsAtDecision, menu_here};
-ghost use Rattle.rc_rollout.specs.Back.{KeepsMoments};
+ghost use Rattle.rc_flat.specs.Machine.{KeepsTables};
 
 use crate::expect::expect_same;
 use crate::house::GAME;
@@ -48,6 +48,7 @@ fn code_on(alloc: Global, basis: &Basis) -> Result<Arc<Code>, Fail>
 /// A match on this code at its start, with a turn limit of 64.
 fn flat_start(alloc: Global, basis: &Basis) -> Result<FlatMachine, Fail>
     requires { basis.now.shape.value ≡ shape_for basis.now.checked.value }
+    ensures notes { IfOk result (λ m. m.notes ≡ true) }
 {
     let code = code_on(alloc, basis)?;
     Ok(FlatMachine::start(alloc, &code, &basis.checked, &basis.shape, 64)?)
@@ -160,7 +161,7 @@ fn expect_alike(rt: &(impl AllocGlobal + Abort), text: &[u8], deal: u64) -> Resu
 
 /// Plays on to the end of a match.
 fn play_out(machine: &mut FlatMachine, dealer: &mut MatchDealer) -> Result<(), Fail>
-    ensures keeps { KeepsMoments machine.old machine.new }
+    ensures keeps { KeepsTables machine.old machine.new }
     ensures same { machine.new.about ≡ machine.old.about }
 {
     for number in PICKS {
@@ -173,7 +174,7 @@ fn play_out(machine: &mut FlatMachine, dealer: &mut MatchDealer) -> Result<(), F
 
 /// Goes on to the next stop. A decision is made by the number; else the match is over.
 fn is_over(machine: &mut FlatMachine, dealer: &mut MatchDealer, number: u16) -> Result<bool, Fail>
-    ensures keeps { KeepsMoments machine.old machine.new }
+    ensures keeps { KeepsTables machine.old machine.new }
     ensures same { machine.new.about ≡ machine.old.about }
 {
     match machine.advance(dealer)? {
@@ -190,7 +191,7 @@ fn is_over(machine: &mut FlatMachine, dealer: &mut MatchDealer, number: u16) -> 
 fn play_item(machine: &mut FlatMachine, item: u16, dealer: &mut MatchDealer) -> Result<(), Fail>
     requires decision { StandsAtDecision machine.old.about machine.old.config }
     requires offered { item < length (menu_here machine.old.about machine.old.config) }
-    ensures keeps { KeepsMoments machine.old machine.new }
+    ensures keeps { KeepsTables machine.old machine.new }
     ensures same { machine.new.about ≡ machine.old.about }
 {
     machine.apply(item, dealer)?;
@@ -200,6 +201,7 @@ fn play_item(machine: &mut FlatMachine, item: u16, dealer: &mut MatchDealer) -> 
 /// Plays out an item of the menu, and goes back to the decision.
 fn play_and_go_back(machine: &mut FlatMachine, item: u16, deal: u64) -> Result<(), Fail>
     requires fresh { machine.old.spent ≡ false }
+    requires notes { machine.old.notes ≡ true }
     requires decision { StandsAtDecision machine.old.about machine.old.config }
     requires offered { item < length (menu_here machine.old.about machine.old.config) }
     ensures { machine.new ≡ machine.old }
@@ -213,6 +215,7 @@ fn play_and_go_back(machine: &mut FlatMachine, item: u16, deal: u64) -> Result<(
 /// Fails unless a match stands at the decision as before, behind a playout of each item.
 fn expect_back(rt: &(impl AllocGlobal + Abort), machine: &mut FlatMachine) -> Result<(), Fail>
     requires fresh { machine.old.spent ≡ false }
+    requires notes { machine.old.notes ≡ true }
     requires decision { StandsAtDecision machine.old.about machine.old.config }
     ensures { machine.new ≡ machine.old }
 {
@@ -232,7 +235,10 @@ fn is_over_behind_playouts(
     machine: &mut FlatMachine,
     dealer: &mut MatchDealer,
     number: u16,
-) -> Result<bool, Fail> {
+) -> Result<bool, Fail>
+    requires { machine.old.notes ≡ true }
+    ensures { machine.new.notes ≡ true }
+{
     match machine.advance(dealer)? {
         Stop::Decide { .. } => {
             expect_back(rt, machine)?;

@@ -15,6 +15,8 @@ mod form;
 #[cfg(test)]
 mod house;
 #[cfg(test)]
+mod lanes;
+#[cfg(test)]
 mod largest;
 #[cfg(test)]
 mod names;

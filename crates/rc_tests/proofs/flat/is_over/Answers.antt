@@ -1,4 +1,4 @@
-use Rattle.rc_rollout.proofs.BackLemmas.{keeps_then}
+use Rattle.rc_flat.proofs.MarkLemmas.{keeps_then}
 use Rattle.rc_tests.proofs.flat.is_over.Goals as goal
 
 pub returns-in_err-apply-in-Decide-clause-keeps : goal.returns-in_err-apply-in-Decide-clause-keeps

@@ -1,5 +1,5 @@
 use Rattle.std.proofs.Common.{◌∙◌}
-use Rattle.rc_rollout.proofs.BackLemmas.{keeps_then}
+use Rattle.rc_flat.proofs.MarkLemmas.{keeps_then}
 use Rattle.rc_tests.proofs.flat.play_out.Goals as goal
 
 pub returns-in_err-is_over-clause-keeps : goal.returns-in_err-is_over-clause-keeps
