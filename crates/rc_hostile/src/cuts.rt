@@ -1,0 +1,134 @@
+//! A source that is cut off behind each of its bytes.
+use crate::expect::expect_same;
+use crate::ports::{End, expect_end};
+use rc_house::{PlanKind, SourceKind, Status};
+use std::alloc::{AllocError, Global};
+use std::process::Abort;
+use std::test::Fail;
+
+/// Two players with two cards each who choose the first one each time, of which the last dealt is worth least.
+pub const GAME: &[u8] = b"\
+(game
+(setup (create players 2)
+(create deck (game hloc STOCK) (deck (RANK (1 2 3 4))))
+(put points WORTH ((RANK (1) 1) (RANK (2) 2) (RANK (3) 3) (RANK (4) 4))))
+(do (all player 'P (repeat 2 (move (top (game hloc STOCK)) (top ('P iloc HAND))))))
+(stage player (end (all player 'P (= (size ('P iloc HAND)) 0)))
+(choice (any ((current player) iloc HAND) 'C
+(do (move 'C (top ((current player) vloc PLAYED)))))))
+(scoring max (sum ('SELF vloc PLAYED) using WORTH)))
+";
+
+const PLAN: &[u8] = b"(plan (seats (script) (script)) (matches (0 0)) (turns 100))
+";
+
+/// The text of its play.
+const TEXT: &[u8] = b"\
+house 1
+match 0 deal 0 seats 0
+choose 0 0 0 2
+choose 1 0 0 2
+choose 0 0 0 1
+choose 1 0 0 1
+end done 8
+score 0 7 2
+score 1 3 0
+standing 1 strategy 0 points 2
+standing 2 strategy 1 points 0
+";
+
+const PLAYED: End<'static> = End {
+    status: Status::Done,
+    written: TEXT,
+    noted: b"cache looks 0 hits 0\n",
+};
+
+/// The offset of the last list that is still open behind a text without comments, if one is.
+fn last_open(alloc: Global, text: &[u8]) -> Result<Option<usize>, AllocError> {
+    let mut open = Vec::new(alloc);
+    for (at, byte) in text.iter().enumerate() {
+        match byte {
+            b'(' => open.push(at)?,
+            b')' => {
+                open.pop();
+            }
+            _ => {}
+        }
+    }
+    Ok(open.pop())
+}
+
+/// An offset as faults tell it.
+fn offset(at: usize) -> Result<u32, Fail> {
+    Ok(u32::try_from(at).ok().ok_or("the text is short")?)
+}
+
+/// Fails unless the play of a text is refused with this status, whose line is `what` and the offset.
+fn expect_refused(
+    rt: &(impl AllocGlobal + Abort),
+    text: &[u8],
+    what: &str,
+    at: usize,
+    status: Status,
+) -> Result<(), Fail> {
+    let alloc = rt.alloc();
+    let noted = format!(in alloc; "{what} {at}\n")?;
+    let end = End {
+        status,
+        written: b"",
+        noted: noted.as_bytes(),
+    };
+    expect_end(rt, "play", text.to_vec(alloc)?, end)
+}
+
+/// Fails unless the play of a text is refused for the sheet's first fault.
+fn expect_sheet(
+    rt: &(impl AllocGlobal + Abort),
+    text: &[u8],
+    kind: SourceKind,
+    at: usize,
+) -> Result<(), Fail> {
+    let what = match kind {
+        SourceKind::Shape => "sheet Shape",
+        _ => "sheet Unclosed",
+    };
+    let status = Status::Sheet {
+        kind,
+        at: offset(at)?,
+    };
+    expect_refused(rt, text, what, at, status)
+}
+
+/// Fails unless a front of the source, which isn't the whole of it, is refused where it ends.
+fn expect_cut(rt: &(impl AllocGlobal + Abort), text: &[u8]) -> Result<(), Fail> {
+    if text.is_empty() {
+        return expect_sheet(rt, text, SourceKind::Shape, 0);
+    }
+    match last_open(rt.alloc(), text)? {
+        Some(at) => expect_sheet(rt, text, SourceKind::Unclosed, at),
+        // the sheet stands there, with its line feed or without, and no plan
+        None => {
+            assert!(rt; matches!(text.len(), 462 | 463));
+            let status = Status::Plan {
+                kind: PlanKind::Shape,
+                at: offset(text.len())?,
+            };
+            expect_refused(rt, text, "plan Shape", text.len(), status)
+        }
+    }
+}
+
+/// The sheet has 462 bytes without its line feed, and the plan 60.
+#[test]
+fn a_cut_source_is_refused_where_it_ends(rt: HostRuntime) -> Result<(), Fail> {
+    let mut whole = GAME.to_vec(rt.alloc())?;
+    whole.extend_from_slice(PLAN)?;
+    expect_same(&rt, whole.len(), 524);
+    for length in 0..523usize {
+        let text = whole.get(..length).ok_or("the source is long enough")?;
+        expect_cut(&rt, text)?;
+    }
+    let text = whole.get(..523).ok_or("the source is long enough")?;
+    expect_end(&rt, "play", text.to_vec(rt.alloc())?, PLAYED)?;
+    expect_end(&rt, "play", whole, PLAYED)
+}
