@@ -16,7 +16,7 @@ use rc_ast::Sheet;
 use rc_code::Code;
 use rc_flow::{Checked, check_sight};
 use rc_form::{Form, read_forms};
-use rc_plays::{record_of, shared_about};
+use rc_series::{record_of, shared_about};
 use rc_rollout::{Choices, shared_code};
 use rc_rules::{About, Deal, MatchRecord, Plan, Strategy};
 use rc_sheet::{SheetFail, sheet_of};

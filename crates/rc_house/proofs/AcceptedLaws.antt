@@ -6,7 +6,7 @@ use Rattle.std.proofs.lemmas.List.Elements.{All-nil, All-cons, All-contains, All
 use Rattle.rc_model.specs.Tree.{Tree, word, list, IsOpenAtMost}
 use Rattle.rc_form.specs.Form.{IsPrintable}
 use Rattle.rc_grammar.specs.declared.fault.SheetFault.{SheetFault}
-use Rattle.rc_semantics.specs.SecondFaults.{sheet_fault}
+use Rattle.rc_faults.specs.SecondFaults.{sheet_fault}
 use Rattle.rc_sheet_model.specs.Sheet.{Sheet, Loc}
 use Rattle.rc_sheet_model.specs.Sight.{unseen_locs, unseen_offsets, IsInSight, IsUnseen}
 use Rattle.rc_sheet_laws.proofs.One.Sheet.{one_well_formed}

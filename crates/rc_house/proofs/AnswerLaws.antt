@@ -17,7 +17,7 @@ use Rattle.rc_plan.specs.declared.fail.PlanFail.TheVariants as fails
 use Rattle.rc_plan.specs.Reads.{IfPlanFault}
 use Rattle.rc_house.specs.declared.answer.Answer.{Answer as Stored}
 use Rattle.rc_house.specs.declared.answer.Answer.TheVariants.{Text, Refused}
-use Rattle.rc_words.specs.declared.options.Options.{Options}
+use Rattle.rc_command.specs.declared.options.Options.{Options}
 use Rattle.rc_house.specs.declared.task.Task.{Task}
 use Rattle.rc_house.specs.declared.task.Task.TheVariants.{Play, Check, Sheet as PrintsSheet}
 use Rattle.rc_house.specs.AcceptedPlan.{IsBehind, IsFaultyBehind, IsPlanFaulty}

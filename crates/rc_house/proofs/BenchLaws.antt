@@ -5,14 +5,14 @@ use Rattle.rc_model.specs.Tree.{Tree}
 use Rattle.rc_play_model.specs.About.{about_of}
 use Rattle.rc_play_model.specs.House.{standings_of}
 use Rattle.rc_play_model.specs.Plan.{Plan}
-use Rattle.rc_plays.specs.Series.{matches_of, looks_of}
-use Rattle.rc_semantics.specs.SecondFaults.{sheet_fault}
+use Rattle.rc_series.specs.Series.{matches_of, looks_of}
+use Rattle.rc_faults.specs.SecondFaults.{sheet_fault}
 use Rattle.rc_sheet_laws.specs.Accepted.{IsSheetOf}
 use Rattle.rc_sheet_model.specs.Sheet.{Sheet}
 use Rattle.rc_sheet_model.specs.Sight.{IsUnseen}
 use Rattle.rc_bench.specs.Bench.{bench_plan, bench_text}
 use Rattle.rc_trick.specs.Trick.{IsTrickGame}
-use Rattle.rc_words.specs.declared.options.Options.{Options}
+use Rattle.rc_command.specs.declared.options.Options.{Options}
 use Rattle.rc_house.specs.declared.status.SourceKind.{SourceKind}
 use Rattle.rc_house.specs.Accepted.{HasFirstFault}
 use Rattle.rc_house.specs.Answer.{Answer, text, playouts_of}

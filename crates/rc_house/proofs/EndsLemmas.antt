@@ -1,12 +1,12 @@
 -- How words ended, from what their command did.
 use Rattle.std.proofs.Common.{◌≡◌, ◌<◌, ◌≤◌, ◌⊎◌, ℕ, List, Option, Some, None, inl, inr, refl, sym, ap, subst, arith}
 use Rattle.std.proofs.lemmas.Bool.{cases_lt}
-use Rattle.rc_words.specs.Words.{GivesOptions, HasNumber, usual_options}
-use Rattle.rc_words.specs.Command.{IsCommand, options_of, workers_of}
-use Rattle.rc_words.specs.declared.options.Options.{Options}
-use Rattle.rc_words.specs.declared.command.Command.{Command}
-use Rattle.rc_words.specs.declared.command.Command.TheVariants.{Play, Check, Sheet, Bench}
-use Rattle.rc_words.proofs.OneCommand.{one_command}
+use Rattle.rc_command.specs.Words.{GivesOptions, HasNumber, usual_options}
+use Rattle.rc_command.specs.Command.{IsCommand, options_of, workers_of}
+use Rattle.rc_command.specs.declared.options.Options.{Options}
+use Rattle.rc_command.specs.declared.command.Command.{Command}
+use Rattle.rc_command.specs.declared.command.Command.TheVariants.{Play, Check, Sheet, Bench}
+use Rattle.rc_command.proofs.OneCommand.{one_command}
 use Rattle.rc_house.specs.declared.status.Status.{Status}
 use Rattle.rc_house.specs.declared.status.Status.TheVariants.{Memory, Usage}
 use Rattle.rc_house.specs.Status.{line_of}

@@ -11,7 +11,7 @@ use Rattle.rc_text_model.specs.HouseText.{HouseText}
 use Rattle.rc_text_model.specs.Reading.{read_text}
 use Rattle.rc_judge_model.specs.Why.{Illegal}
 use Rattle.rc_judge_model.specs.Judged.{first_illegal}
-use Rattle.rc_plays.specs.Series.{looks_of}
+use Rattle.rc_series.specs.Series.{looks_of}
 use Rattle.rc_outside.specs.Source.{Gave, IsAtEnd}
 use Rattle.rc_outside.specs.declared.errors.ReadFail.{ReadFail}
 use Rattle.rc_outside.specs.declared.errors.ReadFail.TheVariants as read

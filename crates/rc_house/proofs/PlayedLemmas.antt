@@ -4,7 +4,7 @@ use Rattle.rc_model.specs.Spelled.{Spelled}
 use Rattle.rc_model.specs.Tree.{Tree}
 use Rattle.rc_sheet_model.specs.Sheet.{Sheet}
 use Rattle.rc_play_model.specs.Plan.{Plan}
-use Rattle.rc_words.specs.declared.options.Options.{Options}
+use Rattle.rc_command.specs.declared.options.Options.{Options}
 use Rattle.rc_house.specs.declared.task.Task.TheVariants.{Play}
 use Rattle.rc_house.specs.AcceptedPlan.{IsPlanned}
 use Rattle.rc_house.specs.Reading.{IsAcceptedWith}

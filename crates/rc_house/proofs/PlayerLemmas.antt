@@ -6,10 +6,10 @@ use Rattle.rc_play_model.specs.House.{standings_of}
 use Rattle.rc_play_model.specs.Plan.{Plan}
 use Rattle.rc_redraw.specs.Asking.{Key}
 use Rattle.rc_cache.specs.Hits.{hits, cost}
-use Rattle.rc_plays.specs.Series.{looks_of, matches_of}
-use Rattle.rc_plays.specs.declared.plays.Series.{Series}
+use Rattle.rc_series.specs.Series.{looks_of, matches_of}
+use Rattle.rc_series.specs.declared.plays.Series.{Series}
 use Rattle.rc_rules.specs.Record.{record_seen, standing_seen}
-use Rattle.rc_words.specs.declared.options.Options.{Options}
+use Rattle.rc_command.specs.declared.options.Options.{Options}
 use Rattle.rc_house.specs.Players.{AreHits, alone, shared, counted_playouts}
 use Rattle.rc_house.specs.Running.{PlaysSeries}
 

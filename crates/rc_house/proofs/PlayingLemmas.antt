@@ -6,12 +6,12 @@ use Rattle.rc_play_model.specs.About.{about_of}
 use Rattle.rc_play_model.specs.Keyed.{keyed_house}
 use Rattle.rc_play_model.specs.Plan.{Plan}
 use Rattle.rc_bench.specs.Bench.{bench_plan, bench_text}
-use Rattle.rc_plays.specs.Series.{looks_of, matches_of}
-use Rattle.rc_plays.specs.declared.plays.Series.{Series}
+use Rattle.rc_series.specs.Series.{looks_of, matches_of}
+use Rattle.rc_series.specs.declared.plays.Series.{Series}
 use Rattle.rc_rules.specs.Record.{record_seen, standing_seen}
 use Rattle.rc_text.specs.House.{text_of}
 use Rattle.rc_trick.specs.Trick.{IsTrickGame}
-use Rattle.rc_words.specs.declared.options.Options.{Options}
+use Rattle.rc_command.specs.declared.options.Options.{Options}
 use Rattle.rc_house.specs.declared.status.Status.{Status}
 use Rattle.rc_house.specs.declared.task.Task.{Task}
 use Rattle.rc_house.specs.declared.task.Task.TheVariants.{Play}

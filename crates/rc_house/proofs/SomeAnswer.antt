@@ -5,7 +5,7 @@ use Rattle.rc_model.specs.Spelled.{Spelled}
 use Rattle.rc_model.specs.Tree.{Tree}
 use Rattle.rc_model.specs.Transcript.{line}
 use Rattle.rc_grammar.specs.declared.fault.SheetFault.{SheetFault}
-use Rattle.rc_semantics.specs.SecondFaults.{sheet_fault}
+use Rattle.rc_faults.specs.SecondFaults.{sheet_fault}
 use Rattle.rc_sheet_model.specs.Sheet as sheets
 use Rattle.rc_sheet_model.specs.Printing.{printed_sheet}
 use Rattle.rc_sheet_model.specs.Sight.{IsInSight, IsUnseen}
@@ -18,8 +18,8 @@ use Rattle.rc_play_model.specs.About.{about_of}
 use Rattle.rc_text_model.specs.Reading.{read_text}
 use Rattle.rc_redraw.specs.Asking.{Key}
 use Rattle.rc_cache.specs.Hits.{hits}
-use Rattle.rc_plays.specs.Series.{looks_of}
-use Rattle.rc_words.specs.declared.options.Options.{Options}
+use Rattle.rc_series.specs.Series.{looks_of}
+use Rattle.rc_command.specs.declared.options.Options.{Options}
 use Rattle.rc_house.specs.declared.task.Task.{Task}
 use Rattle.rc_house.specs.declared.task.Task.TheVariants.{Play, Check, Sheet}
 use Rattle.rc_house.specs.declared.refusal.Refusal.TheVariants as refusal

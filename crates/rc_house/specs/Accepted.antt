@@ -2,7 +2,7 @@
 use Rattle.std.specs.Prelude.{Some, ◌≡◌, ℕ, ◌⊎◌}
 use Rattle.rc_model.specs.Tree.{Tree}
 use Rattle.rc_grammar.specs.declared.fault.SheetFault.{SheetFault}
-use Rattle.rc_semantics.specs.SecondFaults.{sheet_fault}
+use Rattle.rc_faults.specs.SecondFaults.{sheet_fault}
 use Rattle.rc_sheet_model.specs.Sheet.{Sheet}
 use Rattle.rc_sheet_model.specs.Sight.{IsUnseen}
 use Rattle.rc_sheet_laws.specs.Accepted.{IsSheetOf}

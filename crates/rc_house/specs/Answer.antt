@@ -11,14 +11,14 @@ use Rattle.rc_text_model.specs.HouseText.{HouseText}
 use Rattle.rc_text_model.specs.Reading.{read_text}
 use Rattle.rc_judge_model.specs.Why.{Illegal}
 use Rattle.rc_judge_model.specs.Judged.{first_illegal}
-use Rattle.rc_plays.specs.Series.{looks_of}
+use Rattle.rc_series.specs.Series.{looks_of}
 use Rattle.rc_sheet_model.specs.Sheet as sheet
 use Rattle.rc_sheet_model.specs.Printing.{printed_sheet}
 use Rattle.rc_plan_model.specs.Limits.{IsWithinLimits}
 use Rattle.rc_plan_model.specs.declared.fault.PlanKind.{PlanKind}
 use Rattle.rc_rules.specs.Plan.{plan_seen}
 use Rattle.rc_plan.specs.declared.fail.PlanFail.{PlanFail}
-use Rattle.rc_words.specs.declared.options.Options.{Options}
+use Rattle.rc_command.specs.declared.options.Options.{Options}
 use Rattle.rc_plan.specs.declared.fail.PlanFail.TheVariants as fails
 use Rattle.rc_house.specs.declared.task.Task.{Task}
 use Rattle.rc_house.specs.declared.task.Task.TheVariants.{Play, Check, Sheet}

@@ -1,8 +1,8 @@
 -- How words end: those of a command, and all others.
 use Rattle.std.specs.Prelude.{◌≡◌, ◌<◌, ℕ, List}
-use Rattle.rc_words.specs.Command.{IsCommand, workers_of}
-use Rattle.rc_words.specs.declared.command.Command.{Command}
-use Rattle.rc_words.specs.declared.command.Command.TheVariants.{Play, Check, Sheet, Bench}
+use Rattle.rc_command.specs.Command.{IsCommand, workers_of}
+use Rattle.rc_command.specs.declared.command.Command.{Command}
+use Rattle.rc_command.specs.declared.command.Command.TheVariants.{Play, Check, Sheet, Bench}
 use Rattle.rc_house.specs.declared.status.Status.{Status}
 use Rattle.rc_house.specs.declared.status.Status.TheVariants as ending
 use Rattle.rc_house.specs.declared.task.Task.{Task}

@@ -1,6 +1,6 @@
 -- Statements of laws of what commands answer.
 use Rattle.std.specs.Prelude.{◌≡◌, ℕ, List, []}
-use Rattle.rc_words.specs.declared.options.Options.{Options}
+use Rattle.rc_command.specs.declared.options.Options.{Options}
 use Rattle.rc_house.specs.declared.task.Task.{Task}
 use Rattle.rc_house.specs.declared.task.Task.TheVariants.{Play, Sheet}
 use Rattle.rc_house.specs.Answer.{Answer, text, AreAlike, HasAnswer, IsAlone}

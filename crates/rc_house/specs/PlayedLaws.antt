@@ -7,7 +7,7 @@ use Rattle.rc_play_model.specs.Plan.{Plan}
 use Rattle.rc_play_model.specs.Keyed.{keyed_house}
 use Rattle.rc_text_model.specs.Reading.{read_text}
 use Rattle.rc_sheet_laws.specs.Accepted.{IsAccepted}
-use Rattle.rc_words.specs.declared.options.Options.{Options}
+use Rattle.rc_command.specs.declared.options.Options.{Options}
 use Rattle.rc_house.specs.declared.task.Task.TheVariants.{Play, Check}
 use Rattle.rc_house.specs.Task.{wanted}
 use Rattle.rc_house.specs.AcceptedPlan.{IsPlanRead}

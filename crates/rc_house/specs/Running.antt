@@ -6,12 +6,12 @@ use Rattle.rc_outside.specs.declared.errors.ReadFail.TheVariants.{ReadFault, Too
 use Rattle.rc_play_model.specs.About.{About, about_of}
 use Rattle.rc_play_model.specs.House.{standings_of}
 use Rattle.rc_play_model.specs.Plan.{Plan}
-use Rattle.rc_plays.specs.Series.{looks_of, matches_of}
-use Rattle.rc_plays.specs.declared.plays.Series.{Series}
+use Rattle.rc_series.specs.Series.{looks_of, matches_of}
+use Rattle.rc_series.specs.declared.plays.Series.{Series}
 use Rattle.rc_rules.specs.Plan.{plan_seen}
 use Rattle.rc_rules.specs.Record.{record_seen, standing_seen}
 use Rattle.rc_sheet_model.specs.Sheet.{Sheet}
-use Rattle.rc_words.specs.declared.options.Options.{Options}
+use Rattle.rc_command.specs.declared.options.Options.{Options}
 use Rattle.rc_house.specs.declared.task.Task.{Task}
 use Rattle.rc_house.specs.declared.task.Task.TheVariants.{Play, Check, Sheet as PrintsSheet}
 use Rattle.rc_house.specs.declared.answer.Answer.{Answer as Stored}

@@ -12,7 +12,7 @@ use crate::status::Status;
 use rc_bench::summary;
 use rc_deck::Memory;
 use rc_outside::{Sink, write_all};
-use rc_plays::Series;
+use rc_series::Series;
 use rc_text::write_house;
 use std::alloc::Global;
 

@@ -2,7 +2,7 @@
 ghost use Rattle.std.specs.Prelude.{◌≡◌, ◌<◌, ◌≤◌, ℕ, List, map, string_bytes, IfOk, IfErr, OnOk};
 ghost use Rattle.rc_play_model.specs.MatchLaws.{AlikeSamePicks};
 ghost use Rattle.rc_rules.specs.Plan.{plan_seen};
-ghost use Rattle.rc_words.specs.Command.{IsCommand, workers_of};
+ghost use Rattle.rc_command.specs.Command.{IsCommand, workers_of};
 ghost use Rattle.rc_house.specs.declared.task.Task.TheVariants as task;
 ghost use Rattle.rc_house.specs.Answer.{IsGame};
 ghost use Rattle.rc_house.specs.Bench.{BenchOutcome};
@@ -26,7 +26,7 @@ use rc_deck::Memory;
 use rc_outside::{Gate, ReadFail, Sink, Source, read_all};
 use rc_play_model::alike_decisions_have_one_item;
 use rc_steps::Steps;
-use rc_words::{Command, Options, command_of};
+use rc_command::{Command, Options, command_of};
 use std::alloc::Global;
 use std::marker::Brand;
 use std::sync::Wait;

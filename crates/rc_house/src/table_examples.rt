@@ -1,7 +1,7 @@
 //! The tables of statuses and of what commands read, computed. No function here does anything: each has a contract that the check proves
 //! by computing.
 ghost use Rattle.std.specs.Prelude.{◌≡◌, [], codes};
-ghost use Rattle.rc_words.specs.declared.options.Options.{Options};
+ghost use Rattle.rc_command.specs.declared.options.Options.{Options};
 ghost use Rattle.rc_house.specs.declared.task.Task.TheVariants as task;
 ghost use Rattle.rc_house.specs.declared.status.SourceKind.TheVariants.{Unseen, NoCards};
 ghost use Rattle.rc_plan_model.specs.declared.fault.PlanKind.TheVariants.{TooLarge};

@@ -3,7 +3,7 @@ ghost use Rattle.std.specs.Prelude.{◌≡◌, ◌≤◌};
 ghost use Rattle.rc_house.specs.declared.task.Task.{Task};
 ghost use Rattle.rc_house.specs.Task.{limit_of, wanted};
 
-use rc_words::Options;
+use rc_command::Options;
 
 /// What a command does with its source.
 #[derive(Clone, Copy, Debug, PartialEq, Eq, Hash)]

@@ -5,7 +5,7 @@ use Rattle.std.proofs.lemmas.Bool.{cases_Bool, cond-true, cond-false}
 use Rattle.std.proofs.lemmas.List.{append-nil, map-append, map-id}
 use Rattle.std.proofs.lemmas.List.Folds.{list_any-append}
 use Rattle.rc_model.specs.Words.{different, different_from}
-use Rattle.rc_semantics.specs.SecondNames.{firsts_from, OwnedMention}
+use Rattle.rc_faults.specs.SecondNames.{firsts_from, OwnedMention}
 use Rattle.rc_naming.specs.Known.{with_firsts, with_words, with_mentions}
 
 pub list_any-map : {X Y : Type 0} (p : Y → Bool) (f : X → Y) (xs : List X) → list_any p (map f xs) ≡ list_any (λ x. p (f x)) xs

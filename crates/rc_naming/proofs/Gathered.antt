@@ -3,7 +3,7 @@ use Rattle.std.proofs.Common.{◌≡◌, ℕ, Bool, true, false, if◌then◌els
 use Rattle.std.proofs.lemmas.List.{map-append}
 use Rattle.rc_model.specs.Tree.{Tree, word, list, Trees, nil, cons}
 use Rattle.rc_sheet_model.specs.FormMentions.{is_kind, gathered, all_gathered, word_of, loc_word, num_word, deck_loc, body, deck_lines, loc_mentions, num_mentions, is_text}
-use Rattle.rc_semantics.specs.SecondNames.{OwnedMention}
+use Rattle.rc_faults.specs.SecondNames.{OwnedMention}
 use Rattle.rc_naming.specs.Mentions.{mention_by, loc_mention, num_mention, deck_location, all_locations, all_numbers}
 
 abbrev names : List OwnedMention → List (List ℕ)

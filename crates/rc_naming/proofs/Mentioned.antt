@@ -9,8 +9,8 @@ use Rattle.rc_form.specs.Form.{tree_of, trees_of, packed}
 use Rattle.rc_sheet_model.specs.FormMentions.{attr_word, word_of, is_text}
 use Rattle.rc_grammar.specs.Faults.{is_form_word}
 use Rattle.rc_grammar.specs.declared.keyword.Keyword.TheVariants as keyword
-use Rattle.rc_semantics.specs.Classes.{class_at}
-use Rattle.rc_semantics.specs.SecondParts.{bytes_of}
+use Rattle.rc_faults.specs.Classes.{class_at}
+use Rattle.rc_faults.specs.SecondParts.{bytes_of}
 use Rattle.rc_naming.specs.Mentions.{mention_by, num_mention}
 
 -- the fixed words of two definitions are the same

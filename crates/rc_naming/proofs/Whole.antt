@@ -8,7 +8,7 @@ use Rattle.rc_model.specs.Numbers.{below}
 use Rattle.rc_model.specs.Words.{different}
 use Rattle.rc_sheet_model.specs.Naming.{Naming}
 use Rattle.rc_sheet_model.specs.FormMentions.{names_of, attr_mentions, value_mentions, map_mentions, var_mentions}
-use Rattle.rc_semantics.specs.SecondNames.{OwnedMention}
+use Rattle.rc_faults.specs.SecondNames.{OwnedMention}
 use Rattle.rc_naming.specs.Mentions.{all_locations, all_numbers, mentions_of}
 use Rattle.rc_naming.specs.Naming.{naming_of, loc_names, num_names, firsts}
 use Rattle.rc_naming.specs.Known.{with_all, with_mentions, none, naming_by}

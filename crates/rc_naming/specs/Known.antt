@@ -6,7 +6,7 @@ use Rattle.rc_sheet_model.specs.Naming.{Naming, kind_word}
 use Rattle.rc_sheet_model.specs.StandsSetup.{begins_with, lines_with}
 use Rattle.rc_sheet_model.specs.FormMentions.{gathered, all_gathered, attr_word, value_word, map_word, group_attr_words, group_value_words, branch_attr_words, branch_value_words, deck_groups, points_map, points_entries, entry_attr_words, entry_value_words, words_of, all_var_words}
 use Rattle.rc_sheet_model.specs.Sheet.{Class}
-use Rattle.rc_semantics.specs.SecondNames.{OwnedMention}
+use Rattle.rc_faults.specs.SecondNames.{OwnedMention}
 use Rattle.rc_naming.specs.Mentions.{Mentions, loc_mention, num_mention, deck_location}
 use Rattle.rc_naming.specs.Naming.{loc_names, num_names}
 use Rattle.rc_grammar.specs.Faults.{is_form_word}

@@ -3,9 +3,9 @@
 use Rattle.std.specs.Prelude.{ℕ, if◌then◌else◌, List, [], ◌∷◌, ◌++◌, flat_map}
 use Rattle.rc_model.specs.Tree.{Tree, word, list, Trees, nil, cons}
 use Rattle.rc_sheet_model.specs.FormMentions.{is_kind, gathered, all_gathered, body, deck_lines, attr_mentions, value_mentions, map_mentions, var_mentions, is_text}
-use Rattle.rc_semantics.specs.Classes.{class_at}
-use Rattle.rc_semantics.specs.SecondParts.{bytes_of}
-use Rattle.rc_semantics.specs.SecondNames.{OwnedMention}
+use Rattle.rc_faults.specs.Classes.{class_at}
+use Rattle.rc_faults.specs.SecondParts.{bytes_of}
+use Rattle.rc_faults.specs.SecondNames.{OwnedMention}
 
 -- a mention by this holder and the word of its kind, where the name is an atom
 abbrev pub mention_by : Tree → Tree → Tree → List OwnedMention

@@ -6,7 +6,7 @@ use Rattle.rc_sheet_model.specs.Sheet.{LocKind, vloc, iloc, hloc, mem, LocName, 
 use Rattle.rc_sheet_model.specs.Naming.{Naming}
 use Rattle.rc_sheet_model.specs.FormMentions.{names_of}
 use Rattle.rc_ast.specs.Names.{names_seen, loc_name_seen, num_name_seen}
-use Rattle.rc_semantics.specs.SecondNames.{firsts_from, OwnedMention}
+use Rattle.rc_faults.specs.SecondNames.{firsts_from, OwnedMention}
 use Rattle.rc_naming.specs.Mentions.{all_locations, all_numbers}
 use Rattle.rc_naming.specs.declared.numbering.Naming.{Naming as CodeNaming}
 

@@ -3,8 +3,8 @@ ghost use Rattle.std.specs.Prelude.{◌≡◌, is_some, IfSome, option_map, opti
 ghost use Rattle.rc_form.specs.Form.{tree_of, trees_of, packed};
 ghost use Rattle.rc_sheet_model.specs.FormMentions as form_mentions;
 ghost use Rattle.rc_sheet_model.specs.Naming.{kind_word};
-ghost use Rattle.rc_semantics.specs.Classes.{class_at};
-ghost use Rattle.rc_semantics.specs.SecondParts.{bytes_of};
+ghost use Rattle.rc_faults.specs.Classes.{class_at};
+ghost use Rattle.rc_faults.specs.SecondParts.{bytes_of};
 ghost use Rattle.rc_naming.specs.Mentions.{loc_mention, num_mention};
 ghost use Rattle.rc_naming.specs.Known.{loc_seen, num_seen};
 

@@ -13,7 +13,7 @@ use Rattle.rc_naming.specs.Naming.{naming_of}
 use Rattle.rc_grammar.specs.Faults.{faults, first}
 use Rattle.rc_grammar.specs.declared.grammar.Place.TheVariants as place
 use Rattle.rc_grammar.specs.declared.fault.SheetFault.{SheetFault}
-use Rattle.rc_semantics.specs.SecondFaults.{second_faults, or_fault, sheet_fault}
+use Rattle.rc_faults.specs.SecondFaults.{second_faults, or_fault, sheet_fault}
 use Rattle.rc_reading.specs.ReadSheet.{setup_form_at, sheet_at}
 use Rattle.rc_sheet.proofs.Means.{means_so}
 use Rattle.rc_sheet.proofs.Fine.Common.{given_of}

@@ -5,9 +5,9 @@ use Rattle.std.proofs.lemmas.List.{append-nil, append_assoc}
 use Rattle.std.proofs.lemmas.Grind.{flat_map-append}
 use Rattle.std.proofs.lemmas.Slice.Eq.{bytes_eq-Decides}
 use Rattle.rc_sheet_model.specs.Sheet.{same_class}
-use Rattle.rc_semantics.specs.SecondParts.{Part}
-use Rattle.rc_semantics.specs.SecondNames.{first_mention, OwnedMention}
-use Rattle.rc_semantics.specs.SecondFaults.{differs_from, is_other_mention, faults_of, faults_behind}
+use Rattle.rc_faults.specs.SecondParts.{Part}
+use Rattle.rc_faults.specs.SecondNames.{first_mention, OwnedMention}
+use Rattle.rc_faults.specs.SecondFaults.{differs_from, is_other_mention, faults_of, faults_behind}
 use Rattle.rc_sheet.proofs.Among.{Among, among_either}
 use Rattle.rc_sheet.proofs.Shapes.{none_in_both}
 use Rattle.rc_sheet.proofs.Faultless.{IsFaultless, faultless}

@@ -11,12 +11,12 @@ use Rattle.rc_grammar.specs.Faults.{faults}
 use Rattle.rc_grammar.specs.declared.grammar.Place.TheVariants as place
 use Rattle.rc_grammar.specs.declared.grammar.Rule.{Rule}
 use Rattle.rc_grammar.specs.declared.grammar.Rule.TheVariants as rule
-use Rattle.rc_semantics.specs.Classes.{class_at}
-use Rattle.rc_semantics.specs.declared.role.Role.{Role}
-use Rattle.rc_semantics.specs.declared.role.Role.TheVariants.{UsedAttribute as used_attribute, UsedValue as used_value, UsedMap as used_map, GivenValue as given_value}
-use Rattle.rc_semantics.specs.SecondParts.{Standing, Part, atom, form, parts_of, part_at, word_in}
-use Rattle.rc_semantics.specs.SecondNames.{is_named, attributes_in, value_by, values_in, maps_in, mention_of, locations_in, numbers_of, OwnedMention}
-use Rattle.rc_semantics.specs.SecondFaults.{is_bound, is_unbound, is_unnamed, is_no_player, is_in_stage, is_misused, is_other_side, is_other_mention, is_misplaced, is_wrong_form, is_twice, is_unknown, is_too_deep, second_faults}
+use Rattle.rc_faults.specs.Classes.{class_at}
+use Rattle.rc_faults.specs.declared.role.Role.{Role}
+use Rattle.rc_faults.specs.declared.role.Role.TheVariants.{UsedAttribute as used_attribute, UsedValue as used_value, UsedMap as used_map, GivenValue as given_value}
+use Rattle.rc_faults.specs.SecondParts.{Standing, Part, atom, form, parts_of, part_at, word_in}
+use Rattle.rc_faults.specs.SecondNames.{is_named, attributes_in, value_by, values_in, maps_in, mention_of, locations_in, numbers_of, OwnedMention}
+use Rattle.rc_faults.specs.SecondFaults.{is_bound, is_unbound, is_unnamed, is_no_player, is_in_stage, is_misused, is_other_side, is_other_mention, is_misplaced, is_wrong_form, is_twice, is_unknown, is_too_deep, second_faults}
 use Rattle.rc_naming.specs.Naming.{naming_of}
 use Rattle.rc_sheet.proofs.Fine.Common.{Given, given_of, HasNumber, IsFineAtom, IsLocMention, IsNumMention, IsFineBinder, IsFineRule, IsFineForm, IsFine}
 use Rattle.rc_sheet.proofs.Among.{Among, Within, flat_within, one_of_all, each_among}

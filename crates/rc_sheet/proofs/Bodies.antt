@@ -10,10 +10,10 @@ use Rattle.rc_grammar.specs.declared.grammar.Place.{Place}
 use Rattle.rc_grammar.specs.declared.grammar.Place.TheVariants as place
 use Rattle.rc_grammar.specs.declared.grammar.Rule.{Rule}
 use Rattle.rc_grammar.specs.declared.grammar.Rule.TheVariants as rule
-use Rattle.rc_semantics.specs.declared.role.Role.{Role}
-use Rattle.rc_semantics.specs.declared.role.Role.TheVariants.{No as no_role, UsedAttribute as used_attribute, UsedValue as used_value, UsedMap as used_map, GivenValue as given_value}
-use Rattle.rc_semantics.specs.SecondParts.{front_roles, role_in, Standing}
-pub use Rattle.rc_semantics.proofs.Learned.{standing_at}
+use Rattle.rc_faults.specs.declared.role.Role.{Role}
+use Rattle.rc_faults.specs.declared.role.Role.TheVariants.{No as no_role, UsedAttribute as used_attribute, UsedValue as used_value, UsedMap as used_map, GivenValue as given_value}
+use Rattle.rc_faults.specs.SecondParts.{front_roles, role_in, Standing}
+pub use Rattle.rc_faults.proofs.Learned.{standing_at}
 use Rattle.rc_sheet.proofs.Shapes.{rule_holds, refuses}
 
 -- no place of the setup

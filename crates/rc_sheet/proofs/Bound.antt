@@ -17,7 +17,7 @@ use Rattle.rc_grammar.specs.declared.grammar.Place.{Place}
 use Rattle.rc_grammar.specs.declared.grammar.Place.TheVariants as place
 use Rattle.rc_grammar.specs.declared.grammar.Rule.{Rule}
 use Rattle.rc_grammar.specs.declared.grammar.Rule.TheVariants as rule
-use Rattle.rc_semantics.specs.SecondParts.{Standing, Part, atom, form, parts_at, parts_in, parts_of, with_form, standing_in, standing_alone, is_binder, word_in}
+use Rattle.rc_faults.specs.SecondParts.{Standing, Part, atom, form, parts_at, parts_in, parts_of, with_form, standing_in, standing_alone, is_binder, word_in}
 use Rattle.rc_sheet.proofs.Among.{Among, Within, among_left, among_right, among_either, both_within}
 use Rattle.rc_sheet.proofs.Shapes.{none_in_both, shape_of, place_within, refuses, refuted, atom_only, fixed_only}
 use Rattle.rc_sheet.proofs.Bodies.{is_body_rule, IsBody, body_rule, body_inner, standing_at, all_refused}

@@ -14,11 +14,11 @@ use Rattle.rc_sheet_model.specs.FormMentions.{attr_mentions, value_mentions, map
 use Rattle.rc_grammar.specs.Faults.{faults}
 use Rattle.rc_grammar.specs.declared.grammar.Place.TheVariants as place
 use Rattle.rc_grammar.specs.declared.grammar.Rule.TheVariants as rule
-use Rattle.rc_semantics.specs.declared.role.Role.{Role}
-use Rattle.rc_semantics.specs.declared.role.Role.TheVariants.{UsedAttribute as used_attribute, UsedValue as used_value, UsedMap as used_map, GivenValue as given_value}
-use Rattle.rc_semantics.specs.SecondParts.{Part, atom, form, parts_of}
-use Rattle.rc_semantics.specs.SecondNames.{is_named, attributes_in, value_by, values_in, maps_in, different_count}
-use Rattle.rc_semantics.specs.SecondFaults.{attribute_count, value_count, map_count, passes, atom_counts, is_unbound, is_unnamed, is_no_player, second_faults}
+use Rattle.rc_faults.specs.declared.role.Role.{Role}
+use Rattle.rc_faults.specs.declared.role.Role.TheVariants.{UsedAttribute as used_attribute, UsedValue as used_value, UsedMap as used_map, GivenValue as given_value}
+use Rattle.rc_faults.specs.SecondParts.{Part, atom, form, parts_of}
+use Rattle.rc_faults.specs.SecondNames.{is_named, attributes_in, value_by, values_in, maps_in, different_count}
+use Rattle.rc_faults.specs.SecondFaults.{attribute_count, value_count, map_count, passes, atom_counts, is_unbound, is_unnamed, is_no_player, second_faults}
 use Rattle.rc_sheet.proofs.Among.{Among, Within, among_either, among_named, named_among, one_of_all}
 use Rattle.rc_sheet.proofs.Used.{is_attribute, is_value, is_map, used_in}
 use Rattle.rc_sheet.proofs.Whole.{gives_mentions}

@@ -13,9 +13,9 @@ use Rattle.rc_grammar.specs.Faults.{faults}
 use Rattle.rc_grammar.specs.declared.grammar.Place.TheVariants as place
 use Rattle.rc_grammar.specs.declared.grammar.Rule.TheVariants as rule
 use Rattle.rc_sheet_model.specs.WellFormed.{owner_count_by}
-use Rattle.rc_semantics.specs.SecondParts.{Part, atom, form, parts_of}
-use Rattle.rc_semantics.specs.SecondNames.{player_count, team_count, locations_in, numbers_of, firsts_from, owned, OwnedMention}
-use Rattle.rc_semantics.specs.SecondFaults.{location_count, number_count, second_faults}
+use Rattle.rc_faults.specs.SecondParts.{Part, atom, form, parts_of}
+use Rattle.rc_faults.specs.SecondNames.{player_count, team_count, locations_in, numbers_of, firsts_from, owned, OwnedMention}
+use Rattle.rc_faults.specs.SecondFaults.{location_count, number_count, second_faults}
 use Rattle.rc_naming.specs.Mentions.{all_locations}
 use Rattle.rc_sheet.proofs.Among.{Among, Within, among_map, map_among}
 use Rattle.rc_sheet.proofs.Whole.{gives_mentions}

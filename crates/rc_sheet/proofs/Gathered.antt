@@ -9,9 +9,9 @@ use Rattle.rc_grammar.specs.Faults.{faults_at, faults_in, place_at, count, fits}
 use Rattle.rc_grammar.specs.declared.grammar.Place.{Place}
 use Rattle.rc_grammar.specs.declared.grammar.Rule.{Rule}
 use Rattle.rc_grammar.specs.declared.grammar.Rule.TheVariants as rule
-use Rattle.rc_semantics.specs.declared.role.Role.{Role}
-use Rattle.rc_semantics.specs.declared.role.Role.TheVariants.{No as no_role, GivenValue as given_value}
-use Rattle.rc_semantics.specs.SecondParts.{front_roles, role_in, Standing, Part, atom, form, parts_at, parts_in, with_form, standing_in}
+use Rattle.rc_faults.specs.declared.role.Role.{Role}
+use Rattle.rc_faults.specs.declared.role.Role.TheVariants.{No as no_role, GivenValue as given_value}
+use Rattle.rc_faults.specs.SecondParts.{front_roles, role_in, Standing, Part, atom, form, parts_at, parts_in, with_form, standing_in}
 use Rattle.rc_sheet.proofs.Shapes.{none_in_both, HasShape, shape_of, place_within}
 use Rattle.rc_sheet.proofs.Bodies.{IsBody, standing_at, body_inner}
 

@@ -3,8 +3,8 @@ use Rattle.std.proofs.Common.{◌≡◌, ℕ, zero, suc, ◌+◌, ◌≤◌, ◌
 use Rattle.std.specs.List.{AllByRecursion}
 use Rattle.rc_model.specs.Tree.{Tree, list, Trees, nil, cons}
 use Rattle.rc_sheet_model.specs.Naming.{Naming}
-use Rattle.rc_semantics.specs.SecondParts.{Standing, standing_in}
-use Rattle.rc_semantics.specs.declared.role.Role.TheVariants.{No as no_role}
+use Rattle.rc_faults.specs.SecondParts.{Standing, standing_in}
+use Rattle.rc_faults.specs.declared.role.Role.TheVariants.{No as no_role}
 use Rattle.rc_grammar.specs.Grammar.{forms_of}
 use Rattle.rc_grammar.specs.Faults.{rule_of, count, fits}
 use Rattle.rc_grammar.specs.declared.grammar.Place.{Place}

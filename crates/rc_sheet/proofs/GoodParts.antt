@@ -4,7 +4,7 @@ use Rattle.std.proofs.Common.{◌≡◌, ℕ, ◌+◌, ◌≤◌, Bool, true, fa
 use Rattle.std.specs.List.{AllByRecursion}
 use Rattle.rc_model.specs.Tree.{Tree, word, list, Trees, nil, cons}
 use Rattle.rc_sheet_model.specs.Naming.{Naming}
-use Rattle.rc_semantics.specs.SecondParts.{Standing, parts_at, parts_in, standing_in, with_form}
+use Rattle.rc_faults.specs.SecondParts.{Standing, parts_at, parts_in, standing_in, with_form}
 use Rattle.rc_grammar.specs.Grammar.{forms_of}
 use Rattle.rc_grammar.specs.Faults.{faults_at, faults_in, told_faults, lacks_players, rule_of, place_at, count, fits}
 use Rattle.rc_grammar.specs.declared.grammar.Place.{Place}

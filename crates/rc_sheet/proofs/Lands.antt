@@ -8,10 +8,10 @@ use Rattle.rc_grammar.specs.declared.grammar.Place.{Place}
 use Rattle.rc_grammar.specs.declared.grammar.Place.TheVariants as place
 use Rattle.rc_grammar.specs.declared.grammar.Rule.{Rule}
 use Rattle.rc_grammar.specs.declared.grammar.Rule.TheVariants as rule
-use Rattle.rc_semantics.specs.declared.role.Role.{Role}
-use Rattle.rc_semantics.specs.declared.role.Role.TheVariants.{GivenValue as given_value}
-use Rattle.rc_semantics.specs.SecondParts.{front_roles, role_in, Standing, form, parts_at}
-use Rattle.rc_semantics.specs.SecondNames.{attributes_in, value_by, values_in, maps_in, locations_in, numbers_of}
+use Rattle.rc_faults.specs.declared.role.Role.{Role}
+use Rattle.rc_faults.specs.declared.role.Role.TheVariants.{GivenValue as given_value}
+use Rattle.rc_faults.specs.SecondParts.{front_roles, role_in, Standing, form, parts_at}
+use Rattle.rc_faults.specs.SecondNames.{attributes_in, value_by, values_in, maps_in, locations_in, numbers_of}
 use Rattle.rc_sheet.proofs.Bodies.{is_body, is_body_rule, is_used}
 use Rattle.rc_sheet.proofs.Gathered.{quiet_at, quiet_role}
 use Rattle.rc_sheet.proofs.Used.{used_in}

@@ -14,9 +14,9 @@ use Rattle.rc_grammar.specs.Faults.{faults, rule_of}
 use Rattle.rc_grammar.specs.declared.grammar.Place.TheVariants as place
 use Rattle.rc_grammar.specs.declared.grammar.Rule.{Rule}
 use Rattle.rc_grammar.specs.declared.grammar.Rule.TheVariants as rule
-use Rattle.rc_semantics.specs.SecondParts.{Standing, Part, atom, form, parts_at, parts_in, parts_of, with_form, word_in}
-use Rattle.rc_semantics.specs.SecondNames.{is_named, maps_in}
-use Rattle.rc_semantics.specs.SecondFaults.{faults_of, faults_behind, second_faults}
+use Rattle.rc_faults.specs.SecondParts.{Standing, Part, atom, form, parts_at, parts_in, parts_of, with_form, word_in}
+use Rattle.rc_faults.specs.SecondNames.{is_named, maps_in}
+use Rattle.rc_faults.specs.SecondFaults.{faults_of, faults_behind, second_faults}
 use Rattle.rc_naming.specs.Naming.{naming_of}
 use Rattle.rc_sheet.proofs.Shapes.{none_in_both}
 use Rattle.rc_sheet.proofs.Faultless.{IsFaultless, faultless}

@@ -13,9 +13,9 @@ use Rattle.rc_sheet_model.specs.WellFormed.{owner_count}
 use Rattle.rc_grammar.specs.Faults.{faults}
 use Rattle.rc_grammar.specs.declared.grammar.Place.TheVariants as place
 use Rattle.rc_sheet_model.specs.WellFormed.{owner_count_by}
-use Rattle.rc_semantics.specs.SecondParts.{parts_of}
-use Rattle.rc_semantics.specs.SecondNames.{player_count, team_count, locations_in, numbers_of, owned, OwnedMention}
-use Rattle.rc_semantics.specs.SecondFaults.{location_count, number_count, second_faults}
+use Rattle.rc_faults.specs.SecondParts.{parts_of}
+use Rattle.rc_faults.specs.SecondNames.{player_count, team_count, locations_in, numbers_of, owned, OwnedMention}
+use Rattle.rc_faults.specs.SecondFaults.{location_count, number_count, second_faults}
 use Rattle.rc_naming.specs.Mentions.{loc_mention, deck_location, all_locations, all_numbers}
 use Rattle.rc_naming.specs.Naming.{kind_by, firsts, loc_names, num_names}
 use Rattle.rc_naming.specs.Naming.{naming_of}

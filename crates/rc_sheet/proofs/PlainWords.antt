@@ -14,11 +14,11 @@ use Rattle.rc_grammar.specs.declared.grammar.Place.{Place}
 use Rattle.rc_grammar.specs.declared.grammar.Place.TheVariants as place
 use Rattle.rc_grammar.specs.declared.grammar.Rule.{Rule}
 use Rattle.rc_grammar.specs.declared.grammar.Rule.TheVariants as rule
-use Rattle.rc_semantics.specs.declared.role.Role.{Role}
-use Rattle.rc_semantics.specs.declared.role.Role.TheVariants.{GivenValue as given_value}
-use Rattle.rc_semantics.specs.SecondParts.{Standing, Part, atom, form, part_at, bytes_of, word_in, parts_of, is_binder, standing_alone}
-use Rattle.rc_semantics.specs.SecondNames.{attributes_in, value_by, values_in, maps_in, locations_in, numbers_of, OwnedMention}
-use Rattle.rc_semantics.specs.SecondFaults.{second_faults}
+use Rattle.rc_faults.specs.declared.role.Role.{Role}
+use Rattle.rc_faults.specs.declared.role.Role.TheVariants.{GivenValue as given_value}
+use Rattle.rc_faults.specs.SecondParts.{Standing, Part, atom, form, part_at, bytes_of, word_in, parts_of, is_binder, standing_alone}
+use Rattle.rc_faults.specs.SecondNames.{attributes_in, value_by, values_in, maps_in, locations_in, numbers_of, OwnedMention}
+use Rattle.rc_faults.specs.SecondFaults.{second_faults}
 use Rattle.rc_naming.specs.Naming.{naming_of}
 use Rattle.rc_form.specs.SameForm.{IsOfAtoms, AreOfAtoms}
 use Rattle.rc_reading.specs.ReadSheet.{sheet_at}

@@ -13,8 +13,8 @@ use Rattle.rc_grammar.specs.Faults.{count}
 use Rattle.rc_grammar.specs.declared.grammar.Rule.{Rule}
 use Rattle.rc_grammar.specs.declared.grammar.Rule.TheVariants as rule
 use Rattle.rc_sheet_model.specs.WellFormed.{owner_count_by}
-use Rattle.rc_semantics.specs.SecondParts.{Standing, Part, form, parts_of}
-use Rattle.rc_semantics.specs.SecondNames.{number_at, players_in, player_count, teams_in, teams_by, team_count as team_count_by}
+use Rattle.rc_faults.specs.SecondParts.{Standing, Part, form, parts_of}
+use Rattle.rc_faults.specs.SecondNames.{number_at, players_in, player_count, teams_in, teams_by, team_count as team_count_by}
 use Rattle.rc_reading.specs.ReadNames.{ensure}
 use Rattle.rc_reading.specs.ReadSetup.{Lines, within, count_at, team_at, teams_at, deck_at, points_at, players_line, teams_line, deck_line, points_line, line_rule}
 use Rattle.rc_reading.specs.ReadSheet.{sheet_at}

@@ -9,8 +9,8 @@ use Rattle.rc_grammar.specs.Faults.{rule_of, place_at, count}
 use Rattle.rc_grammar.specs.declared.grammar.Place.{Place}
 use Rattle.rc_grammar.specs.declared.grammar.Rule.{Rule}
 use Rattle.rc_grammar.specs.declared.grammar.Rule.TheVariants as rule
-use Rattle.rc_semantics.specs.Classes.{bound_in}
-use Rattle.rc_semantics.specs.SecondParts.{Standing, Part, atom, form, parts_at, parts_in, parts_of, with_form, standing_in, standing_alone, is_binder, around_in, word_in, part_at, sort_over}
+use Rattle.rc_faults.specs.Classes.{bound_in}
+use Rattle.rc_faults.specs.SecondParts.{Standing, Part, atom, form, parts_at, parts_in, parts_of, with_form, standing_in, standing_alone, is_binder, around_in, word_in, part_at, sort_over}
 use Rattle.rc_sheet.proofs.Bodies.{standing_at}
 
 -- the scope is no longer

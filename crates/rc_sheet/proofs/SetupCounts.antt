@@ -13,7 +13,7 @@ use Rattle.rc_grammar.specs.declared.grammar.Place.{Place}
 use Rattle.rc_grammar.specs.declared.grammar.Place.TheVariants as place
 use Rattle.rc_grammar.specs.declared.grammar.Rule.{Rule}
 use Rattle.rc_grammar.specs.declared.grammar.Rule.TheVariants as rule
-use Rattle.rc_semantics.specs.SecondParts.{Standing, Part, atom, form, parts_at, parts_in, parts_of, with_form, standing_in, standing_alone}
+use Rattle.rc_faults.specs.SecondParts.{Standing, Part, atom, form, parts_at, parts_in, parts_of, with_form, standing_in, standing_alone}
 use Rattle.rc_reading.specs.ReadNames.{rule_at}
 use Rattle.rc_reading.specs.ReadItems.{body_at}
 use Rattle.rc_reading.specs.ReadSetup.{Setup, Lines, no_line, line_rule, line_at, lines_at, setup_of}

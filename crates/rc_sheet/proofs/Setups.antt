@@ -9,10 +9,10 @@ use Rattle.rc_grammar.specs.declared.keyword.Keyword.TheVariants as keyword
 use Rattle.rc_grammar.specs.declared.grammar.Place.TheVariants as place
 use Rattle.rc_grammar.specs.declared.grammar.Rule.{Rule}
 use Rattle.rc_grammar.specs.declared.grammar.Rule.TheVariants as rule
-use Rattle.rc_semantics.specs.declared.role.Role.{Role}
-use Rattle.rc_semantics.specs.declared.role.Role.TheVariants.{No as no_role, GivenValue as given_value, DeckLocation as deck_role}
-use Rattle.rc_semantics.specs.SecondParts.{Standing, Part, atom, form, parts_at, parts_in, with_form}
-use Rattle.rc_semantics.specs.SecondNames.{attributes_in, value_by, values_in, maps_in, locations_in}
+use Rattle.rc_faults.specs.declared.role.Role.{Role}
+use Rattle.rc_faults.specs.declared.role.Role.TheVariants.{No as no_role, GivenValue as given_value, DeckLocation as deck_role}
+use Rattle.rc_faults.specs.SecondParts.{Standing, Part, atom, form, parts_at, parts_in, with_form}
+use Rattle.rc_faults.specs.SecondNames.{attributes_in, value_by, values_in, maps_in, locations_in}
 use Rattle.rc_naming.specs.Mentions.{loc_mention, deck_location}
 use Rattle.rc_sheet.proofs.Shapes.{none_in_both, fixed_only}
 use Rattle.rc_sheet.proofs.Bodies.{is_body, fits_role, standing_at}

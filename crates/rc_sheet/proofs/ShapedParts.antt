@@ -11,9 +11,9 @@ use Rattle.rc_grammar.specs.declared.grammar.Place.{Place}
 use Rattle.rc_grammar.specs.declared.grammar.Place.TheVariants as place
 use Rattle.rc_grammar.specs.declared.grammar.Rule.{Rule}
 use Rattle.rc_grammar.specs.declared.grammar.Rule.TheVariants as rule
-use Rattle.rc_semantics.specs.declared.role.Role.{Role}
-use Rattle.rc_semantics.specs.declared.role.Role.TheVariants.{No as no_role, GivenValue as given_value}
-use Rattle.rc_semantics.specs.SecondParts.{front_roles, role_in, Standing, Part, atom, form, part_at, parts_at, parts_in, parts_of, with_form, standing_alone}
+use Rattle.rc_faults.specs.declared.role.Role.{Role}
+use Rattle.rc_faults.specs.declared.role.Role.TheVariants.{No as no_role, GivenValue as given_value}
+use Rattle.rc_faults.specs.SecondParts.{front_roles, role_in, Standing, Part, atom, form, part_at, parts_at, parts_in, parts_of, with_form, standing_alone}
 use Rattle.rc_form.specs.SameForm.{IsAtom, IsOfAtoms, AreOfAtoms}
 use Rattle.rc_sheet.proofs.Shapes.{none_in_both, shape_of, rule_holds, kindless}
 use Rattle.rc_sheet.proofs.Bodies.{each_passes, standing_at}

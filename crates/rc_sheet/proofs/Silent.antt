@@ -9,8 +9,8 @@ use Rattle.rc_grammar.specs.Faults.{rule_of, behind_front, or_behind, place_at, 
 use Rattle.rc_grammar.specs.declared.grammar.Place.{Place}
 use Rattle.rc_grammar.specs.declared.grammar.Rule.{Rule}
 use Rattle.rc_grammar.specs.declared.grammar.Rule.TheVariants as rule
-use Rattle.rc_semantics.specs.declared.role.Role.{Role}
-use Rattle.rc_semantics.specs.SecondParts.{role_in, Standing, Part, atom, form, parts_at, parts_in, with_form, standing_in}
+use Rattle.rc_faults.specs.declared.role.Role.{Role}
+use Rattle.rc_faults.specs.SecondParts.{role_in, Standing, Part, atom, form, parts_at, parts_in, with_form, standing_in}
 use Rattle.rc_sheet.proofs.Shapes.{rule_holds}
 use Rattle.rc_sheet.proofs.Bodies.{each_passes, all_pass, standing_at}
 

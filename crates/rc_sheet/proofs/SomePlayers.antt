@@ -14,9 +14,9 @@ use Rattle.rc_grammar.specs.declared.grammar.Place.{Place}
 use Rattle.rc_grammar.specs.declared.grammar.Place.TheVariants as place
 use Rattle.rc_grammar.specs.declared.grammar.Rule.{Rule}
 use Rattle.rc_grammar.specs.declared.grammar.Rule.TheVariants as rule
-use Rattle.rc_semantics.specs.SecondParts.{Standing, Part, atom, form, standing_alone, standing_in, with_form, parts_at, parts_in, parts_of}
-use Rattle.rc_semantics.specs.SecondNames.{some_of, number_at, players_in, player_count, teams_in, teams_by, team_count}
-use Rattle.rc_semantics.specs.SecondFaults.{second_faults}
+use Rattle.rc_faults.specs.SecondParts.{Standing, Part, atom, form, standing_alone, standing_in, with_form, parts_at, parts_in, parts_of}
+use Rattle.rc_faults.specs.SecondNames.{some_of, number_at, players_in, player_count, teams_in, teams_by, team_count}
+use Rattle.rc_faults.specs.SecondFaults.{second_faults}
 use Rattle.rc_sheet.proofs.Shapes.{none_in_both, three_only, atom_only, inner_faults, taken, line_place}
 use Rattle.rc_sheet.proofs.Bodies.{standing_at}
 use Rattle.rc_sheet.proofs.Whole.{setup_of, parts_with, sheet_only}

@@ -15,9 +15,9 @@ use Rattle.rc_grammar.specs.declared.grammar.Place.{Place}
 use Rattle.rc_grammar.specs.declared.grammar.Place.TheVariants as place
 use Rattle.rc_grammar.specs.declared.grammar.Rule.{Rule}
 use Rattle.rc_grammar.specs.declared.grammar.Rule.TheVariants as rule
-use Rattle.rc_semantics.specs.declared.role.Role.{Role}
-use Rattle.rc_semantics.specs.declared.role.Role.TheVariants.{No as no_role, UsedAttribute as used_attribute, UsedValue as used_value, UsedMap as used_map, GivenValue as given_value}
-use Rattle.rc_semantics.specs.SecondParts.{front_roles, role_in, Standing, Part, atom, form, standing_in}
+use Rattle.rc_faults.specs.declared.role.Role.{Role}
+use Rattle.rc_faults.specs.declared.role.Role.TheVariants.{No as no_role, UsedAttribute as used_attribute, UsedValue as used_value, UsedMap as used_map, GivenValue as given_value}
+use Rattle.rc_faults.specs.SecondParts.{front_roles, role_in, Standing, Part, atom, form, standing_in}
 use Rattle.rc_sheet.proofs.Shapes.{none_in_both, HasShape, three_only, four_only, refuses, refuted, atom_only, fixed_only}
 use Rattle.rc_sheet.proofs.Bodies.{is_body_rule, is_used, IsBody, body_rule, unused_list, standing_at, all_refused}
 use Rattle.rc_sheet.proofs.Gathered.{by_atom, in_row, AllTell, Tells, quiet_row, quiet_role}

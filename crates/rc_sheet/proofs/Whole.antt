@@ -12,10 +12,10 @@ use Rattle.rc_grammar.specs.declared.keyword.Keyword.TheVariants as keyword
 use Rattle.rc_grammar.specs.declared.grammar.Place.{Place}
 use Rattle.rc_grammar.specs.declared.grammar.Place.TheVariants as place
 use Rattle.rc_grammar.specs.declared.grammar.Rule.TheVariants as rule
-use Rattle.rc_semantics.specs.declared.role.Role.{Role}
-use Rattle.rc_semantics.specs.declared.role.Role.TheVariants.{No as no_role}
-use Rattle.rc_semantics.specs.SecondParts.{Standing, Part, parts_at, parts_in, parts_of, standing_alone}
-use Rattle.rc_semantics.specs.SecondNames.{attributes_in, values_in, maps_in, locations_in, numbers_of, OwnedMention}
+use Rattle.rc_faults.specs.declared.role.Role.{Role}
+use Rattle.rc_faults.specs.declared.role.Role.TheVariants.{No as no_role}
+use Rattle.rc_faults.specs.SecondParts.{Standing, Part, parts_at, parts_in, parts_of, standing_alone}
+use Rattle.rc_faults.specs.SecondNames.{attributes_in, values_in, maps_in, locations_in, numbers_of, OwnedMention}
 use Rattle.rc_naming.specs.Mentions.{loc_mention, num_mention, deck_location, all_locations, all_numbers}
 use Rattle.rc_sheet.proofs.Among.{Among, Within, among_left, among_right, both_within}
 use Rattle.rc_sheet.proofs.Shapes.{none_in_both, fixed_only}

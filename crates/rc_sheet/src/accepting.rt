@@ -7,16 +7,16 @@ ghost use Rattle.rc_form.specs.SameForm.{IsOfAtoms};
 ghost use Rattle.rc_ast.specs.Sheet.{sheet_seen};
 ghost use Rattle.rc_sheet_model.specs.Stands.{Stands};
 ghost use Rattle.rc_sheet_model.specs.WellFormed.{IsWellFormed};
-ghost use Rattle.rc_semantics.specs.SecondFaults.{sheet_fault};
-ghost use Rattle.rc_semantics.specs.FirstFault.{IsFirstFault};
-ghost use Rattle.rc_semantics.specs.Checks.{IfSheetFault};
+ghost use Rattle.rc_faults.specs.SecondFaults.{sheet_fault};
+ghost use Rattle.rc_faults.specs.FirstFault.{IsFirstFault};
+ghost use Rattle.rc_faults.specs.Checks.{IfSheetFault};
 
 use rc_ast::Sheet;
 use rc_form::Form;
 use rc_grammar::check_shape;
 use rc_naming::naming_of;
 use rc_reading::{ReadFail, Reader};
-use rc_semantics::{SheetFail, check_semantics};
+use rc_faults::{SheetFail, check_semantics};
 use std::alloc::Global;
 
 /// Makes the sheet of a form. The error is the form's first fault, or that there was no memory: the first fault of its shape

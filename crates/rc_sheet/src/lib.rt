@@ -15,4 +15,4 @@ pub use laws::{
     sheet_is_within_limits, sheet_stands, stages_and_choices_are_few, teams_are_a_partition,
     there_are_few_cards, what_is_read_is_numbered,
 };
-pub use rc_semantics::{SheetFail, SheetFault, SheetKind};
+pub use rc_faults::{SheetFail, SheetFault, SheetKind};

@@ -1,7 +1,7 @@
 -- Which forms are accepted as which sheets.
 use Rattle.std.specs.Prelude.{None, ◌≡◌}
 use Rattle.rc_model.specs.Tree.{Tree}
-use Rattle.rc_semantics.specs.SecondFaults.{sheet_fault}
+use Rattle.rc_faults.specs.SecondFaults.{sheet_fault}
 use Rattle.rc_sheet_model.specs.Sheet.{Sheet}
 use Rattle.rc_sheet_model.specs.Stands.{Stands}
 use Rattle.rc_sheet_model.specs.WellFormed.{IsWellFormed}

@@ -12,7 +12,7 @@ use Rattle.rc_form.proofs.AtomsAreRead.{of_atoms-first}
 use Rattle.rc_form.proofs.TopLists.{fits-first}
 use Rattle.rc_sheet_model.specs.Sheet.{Sheet}
 use Rattle.rc_sheet_model.specs.Sight.{IsInSight, IsUnseen}
-use Rattle.rc_semantics.specs.SecondFaults.{sheet_fault}
+use Rattle.rc_faults.specs.SecondFaults.{sheet_fault}
 use Rattle.rc_naming.specs.Naming.{naming_of}
 use Rattle.rc_sheet.proofs.Accepted.{printable, stands_read, well_read}
 use Rattle.rc_sheet_laws.specs.Accepted.{IsSheetOf}

@@ -6,7 +6,7 @@ use Rattle.rc_model.specs.Tree.{Tree, list, nil}
 use Rattle.rc_form.specs.Read.{Reading, read}
 use Rattle.rc_sheet_model.specs.Sheet.{Sheet, Loc}
 use Rattle.rc_sheet_model.specs.Sight.{unseen_locs, IsInSight}
-use Rattle.rc_semantics.specs.SecondFaults.{sheet_fault}
+use Rattle.rc_faults.specs.SecondFaults.{sheet_fault}
 use Rattle.rc_naming.specs.Naming.{naming_of}
 use Rattle.rc_reading.specs.ReadSheet.{setup_form_at, game_parts, sheet_at}
 use Rattle.rc_reading.specs.ReadExpressions.{side_word}

@@ -8,7 +8,7 @@ ghost use Rattle.rc_form.specs.FormFault.{IsFormFault};
 ghost use Rattle.rc_form.specs.declared.fault.FormKind.{FormKind};
 ghost use Rattle.rc_sheet_model.specs.Sheet.{Sheet};
 ghost use Rattle.rc_sheet_model.specs.Sight.{IsUnseen};
-ghost use Rattle.rc_semantics.specs.SecondFaults.{sheet_fault};
+ghost use Rattle.rc_faults.specs.SecondFaults.{sheet_fault};
 ghost use Rattle.rc_sheet_laws.specs.Accepted.{IsSheetOf};
 ghost use Rattle.rc_trick.specs.Trick.{trick_text, IsTrickGame};
 

@@ -5,14 +5,14 @@ ghost use Rattle.rc_play_model.specs.House.{standings_of};
 ghost use Rattle.rc_plan_model.specs.Limits.{IsWithinLimits};
 ghost use Rattle.rc_rules.specs.Plan.{plan_seen};
 ghost use Rattle.rc_rules.specs.Record.{record_seen, standing_seen};
-ghost use Rattle.rc_plays.specs.Series.{looks_of, matches_of};
+ghost use Rattle.rc_series.specs.Series.{looks_of, matches_of};
 
 use crate::sharing::{memos_of, play_shared};
 use rc_cache::{Book, Fresh, Naming, close};
 use rc_deck::Memory;
 use rc_flow::Checked;
 use rc_outside::Gate;
-use rc_plays::{Series, shared_about};
+use rc_series::{Series, shared_about};
 use rc_rules::{About, Plan};
 use rc_text::{HouseText, standings};
 use std::alloc::Global;

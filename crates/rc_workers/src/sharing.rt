@@ -3,7 +3,7 @@ ghost use Rattle.std.specs.Prelude.{◌≡◌, ◌≤◌, length, map, All, IfOk
 ghost use Rattle.rc_rules.specs.Plan.{plan_seen};
 ghost use Rattle.rc_rules.specs.Record.{record_seen};
 ghost use Rattle.rc_cache.specs.Memos.{shared_counts};
-ghost use Rattle.rc_plays.specs.Series.{looks_of, matches_of};
+ghost use Rattle.rc_series.specs.Series.{looks_of, matches_of};
 ghost use Rattle.rc_workers.specs.Gathered.{RiseTogether};
 
 use crate::playing::play_claimed;

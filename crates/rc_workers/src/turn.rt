@@ -12,7 +12,7 @@ use rc_claims::{Claims, Pass};
 use rc_code::Code;
 use rc_deck::Memory;
 use rc_outside::Gate;
-use rc_plays::record_of;
+use rc_series::record_of;
 use rc_redraw::{Chooser, Memo};
 use rc_rollout::Choices;
 use rc_rules::{About, MatchRecord, Plan};

@@ -10,9 +10,9 @@ use Rattle.rc_sheet_model.specs.Mentions.{sites_in}
 use Rattle.rc_sheet_model.specs.Mentions.{stages_in as stages_in_tree}
 use Rattle.rc_sheet_model.specs.Naming.{Naming, sheet_naming}
 use Rattle.rc_sheet_model.specs.WellFormed.{outside, scored, IsInt, AreItems}
-use Rattle.rc_semantics.specs.SecondParts.{Standing, standing_in, standing_alone, Part, form, parts_at, parts_in, with_form, parts_of}
-use Rattle.rc_semantics.specs.SecondNames.{stages_in, choices_in}
-use Rattle.rc_semantics.specs.SecondFaults.{stage_count, choice_count}
+use Rattle.rc_faults.specs.SecondParts.{Standing, standing_in, standing_alone, Part, form, parts_at, parts_in, with_form, parts_of}
+use Rattle.rc_faults.specs.SecondNames.{stages_in, choices_in}
+use Rattle.rc_faults.specs.SecondFaults.{stage_count, choice_count}
 use Rattle.rc_grammar.specs.Faults.{is_word, atom_faults, faults, rule_of, count, behind_front}
 use Rattle.rc_grammar.specs.declared.keyword.Keyword.TheVariants as keyword
 use Rattle.rc_grammar.specs.declared.grammar.Place.TheVariants as place

@@ -15,9 +15,9 @@ use Rattle.rc_setup.specs.Reading.{unless_nil, plain, read_groups, read_group, r
 use Rattle.rc_grammar.specs.Faults.{faults}
 use Rattle.rc_grammar.specs.declared.grammar.Place.TheVariants as place
 use Rattle.rc_grammar.specs.declared.grammar.Rule.TheVariants as rule
-use Rattle.rc_semantics.specs.SecondParts.{Part, atom, form, parts_of}
-use Rattle.rc_semantics.specs.SecondNames.{some_of, faces_of, cards_in, written_faces, written_branches}
-use Rattle.rc_semantics.specs.SecondFaults.{card_count, second_faults}
+use Rattle.rc_faults.specs.SecondParts.{Part, atom, form, parts_of}
+use Rattle.rc_faults.specs.SecondNames.{some_of, faces_of, cards_in, written_faces, written_branches}
+use Rattle.rc_faults.specs.SecondFaults.{card_count, second_faults}
 use Rattle.rc_naming.specs.Naming.{naming_of}
 use Rattle.rc_reading.specs.ReadNames.{loc_at}
 use Rattle.rc_reading.specs.ReadSetup.{face_words, home_of, deck_at}

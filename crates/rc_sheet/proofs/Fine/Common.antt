@@ -5,12 +5,12 @@ use Rattle.rc_sheet_model.specs.Sheet.{LocName, NumName}
 use Rattle.rc_model.specs.Limits.{most_variables, most_repeats}
 use Rattle.rc_sheet_model.specs.Naming.{Naming}
 use Rattle.rc_sheet_model.specs.Naming.{kind_word as kind_bytes}
-use Rattle.rc_semantics.specs.Classes.{class_at}
-use Rattle.rc_semantics.specs.SecondParts.{Standing, Part, atom, form, part_at, word_in, parts_of}
-use Rattle.rc_semantics.specs.SecondNames.{is_named, attributes_in, values_in, maps_in, mention_of, OwnedMention}
-use Rattle.rc_semantics.specs.SecondFaults.{is_bound, is_unbound, is_in_stage, is_misused, is_other_side, is_misplaced}
-use Rattle.rc_semantics.specs.declared.role.Role.{Role}
-use Rattle.rc_semantics.specs.declared.role.Role.TheVariants.{UsedAttribute as used_attribute, UsedValue as used_value, UsedMap as used_map, GivenValue as given_value}
+use Rattle.rc_faults.specs.Classes.{class_at}
+use Rattle.rc_faults.specs.SecondParts.{Standing, Part, atom, form, part_at, word_in, parts_of}
+use Rattle.rc_faults.specs.SecondNames.{is_named, attributes_in, values_in, maps_in, mention_of, OwnedMention}
+use Rattle.rc_faults.specs.SecondFaults.{is_bound, is_unbound, is_in_stage, is_misused, is_other_side, is_misplaced}
+use Rattle.rc_faults.specs.declared.role.Role.{Role}
+use Rattle.rc_faults.specs.declared.role.Role.TheVariants.{UsedAttribute as used_attribute, UsedValue as used_value, UsedMap as used_map, GivenValue as given_value}
 use Rattle.rc_grammar.specs.declared.grammar.Rule.{Rule}
 use Rattle.rc_grammar.specs.declared.grammar.Rule.TheVariants as rule
 

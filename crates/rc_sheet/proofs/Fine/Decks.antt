@@ -22,12 +22,12 @@ use Rattle.rc_grammar.specs.declared.keyword.Keyword.TheVariants as keyword
 use Rattle.rc_grammar.specs.declared.grammar.Place.TheVariants as place
 use Rattle.rc_grammar.specs.declared.grammar.Rule.{Rule}
 use Rattle.rc_grammar.specs.declared.grammar.Rule.TheVariants as rule
-use Rattle.rc_semantics.specs.declared.role.Role.TheVariants.{DeckLocation as deck_role}
-use Rattle.rc_semantics.specs.Groups.{attributes_in}
-use Rattle.rc_semantics.specs.SecondParts.{Standing, standing_in, word_in, part_at, front, attributes_of, attributes_below, attributes_among, inner_attributes}
-use Rattle.rc_semantics.specs.SecondNames.{is_named, mention_of}
-use Rattle.rc_semantics.specs.SecondFaults.{is_game, is_misplaced, second_faults}
-use Rattle.rc_semantics.proofs.GroupLemmas.{below_more}
+use Rattle.rc_faults.specs.declared.role.Role.TheVariants.{DeckLocation as deck_role}
+use Rattle.rc_faults.specs.Groups.{attributes_in}
+use Rattle.rc_faults.specs.SecondParts.{Standing, standing_in, word_in, part_at, front, attributes_of, attributes_below, attributes_among, inner_attributes}
+use Rattle.rc_faults.specs.SecondNames.{is_named, mention_of}
+use Rattle.rc_faults.specs.SecondFaults.{is_game, is_misplaced, second_faults}
+use Rattle.rc_faults.proofs.GroupLemmas.{below_more}
 use Rattle.rc_setup.specs.Naming.{DeckNames}
 use Rattle.rc_setup.specs.Naming.{number_of}
 use Rattle.rc_setup.specs.Reading.{unless_nil, plain, read_groups, read_group, read_branch_list, read_branches, read_branch, read_deck}

@@ -6,9 +6,9 @@ use Rattle.rc_sheet_model.specs.Lists.{effect_list}
 use Rattle.rc_model.specs.Limits.{most_repeats}
 use Rattle.rc_sheet_model.specs.Naming.{sort_of, sheet_naming}
 use Rattle.rc_sheet_model.specs.WellFormed.{Around, in_repeat, IsInStage, IsLoc, IsColl, IsRange, IsDomain, IsEffect, AreEffects, IsAlt, AreAlts}
-use Rattle.rc_semantics.specs.Classes.{bound_in}
-use Rattle.rc_semantics.specs.SecondParts.{Standing, standing_in, sort_by_form, sort_over, bytes_of, part_at, word_in}
-use Rattle.rc_semantics.specs.SecondFaults.{sorts_at, is_in_stage}
+use Rattle.rc_faults.specs.Classes.{bound_in}
+use Rattle.rc_faults.specs.SecondParts.{Standing, standing_in, sort_by_form, sort_over, bytes_of, part_at, word_in}
+use Rattle.rc_faults.specs.SecondFaults.{sorts_at, is_in_stage}
 use Rattle.rc_grammar.specs.Faults.{is_word, is_variable, atom_faults, rule_of, count}
 use Rattle.rc_grammar.specs.declared.keyword.Keyword.TheVariants as keyword
 use Rattle.rc_grammar.specs.declared.grammar.Place.TheVariants as place

@@ -12,13 +12,13 @@ use Rattle.rc_model.specs.Clamp.{IsWithinClamp, largest_number}
 use Rattle.rc_sheet_model.specs.Naming.{Scope, sort_of, class_of, sheet_naming}
 use Rattle.rc_sheet_model.specs.WellFormed.{Around, is_equality, IsAttr, HasSort, IsOwner, IsCard, IsColl, AreColls, IsInt, IsTest, AreTests, IsRange}
 use Rattle.rc_sheet_model.specs.Sheet.{same_sort, same_class}
-use Rattle.rc_semantics.specs.SecondParts.{Standing, standing_in, sort_by_form, sort_over, bytes_of}
-use Rattle.rc_semantics.specs.SecondFaults.{sorts_at, same_side, side_of_variable, side_of_form, side_of, differ, is_other_side}
-use Rattle.rc_semantics.specs.SecondNames.{some_of}
-use Rattle.rc_semantics.specs.SecondFaults.{side_of_sort as sort_side}
-use Rattle.rc_semantics.specs.SecondFaults.{variable_in as variable_found}
-use Rattle.rc_semantics.specs.declared.role.SideSort.{SideSort}
-use Rattle.rc_semantics.specs.declared.role.SideSort.TheVariants as sorts
+use Rattle.rc_faults.specs.SecondParts.{Standing, standing_in, sort_by_form, sort_over, bytes_of}
+use Rattle.rc_faults.specs.SecondFaults.{sorts_at, same_side, side_of_variable, side_of_form, side_of, differ, is_other_side}
+use Rattle.rc_faults.specs.SecondNames.{some_of}
+use Rattle.rc_faults.specs.SecondFaults.{side_of_sort as sort_side}
+use Rattle.rc_faults.specs.SecondFaults.{variable_in as variable_found}
+use Rattle.rc_faults.specs.declared.role.SideSort.{SideSort}
+use Rattle.rc_faults.specs.declared.role.SideSort.TheVariants as sorts
 use Rattle.rc_grammar.specs.Faults.{is_word, is_variable, is_within, is_number, atom_faults, may_begin, plain_rule, rule_of, count}
 use Rattle.rc_grammar.specs.declared.keyword.Keyword.TheVariants as keyword
 use Rattle.rc_grammar.specs.declared.grammar.Place.TheVariants as place

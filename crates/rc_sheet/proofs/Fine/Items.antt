@@ -7,9 +7,9 @@ use Rattle.rc_sheet_model.specs.Lists.{item_list}
 use Rattle.rc_model.specs.Limits.{most_stages, most_sites}
 use Rattle.rc_sheet_model.specs.Naming.{sheet_naming}
 use Rattle.rc_sheet_model.specs.WellFormed.{Around, in_stage, IsTest, IsItem, AreItems}
-use Rattle.rc_semantics.specs.SecondParts.{Standing, standing_in, Part, form, parts_at, parts_in, with_form}
-use Rattle.rc_semantics.specs.SecondNames.{stages_in, choices_in}
-use Rattle.rc_semantics.specs.SecondFaults.{stage_count, choice_count}
+use Rattle.rc_faults.specs.SecondParts.{Standing, standing_in, Part, form, parts_at, parts_in, with_form}
+use Rattle.rc_faults.specs.SecondNames.{stages_in, choices_in}
+use Rattle.rc_faults.specs.SecondFaults.{stage_count, choice_count}
 use Rattle.rc_grammar.specs.Faults.{atom_faults, rule_of, count}
 use Rattle.rc_grammar.specs.declared.grammar.Place.TheVariants as place
 use Rattle.rc_grammar.specs.declared.grammar.Rule.{Rule}

@@ -14,9 +14,9 @@ use Rattle.rc_grammar.specs.declared.keyword.Keyword.TheVariants as keyword
 use Rattle.rc_grammar.specs.declared.grammar.Place.TheVariants as place
 use Rattle.rc_grammar.specs.declared.grammar.Rule.{Rule}
 use Rattle.rc_grammar.specs.declared.grammar.Rule.TheVariants as rule
-use Rattle.rc_semantics.specs.SecondParts.{Standing, Part, atom, form, parts_at, parts_in, parts_of, with_form, standing_in, standing_alone}
-use Rattle.rc_semantics.specs.SecondNames.{players_in, teams_in, cards_in}
-use Rattle.rc_semantics.specs.SecondFaults.{faults_of, faults_behind, second_faults}
+use Rattle.rc_faults.specs.SecondParts.{Standing, Part, atom, form, parts_at, parts_in, parts_of, with_form, standing_in, standing_alone}
+use Rattle.rc_faults.specs.SecondNames.{players_in, teams_in, cards_in}
+use Rattle.rc_faults.specs.SecondFaults.{faults_of, faults_behind, second_faults}
 use Rattle.rc_naming.specs.Naming.{naming_of}
 use Rattle.rc_reading.specs.ReadNames.{◌>>=◌, ensure, rule_at}
 use Rattle.rc_reading.specs.ReadSetup.{Setup, Lines, no_line, count_at, teams_at, deck_at, points_at, players_line, teams_line, deck_line, points_line, line_rule, line_at, lines_at, setup_of, setup_at}

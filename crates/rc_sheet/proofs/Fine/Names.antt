@@ -13,15 +13,15 @@ use Rattle.rc_sheet_model.specs.Naming.{Variable, Scope, class_of, sheet_naming}
 use Rattle.rc_sheet_model.specs.Naming.{kind_word as kind_bytes}
 use Rattle.rc_sheet_model.specs.WellFormed.{Around, IsAttr, IsValue, IsMap, HasSort, IsOwner, IsHolder, var_word, IsBinder, behind, is_mem, holds_references, IsLoc, IsNum}
 use Rattle.rc_sheet_model.specs.Sheet.{same_sort, same_class}
-use Rattle.rc_semantics.specs.Classes.{class_of_rule, class_at, bound_in}
-use Rattle.rc_semantics.specs.SecondParts.{Standing, part_at, bytes_of, word_in}
-use Rattle.rc_semantics.specs.SecondNames.{some_of, mention_of, OwnedMention}
-use Rattle.rc_semantics.specs.SecondFaults.{is_other_sort, is_misplaced, sorts_at}
-use Rattle.rc_semantics.specs.SecondFaults.{variable_in as variable_found}
+use Rattle.rc_faults.specs.Classes.{class_of_rule, class_at, bound_in}
+use Rattle.rc_faults.specs.SecondParts.{Standing, part_at, bytes_of, word_in}
+use Rattle.rc_faults.specs.SecondNames.{some_of, mention_of, OwnedMention}
+use Rattle.rc_faults.specs.SecondFaults.{is_other_sort, is_misplaced, sorts_at}
+use Rattle.rc_faults.specs.SecondFaults.{variable_in as variable_found}
 use Rattle.rc_grammar.specs.Keyword.{text_of}
 use Rattle.rc_grammar.specs.Faults.{is_word, is_variable, is_form_word, unless, atom_faults, rule_of, fits}
-use Rattle.rc_semantics.specs.declared.role.Role.{Role}
-use Rattle.rc_semantics.specs.declared.role.Role.TheVariants.{UsedAttribute as used_attribute, UsedValue as used_value, UsedMap as used_map, CardLocation as card_location, ReferenceLocation as reference_location}
+use Rattle.rc_faults.specs.declared.role.Role.{Role}
+use Rattle.rc_faults.specs.declared.role.Role.TheVariants.{UsedAttribute as used_attribute, UsedValue as used_value, UsedMap as used_map, CardLocation as card_location, ReferenceLocation as reference_location}
 use Rattle.rc_grammar.specs.declared.keyword.Keyword.{Keyword}
 use Rattle.rc_grammar.specs.declared.keyword.Keyword.TheVariants as keyword
 use Rattle.rc_grammar.specs.declared.grammar.Place.{Place}

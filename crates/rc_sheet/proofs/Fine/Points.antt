@@ -18,7 +18,7 @@ use Rattle.rc_setup.specs.Reading.{read_values, read_value_list, unclamped, read
 use Rattle.rc_setup.specs.Reading.{both as both_read}
 use Rattle.rc_grammar.specs.Faults.{faults}
 use Rattle.rc_grammar.specs.declared.grammar.Place.TheVariants as place
-use Rattle.rc_semantics.specs.SecondFaults.{second_faults}
+use Rattle.rc_faults.specs.SecondFaults.{second_faults}
 use Rattle.rc_naming.specs.Naming.{naming_of}
 use Rattle.rc_sheet_model.specs.Naming.{Naming}
 use Rattle.rc_reading.specs.ReadNames.{ensure, name_at}

@@ -8,8 +8,8 @@ use Rattle.rc_sheet_model.specs.Lists.{item_list}
 use Rattle.rc_model.specs.Limits.{most_stages, most_sites}
 use Rattle.rc_sheet_model.specs.Naming.{Naming}
 use Rattle.rc_sheet_model.specs.WellFormed.{outside, scored, IsInt, AreItems}
-use Rattle.rc_semantics.specs.SecondParts.{standing_alone, parts_of}
-use Rattle.rc_semantics.specs.SecondFaults.{stage_count, choice_count}
+use Rattle.rc_faults.specs.SecondParts.{standing_alone, parts_of}
+use Rattle.rc_faults.specs.SecondFaults.{stage_count, choice_count}
 use Rattle.rc_grammar.specs.Faults.{faults, count}
 use Rattle.rc_grammar.specs.declared.grammar.Place.TheVariants as place
 use Rattle.rc_grammar.specs.declared.grammar.Rule.TheVariants as rule

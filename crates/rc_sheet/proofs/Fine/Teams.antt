@@ -18,9 +18,9 @@ use Rattle.rc_grammar.specs.declared.grammar.Place.{Place}
 use Rattle.rc_grammar.specs.declared.grammar.Place.TheVariants as place
 use Rattle.rc_grammar.specs.declared.grammar.Rule.{Rule}
 use Rattle.rc_grammar.specs.declared.grammar.Rule.TheVariants as rule
-use Rattle.rc_semantics.specs.SecondParts.{Standing, Part, atom, form, parts_at, parts_in, parts_of, with_form, standing_in}
-use Rattle.rc_semantics.specs.SecondNames.{some_of, number_by, number_at, players_in, player_count, teams_in, numbers_in, team_players, member_by, members_in}
-use Rattle.rc_semantics.specs.SecondFaults.{is_in_first_teams, is_unbound, is_unnamed, is_no_player, is_player_again, leaves_out, faults_of, faults_behind, second_faults}
+use Rattle.rc_faults.specs.SecondParts.{Standing, Part, atom, form, parts_at, parts_in, parts_of, with_form, standing_in}
+use Rattle.rc_faults.specs.SecondNames.{some_of, number_by, number_at, players_in, player_count, teams_in, numbers_in, team_players, member_by, members_in}
+use Rattle.rc_faults.specs.SecondFaults.{is_in_first_teams, is_unbound, is_unnamed, is_no_player, is_player_again, leaves_out, faults_of, faults_behind, second_faults}
 use Rattle.rc_naming.specs.Naming.{naming_of}
 use Rattle.rc_reading.specs.ReadNames.{rule_at}
 use Rattle.rc_reading.specs.ReadSetup.{within, count_at, members_at, team_rule, team_at, teams_at}

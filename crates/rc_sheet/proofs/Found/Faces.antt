@@ -17,8 +17,8 @@ use Rattle.rc_grammar.specs.declared.grammar.Rule.TheVariants as rule
 use Rattle.rc_grammar.specs.declared.fault.SheetKind.{SheetKind}
 use Rattle.rc_grammar.specs.declared.fault.SheetKind.TheVariants.{Shape, Number}
 use Rattle.rc_grammar.specs.declared.fault.SheetFault.{SheetFault}
-use Rattle.rc_semantics.specs.declared.role.Role.TheVariants.{GivenValue as given_value}
-use Rattle.rc_semantics.specs.SecondParts.{Standing, standing_in, bytes_of}
+use Rattle.rc_faults.specs.declared.role.Role.TheVariants.{GivenValue as given_value}
+use Rattle.rc_faults.specs.SecondParts.{Standing, standing_in, bytes_of}
 use Rattle.rc_setup.specs.Naming.{number_of}
 use Rattle.rc_setup.specs.Reading.{unless_nil, plain, read_groups, read_group, read_branches, read_branch, read_deck, read_values, read_value_list, unclamped, read_points, entry_with, read_entry, read_all_entries, read_entries}
 use Rattle.rc_setup.specs.Reading.{both as both_read}

@@ -12,7 +12,7 @@ use Rattle.rc_sheet_model.specs.Naming.{kind_word as kind_bytes}
 use Rattle.rc_model.specs.Words.{different, different_from}
 use Rattle.rc_sheet_model.specs.FormMentions.{is_kind, word_of, gathered, all_gathered, loc_word, num_word, deck_loc, deck_lines, body, loc_mentions, num_mentions, is_text}
 use Rattle.rc_grammar.specs.Faults.{is_kind as is_kind_word}
-use Rattle.rc_semantics.specs.SecondNames.{is_named, firsts_from, OwnedMention}
+use Rattle.rc_faults.specs.SecondNames.{is_named, firsts_from, OwnedMention}
 use Rattle.rc_naming.specs.Mentions.{mention_by, loc_mention, num_mention, deck_location, all_locations, all_numbers}
 use Rattle.rc_naming.specs.Naming.{kind_by, firsts, loc_names, num_names, naming_of}
 use Rattle.rc_sheet.proofs.Means.{place_passes, means_so}

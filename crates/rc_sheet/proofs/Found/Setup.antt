@@ -17,11 +17,11 @@ use Rattle.rc_grammar.specs.declared.grammar.Place.TheVariants as place
 use Rattle.rc_grammar.specs.declared.grammar.Rule.{Rule}
 use Rattle.rc_grammar.specs.declared.grammar.Rule.TheVariants as rule
 use Rattle.rc_grammar.specs.declared.fault.SheetKind.TheVariants.{Number}
-use Rattle.rc_semantics.specs.declared.role.Role.TheVariants.{DeckLocation as deck_role}
-use Rattle.rc_semantics.specs.Classes.{class_of_rule, class_at}
-use Rattle.rc_semantics.specs.SecondParts.{Standing, Part, form, parts_at, parts_in, parts_of, with_form, standing_in, part_at, bytes_of, word_in}
-use Rattle.rc_semantics.specs.SecondNames.{some_of, players_in, teams_in, maps_in, mention_of}
-use Rattle.rc_semantics.specs.SecondFaults.{is_twice, is_game, is_misplaced, faults_of, faults_behind, second_faults}
+use Rattle.rc_faults.specs.declared.role.Role.TheVariants.{DeckLocation as deck_role}
+use Rattle.rc_faults.specs.Classes.{class_of_rule, class_at}
+use Rattle.rc_faults.specs.SecondParts.{Standing, Part, form, parts_at, parts_in, parts_of, with_form, standing_in, part_at, bytes_of, word_in}
+use Rattle.rc_faults.specs.SecondNames.{some_of, players_in, teams_in, maps_in, mention_of}
+use Rattle.rc_faults.specs.SecondFaults.{is_twice, is_game, is_misplaced, faults_of, faults_behind, second_faults}
 use Rattle.rc_naming.specs.Naming.{naming_of}
 use Rattle.rc_reading.specs.ReadNames.{◌>>=◌, ensure, rule_at, name_at, owner_at, holder_at, is_loc_name, loc_parts, loc_rule, loc_at}
 use Rattle.rc_reading.specs.ReadSetup.{Setup, Lines, no_line, within, count_at, members_at, team_rule, team_at, teams_at, face_words, home_of, deck_at, points_at, players_line, teams_line, deck_line, points_line, line_rule, line_at, lines_at, setup_of, setup_at}

@@ -16,8 +16,8 @@ use Rattle.rc_grammar.specs.declared.grammar.Place.{Place}
 use Rattle.rc_grammar.specs.declared.grammar.Place.TheVariants as place
 use Rattle.rc_grammar.specs.declared.grammar.Rule.{Rule}
 use Rattle.rc_grammar.specs.declared.grammar.Rule.TheVariants as rule
-use Rattle.rc_semantics.specs.SecondParts.{Standing, Part, atom, form, standing_in}
-use Rattle.rc_semantics.specs.SecondNames.{mention_of, locations_in, numbers_of, OwnedMention}
+use Rattle.rc_faults.specs.SecondParts.{Standing, Part, atom, form, standing_in}
+use Rattle.rc_faults.specs.SecondNames.{mention_of, locations_in, numbers_of, OwnedMention}
 use Rattle.rc_naming.specs.Mentions.{mention_by, loc_mention, num_mention}
 use Rattle.rc_sheet.proofs.Shapes.{none_in_both, shape_of, rule_holds, two_only, three_only, refuses, refuted, atom_only, fixed_only, taken}
 use Rattle.rc_sheet.proofs.Bodies.{is_body_rule, body_rule, standing_at, all_refused}

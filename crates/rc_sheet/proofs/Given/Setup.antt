@@ -14,9 +14,9 @@ use Rattle.rc_sheet_model.specs.StandsSetup.{StandsMap, lines_with, numbered, St
 use Rattle.rc_sheet_model.specs.WellFormed.{is_among, IsAttr, IsValue, IsMap}
 use Rattle.rc_grammar.specs.Faults.{faults}
 use Rattle.rc_grammar.specs.declared.grammar.Place.TheVariants as place
-use Rattle.rc_semantics.specs.SecondParts.{parts_of}
-use Rattle.rc_semantics.specs.SecondNames.{attributes_in, values_in, maps_in}
-use Rattle.rc_semantics.specs.SecondFaults.{second_faults}
+use Rattle.rc_faults.specs.SecondParts.{parts_of}
+use Rattle.rc_faults.specs.SecondNames.{attributes_in, values_in, maps_in}
+use Rattle.rc_faults.specs.SecondFaults.{second_faults}
 use Rattle.rc_naming.specs.Naming.{naming_of}
 use Rattle.rc_reading.specs.ReadSetup.{Setup}
 use Rattle.rc_reading.specs.ReadSheet.{setup_form_at, sheet_with}

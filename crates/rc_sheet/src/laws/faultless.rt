@@ -5,7 +5,7 @@ ghost use Rattle.rc_form.specs.SameForm.{IsOfAtoms};
 ghost use Rattle.rc_sheet_model.specs.Sheet.{Sheet};
 ghost use Rattle.rc_sheet_model.specs.Stands.{Stands};
 ghost use Rattle.rc_sheet_model.specs.WellFormed.{IsWellFormed};
-ghost use Rattle.rc_semantics.specs.SecondFaults.{sheet_fault};
+ghost use Rattle.rc_faults.specs.SecondFaults.{sheet_fault};
 
 /// A form without a fault is that of a well formed sheet, where its words are atoms and at most 64 of its lists are open at a
 /// place.

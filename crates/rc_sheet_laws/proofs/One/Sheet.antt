@@ -22,7 +22,7 @@ use Rattle.rc_sheet_model.specs.WellFormed.{IsWellFormed}
 use Rattle.rc_grammar.specs.Faults.{count}
 use Rattle.rc_naming.specs.Naming.{naming_of}
 use Rattle.rc_naming.proofs.Whole.{loc_numbers, num_numbers}
-use Rattle.rc_semantics.specs.SecondFaults.{sheet_fault}
+use Rattle.rc_faults.specs.SecondFaults.{sheet_fault}
 use Rattle.rc_reading.specs.ReadSetup.{setup_in}
 use Rattle.rc_reading.specs.ReadItems.{body_at}
 use Rattle.rc_reading.specs.ReadSheet.{setup_form_at, game_parts, game_rule, sheet_at, sheet_with}

@@ -20,9 +20,9 @@ use Rattle.rc_grammar.specs.declared.keyword.Keyword.TheVariants as keyword
 use Rattle.rc_grammar.specs.declared.grammar.Place.TheVariants as place
 use Rattle.rc_grammar.specs.declared.grammar.Rule.{Rule}
 use Rattle.rc_grammar.specs.declared.grammar.Rule.TheVariants as rule
-use Rattle.rc_semantics.specs.declared.role.Role.TheVariants.{No as no_role}
-use Rattle.rc_semantics.specs.SecondParts.{Standing, Part, form, parts_at, parts_in, parts_of, part_at, standing_alone}
-use Rattle.rc_semantics.specs.SecondNames.{number_at, players_in, teams_in, teams_by, team_count, faces_of, cards_in, written_faces, written_branches}
+use Rattle.rc_faults.specs.declared.role.Role.TheVariants.{No as no_role}
+use Rattle.rc_faults.specs.SecondParts.{Standing, Part, form, parts_at, parts_in, parts_of, part_at, standing_alone}
+use Rattle.rc_faults.specs.SecondNames.{number_at, players_in, teams_in, teams_by, team_count, faces_of, cards_in, written_faces, written_branches}
 use Rattle.rc_sheet.proofs.Among.{Among}
 use Rattle.rc_sheet.proofs.Fine.Lines.{OfLines, line_gives, behind_silent, all_said, players_of_lines, teams_of_lines, cards_of_lines}
 use Rattle.rc_sheet.proofs.GoodParts.{Each}

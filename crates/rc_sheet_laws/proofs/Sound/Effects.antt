@@ -23,11 +23,11 @@ use Rattle.rc_grammar.specs.declared.grammar.Place.{Place}
 use Rattle.rc_grammar.specs.declared.grammar.Place.TheVariants as place
 use Rattle.rc_grammar.specs.declared.grammar.Rule.{Rule}
 use Rattle.rc_grammar.specs.declared.grammar.Rule.TheVariants as rule
-use Rattle.rc_semantics.specs.Classes.{bound_in}
-use Rattle.rc_semantics.specs.declared.role.Role.{Role}
-use Rattle.rc_semantics.specs.declared.role.Role.TheVariants.{No as no_role, CardLocation as card_location, ReferenceLocation as reference_location}
-use Rattle.rc_semantics.specs.SecondParts.{Part, parts_at, sort_over}
-use Rattle.rc_semantics.specs.SecondFaults.{is_unnamed, is_in_stage, is_other_side}
+use Rattle.rc_faults.specs.Classes.{bound_in}
+use Rattle.rc_faults.specs.declared.role.Role.{Role}
+use Rattle.rc_faults.specs.declared.role.Role.TheVariants.{No as no_role, CardLocation as card_location, ReferenceLocation as reference_location}
+use Rattle.rc_faults.specs.SecondParts.{Part, parts_at, sort_over}
+use Rattle.rc_faults.specs.SecondFaults.{is_unnamed, is_in_stage, is_other_side}
 use Rattle.rc_sheet.proofs.GoodParts.{Each}
 use Rattle.rc_sheet_laws.proofs.One.Rows.{behind_word, row_one, row_two, row_three, row_word, row_word_part, row_part, row_words, two_parts, first_part}
 use Rattle.rc_sheet_laws.proofs.One.Names.{Apart, loc_rule_alone, num_rule_alone}

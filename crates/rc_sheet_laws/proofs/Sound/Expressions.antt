@@ -15,12 +15,12 @@ use Rattle.rc_grammar.specs.declared.grammar.Place.{Place}
 use Rattle.rc_grammar.specs.declared.grammar.Place.TheVariants as place
 use Rattle.rc_grammar.specs.declared.grammar.Rule.{Rule}
 use Rattle.rc_grammar.specs.declared.grammar.Rule.TheVariants as rule
-use Rattle.rc_semantics.specs.Classes.{bound_in}
-use Rattle.rc_semantics.specs.declared.role.Role.TheVariants.{No as no_role, UsedMap as used_map}
-use Rattle.rc_semantics.specs.declared.role.SideSort.{SideSort}
-use Rattle.rc_semantics.specs.declared.role.SideSort.TheVariants.{Number as number_side, Card as card_side, Value as value_side}
-use Rattle.rc_semantics.specs.SecondParts.{Standing, Part, standing_in, is_binder, part_at, word_in, sort_over}
-use Rattle.rc_semantics.specs.SecondFaults.{side_of, side_of_form}
+use Rattle.rc_faults.specs.Classes.{bound_in}
+use Rattle.rc_faults.specs.declared.role.Role.TheVariants.{No as no_role, UsedMap as used_map}
+use Rattle.rc_faults.specs.declared.role.SideSort.{SideSort}
+use Rattle.rc_faults.specs.declared.role.SideSort.TheVariants.{Number as number_side, Card as card_side, Value as value_side}
+use Rattle.rc_faults.specs.SecondParts.{Standing, Part, standing_in, is_binder, part_at, word_in, sort_over}
+use Rattle.rc_faults.specs.SecondFaults.{side_of, side_of_form}
 use Rattle.rc_sheet.proofs.GoodParts.{Each}
 use Rattle.rc_sheet_laws.proofs.One.Rows.{behind_word, row_one, row_two, row_three, three_parts}
 use Rattle.rc_sheet_laws.proofs.One.Names.{Apart, loc_rule_in_cards, loc_rule_in_domain, loc_rule_in_members, num_rule_in_numbers, num_rule_in_sides, rule_told}

@@ -14,10 +14,10 @@ use Rattle.rc_grammar.specs.declared.grammar.Place.{Place}
 use Rattle.rc_grammar.specs.declared.grammar.Place.TheVariants as place
 use Rattle.rc_grammar.specs.declared.grammar.Rule.{Rule}
 use Rattle.rc_grammar.specs.declared.grammar.Rule.TheVariants as rule
-use Rattle.rc_semantics.specs.declared.role.Role.TheVariants.{No as no_role, GivenValue as given_value}
-use Rattle.rc_semantics.specs.SecondParts.{Standing, Part, parts_at, parts_in, standing_in, attributes_of, attributes_below, attributes_among, front}
-use Rattle.rc_semantics.specs.SecondNames.{some_of, is_named}
-use Rattle.rc_semantics.specs.SecondFaults.{sorts_at}
+use Rattle.rc_faults.specs.declared.role.Role.TheVariants.{No as no_role, GivenValue as given_value}
+use Rattle.rc_faults.specs.SecondParts.{Standing, Part, parts_at, parts_in, standing_in, attributes_of, attributes_below, attributes_among, front}
+use Rattle.rc_faults.specs.SecondNames.{some_of, is_named}
+use Rattle.rc_faults.specs.SecondFaults.{sorts_at}
 use Rattle.rc_sheet.proofs.Among.{Among, among_left, among_right, among_either, named_among}
 use Rattle.rc_sheet.proofs.Fine.Decks.{behind_at, none_before, next_front}
 use Rattle.rc_sheet.proofs.GoodParts.{Each}

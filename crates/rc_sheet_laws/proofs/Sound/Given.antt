@@ -15,7 +15,7 @@ use Rattle.rc_sheet_model.specs.Stands.{Stands}
 use Rattle.rc_sheet_model.specs.WellFormed.{is_among}
 use Rattle.rc_grammar.specs.Faults.{faults}
 use Rattle.rc_grammar.specs.declared.grammar.Place.TheVariants as place
-use Rattle.rc_semantics.specs.SecondParts.{parts_of}
+use Rattle.rc_faults.specs.SecondParts.{parts_of}
 use Rattle.rc_sheet.proofs.Among.{Among, among_right, among_named, among_map}
 use Rattle.rc_sheet.proofs.Lines.{within_lines}
 use Rattle.rc_sheet.proofs.MapsInTurn.{points_alone}

@@ -14,8 +14,8 @@ use Rattle.rc_sheet_model.specs.WellFormed.{Around, outside, scored, IsInt, IsTe
 use Rattle.rc_grammar.specs.Faults.{behind_front, count}
 use Rattle.rc_grammar.specs.declared.grammar.Place.TheVariants as place
 use Rattle.rc_grammar.specs.declared.grammar.Rule.TheVariants as rule
-use Rattle.rc_semantics.specs.declared.role.Role.TheVariants.{No as no_role}
-use Rattle.rc_semantics.specs.SecondParts.{Part, parts_at, parts_in, standing_in, standing_alone}
+use Rattle.rc_faults.specs.declared.role.Role.TheVariants.{No as no_role}
+use Rattle.rc_faults.specs.SecondParts.{Part, parts_at, parts_in, standing_in, standing_alone}
 use Rattle.rc_sheet.proofs.GoodParts.{Each}
 use Rattle.rc_sheet_laws.proofs.One.Rows.{behind_word, row_one, row_two, row_words, first_part}
 use Rattle.rc_sheet_laws.proofs.One.Names.{none_apart, one_apart}

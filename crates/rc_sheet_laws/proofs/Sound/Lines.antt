@@ -14,9 +14,9 @@ use Rattle.rc_sheet_model.specs.StandsSetup.{StandsPlayers, StandsTeam, StandTea
 use Rattle.rc_sheet_model.specs.WellFormed.{outside, is_mem, IsDeck, IsWellFormed}
 use Rattle.rc_grammar.specs.declared.grammar.Place.TheVariants as place
 use Rattle.rc_grammar.specs.declared.grammar.Rule.TheVariants as rule
-use Rattle.rc_semantics.specs.declared.role.Role.TheVariants.{No as no_role, DeckLocation as deck_location}
-use Rattle.rc_semantics.specs.SecondParts.{Part, parts_at}
-use Rattle.rc_semantics.specs.SecondFaults.{leaves_out, is_game}
+use Rattle.rc_faults.specs.declared.role.Role.TheVariants.{No as no_role, DeckLocation as deck_location}
+use Rattle.rc_faults.specs.SecondParts.{Part, parts_at}
+use Rattle.rc_faults.specs.SecondFaults.{leaves_out, is_game}
 use Rattle.rc_sheet.proofs.Among.{Among, one_of_all}
 use Rattle.rc_sheet.proofs.GoodParts.{Each}
 use Rattle.rc_sheet_laws.proofs.One.Rows.{behind_word, row_words, row_word_part, two_parts}

@@ -11,8 +11,8 @@ use Rattle.rc_sheet_model.specs.StandsSetup.{StandsMap, lines_with}
 use Rattle.rc_sheet_model.specs.Stands.{Stands}
 use Rattle.rc_grammar.specs.Faults.{faults}
 use Rattle.rc_grammar.specs.declared.grammar.Place.TheVariants as place
-use Rattle.rc_semantics.specs.SecondParts.{parts_of}
-use Rattle.rc_semantics.specs.SecondNames.{maps_in}
+use Rattle.rc_faults.specs.SecondParts.{parts_of}
+use Rattle.rc_faults.specs.SecondNames.{maps_in}
 use Rattle.rc_sheet.proofs.MapsInTurn.{points_alone}
 use Rattle.rc_sheet.proofs.Mentioned.Setup.{points_only}
 use Rattle.rc_sheet_laws.proofs.One.Names.{Alone}

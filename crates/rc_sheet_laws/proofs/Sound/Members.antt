@@ -19,9 +19,9 @@ use Rattle.rc_grammar.specs.declared.grammar.Place.{Place}
 use Rattle.rc_grammar.specs.declared.grammar.Place.TheVariants as place
 use Rattle.rc_grammar.specs.declared.grammar.Rule.{Rule}
 use Rattle.rc_grammar.specs.declared.grammar.Rule.TheVariants as rule
-use Rattle.rc_semantics.specs.declared.role.Role.TheVariants.{No as no_role}
-use Rattle.rc_semantics.specs.SecondParts.{Standing, parts_at, parts_in, parts_of, with_form, standing_in, standing_alone}
-use Rattle.rc_semantics.specs.SecondNames.{member_by, members_in}
+use Rattle.rc_faults.specs.declared.role.Role.TheVariants.{No as no_role}
+use Rattle.rc_faults.specs.SecondParts.{Standing, parts_at, parts_in, parts_of, with_form, standing_in, standing_alone}
+use Rattle.rc_faults.specs.SecondNames.{member_by, members_in}
 use Rattle.rc_sheet.proofs.Bodies.{each_passes, all_pass, standing_at}
 use Rattle.rc_sheet_laws.proofs.One.Rows.{row_words, row_word_part}
 use Rattle.rc_sheet.proofs.Shapes.{rule_holds}

@@ -16,12 +16,12 @@ use Rattle.rc_grammar.specs.declared.keyword.Keyword.{Keyword}
 use Rattle.rc_grammar.specs.declared.grammar.Place.{Place}
 use Rattle.rc_grammar.specs.declared.grammar.Place.TheVariants as place
 use Rattle.rc_grammar.specs.declared.grammar.Rule.TheVariants as rule
-use Rattle.rc_semantics.specs.Classes.{class_at}
-use Rattle.rc_semantics.specs.declared.role.Role.{Role}
-use Rattle.rc_semantics.specs.declared.role.Role.TheVariants.{No as no_role}
-use Rattle.rc_semantics.specs.SecondParts.{Standing, Part, atom, parts_at}
-use Rattle.rc_semantics.specs.SecondNames.{some_of, mention_of, OwnedMention}
-use Rattle.rc_semantics.specs.SecondFaults.{sorts_at, variable_in, is_unnamed, is_other_sort, is_other_side, is_misplaced}
+use Rattle.rc_faults.specs.Classes.{class_at}
+use Rattle.rc_faults.specs.declared.role.Role.{Role}
+use Rattle.rc_faults.specs.declared.role.Role.TheVariants.{No as no_role}
+use Rattle.rc_faults.specs.SecondParts.{Standing, Part, atom, parts_at}
+use Rattle.rc_faults.specs.SecondNames.{some_of, mention_of, OwnedMention}
+use Rattle.rc_faults.specs.SecondFaults.{sorts_at, variable_in, is_unnamed, is_other_sort, is_other_side, is_misplaced}
 use Rattle.rc_sheet_laws.proofs.One.Rows.{three_parts}
 use Rattle.rc_sheet_laws.proofs.One.Names.{Apart, TakesHeld, variable_word, owner_forms, rule_told}
 use Rattle.rc_sheet_laws.proofs.One.Expressions.{last_false}

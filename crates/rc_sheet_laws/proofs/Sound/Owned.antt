@@ -17,8 +17,8 @@ use Rattle.rc_grammar.specs.Faults.{faults}
 use Rattle.rc_grammar.specs.declared.grammar.Place.TheVariants as place
 use Rattle.rc_naming.specs.Mentions.{all_locations, all_numbers}
 use Rattle.rc_sheet_model.specs.WellFormed.{owner_count_by}
-use Rattle.rc_semantics.specs.SecondParts.{Part, parts_of}
-use Rattle.rc_semantics.specs.SecondNames.{is_named, locations_in, numbers_of, firsts_from, owned, OwnedMention}
+use Rattle.rc_faults.specs.SecondParts.{Part, parts_of}
+use Rattle.rc_faults.specs.SecondNames.{is_named, locations_in, numbers_of, firsts_from, owned, OwnedMention}
 use Rattle.rc_sheet.proofs.Found.Names.{name_of, names_different, loc_names_are, num_names_are}
 use Rattle.rc_sheet_laws.proofs.One.Names.{Differ, all_at}
 use Rattle.rc_sheet_laws.proofs.One.Sheet.{names_are}

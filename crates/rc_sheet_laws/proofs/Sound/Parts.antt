@@ -14,11 +14,11 @@ use Rattle.rc_grammar.specs.declared.grammar.Place.{Place}
 use Rattle.rc_grammar.specs.declared.grammar.Place.TheVariants as place
 use Rattle.rc_grammar.specs.declared.grammar.Rule.{Rule}
 use Rattle.rc_grammar.specs.declared.grammar.Rule.TheVariants as rule
-use Rattle.rc_semantics.specs.declared.role.Role.{Role}
-use Rattle.rc_semantics.specs.declared.role.Role.TheVariants.{No as no_role}
-use Rattle.rc_semantics.specs.SecondParts.{Standing, Part, atom, form, is_binder, with_form, parts_at, parts_in, standing_in}
-use Rattle.rc_semantics.specs.SecondNames.{some_of, is_named, attributes_in, values_in, maps_in, mention_of, OwnedMention}
-use Rattle.rc_semantics.specs.SecondFaults.{is_player_again, sorts_at, is_unbound, is_unnamed, is_no_player, is_misused, is_other_side, is_misplaced, is_twice, is_unknown, is_wrong_kind, is_too_deep}
+use Rattle.rc_faults.specs.declared.role.Role.{Role}
+use Rattle.rc_faults.specs.declared.role.Role.TheVariants.{No as no_role}
+use Rattle.rc_faults.specs.SecondParts.{Standing, Part, atom, form, is_binder, with_form, parts_at, parts_in, standing_in}
+use Rattle.rc_faults.specs.SecondNames.{some_of, is_named, attributes_in, values_in, maps_in, mention_of, OwnedMention}
+use Rattle.rc_faults.specs.SecondFaults.{is_player_again, sorts_at, is_unbound, is_unnamed, is_no_player, is_misused, is_other_side, is_misplaced, is_twice, is_unknown, is_wrong_kind, is_too_deep}
 use Rattle.rc_sheet.proofs.GoodParts.{Each}
 use Rattle.rc_sheet.proofs.Room.{all_both}
 

@@ -20,12 +20,12 @@ use Rattle.rc_grammar.specs.declared.grammar.Place.{Place}
 use Rattle.rc_grammar.specs.declared.grammar.Place.TheVariants as place
 use Rattle.rc_grammar.specs.declared.grammar.Rule.{Rule}
 use Rattle.rc_grammar.specs.declared.grammar.Rule.TheVariants as rule
-use Rattle.rc_semantics.specs.Classes.{bound_in}
-use Rattle.rc_semantics.specs.declared.role.Role.TheVariants.{No as no_role, UsedAttribute as used_attribute, UsedValue as used_value, UsedMap as used_map, SecondSide as second_side}
-use Rattle.rc_semantics.specs.declared.role.SideSort.{SideSort}
-use Rattle.rc_semantics.specs.declared.role.SideSort.TheVariants.{Number as number_side, Card as card_side, Value as value_side, Player as player_side, Team as team_side}
-use Rattle.rc_semantics.specs.SecondParts.{Standing, Part, parts_at, standing_in, is_binder, part_at, word_in, sort_over}
-use Rattle.rc_semantics.specs.SecondFaults.{side_of, side_of_sort, side_of_variable, differ, same_side, variable_in}
+use Rattle.rc_faults.specs.Classes.{bound_in}
+use Rattle.rc_faults.specs.declared.role.Role.TheVariants.{No as no_role, UsedAttribute as used_attribute, UsedValue as used_value, UsedMap as used_map, SecondSide as second_side}
+use Rattle.rc_faults.specs.declared.role.SideSort.{SideSort}
+use Rattle.rc_faults.specs.declared.role.SideSort.TheVariants.{Number as number_side, Card as card_side, Value as value_side, Player as player_side, Team as team_side}
+use Rattle.rc_faults.specs.SecondParts.{Standing, Part, parts_at, standing_in, is_binder, part_at, word_in, sort_over}
+use Rattle.rc_faults.specs.SecondFaults.{side_of, side_of_sort, side_of_variable, differ, same_side, variable_in}
 use Rattle.rc_sheet.proofs.GoodParts.{Each}
 use Rattle.rc_sheet_laws.proofs.One.Rows.{behind_word, row_two, row_three, three_parts}
 use Rattle.rc_sheet_laws.proofs.One.Names.{Apart, variable_word, held, owner_forms, more_apart}

@@ -21,10 +21,10 @@ use Rattle.rc_grammar.specs.Faults.{faults, first}
 use Rattle.rc_grammar.specs.declared.grammar.Place.TheVariants as place
 use Rattle.rc_grammar.specs.declared.grammar.Rule.TheVariants as rule
 use Rattle.rc_sheet_model.specs.WellFormed.{owner_count_by}
-use Rattle.rc_semantics.specs.declared.role.Role.TheVariants.{No as no_role}
-use Rattle.rc_semantics.specs.SecondParts.{Part, parts_at, parts_of, standing_alone}
-use Rattle.rc_semantics.specs.SecondNames.{some_of, players_in, player_count, teams_in, team_count, members_in, cards_in, attributes_in, values_in, maps_in}
-use Rattle.rc_semantics.specs.SecondFaults.{card_count, attribute_count, value_count, map_count, stage_count, choice_count, location_count, number_count, second_faults, or_fault, sheet_fault}
+use Rattle.rc_faults.specs.declared.role.Role.TheVariants.{No as no_role}
+use Rattle.rc_faults.specs.SecondParts.{Part, parts_at, parts_of, standing_alone}
+use Rattle.rc_faults.specs.SecondNames.{some_of, players_in, player_count, teams_in, team_count, members_in, cards_in, attributes_in, values_in, maps_in}
+use Rattle.rc_faults.specs.SecondFaults.{card_count, attribute_count, value_count, map_count, stage_count, choice_count, location_count, number_count, second_faults, or_fault, sheet_fault}
 use Rattle.rc_sheet.proofs.FewNames.{no_more_different}
 use Rattle.rc_sheet_laws.proofs.One.Rows.{behind_word, row_part}
 use Rattle.rc_sheet_laws.proofs.One.Names.{Differ}

@@ -21,11 +21,11 @@ use Rattle.rc_grammar.specs.declared.grammar.Place.{Place}
 use Rattle.rc_grammar.specs.declared.grammar.Place.TheVariants as place
 use Rattle.rc_grammar.specs.declared.grammar.Rule.{Rule}
 use Rattle.rc_grammar.specs.declared.grammar.Rule.TheVariants as rule
-use Rattle.rc_semantics.specs.declared.role.Role.{Role}
-use Rattle.rc_semantics.specs.declared.role.Role.TheVariants.{No as no_role}
-use Rattle.rc_semantics.specs.SecondParts.{Standing, Part, atom, form, parts_at, parts_in, parts_of, standing_in, standing_alone}
-use Rattle.rc_semantics.specs.SecondNames.{choices_in}
-use Rattle.rc_semantics.specs.SecondNames.{stages_in as stages_of}
+use Rattle.rc_faults.specs.declared.role.Role.{Role}
+use Rattle.rc_faults.specs.declared.role.Role.TheVariants.{No as no_role}
+use Rattle.rc_faults.specs.SecondParts.{Standing, Part, atom, form, parts_at, parts_in, parts_of, standing_in, standing_alone}
+use Rattle.rc_faults.specs.SecondNames.{choices_in}
+use Rattle.rc_faults.specs.SecondNames.{stages_in as stages_of}
 use Rattle.rc_sheet.proofs.Lands.{never, never_roles}
 use Rattle.rc_sheet_laws.proofs.One.Rows.{behind_word, row_words, first_part}
 use Rattle.rc_sheet.proofs.Silent.{lies_in, tree_silent}

@@ -11,7 +11,7 @@ use Rattle.rc_sheet_model.specs.Sheet.{Teams}
 use Rattle.rc_model.specs.Numbers.{below}
 use Rattle.rc_sheet_model.specs.StandsSetup.{StandsTeam, StandTeams}
 use Rattle.rc_sheet_model.specs.WellFormed.{is_among, ArePartition}
-use Rattle.rc_semantics.specs.SecondNames.{numbers_in, team_players}
+use Rattle.rc_faults.specs.SecondNames.{numbers_in, team_players}
 use Rattle.rc_sheet_laws.proofs.Sound.Counts.{number_said}
 use Rattle.rc_sheet_laws.proofs.Shaped.Teams.{counted_among}
 use Rattle.rc_sheet.proofs.TeamNumbers.{none_equal}

@@ -21,11 +21,11 @@ use Rattle.rc_grammar.specs.declared.fault.SheetKind.{SheetKind}
 use Rattle.rc_grammar.specs.declared.fault.SheetKind.TheVariants.{Twice, Unknown, WrongKind, TooMany, NoCards}
 use Rattle.rc_sheet_model.specs.Sheet.{same_class}
 use Rattle.rc_sheet_model.specs.WellFormed.{owner_count_by}
-use Rattle.rc_semantics.specs.declared.role.Role.{Role}
-use Rattle.rc_semantics.specs.declared.role.Role.TheVariants.{GivenValue as given_value}
-use Rattle.rc_semantics.specs.SecondParts.{Standing, Part, atom, form, word_in}
-use Rattle.rc_semantics.specs.SecondNames.{some_of, is_named, number_by, players_in, player_count, teams_in, team_count, member_by, members_in, cards_in, attributes_in, values_in, maps_in, mention_of, first_mention, firsts_from, owned, locations_in, numbers_of, stages_in, choices_in, different_count, OwnedMention}
-use Rattle.rc_semantics.specs.SecondFaults.{is_player_again, is_no_player, is_unbound, is_unnamed, is_other_side, differs_from, is_other_mention, is_misplaced, is_twice, is_unknown, is_wrong_kind, passes, card_count, attribute_count, value_count, map_count, stage_count, choice_count, location_count, number_count, atom_counts, is_too_deep, is_too_many, lacks_cards, fault_where, faults_of, faults_behind}
+use Rattle.rc_faults.specs.declared.role.Role.{Role}
+use Rattle.rc_faults.specs.declared.role.Role.TheVariants.{GivenValue as given_value}
+use Rattle.rc_faults.specs.SecondParts.{Standing, Part, atom, form, word_in}
+use Rattle.rc_faults.specs.SecondNames.{some_of, is_named, number_by, players_in, player_count, teams_in, team_count, member_by, members_in, cards_in, attributes_in, values_in, maps_in, mention_of, first_mention, firsts_from, owned, locations_in, numbers_of, stages_in, choices_in, different_count, OwnedMention}
+use Rattle.rc_faults.specs.SecondFaults.{is_player_again, is_no_player, is_unbound, is_unnamed, is_other_side, differs_from, is_other_mention, is_misplaced, is_twice, is_unknown, is_wrong_kind, passes, card_count, attribute_count, value_count, map_count, stage_count, choice_count, location_count, number_count, atom_counts, is_too_deep, is_too_many, lacks_cards, fault_where, faults_of, faults_behind}
 use Rattle.rc_sheet.proofs.Among.{Among, among_left}
 use Rattle.rc_sheet.proofs.ReadOff.Names.{class_same}
 use Rattle.rc_sheet.proofs.Faultless.{IsFaultless}

@@ -6,7 +6,7 @@ ghost use Rattle.rc_sheet_model.specs.Stands.{Stands};
 ghost use Rattle.rc_sheet_model.specs.WellFormed.{IsWellFormed};
 ghost use Rattle.rc_grammar.specs.Faults.{faults, first};
 ghost use Rattle.rc_grammar.specs.declared.grammar.Place.TheVariants as place;
-ghost use Rattle.rc_semantics.specs.SecondFaults.{second_faults, sheet_fault};
+ghost use Rattle.rc_faults.specs.SecondFaults.{second_faults, sheet_fault};
 
 /// A form that stands for a well formed sheet has no fault of the first round: its lists are forms of their places, with as many
 /// parts as those have, and its atoms are words and numbers of theirs. So its first fault would be one of the second round.

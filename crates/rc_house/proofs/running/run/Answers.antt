@@ -1,5 +1,5 @@
 use Rattle.std.proofs.Common.{◌≡◌, map, string_bytes, rules}
-use Rattle.rc_words.specs.Command.{IsCommand, workers_of}
+use Rattle.rc_command.specs.Command.{IsCommand, workers_of}
 use Rattle.rc_house.specs.Ends.{RefusesMany, Runs}
 use Rattle.rc_house.specs.Port.{port, ports}
 use Rattle.rc_house.proofs.EndsLemmas.{ends_alike, is_none, is_unread, more_than_one, ran_by_many}

@@ -1,5 +1,5 @@
 use Rattle.std.proofs.Common.{◌≡◌, map, string_bytes, rules}
-use Rattle.rc_words.specs.Command.{IsCommand, workers_of}
+use Rattle.rc_command.specs.Command.{IsCommand, workers_of}
 use Rattle.rc_house.specs.Ends.{RefusesMany}
 use Rattle.rc_house.specs.Port.{port, ports}
 use Rattle.rc_house.proofs.EndsLemmas.{ran, has_many}

@@ -1,7 +1,7 @@
 use Rattle.std.proofs.Common.{length, map, ap, ◌∙◌, subst, arith}
 use Rattle.rc_rules.specs.Plan.{plan_seen}
 use Rattle.rc_cache.specs.Memos.{shared_counts}
-use Rattle.rc_plays.specs.Series.{looks_of}
+use Rattle.rc_series.specs.Series.{looks_of}
 use Rattle.rc_workers.specs.Gathered.{RiseTogether}
 use Rattle.rc_workers.proofs.LaneLemmas.{idle_count, all_looked, all_answered, some_missed}
 use Rattle.rc_workers.proofs.series.played.Goals as goal

@@ -1,6 +1,6 @@
 use mathlib.Core.List.{map-map}
 use Rattle.std.proofs.Common.{◌∙◌, ap, sym}
-use Rattle.rc_semantics.specs.SecondNames.{OwnedMention}
+use Rattle.rc_faults.specs.SecondNames.{OwnedMention}
 use Rattle.rc_naming.specs.Known.{loc_seen, num_seen, naming_by}
 use Rattle.rc_naming.proofs.Whole.{same_naming}
 use Rattle.rc_naming.proofs.known.Known.naming.Goals as goal

@@ -1,5 +1,5 @@
 use Rattle.std.proofs.Common.{[], ◌∷◌, subst}
-use Rattle.rc_semantics.specs.SecondParts.{form}
+use Rattle.rc_faults.specs.SecondParts.{form}
 use Rattle.rc_grammar.specs.declared.grammar.Rule.TheVariants as rule
 use Rattle.rc_naming.specs.Naming.{naming_of}
 use Rattle.rc_sheet.proofs.MapsInTurn.{AreInTurn, in_turn_of_both, maps_in_turn}

@@ -3,7 +3,7 @@ use Rattle.rc_model.specs.Tree.{Tree, list, Trees, cons}
 use Rattle.rc_sheet_model.specs.Sheet.{SheetItems, Best, IntExpr}
 use Rattle.rc_grammar.specs.Faults.{faults}
 use Rattle.rc_grammar.specs.declared.grammar.Place.TheVariants as place
-use Rattle.rc_semantics.specs.SecondFaults.{second_faults}
+use Rattle.rc_faults.specs.SecondFaults.{second_faults}
 use Rattle.rc_naming.specs.Naming.{naming_of}
 use Rattle.rc_reading.specs.ReadSetup.{Setup}
 use Rattle.rc_reading.specs.ReadSheet.{setup_form_at, sheet_with}

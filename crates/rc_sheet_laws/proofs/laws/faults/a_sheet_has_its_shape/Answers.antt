@@ -1,6 +1,6 @@
 use Rattle.std.proofs.Common.{ap}
 use Rattle.rc_grammar.specs.Faults.{first}
-use Rattle.rc_semantics.specs.SecondFaults.{second_faults, or_fault}
+use Rattle.rc_faults.specs.SecondFaults.{second_faults, or_fault}
 use Rattle.rc_sheet_laws.proofs.Shaped.Sheet.{sheet_shaped}
 use Rattle.rc_sheet_laws.proofs.laws.faults.a_sheet_has_its_shape.Goals as goal
 

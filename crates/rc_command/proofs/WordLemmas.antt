@@ -1,0 +1,82 @@
+-- Lists of words, and the commands that they are.
+use Rattle.std.proofs.Common.{◌≡◌, ℕ, ◌≤◌, ◌-◌, List, [], ◌∷◌, map, take, drop, length, get_or, codes, refl, ap, sym, subst, ◌∙◌, arith, Option, Some, None, String, string_bytes, slice_index, Global, IfNone, IsSomeAnd, ◌==◌, false}
+use Rattle.std.proofs.lemmas.List.{take_rest}
+use Rattle.std.proofs.lemmas.Bool.{eq-eqb, false≢true}
+use Rattle.rc_command.specs.Words.{HasOptions}
+use Rattle.rc_command.specs.Command.{IsCommand, IsBench}
+use Rattle.rc_command.specs.declared.options.Options.{Options}
+use Rattle.rc_command.specs.declared.command.Command.{Command}
+use Rattle.rc_command.specs.declared.command.Command.TheVariants.{Play, Check, Sheet, Bench}
+
+abbrev Text : Type 0
+Text = List ℕ
+
+-- the first word, and the words behind it
+abbrev pub first_of : List Text → Text
+first_of [] = []
+first_of (word ∷ words) = word
+
+abbrev pub behind_first : List Text → List Text
+behind_first [] = []
+behind_first (word ∷ words) = words
+
+abbrev bytes_of : List (String Global) → List Text
+bytes_of = map string_bytes
+
+pub behind_one : (words : List (String Global)) → bytes_of (take (length words - 1) (drop 1 words)) ≡ behind_first (bytes_of words)
+behind_one [] = refl
+behind_one (word ∷ words) = ap bytes_of (take_rest (word ∷ words) 1)
+
+pub split_one : (words : List (String Global)) (word : String Global) → 1 ≤ length words → word ≡ get_or words 0 word
+    → bytes_of words ≡ string_bytes word ∷ bytes_of (take (length words - 1) (drop 1 words))
+split_one [] word some is = absurd (omega arith)
+split_one (first ∷ words) word some is =
+    ap (λ x. string_bytes x ∷ bytes_of words) (sym is) ∙ ap (λ x. string_bytes word ∷ bytes_of x) (sym (take_rest (first ∷ words) 1))
+
+pub split_two : (words : List (String Global)) (word value : String Global) → 2 ≤ length words → word ≡ get_or words 0 word
+    → value ≡ get_or words 1 value
+    → bytes_of words ≡ string_bytes word ∷ string_bytes value ∷ bytes_of (take (length words - 2) (drop 2 words))
+split_two [] word value some is next_is = absurd (omega arith)
+split_two (first ∷ []) word value some is next_is = absurd (omega arith)
+split_two (first ∷ second ∷ words) word value some is next_is =
+    ap (λ x. string_bytes x ∷ string_bytes second ∷ bytes_of words) (sym is)
+    ∙ ap (λ x. string_bytes word ∷ string_bytes x ∷ bytes_of words) (sym next_is)
+    ∙ ap (λ x. string_bytes word ∷ string_bytes value ∷ bytes_of x) (sym (take_rest (first ∷ second ∷ words) 2))
+
+-- where one thing is out of the question, so is what it follows from
+pub none_weaker : {T P Q : Type 0} (found : Option T) → (P → Q) → IfNone found P → IfNone found Q
+none_weaker None f holds = f holds
+none_weaker (Some x) f holds = tt
+
+pub of_some : {T : Type 0} (P : T → Type 0) (found : Option T) (x : T) → found ≡ Some x → IsSomeAnd found P → P x
+of_some P found x is holds = subst (λ y. IsSomeAnd y P) is holds
+
+pub of_none : {T : Type 0} (P : T → Type 0) (found : Option T) → found ≡ None → IsSomeAnd found P → ⊥
+of_none P found is holds = subst (λ y. IsSomeAnd y P) is holds
+
+-- words with another first byte are no command of this name
+differ : (name mine other : Text) (rest later : List Text) → (slice_index mine 0 == slice_index other 0) ≡ false → name ≡ mine
+    → name ∷ rest ≡ other ∷ later → ⊥
+differ name mine other rest later apart named is =
+    false≢true (sym apart ∙ eq-eqb (slice_index mine 0) (slice_index other 0)
+    (ap (λ x. slice_index x 0) (sym named) ∙ ap (λ x. slice_index (first_of x) 0) is))
+
+pub no_play : (name : Text) (rest : List Text) → name ≡ codes "play" → ((options : Options) → HasOptions rest options → ⊥)
+    → (command : Command) → IsCommand (name ∷ rest) command → ⊥
+no_play name rest named none (Play options) (later, is, has) = none options (subst (λ x. HasOptions x options) (sym (ap behind_first is)) has)
+no_play name rest named none Check is = differ name (codes "play") (codes "check") rest [] refl named is
+no_play name rest named none Sheet is = differ name (codes "play") (codes "sheet") rest [] refl named is
+no_play name rest named none (Bench number options) (later, is, has) = differ name (codes "play") (codes "bench") rest later refl named is
+
+pub no_bench : (name : Text) (rest : List Text) → name ≡ codes "bench" → ((number : ℕ) (options : Options) → IsBench rest number options → ⊥)
+    → (command : Command) → IsCommand (name ∷ rest) command → ⊥
+no_bench name rest named none (Bench number options) (later, is, has) =
+    none number options (subst (λ x. IsBench x number options) (sym (ap behind_first is)) has)
+no_bench name rest named none Check is = differ name (codes "bench") (codes "check") rest [] refl named is
+no_bench name rest named none Sheet is = differ name (codes "bench") (codes "sheet") rest [] refl named is
+no_bench name rest named none (Play options) (later, is, has) = differ name (codes "bench") (codes "play") rest later refl named is
+
+pub no_options : (words : List (String Global)) → ((options : Options) → HasOptions (bytes_of (take (length words - 1) (drop 1 words))) options → ⊥)
+    → (number : ℕ) (options : Options) → IsBench (bytes_of words) number options → ⊥
+no_options words none number options (text, rest, is, spelled, has) =
+    none options (subst (λ x. HasOptions x options) (sym (behind_one words ∙ ap behind_first is)) has)

@@ -1,0 +1,105 @@
+//! The commands that words name.
+ghost use Rattle.std.specs.Prelude.{◌≡◌, ◌∷◌, ℕ, map, codes, string_bytes, IfOk, IfSome, IfNone};
+ghost use Rattle.rc_command.specs.Words.{HasOptions};
+ghost use Rattle.rc_command.specs.declared.options.Options.{Options};
+ghost use Rattle.rc_command.specs.declared.command.Command.{Command};
+ghost use Rattle.rc_command.specs.Command.{IsCommand, IsBench, options_of};
+
+use crate::number::number_of;
+use crate::options::{Options, options_of};
+use rc_deck::Memory;
+use std::alloc::Global;
+
+/// A command with what its words say.
+#[derive(Clone, Copy, Debug, PartialEq, Eq, Hash)]
+pub enum Command {
+    /// Plays the matches of a sheet and a plan.
+    Play(Options),
+    /// Judges a transcript.
+    Check,
+    /// Prints a sheet.
+    Sheet,
+    /// Plays so many matches of the game of the bench, 1 to 1,000.
+    Bench { number: u16, options: Options },
+}
+
+impl Command {
+    /// What it is told of who plays. A command that plays nothing has the usual options.
+    pub fn options(&self) -> Options
+        ensures { result ≡ options_of self.now }
+    {
+        match self {
+            Command::Play(options) => *options,
+            Command::Check => Options::usual(),
+            Command::Sheet => Options::usual(),
+            Command::Bench { options, .. } => *options,
+        }
+    }
+}
+
+/// The command that words name, if they name one. The program's name isn't among them.
+///
+/// # Errors
+///
+/// There is no memory to read options.
+pub fn command_of(alloc: Global, words: &[String]) -> Result<Option<Command>, Memory>
+    ensures some { IfOk result (λ found. IfSome found (IsCommand (map string_bytes words.now))) }
+    ensures none { IfOk result (λ found. IfNone found ((command : Command) → IsCommand (map string_bytes words.now) command → ⊥)) }
+{
+    match words {
+        [first, rest @ ..] => command_named(alloc, first, rest),
+        [] => Ok(None),
+    }
+}
+
+/// The command of this name that has these words behind it.
+fn command_named(alloc: Global, name: &String, rest: &[String]) -> Result<Option<Command>, Memory>
+    ensures some { IfOk result (λ found. IfSome found (IsCommand (string_bytes name.now ∷ map string_bytes rest.now))) }
+    ensures none { IfOk result (λ found. IfNone found ((command : Command) → IsCommand (string_bytes name.now ∷ map string_bytes rest.now) command → ⊥)) }
+{
+    match name.as_str() {
+        "play" => play_of(alloc, rest),
+        "bench" => bench_of(alloc, rest),
+        "check" if rest.is_empty() => Ok(Some(Command::Check)),
+        "sheet" if rest.is_empty() => Ok(Some(Command::Sheet)),
+        _ => Ok(None),
+    }
+}
+
+/// `play` with these words behind it.
+fn play_of(alloc: Global, rest: &[String]) -> Result<Option<Command>, Memory>
+    ensures some { IfOk result (λ found. IfSome found (IsCommand (codes "play" ∷ map string_bytes rest.now))) }
+    ensures none { IfOk result (λ found. IfNone found ((options : Options) → HasOptions (map string_bytes rest.now) options → ⊥)) }
+{
+    match options_of(alloc, "play", rest) {
+        Ok(Some(options)) => Ok(Some(Command::Play(options))),
+        Ok(None) => Ok(None),
+        Err(fail) => Err(fail),
+    }
+}
+
+/// `bench` with these words behind it.
+fn bench_of(alloc: Global, rest: &[String]) -> Result<Option<Command>, Memory>
+    ensures some { IfOk result (λ found. IfSome found (IsCommand (codes "bench" ∷ map string_bytes rest.now))) }
+    ensures none { IfOk result (λ found. IfNone found ((number : ℕ) (options : Options) → IsBench (map string_bytes rest.now) number options → ⊥)) }
+{
+    match rest {
+        [number, rest @ ..] => match number_of(number.as_str(), 1000) {
+            Some(number) => numbered_bench(alloc, number as u16, rest),
+            None => Ok(None),
+        },
+        [] => Ok(None),
+    }
+}
+
+/// `bench` with its number and these words behind it.
+fn numbered_bench(alloc: Global, number: u16, rest: &[String]) -> Result<Option<Command>, Memory>
+    ensures some { IfOk result (λ found. IfSome found (λ command. (options : Options) × (command ≡ Command.Bench number options) × HasOptions (map string_bytes rest.now) options)) }
+    ensures none { IfOk result (λ found. IfNone found ((options : Options) → HasOptions (map string_bytes rest.now) options → ⊥)) }
+{
+    match options_of(alloc, "bench", rest) {
+        Ok(Some(options)) => Ok(Some(Command::Bench { number, options })),
+        Ok(None) => Ok(None),
+        Err(fail) => Err(fail),
+    }
+}

@@ -1,0 +1,118 @@
+//! Variables at their places, and sides of equations.
+ghost use Rattle.std.specs.Prelude.{◌≡◌, ℕ, List, Some, option_map, option_and_then};
+ghost use Rattle.std.specs.List.{list_any};
+ghost use Rattle.rc_sheet_model.specs.Sheet.{same_sort};
+ghost use Rattle.rc_faults.specs.SecondFaults as faults;
+ghost use Rattle.rc_faults.specs.SecondNames.{some_of};
+ghost use Rattle.rc_faults.specs.Seen.{part_seen, standing_seen};
+
+use crate::around::Around;
+use crate::parts::part_at;
+use crate::role::{Role, SideSort};
+use crate::standing::Standing;
+use rc_form::Form;
+use rc_grammar::{Place, Rule, is_variable, rule_of};
+use rc_names::Sort;
+
+/// Whether a variable that a place takes isn't in scope.
+pub fn is_unbound(at: &Standing<'_, '_>, word: &[u8]) -> bool
+    ensures { (above : List (List ℕ)) → result ≡ faults.is_unbound (standing_seen at.now above) word.now }
+{
+    is_variable(word) && takes_variables(at.place) && !at.around.binds(word)
+}
+
+/// Whether a place takes variables, and the variable has another sort than those that it takes.
+pub fn is_misused(at: &Standing<'_, '_>, word: &[u8]) -> bool
+    ensures { (above : List (List ℕ)) → result ≡ faults.is_misused (standing_seen at.now above) word.now }
+{
+    is_variable(word)
+        && takes_variables(at.place)
+        && match at.around.sort_of(word) {
+            Some(sort) => !takes_sort(at.place, sort),
+            None => false,
+        }
+}
+
+/// Whether a place takes variables.
+fn takes_variables(place: Place) -> bool
+    ensures { result ≡ some_of (faults.sorts_at place) }
+{
+    match place {
+        Place::Holder | Place::Owner | Place::Player | Place::Card => true,
+        Place::Collection | Place::Domain | Place::Members | Place::Side => true,
+        _ => false,
+    }
+}
+
+/// Whether a place takes variables of this sort.
+fn takes_sort(place: Place, sort: Sort) -> bool
+    ensures { result ≡ list_any (same_sort sort) (faults.sorts_at place) }
+{
+    match place {
+        Place::Holder | Place::Owner | Place::Player => sort == Sort::Player,
+        Place::Card => sort == Sort::Card,
+        Place::Collection | Place::Domain | Place::Members => sort == Sort::Group,
+        Place::Side => sort != Sort::Group,
+        _ => false,
+    }
+}
+
+/// Whether a part is the second side of an equation, and of another sort than the first.
+pub fn is_other_side(at: &Standing<'_, '_>) -> bool
+    ensures { (above : List (List ℕ)) → result ≡ faults.is_other_side (standing_seen at.now above) at.now.role }
+{
+    if at.role != Role::SecondSide {
+        return false;
+    }
+    let first = side_of(at.around, part_at(1, at.beside));
+    let second = side_of(at.around, part_at(2, at.beside));
+    differ(first, second)
+}
+
+/// Whether the sorts of two sides are both known, and differ.
+fn differ(first: Option<SideSort>, second: Option<SideSort>) -> bool
+    ensures { result ≡ faults.differ first second }
+{
+    let (Some(first), Some(second)) = (first, second) else {
+        return false;
+    };
+    first != second
+}
+
+/// What a side is, where it is known.
+fn side_of(around: &Around<'_>, part: Option<&Form>) -> Option<SideSort>
+    ensures { result ≡ faults.side_of around.now.scope (part_seen part.entry) }
+{
+    match part {
+        Some(Form::Atom { word, .. }) if is_variable(word.bytes()) => {
+            side_of_sort(around.sort_of(word.bytes()))
+        }
+        Some(Form::Atom { .. }) => Some(SideSort::Number),
+        Some(Form::List { items, .. }) => side_of_form(rule_of(Place::Side, items)?),
+        None => None,
+    }
+}
+
+/// What a variable of this sort is as a side.
+fn side_of_sort(sort: Option<Sort>) -> Option<SideSort>
+    ensures { result ≡ option_and_then faults.side_of_sort sort }
+{
+    match sort {
+        Some(Sort::Player) => Some(SideSort::Player),
+        Some(Sort::Card) => Some(SideSort::Card),
+        _ => None,
+    }
+}
+
+/// What a list of this form is as a side.
+fn side_of_form(rule: Rule) -> Option<SideSort>
+    ensures { result ≡ faults.side_of_form (Some rule) }
+{
+    match rule {
+        Rule::TopCard | Rule::BottomCard | Rule::MaxCard | Rule::MinCard => Some(SideSort::Card),
+        Rule::AttributeOf => Some(SideSort::Value),
+        Rule::CurrentPlayer => Some(SideSort::Player),
+        Rule::CurrentTeam | Rule::TeamOf => Some(SideSort::Team),
+        _ => Some(SideSort::Number),
+    }
+}

@@ -1,0 +1,18 @@
+use Rattle.std.proofs.Common.{◌≡◌, IfOk, map, subst}
+use Rattle.rc_play_model.specs.House.{standings_of}
+use Rattle.rc_rules.specs.Plan.{plan_seen}
+use Rattle.rc_rules.specs.Record.{record_seen, standing_seen}
+use Rattle.rc_series.specs.Series.{matches_of}
+use Rattle.rc_series.proofs.plays.series_of.Goals as goal
+
+pub returns-clause-matches : goal.returns-clause-matches
+returns-clause-matches g c =
+    subst (λ about. IfOk c.played.result (λ series. map record_seen series.text.matches.items ≡ matches_of about (plan_seen c.args.plan))) c.in-Ok.ensures
+    (subst (λ plan. IfOk c.played.result (λ series. map record_seen series.text.matches.items ≡ matches_of c.in-Ok.about.value (plan_seen plan))) c.in-Ok-new.ensures.ok
+    c.played.ensures.matches)
+
+pub returns-clause-standings : goal.returns-clause-standings
+returns-clause-standings g c =
+    subst (λ about. IfOk c.played.result (λ series. map standing_seen series.text.standings.items ≡ standings_of (plan_seen c.args.plan) (matches_of about (plan_seen c.args.plan)))) c.in-Ok.ensures
+    (subst (λ plan. IfOk c.played.result (λ series. map standing_seen series.text.standings.items ≡ standings_of (plan_seen plan) (matches_of c.in-Ok.about.value (plan_seen plan)))) c.in-Ok-new.ensures.ok
+    c.played.ensures.standings)

@@ -1,0 +1,12 @@
+use Rattle.rc_series.proofs.plays.series_of.Given as goal
+
+abbrev pub ghosts-played : goal.ghosts-played
+ghosts-played g a =
+    record {
+      about = a.about.now.value;
+      capacity = a.capacity;
+      lanes = a.fresh.looks.parts;
+      looks = a.fresh.looks.name;
+      hits = a.fresh.hits.name;
+      keeps = a.fresh.keeps.name;
+    }
