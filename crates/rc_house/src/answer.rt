@@ -33,8 +33,8 @@ use rc_flow::Checked;
 use rc_form::{FormFail, FormFault, Forms, read_forms};
 use rc_judge::{Verdict, judge};
 use rc_plan::PlanFail;
-use rc_series::shared_about;
 use rc_rules::Plan;
+use rc_series::shared_about;
 use rc_text::{HouseText, TextFail, read_house};
 use std::alloc::{AllocError, Global};
 

@@ -7,11 +7,11 @@ ghost use Rattle.rc_house.specs.Players.{AreWithin};
 ghost use Rattle.rc_house.specs.Running.{PlaysSeries};
 
 use crate::answer::Game;
+use rc_command::Options;
 use rc_deck::Memory;
 use rc_outside::Gate;
 use rc_series::{Series, series_of};
 use rc_steps::Steps;
-use rc_command::Options;
 use rc_workers::series_by_workers;
 use std::alloc::Global;
 use std::sync::Wait;

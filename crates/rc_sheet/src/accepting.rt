@@ -12,11 +12,11 @@ ghost use Rattle.rc_faults.specs.FirstFault.{IsFirstFault};
 ghost use Rattle.rc_faults.specs.Checks.{IfSheetFault};
 
 use rc_ast::Sheet;
+use rc_faults::{SheetFail, check_semantics};
 use rc_form::Form;
 use rc_grammar::check_shape;
 use rc_naming::naming_of;
 use rc_reading::{ReadFail, Reader};
-use rc_faults::{SheetFail, check_semantics};
 use std::alloc::Global;
 
 /// Makes the sheet of a form. The error is the form's first fault, or that there was no memory: the first fault of its shape
