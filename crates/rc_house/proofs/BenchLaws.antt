@@ -10,7 +10,7 @@ use Rattle.rc_faults.specs.SecondFaults.{sheet_fault}
 use Rattle.rc_sheet_laws.specs.Accepted.{IsSheetOf}
 use Rattle.rc_sheet_model.specs.Sheet.{Sheet}
 use Rattle.rc_sheet_model.specs.Sight.{IsUnseen}
-use Rattle.rc_bench.specs.Bench.{bench_plan, bench_text}
+use Rattle.rc_trick.specs.Bench.{bench_plan, bench_text}
 use Rattle.rc_trick.specs.Trick.{IsTrickGame}
 use Rattle.rc_command.specs.declared.options.Options.{Options}
 use Rattle.rc_house.specs.declared.status.SourceKind.{SourceKind}

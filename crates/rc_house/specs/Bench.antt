@@ -5,7 +5,7 @@ use Rattle.rc_play_model.specs.House.{standings_of}
 use Rattle.rc_play_model.specs.Plan.{Plan}
 use Rattle.rc_series.specs.Series.{matches_of, looks_of}
 use Rattle.rc_sheet_model.specs.Sheet.{Sheet}
-use Rattle.rc_bench.specs.Bench.{bench_plan, bench_text}
+use Rattle.rc_trick.specs.Bench.{bench_plan, bench_text}
 use Rattle.rc_trick.specs.Trick.{IsTrickGame}
 use Rattle.rc_command.specs.declared.options.Options.{Options}
 use Rattle.rc_house.specs.declared.status.Status.{Status}

@@ -6,13 +6,13 @@ ghost use Rattle.rc_form.specs.Form.{tree_of, trees_of, IsPrintable};
 ghost use Rattle.rc_form.specs.SameForm.{IsOfAtoms};
 ghost use Rattle.rc_sheet_model.specs.Sheet.{Sheet};
 ghost use Rattle.rc_rules.specs.Plan.{plan_seen};
-ghost use Rattle.rc_bench.specs.Bench.{bench_plan};
+ghost use Rattle.rc_trick.specs.Bench.{bench_plan};
 ghost use Rattle.rc_trick.specs.Trick.{trick_text, IsTrickGame};
 ghost use Rattle.rc_house.specs.Answer.{IsGame};
 
 use crate::accepting::{SourceFail, accept};
 use crate::answer::Game;
-use rc_bench::bench_plan;
+use rc_trick::bench_plan;
 use rc_deck::Memory;
 use rc_flow::Checked;
 use rc_form::{FormFail, Forms, read_forms};

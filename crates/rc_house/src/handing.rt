@@ -1,6 +1,6 @@
 //! What goes to the ports at the end of a command.
 ghost use Rattle.std.specs.Prelude.{◌≡◌, ◌≤◌, map};
-ghost use Rattle.rc_bench.specs.Bench.{bench_text};
+ghost use Rattle.rc_trick.specs.Bench.{bench_text};
 ghost use Rattle.rc_rules.specs.Record.{record_seen, standing_seen};
 ghost use Rattle.rc_text.specs.House.{text_of};
 ghost use Rattle.rc_house.specs.Port.{Delivers, Took, port};
@@ -9,7 +9,7 @@ ghost use Rattle.rc_house.specs.Status.{line_of};
 
 use crate::note::Note;
 use crate::status::Status;
-use rc_bench::summary;
+use rc_trick::summary;
 use rc_deck::Memory;
 use rc_outside::{Sink, write_all};
 use rc_series::Series;

@@ -1,5 +1,8 @@
-//! The trick game: its text, and the law that it is accepted.
+//! The built-in trick game: its text, the law that it is accepted, the plan by which `bench` plays it, and what `bench` writes.
 #![tactic(auto)]
+
+mod plan;
+mod writing;
 
 ghost use Rattle.std.specs.Prelude.{◌≡◌, ◌≤◌, ℕ, List, [], ◌∷◌, length, None};
 ghost use Rattle.rc_model.specs.Tree.{Tree};
@@ -11,6 +14,9 @@ ghost use Rattle.rc_sheet_model.specs.Sight.{IsUnseen};
 ghost use Rattle.rc_faults.specs.SecondFaults.{sheet_fault};
 ghost use Rattle.rc_sheet_laws.specs.Accepted.{IsSheetOf};
 ghost use Rattle.rc_trick.specs.Trick.{trick_text, IsTrickGame};
+
+pub use plan::bench_plan;
+pub use writing::summary;
 
 /// The text of the trick game.
 pub fn trick_text() -> &'static [u8]

@@ -6,7 +6,7 @@ use Rattle.std.proofs.lemmas.List.FromFn.{length-map-range_with_len, get_or-map-
 use Rattle.rc_play_model.specs.Plan.{Deal, random, rollout}
 use Rattle.rc_plan_model.specs.Limits.{IsWithinLimits, IsStrategyWithin, IsDealWithin}
 use Rattle.rc_plan_model.specs.PlanStands.{later, counted_from}
-use Rattle.rc_bench.specs.Bench.{bench_plan}
+use Rattle.rc_trick.specs.Bench.{bench_plan}
 
 deals_within : (n : ℕ) → n ≤ 1000 → All IsDealWithin (counted_from (record { deal = n; seats = 1000 }) n)
 deals_within n few k d lt =

@@ -1,7 +1,7 @@
 use Rattle.std.proofs.Common.{◌≡◌, ◌≤◌, ◌*◌, map, take}
 use Rattle.rc_rules.specs.Record.{record_seen}
-use Rattle.rc_bench.specs.Bench.{decisions}
-use Rattle.rc_bench.proofs.writing.decisions_of.Given as goal
+use Rattle.rc_trick.specs.Bench.{decisions}
+use Rattle.rc_trick.proofs.writing.decisions_of.Given as goal
 
 abbrev pub invariant-loop-played : goal.invariant-loop-played
 invariant-loop-played l =

@@ -5,7 +5,7 @@ use Rattle.rc_play_model.specs.Plan.{Deal as PureDeal}
 use Rattle.rc_plan_model.specs.PlanStands.{later, counted_from}
 use Rattle.rc_rules.specs.Plan.{deal_seen}
 use Rattle.rc_rules.specs.declared.plan.Deal.{Deal}
-use Rattle.rc_bench.proofs.plan.deals.Goals as goal
+use Rattle.rc_trick.proofs.plan.deals.Goals as goal
 
 pub loop-m-preserved : goal.loop-m-preserved
 loop-m-preserved c =

@@ -1,9 +1,9 @@
 use Rattle.std.proofs.Common.{◌≡◌, subst, sym, rules}
 use Rattle.rc_plan_model.specs.Limits.{IsWithinLimits}
 use Rattle.rc_rules.specs.Plan.{plan_seen}
-use Rattle.rc_bench.specs.Bench.{bench_plan}
-use Rattle.rc_bench.proofs.Within.{bench_within}
-use Rattle.rc_bench.proofs.plan.bench_plan.Goals as goal
+use Rattle.rc_trick.specs.Bench.{bench_plan}
+use Rattle.rc_trick.proofs.Within.{bench_within}
+use Rattle.rc_trick.proofs.plan.bench_plan.Goals as goal
 
 pub returns-in-Ok-strategies-clause-within : goal.returns-in-Ok-strategies-clause-within
 returns-in-Ok-strategies-clause-within c =

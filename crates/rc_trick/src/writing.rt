@@ -1,7 +1,7 @@
 //! The summary that `bench` writes.
 ghost use Rattle.std.specs.Prelude.{◌≡◌, ◌++◌, map, string_bytes, IfOk, OnOk};
 ghost use Rattle.rc_rules.specs.Record.{record_seen, standing_seen};
-ghost use Rattle.rc_bench.specs.Bench.{bench_text, decisions, limits};
+ghost use Rattle.rc_trick.specs.Bench.{bench_text, decisions, limits};
 
 use rc_deck::Memory;
 use rc_rules::{Ended, MatchRecord, Standing};

@@ -4,7 +4,7 @@ ghost use Rattle.rc_play_model.specs.Plan.{random, rollout};
 ghost use Rattle.rc_plan_model.specs.Limits.{IsWithinLimits};
 ghost use Rattle.rc_plan_model.specs.PlanStands.{counted_from};
 ghost use Rattle.rc_rules.specs.Plan.{deal_seen, plan_seen, strategy_seen};
-ghost use Rattle.rc_bench.specs.Bench.{bench_plan};
+ghost use Rattle.rc_trick.specs.Bench.{bench_plan};
 
 use rc_deck::Memory;
 use rc_rules::{Deal, Plan, Strategy};
