@@ -12,7 +12,7 @@ use Rattle.rc_faults.specs.declared.around.Variable.{Variable}
 use Rattle.rc_faults.specs.declared.around.Inner.{Inner}
 use Rattle.rc_faults.specs.declared.around.Inner.TheVariants.{Same, All, Behind}
 use Rattle.rc_faults.specs.declared.owned.Mention.{Mention}
-use Rattle.rc_faults.specs.declared.standing.Standing.{Standing}
+use Rattle.rc_faults.specs.declared.standing.Setting.{Setting}
 
 -- a part, where there is one
 abbrev pub part_seen : Option (Bor Form) → Tree
@@ -36,7 +36,7 @@ inner_seen outer (All around) index = around
 inner_seen outer (Behind last around) index = if nat_lt last index then around else outer
 
 -- where a part stands, with the attributes that may stand before it in a face
-abbrev pub standing_seen : Standing → List (List ℕ) → PureStanding
+abbrev pub standing_seen : Setting → List (List ℕ) → PureStanding
 standing_seen at above =
     record {
       place = at.place;

@@ -12,7 +12,7 @@ ghost use Rattle.rc_faults.specs.Summary as spec;
 use crate::around::Around;
 use crate::fault::SheetFail;
 use crate::role::Role;
-use crate::standing::Standing;
+use crate::standing::Setting;
 use crate::walk::Walk;
 use crate::whole::Whole;
 use rc_form::Form;
@@ -44,7 +44,7 @@ fn check_parts<'a>(alloc: Global, whole: &Whole<'a>, form: &'a Form) -> Result<(
     ensures found { IfErr result (λ fail. IfSheetFault fail (λ fault. first (second_faults (tree_of form.now)) ≡ Some fault)) }
 {
     let around = Around::outside(alloc);
-    let at = Standing {
+    let at = Setting {
         place: Place::Sheet,
         role: Role::No,
         beside: &[],

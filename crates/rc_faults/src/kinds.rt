@@ -7,11 +7,11 @@ ghost use Rattle.rc_faults.specs.Seen.{standing_seen};
 ghost use Rattle.rc_faults.specs.Summary as spec;
 
 use crate::around::Around;
-use crate::names::Names;
+use crate::names::WordList;
 use crate::owned::class_at;
 use crate::parts::{is_binder, misses_player, part_at, word_in};
 use crate::sides::{is_misused, is_other_side, is_unbound};
-use crate::standing::Standing;
+use crate::standing::Setting;
 use crate::summary::Summary;
 use crate::whole::Whole;
 use rc_form::Form;
@@ -23,7 +23,7 @@ use rc_names::limits::{MOST_REPEATS, MOST_VARIABLES};
 pub fn atom_kind<'a>(
     whole: &Whole<'a>,
     seen: &Summary<'a>,
-    at: &Standing<'_, 'a>,
+    at: &Setting<'_, 'a>,
     word: &[u8],
 ) -> Option<SheetKind>
     ensures { (above : List (List ℕ)) (from : ℕ) → result
@@ -48,7 +48,7 @@ pub fn atom_kind<'a>(
 fn is_unknown_atom<'a>(
     whole: &Whole<'a>,
     seen: &Summary<'a>,
-    at: &Standing<'_, 'a>,
+    at: &Setting<'_, 'a>,
     word: &[u8],
 ) -> bool
     ensures { (above : List (List ℕ)) → result
@@ -61,7 +61,7 @@ fn is_unknown_atom<'a>(
 }
 
 /// A variable of another sort than its place takes, or a second side of another sort than the first.
-fn is_wrong_atom(at: &Standing<'_, '_>, word: &[u8]) -> bool
+fn is_wrong_atom(at: &Setting<'_, '_>, word: &[u8]) -> bool
     ensures { (above : List (List ℕ)) → result
         ≡ (faults.is_misused (standing_seen at.now above) word.now || faults.is_other_side (standing_seen at.now above) at.now.role) }
 {
@@ -72,8 +72,8 @@ fn is_wrong_atom(at: &Standing<'_, '_>, word: &[u8]) -> bool
 pub fn form_kind<'a>(
     whole: &Whole<'a>,
     seen: &Summary<'a>,
-    at: &Standing<'_, 'a>,
-    above: &Names<'a>,
+    at: &Setting<'_, 'a>,
+    above: &WordList<'a>,
     rule: Rule,
     parts: &'a [Form],
 ) -> Option<SheetKind>
@@ -102,8 +102,8 @@ pub fn form_kind<'a>(
 /// A second line for the players or the teams, a point map's name again, an attribute again in a face, or a variable again.
 fn is_form_again<'a>(
     seen: &Summary<'a>,
-    at: &Standing<'_, 'a>,
-    above: &Names<'a>,
+    at: &Setting<'_, 'a>,
+    above: &WordList<'a>,
     rule: Rule,
     parts: &'a [Form],
 ) -> bool

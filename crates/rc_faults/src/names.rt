@@ -15,11 +15,11 @@ use std::marker::Model;
 
 /// Words of a form, in order. Contracts see the list of them.
 #[derive(Drop)]
-pub struct Names<'a> {
+pub struct WordList<'a> {
     words: Vec<&'a [u8]>,
 }
 
-impl<'a> Model for Names<'a> {
+impl<'a> Model for WordList<'a> {
     ghost use Rattle.std.specs.Prelude.{ℕ, List};
 
     ghost Value = { List (List ℕ) };
@@ -29,12 +29,12 @@ impl<'a> Model for Names<'a> {
     ghost view = { λ names. words_seen names.words.items };
 }
 
-impl<'a> Names<'a> {
+impl<'a> WordList<'a> {
     /// No words.
-    pub fn new(alloc: Global) -> Names<'a>
+    pub fn new(alloc: Global) -> WordList<'a>
         ensures { result ≡ [] }
     {
-        Names {
+        WordList {
             words: Vec::new(alloc),
         }
     }

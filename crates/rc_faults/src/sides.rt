@@ -9,20 +9,20 @@ ghost use Rattle.rc_faults.specs.Seen.{part_seen, standing_seen};
 use crate::around::Around;
 use crate::parts::part_at;
 use crate::role::{Role, SideSort};
-use crate::standing::Standing;
+use crate::standing::Setting;
 use rc_form::Form;
 use rc_grammar::{Place, Rule, is_variable, rule_of};
 use rc_names::Sort;
 
 /// Whether a variable that a place takes isn't in scope.
-pub fn is_unbound(at: &Standing<'_, '_>, word: &[u8]) -> bool
+pub fn is_unbound(at: &Setting<'_, '_>, word: &[u8]) -> bool
     ensures { (above : List (List ℕ)) → result ≡ faults.is_unbound (standing_seen at.now above) word.now }
 {
     is_variable(word) && takes_variables(at.place) && !at.around.binds(word)
 }
 
 /// Whether a place takes variables, and the variable has another sort than those that it takes.
-pub fn is_misused(at: &Standing<'_, '_>, word: &[u8]) -> bool
+pub fn is_misused(at: &Setting<'_, '_>, word: &[u8]) -> bool
     ensures { (above : List (List ℕ)) → result ≡ faults.is_misused (standing_seen at.now above) word.now }
 {
     is_variable(word)
@@ -58,7 +58,7 @@ fn takes_sort(place: Place, sort: Sort) -> bool
 }
 
 /// Whether a part is the second side of an equation, and of another sort than the first.
-pub fn is_other_side(at: &Standing<'_, '_>) -> bool
+pub fn is_other_side(at: &Setting<'_, '_>) -> bool
     ensures { (above : List (List ℕ)) → result ≡ faults.is_other_side (standing_seen at.now above) at.now.role }
 {
     if at.role != Role::SecondSide {

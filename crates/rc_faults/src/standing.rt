@@ -11,7 +11,7 @@ use rc_grammar::{Place, Rule};
 
 /// Where a part stands: its place in the grammar, its role, all parts of its list, and what is around it.
 #[derive(Clone, Copy)]
-pub struct Standing<'s, 'a> {
+pub struct Setting<'s, 'a> {
     pub place: Place,
     pub role: Role,
     pub beside: &'a [Form],
@@ -27,7 +27,7 @@ pub fn standing_in<'s, 'a>(
     rule: Rule,
     parts: &'a [Form],
     index: usize,
-) -> Option<Standing<'s, 'a>>
+) -> Option<Setting<'s, 'a>>
     requires inside { index < length parts.now }
     requires inner { inner_seen around.now inner.now index ≡ spec.around_in around.now rule (packed (trees_of parts.now)) index }
     ensures { (outer : spec.Standing) → outer.role ≡ role → outer.around ≡ around.now
@@ -35,7 +35,7 @@ pub fn standing_in<'s, 'a>(
         ≡ spec.standing_in outer rule (packed (trees_of parts.now)) index }
 {
     let place = rule.place_at(parts.len(), index)?;
-    Some(Standing {
+    Some(Setting {
         place,
         role: role_in(role, rule, index),
         beside: parts,

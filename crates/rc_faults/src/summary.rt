@@ -12,7 +12,7 @@ use crate::names::DifferentNames;
 use crate::owned::{Owned, counted, goes_over, is_misplaced, mention_of};
 use crate::parts::{number_by, part_at, word_in};
 use crate::role::Role;
-use crate::standing::Standing;
+use crate::standing::Setting;
 use crate::whole::Whole;
 use rc_form::Form;
 use rc_grammar::{Place, Rule};
@@ -86,7 +86,7 @@ impl<'a> Summary<'a> {
     }
 
     /// Takes an atom.
-    pub fn see_atom(&mut self, at: &Standing<'_, 'a>, word: &'a [u8]) -> Result<(), SheetFail>
+    pub fn see_atom(&mut self, at: &Setting<'_, 'a>, word: &'a [u8]) -> Result<(), SheetFail>
         ensures after { OnOk result (self.new ≡ spec.see_atom self.old (standing_seen at.now []) word.now) }
         ensures memory { OnErr result (result ≡ Err SheetFail.Memory) }
     {
@@ -174,7 +174,7 @@ impl<'a> Summary<'a> {
     }
 
     /// Whether the name of a location or of a number stood with another kind or class, or its place doesn't take the location.
-    pub fn is_wrong_mention(&self, at: &Standing<'_, 'a>, rule: Rule, parts: &'a [Form]) -> bool
+    pub fn is_wrong_mention(&self, at: &Setting<'_, 'a>, rule: Rule, parts: &'a [Form]) -> bool
         ensures { (above : List (List ℕ)) → result
             ≡ spec.is_wrong_mention self.now (standing_seen at.now above) rule (packed (trees_of parts.now)) }
     {

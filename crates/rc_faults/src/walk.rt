@@ -11,9 +11,9 @@ ghost use Rattle.rc_faults.specs.SecondParts as parts_spec;
 
 use crate::fault::SheetFail;
 use crate::kinds::{atom_kind, form_kind};
-use crate::names::Names;
+use crate::names::WordList;
 use crate::parts::word_in;
-use crate::standing::{Standing, standing_in};
+use crate::standing::{Setting, standing_in};
 use crate::summary::Summary;
 use crate::whole::Whole;
 use rc_form::{Form, Word};
@@ -25,7 +25,7 @@ use std::alloc::Global;
 pub struct Walk<'a> {
     alloc: Global,
     seen: Summary<'a>,
-    above: Names<'a>,
+    above: WordList<'a>,
 }
 
 impl<'a> Walk<'a> {
@@ -37,7 +37,7 @@ impl<'a> Walk<'a> {
         Walk {
             alloc,
             seen: Summary::new(alloc),
-            above: Names::new(alloc),
+            above: WordList::new(alloc),
         }
     }
 
@@ -46,7 +46,7 @@ impl<'a> Walk<'a> {
     pub fn part(
         &mut self,
         whole: &Whole<'a>,
-        at: &Standing<'_, 'a>,
+        at: &Setting<'_, 'a>,
         part: &'a Form,
     ) -> Result<(), SheetFail>
         ensures walked { Checks (spec.check_all whole.now self.old.seen
@@ -63,7 +63,7 @@ impl<'a> Walk<'a> {
     fn atom(
         &mut self,
         whole: &Whole<'a>,
-        at: &Standing<'_, 'a>,
+        at: &Setting<'_, 'a>,
         word: &'a Word,
         from: u32,
     ) -> Result<(), SheetFail>
@@ -82,7 +82,7 @@ impl<'a> Walk<'a> {
     fn list(
         &mut self,
         whole: &Whole<'a>,
-        at: &Standing<'_, 'a>,
+        at: &Setting<'_, 'a>,
         parts: &'a [Form],
         from: u32,
     ) -> Result<(), SheetFail>
@@ -104,7 +104,7 @@ impl<'a> Walk<'a> {
     fn form(
         &mut self,
         whole: &Whole<'a>,
-        at: &Standing<'_, 'a>,
+        at: &Setting<'_, 'a>,
         rule: Rule,
         parts: &'a [Form],
         from: u32,
@@ -126,7 +126,7 @@ impl<'a> Walk<'a> {
     fn parts(
         &mut self,
         whole: &Whole<'a>,
-        at: &Standing<'_, 'a>,
+        at: &Setting<'_, 'a>,
         rule: Rule,
         parts: &'a [Form],
     ) -> Result<(), SheetFail>
@@ -162,7 +162,7 @@ impl<'a> Walk<'a> {
     fn part_in(
         &mut self,
         whole: &Whole<'a>,
-        standing: Option<Standing<'_, 'a>>,
+        standing: Option<Setting<'_, 'a>>,
         part: &'a Form,
     ) -> Result<(), SheetFail>
         ensures walked { Checks (spec.check_all whole.now self.old.seen

@@ -8,8 +8,8 @@ use Rattle.rc_form.specs.Form.{tree_of, trees_of, packed}
 use Rattle.rc_form.specs.declared.form.Form.{Form}
 use Rattle.rc_reading.specs.ReadNames.{◌>>=◌, both}
 use Rattle.rc_reading.specs.Gives.{Fails}
-use Rattle.rc_reading.specs.declared.fail.ReadFail.{ReadFail}
-use Rattle.rc_reading.specs.declared.fail.ReadFail.TheVariants.{Meaningless, Memory}
+use Rattle.rc_reading.specs.declared.fail.Unread.{Unread}
+use Rattle.rc_reading.specs.declared.fail.Unread.TheVariants.{Meaningless, Memory}
 
 -- the views of a list, each put before what is later
 abbrev pub before : {X A L : Type 0} → (X → A) → (A → L → L) → List X → L → L
@@ -74,7 +74,7 @@ goes_on seen more one all in_turn front forms i part x total lt is read so =
 
 -- the next part says nothing
 pub ends : {X A L : Type 0} (seen : X → A) (more : A → L → L) (one : Tree → Option A) (all : Trees → Option L)
-    → InTurn more one all → (fail : ReadFail) (front : List X) (forms : List Form) (i : ℕ) (part : Form) (total : Option L)
+    → InTurn more one all → (fail : Unread) (front : List X) (forms : List Form) (i : ℕ) (part : Form) (total : Option L)
     → i < length forms → part ≡ get_or forms i part → Fails fail (one (tree_of part))
     → so_far seen more all front forms i ≡ total → Fails fail total
 ends seen more one all in_turn Memory front forms i part total lt is read so = tt
@@ -141,7 +141,7 @@ goes_on_from seen more one all threaded s after front forms i part x total lt is
 -- the next part says nothing
 pub ends_from : {S X A L : Type 0} (seen : X → A) (more : A → L → L) (one : S → Tree → Option (A × S))
     (all : S → Trees → Option (L × S)) → Threaded more one all
-    → (fail : ReadFail) (s : S) (front : List X) (forms : List Form) (i : ℕ) (part : Form) (total : Option (L × S))
+    → (fail : Unread) (s : S) (front : List X) (forms : List Form) (i : ℕ) (part : Form) (total : Option (L × S))
     → i < length forms → part ≡ get_or forms i part → Fails fail (one s (tree_of part))
     → so_far_from seen more all s front forms i ≡ total → Fails fail total
 ends_from seen more one all threaded Memory s front forms i part total lt is read so = tt

@@ -20,11 +20,11 @@ use Rattle.rc_reading.specs.ReadNames.{◌>>=◌, rule_at, binder_at}
 use Rattle.rc_reading.specs.ReadExpressions.{coll_at, test_at, range_at}
 use Rattle.rc_reading.specs.ReadParts.{filter_parts, quantified}
 use Rattle.rc_reading.specs.Gives.{Gives}
-use Rattle.rc_reading.specs.declared.fail.ReadFail.{ReadFail}
-use Rattle.rc_reading.specs.declared.fail.ReadFail.TheVariants.{Meaningless, Memory}
+use Rattle.rc_reading.specs.declared.fail.Unread.{Unread}
+use Rattle.rc_reading.specs.declared.fail.Unread.TheVariants.{Meaningless, Memory}
 
 -- what gives a reading gives an equal one
-pub gives_same : {X Y : Type 0} (view : X → Y) (result : Result X ReadFail) (reading other : Option Y)
+pub gives_same : {X Y : Type 0} (view : X → Y) (result : Result X Unread) (reading other : Option Y)
     → other ≡ reading → Gives view result reading → Gives view result other
 gives_same view (Ok x) reading other same gives = same ∙ gives
 gives_same view (Err Memory) reading other same gives = tt
@@ -36,7 +36,7 @@ pub list_gives : {X Y : Type 0} (view : X → Y) (reading : Tree → Option Y) (
     (rules forms : ℕ → Rule → Trees → Option Y)
     → ((parts : Trees) (from to : ℕ) → reading (list parts from to) ≡ (rule_at place parts >>= λ rule. rules from rule parts))
     → ((from : ℕ) (rule : Rule) (parts : Trees) → rules from rule parts ≡ forms from rule parts)
-    → (form : Form) (items : Vec Form Global) (span : Span) (rule : Rule) (parts : List Form) (result : Result X ReadFail)
+    → (form : Form) (items : Vec Form Global) (span : Span) (rule : Rule) (parts : List Form) (result : Result X Unread)
     → form ≡ ListOf items span → parts ≡ items.items → rule_at place (packed (trees_of parts)) ≡ Some rule
     → Gives view result (forms span.from rule (packed (trees_of parts))) → Gives view result (reading (tree_of form))
 list_gives view reading place rules forms opens same form items span rule parts result is parts_is has gives =
@@ -57,7 +57,7 @@ parts_fall form items span parts is parts_is =
     omega arith
 
 -- what gives the reading of a list's parts, where its trees are these
-pub gives_parts : {X Y : Type 0} (view : X → Y) (result : Result X ReadFail) (reading : Trees → Option Y) {parts trees : Trees}
+pub gives_parts : {X Y : Type 0} (view : X → Y) (result : Result X Unread) (reading : Trees → Option Y) {parts trees : Trees}
     → parts ≡ trees → Gives view result (reading trees) → Gives view result (reading parts)
 gives_parts view result reading are gives = gives_same view result _ _ (ap reading are) gives
 

@@ -13,7 +13,7 @@ ghost use Rattle.rc_reading.specs.ReadEffects as reading;
 ghost use Rattle.rc_reading.specs.Gives.{Gives};
 
 use crate::expressions::sort_of;
-use crate::fail::ReadFail;
+use crate::fail::Unread;
 use crate::names::rule_at;
 use crate::reader::Reader;
 use crate::scope::Scope;
@@ -24,12 +24,7 @@ use std::alloc::Global;
 
 impl Reader {
     /// What an alternative's variable runs over.
-    pub(crate) fn domain(
-        &self,
-        alloc: Global,
-        scope: &Scope,
-        form: &Form,
-    ) -> Result<Domain, ReadFail>
+    pub(crate) fn domain(&self, alloc: Global, scope: &Scope, form: &Form) -> Result<Domain, Unread>
         ensures { Gives domain_seen result (reading.domain_at self.now scope.now (tree_of form.now)) }
     {
         match form {
@@ -49,7 +44,7 @@ impl Reader {
         from: u32,
         rule: Rule,
         parts: &[Form],
-    ) -> Result<Domain, ReadFail>
+    ) -> Result<Domain, Unread>
         requires { IsTrue (fits (length parts.now) rule) }
         ensures { Gives domain_seen result (reading.domain_rule self.now scope.now from rule (packed (trees_of parts.now))) }
     {
@@ -67,7 +62,7 @@ impl Reader {
     }
 
     /// Effects, as an alternative.
-    fn unguarded(&self, alloc: Global, scope: &Scope, effects: &[Form]) -> Result<Alt, ReadFail>
+    fn unguarded(&self, alloc: Global, scope: &Scope, effects: &[Form]) -> Result<Alt, Unread>
         ensures { Gives alt_seen result
             (option_map do_alt (reading.effects_at self.now scope.now (packed (trees_of effects.now)))) }
     {
@@ -82,7 +77,7 @@ impl Reader {
         scope: &Scope,
         guard: &Form,
         effects: &[Form],
-    ) -> Result<Alt, ReadFail>
+    ) -> Result<Alt, Unread>
         ensures { Gives alt_seen result (option_map (λ p. if_alt p.0 p.1)
             (both (test_at self.now scope.now (tree_of guard.now))
             (reading.effects_at self.now scope.now (packed (trees_of effects.now))))) }
@@ -100,14 +95,14 @@ impl Reader {
         scope: &Scope,
         rule: Rule,
         parts: &[Form],
-    ) -> Result<Alt, ReadFail>
+    ) -> Result<Alt, Unread>
         requires { IsTrue (fits (length parts.now) rule) }
         ensures { Gives alt_seen result (reading.plain_alt self.now scope.now rule (packed (trees_of parts.now))) }
     {
         match rule {
             Rule::Do => self.unguarded(alloc, scope, &parts[1..]),
             Rule::If => self.guarded(alloc, scope, &parts[1], &parts[2..]),
-            _ => Err(ReadFail::Meaningless),
+            _ => Err(Unread::Meaningless),
         }
     }
 
@@ -118,7 +113,7 @@ impl Reader {
         scope: &Scope,
         domain: &Form,
         variable: &Form,
-    ) -> Result<(Domain, u32, Scope), ReadFail>
+    ) -> Result<(Domain, u32, Scope), Unread>
         ensures given { Gives (λ all. (domain_seen all.0, all.1)) result
             (both (reading.domain_at self.now scope.now (tree_of domain.now))
             (binder_at self.now.names.vars scope.now (tree_of variable.now))) }
@@ -136,23 +131,18 @@ impl Reader {
         alloc: Global,
         scope: &Scope,
         form: &Form,
-    ) -> Result<Alt, ReadFail>
+    ) -> Result<Alt, Unread>
         ensures { Gives alt_seen result (reading.alt_at self.now scope.now (tree_of form.now)) }
     {
         match form {
-            Form::Atom { .. } => Err(ReadFail::Meaningless),
+            Form::Atom { .. } => Err(Unread::Meaningless),
             Form::List { items, .. } => self.alternative_list(alloc, scope, items),
         }
     }
 
     /// The alternative that a list of these parts says.
     #[cycle(alternatives)]
-    fn alternative_list(
-        &self,
-        alloc: Global,
-        scope: &Scope,
-        parts: &[Form],
-    ) -> Result<Alt, ReadFail>
+    fn alternative_list(&self, alloc: Global, scope: &Scope, parts: &[Form]) -> Result<Alt, Unread>
         ensures { Gives alt_seen result (reading.alt_of_list self.now scope.now (packed (trees_of parts.now))) }
     {
         match rule_at(Place::Alternative, parts)? {
@@ -168,7 +158,7 @@ impl Reader {
     }
 
     /// Alternatives, one after the other.
-    pub(crate) fn alternatives(&self, alloc: Global, forms: &[Form]) -> Result<Vec<Alt>, ReadFail>
+    pub(crate) fn alternatives(&self, alloc: Global, forms: &[Form]) -> Result<Vec<Alt>, Unread>
         ensures { Gives (λ all. alts_seen all.items) result (reading.alts_at self.now (packed (trees_of forms.now))) }
     {
         let scope = Scope::empty(alloc);
@@ -181,12 +171,7 @@ impl Reader {
 }
 
 /// This alternative, where it was read, for each of a domain.
-fn any(
-    alloc: Global,
-    domain: Domain,
-    bound: u32,
-    alt: Result<Alt, ReadFail>,
-) -> Result<Alt, ReadFail>
+fn any(alloc: Global, domain: Domain, bound: u32, alt: Result<Alt, Unread>) -> Result<Alt, Unread>
     ensures { (read : Option PureAlt) → Gives alt_seen alt read
         → Gives alt_seen result (option_map (λ alt. any_alt (domain_seen domain) bound alt) read) }
 {

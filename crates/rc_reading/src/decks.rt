@@ -8,7 +8,7 @@ ghost use Rattle.rc_setup.specs.Reading as faces;
 ghost use Rattle.rc_reading.specs.ReadSetup as reading;
 ghost use Rattle.rc_reading.specs.Gives.{Gives};
 
-use crate::fail::ReadFail;
+use crate::fail::Unread;
 use crate::names::{name_at, number_in};
 use crate::reader::Reader;
 use crate::scope::Scope;
@@ -34,12 +34,12 @@ impl Numbers for Reader {
 impl Reader {
     /// A deck, and the location of the game that its cards begin in.
     #[tactic(auto, unfolding(crate::specs::ReadSetup::deck_at))]
-    pub(crate) fn deck(&self, alloc: Global, loc: &Form, deck: &Form) -> Result<DeckLine, ReadFail>
+    pub(crate) fn deck(&self, alloc: Global, loc: &Form, deck: &Form) -> Result<DeckLine, Unread>
         ensures { Gives deck_line_seen result (reading.deck_at self.now (tree_of loc.now) (tree_of deck.now)) }
     {
         let home = self.location(&Scope::empty(alloc), loc)?;
         let Who::Game = home.who else {
-            return Err(ReadFail::Meaningless);
+            return Err(Unread::Meaningless);
         };
         Ok(DeckLine {
             loc: home.name,
@@ -48,15 +48,15 @@ impl Reader {
     }
 
     /// The groups of a deck.
-    fn deck_tree(&self, alloc: Global, form: &Form) -> Result<DeckTree, ReadFail>
+    fn deck_tree(&self, alloc: Global, form: &Form) -> Result<DeckTree, Unread>
         ensures { Gives groups_of result (faces.read_deck (reading.face_words self.now) (tree_of form.now)) }
     {
         // a field is named, so that the check knows the reader's invariant: its names are few
         let _names = &self.names;
         match read_deck(alloc, self, form) {
             Ok(Some(tree)) => Ok(tree),
-            Ok(None) => Err(ReadFail::Meaningless),
-            Err(_) => Err(ReadFail::Memory),
+            Ok(None) => Err(Unread::Meaningless),
+            Err(_) => Err(Unread::Memory),
         }
     }
 
@@ -68,17 +68,17 @@ impl Reader {
         number: usize,
         name: &Form,
         entries: &Form,
-    ) -> Result<PointMap, ReadFail>
+    ) -> Result<PointMap, Unread>
         ensures { Gives entries_of result (reading.points_at self.now number (tree_of name.now) (tree_of entries.now)) }
     {
         let found = name_at(&self.names.maps, name)?;
         if usize::from(found) != number {
-            return Err(ReadFail::Meaningless);
+            return Err(Unread::Meaningless);
         }
         match read_entries(alloc, self, entries) {
             Ok(Some(map)) => Ok(map),
-            Ok(None) => Err(ReadFail::Meaningless),
-            Err(_) => Err(ReadFail::Memory),
+            Ok(None) => Err(Unread::Meaningless),
+            Err(_) => Err(Unread::Memory),
         }
     }
 }

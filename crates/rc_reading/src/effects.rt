@@ -13,7 +13,7 @@ ghost use Rattle.rc_reading.specs.ReadEffects as reading;
 ghost use Rattle.rc_reading.specs.Gives.{Gives};
 
 use crate::expressions::sort_of;
-use crate::fail::ReadFail;
+use crate::fail::Unread;
 use crate::names::rule_at;
 use crate::owners::owner_at;
 use crate::reader::Reader;
@@ -25,12 +25,12 @@ use std::alloc::Global;
 
 impl Reader {
     /// An end of a location.
-    pub(crate) fn spot(&self, scope: &Scope, form: &Form) -> Result<(End, Loc), ReadFail>
+    pub(crate) fn spot(&self, scope: &Scope, form: &Form) -> Result<(End, Loc), Unread>
         ensures { Gives (λ spot. (end_seen spot.0, loc_seen spot.1)) result
             (reading.spot_at self.now scope.now (tree_of form.now)) }
     {
         match form {
-            Form::Atom { .. } => Err(ReadFail::Meaningless),
+            Form::Atom { .. } => Err(Unread::Meaningless),
             Form::List { items, .. } => {
                 let rule = rule_at(Place::Spot, items)?;
                 self.spot_list(scope, rule, items)
@@ -39,7 +39,7 @@ impl Reader {
     }
 
     /// The end of a location that a list of this form says.
-    fn spot_list(&self, scope: &Scope, rule: Rule, parts: &[Form]) -> Result<(End, Loc), ReadFail>
+    fn spot_list(&self, scope: &Scope, rule: Rule, parts: &[Form]) -> Result<(End, Loc), Unread>
         requires { IsTrue (fits (length parts.now) rule) }
         ensures { Gives (λ spot. (end_seen spot.0, loc_seen spot.1)) result
             (reading.spot_rule self.now scope.now rule (packed (trees_of parts.now))) }
@@ -53,7 +53,7 @@ impl Reader {
                 let loc = self.location(scope, &parts[1])?;
                 Ok((End::Bottom, loc))
             }
-            _ => Err(ReadFail::Meaningless),
+            _ => Err(Unread::Meaningless),
         }
     }
 
@@ -64,7 +64,7 @@ impl Reader {
         scope: &Scope,
         rule: Rule,
         parts: &[Form],
-    ) -> Result<Effect, ReadFail>
+    ) -> Result<Effect, Unread>
         requires { IsTrue (fits (length parts.now) rule) }
         ensures { Gives effect_seen result (reading.number_rule self.now scope.now rule (packed (trees_of parts.now))) }
     {
@@ -89,7 +89,7 @@ impl Reader {
                 Ok(Effect::Next(who))
             }
             Rule::Reverse => Ok(Effect::Reverse),
-            _ => Err(ReadFail::Meaningless),
+            _ => Err(Unread::Meaningless),
         }
     }
 
@@ -100,7 +100,7 @@ impl Reader {
         scope: &Scope,
         rule: Rule,
         parts: &[Form],
-    ) -> Result<Effect, ReadFail>
+    ) -> Result<Effect, Unread>
         requires { IsTrue (fits (length parts.now) rule) }
         ensures { Gives effect_seen result (reading.plain_rule self.now scope.now rule (packed (trees_of parts.now))) }
     {
@@ -138,8 +138,8 @@ impl Reader {
         alloc: Global,
         scope: &Scope,
         test: &Form,
-        effects: Result<Vec<Effect>, ReadFail>,
-    ) -> Result<Effect, ReadFail>
+        effects: Result<Vec<Effect>, Unread>,
+    ) -> Result<Effect, Unread>
         ensures { (read : Option Effects) → Gives (λ all. effects_seen all.items) effects read
             → Gives effect_seen result (option_map (λ p. when p.0 p.1)
             (both (test_at self.now scope.now (tree_of test.now)) read)) }
@@ -154,8 +154,8 @@ impl Reader {
         alloc: Global,
         scope: &Scope,
         count: &Form,
-        effects: Result<Vec<Effect>, ReadFail>,
-    ) -> Result<Effect, ReadFail>
+        effects: Result<Vec<Effect>, Unread>,
+    ) -> Result<Effect, Unread>
         ensures { (read : Option Effects) → Gives (λ all. effects_seen all.items) effects read
             → Gives effect_seen result (option_map (λ p. repeat p.0 p.1)
             (both (int_at self.now scope.now (tree_of count.now)) read)) }
@@ -171,7 +171,7 @@ impl Reader {
         scope: &Scope,
         range: &Form,
         variable: &Form,
-    ) -> Result<(Domain, u32, Scope), ReadFail>
+    ) -> Result<(Domain, u32, Scope), Unread>
         ensures given { Gives (λ all. (domain_seen all.0, all.1)) result
             (both (range_at self.now scope.now (tree_of range.now))
             (binder_at self.now.names.vars scope.now (tree_of variable.now))) }
@@ -184,23 +184,18 @@ impl Reader {
 
     /// An effect.
     #[cycle(effects)]
-    pub(crate) fn effect(
-        &self,
-        alloc: Global,
-        scope: &Scope,
-        form: &Form,
-    ) -> Result<Effect, ReadFail>
+    pub(crate) fn effect(&self, alloc: Global, scope: &Scope, form: &Form) -> Result<Effect, Unread>
         ensures { Gives effect_seen result (reading.effect_at self.now scope.now (tree_of form.now)) }
     {
         match form {
-            Form::Atom { .. } => Err(ReadFail::Meaningless),
+            Form::Atom { .. } => Err(Unread::Meaningless),
             Form::List { items, .. } => self.effect_list(alloc, scope, items),
         }
     }
 
     /// The effect that a list of these parts says.
     #[cycle(effects)]
-    fn effect_list(&self, alloc: Global, scope: &Scope, parts: &[Form]) -> Result<Effect, ReadFail>
+    fn effect_list(&self, alloc: Global, scope: &Scope, parts: &[Form]) -> Result<Effect, Unread>
         ensures { Gives effect_seen result (reading.effect_of_list self.now scope.now (packed (trees_of parts.now))) }
     {
         match rule_at(Place::Effect, parts)? {
@@ -228,7 +223,7 @@ impl Reader {
         alloc: Global,
         scope: &Scope,
         forms: &[Form],
-    ) -> Result<Vec<Effect>, ReadFail>
+    ) -> Result<Vec<Effect>, Unread>
         ensures { Gives (λ all. effects_seen all.items) result
             (reading.effects_at self.now scope.now (packed (trees_of forms.now))) }
     {
@@ -244,8 +239,8 @@ impl Reader {
 fn for_each(
     domain: Domain,
     bound: u32,
-    effects: Result<Vec<Effect>, ReadFail>,
-) -> Result<Effect, ReadFail>
+    effects: Result<Vec<Effect>, Unread>,
+) -> Result<Effect, Unread>
     ensures { (read : Option Effects) → Gives (λ all. effects_seen all.items) effects read
         → Gives effect_seen result (option_map (λ effects. for_each (domain_seen domain) bound effects) read) }
 {

@@ -10,7 +10,7 @@ ghost use Rattle.rc_reading.specs.Sides.{side_seen};
 ghost use Rattle.rc_reading.specs.Gives.{Gives};
 ghost use Rattle.rc_sheet_model.specs.Naming as model;
 
-use crate::fail::ReadFail;
+use crate::fail::Unread;
 use crate::names::rule_at;
 use crate::owners::owner_rule;
 use crate::reader::Reader;
@@ -24,12 +24,7 @@ use std::alloc::Global;
 impl Reader {
     /// A card.
     #[cycle(reading)]
-    pub(crate) fn card(
-        &self,
-        alloc: Global,
-        scope: &Scope,
-        form: &Form,
-    ) -> Result<CardExpr, ReadFail>
+    pub(crate) fn card(&self, alloc: Global, scope: &Scope, form: &Form) -> Result<CardExpr, Unread>
         ensures { Gives card_seen result (reading.card_at self.now scope.now (tree_of form.now)) }
     {
         match form {
@@ -53,7 +48,7 @@ impl Reader {
         scope: &Scope,
         rule: Rule,
         parts: &[Form],
-    ) -> Result<CardExpr, ReadFail>
+    ) -> Result<CardExpr, Unread>
         requires { IsTrue (fits (length parts.now) rule) }
         ensures { Gives card_seen result (behind.card_form self.now scope.now rule (packed (trees_of parts.now))) }
     {
@@ -74,7 +69,7 @@ impl Reader {
                 let (cards, map) = self.collection_and_map(alloc, scope, parts)?;
                 Ok(CardExpr::Min(cards, map))
             }
-            _ => Err(ReadFail::Meaningless),
+            _ => Err(Unread::Meaningless),
         }
     }
 
@@ -85,13 +80,13 @@ impl Reader {
         alloc: Global,
         scope: &Scope,
         parts: &[Form],
-    ) -> Result<(Box<CardExpr>, u16), ReadFail>
+    ) -> Result<(Box<CardExpr>, u16), Unread>
         requires { length parts.now ≡ 4 }
         ensures { Gives (λ two. (card_seen two.0.value, two.1)) result
             (behind.card_and_map self.now scope.now (packed (trees_of parts.now))) }
     {
         let [_, card, keyword, map] = parts else {
-            return Err(ReadFail::Meaningless);
+            return Err(Unread::Meaningless);
         };
         self.mapped_card(alloc, scope, card, keyword, map)
     }
@@ -105,7 +100,7 @@ impl Reader {
         card: &Form,
         keyword: &Form,
         map: &Form,
-    ) -> Result<(Box<CardExpr>, u16), ReadFail>
+    ) -> Result<(Box<CardExpr>, u16), Unread>
         ensures { Gives (λ two. (card_seen two.0.value, two.1)) result
             (both (reading.card_at self.now scope.now (tree_of card.now))
             (map_at self.now (tree_of keyword.now) (tree_of map.now))) }
@@ -122,13 +117,13 @@ impl Reader {
         alloc: Global,
         scope: &Scope,
         parts: &[Form],
-    ) -> Result<(CardExpr, u16), ReadFail>
+    ) -> Result<(CardExpr, u16), Unread>
         requires { length parts.now ≡ 3 }
         ensures { Gives (λ two. (card_seen two.0, two.1)) result
             (behind.card_and_attr self.now scope.now (packed (trees_of parts.now))) }
     {
         let [_, card, attr] = parts else {
-            return Err(ReadFail::Meaningless);
+            return Err(Unread::Meaningless);
         };
         self.card_with_attr(alloc, scope, card, attr)
     }
@@ -141,7 +136,7 @@ impl Reader {
         scope: &Scope,
         card: &Form,
         attr: &Form,
-    ) -> Result<(CardExpr, u16), ReadFail>
+    ) -> Result<(CardExpr, u16), Unread>
         ensures { Gives (λ two. (card_seen two.0, two.1)) result
             (both (reading.card_at self.now scope.now (tree_of card.now))
             (name_at self.now.names.attrs (tree_of attr.now))) }
@@ -158,7 +153,7 @@ impl Reader {
         alloc: Global,
         scope: &Scope,
         form: &Form,
-    ) -> Result<CollExpr, ReadFail>
+    ) -> Result<CollExpr, Unread>
         ensures { Gives coll_seen result (reading.coll_at self.now scope.now (tree_of form.now)) }
     {
         match form {
@@ -183,7 +178,7 @@ impl Reader {
         from: u32,
         rule: Rule,
         parts: &[Form],
-    ) -> Result<CollExpr, ReadFail>
+    ) -> Result<CollExpr, Unread>
         requires { IsTrue (fits (length parts.now) rule) }
         ensures { Gives coll_seen result (reading.coll_rule self.now scope.now from rule (packed (trees_of parts.now))) }
     {
@@ -199,7 +194,7 @@ impl Reader {
         from: u32,
         rule: Rule,
         parts: &[Form],
-    ) -> Result<CollExpr, ReadFail>
+    ) -> Result<CollExpr, Unread>
         requires { IsTrue (fits (length parts.now) rule) }
         ensures { Gives coll_seen result (behind.coll_form self.now scope.now from rule (packed (trees_of parts.now))) }
     {
@@ -213,7 +208,7 @@ impl Reader {
                 let cards = self.collections(alloc, scope, parts)?;
                 Ok(CollExpr::union_of(cards))
             }
-            _ => Err(ReadFail::Meaningless),
+            _ => Err(Unread::Meaningless),
         }
     }
 
@@ -224,13 +219,13 @@ impl Reader {
         alloc: Global,
         scope: &Scope,
         parts: &[Form],
-    ) -> Result<Box<CollExpr>, ReadFail>
+    ) -> Result<Box<CollExpr>, Unread>
         requires { length parts.now ≡ 2 }
         ensures { Gives (λ cards. coll_seen cards.value) result
             (behind.one_coll self.now scope.now (packed (trees_of parts.now))) }
     {
         let [_, cards] = parts else {
-            return Err(ReadFail::Meaningless);
+            return Err(Unread::Meaningless);
         };
         self.boxed_collection(alloc, scope, cards)
     }
@@ -242,7 +237,7 @@ impl Reader {
         alloc: Global,
         scope: &Scope,
         form: &Form,
-    ) -> Result<Box<CollExpr>, ReadFail>
+    ) -> Result<Box<CollExpr>, Unread>
         ensures { Gives (λ cards. coll_seen cards.value) result (reading.coll_at self.now scope.now (tree_of form.now)) }
     {
         let cards = self.collection(alloc, scope, form)?;
@@ -256,13 +251,13 @@ impl Reader {
         alloc: Global,
         scope: &Scope,
         parts: &[Form],
-    ) -> Result<(Box<CollExpr>, u16), ReadFail>
+    ) -> Result<(Box<CollExpr>, u16), Unread>
         requires { length parts.now ≡ 4 }
         ensures { Gives (λ two. (coll_seen two.0.value, two.1)) result
             (behind.coll_and_map self.now scope.now (packed (trees_of parts.now))) }
     {
         let [_, cards, keyword, map] = parts else {
-            return Err(ReadFail::Meaningless);
+            return Err(Unread::Meaningless);
         };
         self.mapped_collection(alloc, scope, cards, keyword, map)
     }
@@ -276,7 +271,7 @@ impl Reader {
         cards: &Form,
         keyword: &Form,
         map: &Form,
-    ) -> Result<(Box<CollExpr>, u16), ReadFail>
+    ) -> Result<(Box<CollExpr>, u16), Unread>
         ensures { Gives (λ two. (coll_seen two.0.value, two.1)) result
             (both (reading.coll_at self.now scope.now (tree_of cards.now))
             (map_at self.now (tree_of keyword.now) (tree_of map.now))) }
@@ -288,12 +283,12 @@ impl Reader {
 
     /// The cards behind a head that pass a test.
     #[cycle(reading)]
-    fn filter(&self, alloc: Global, scope: &Scope, parts: &[Form]) -> Result<CollExpr, ReadFail>
+    fn filter(&self, alloc: Global, scope: &Scope, parts: &[Form]) -> Result<CollExpr, Unread>
         requires { length parts.now ≡ 4 }
         ensures { Gives coll_seen result (behind.filter_parts self.now scope.now (packed (trees_of parts.now))) }
     {
         let [_, cards, variable, test] = parts else {
-            return Err(ReadFail::Meaningless);
+            return Err(Unread::Meaningless);
         };
         let cards = self.collection(alloc, scope, cards)?;
         let (bound, inner) = self.bind(alloc, scope, variable, Sort::Card)?;
@@ -309,13 +304,13 @@ impl Reader {
         alloc: Global,
         scope: &Scope,
         parts: &[Form],
-    ) -> Result<Vec<CollExpr>, ReadFail>
+    ) -> Result<Vec<CollExpr>, Unread>
         requires { 1 ≤ length parts.now }
         ensures { Gives (λ all. colls_seen all.items) result
             (behind.colls_behind self.now scope.now (packed (trees_of parts.now))) }
     {
         let [_, forms @ ..] = parts else {
-            return Err(ReadFail::Meaningless);
+            return Err(Unread::Meaningless);
         };
         let mut all = Vec::new(alloc);
         for form in forms {
@@ -331,13 +326,13 @@ impl Reader {
         alloc: Global,
         scope: &Scope,
         form: &Form,
-    ) -> Result<IntExpr, ReadFail>
+    ) -> Result<IntExpr, Unread>
         ensures { Gives int_seen result (reading.int_at self.now scope.now (tree_of form.now)) }
     {
         match form {
             Form::Atom { word, .. } => match integer(word.bytes()) {
                 Some(value) => Ok(IntExpr::Lit(value)),
-                None => Err(ReadFail::Meaningless),
+                None => Err(Unread::Meaningless),
             },
             Form::List { items, .. } => {
                 let parts = items.as_slice();
@@ -355,7 +350,7 @@ impl Reader {
         scope: &Scope,
         rule: Rule,
         parts: &[Form],
-    ) -> Result<IntExpr, ReadFail>
+    ) -> Result<IntExpr, Unread>
         requires { IsTrue (fits (length parts.now) rule) }
         ensures { Gives int_seen result (behind.int_form self.now scope.now rule (packed (trees_of parts.now))) }
     {
@@ -385,7 +380,7 @@ impl Reader {
                 let (a, b) = self.two_integers(alloc, scope, parts)?;
                 Ok(IntExpr::Mul(a, b))
             }
-            _ => Err(ReadFail::Meaningless),
+            _ => Err(Unread::Meaningless),
         }
     }
 
@@ -396,13 +391,13 @@ impl Reader {
         alloc: Global,
         scope: &Scope,
         parts: &[Form],
-    ) -> Result<(Box<IntExpr>, Box<IntExpr>), ReadFail>
+    ) -> Result<(Box<IntExpr>, Box<IntExpr>), Unread>
         requires { length parts.now ≡ 3 }
         ensures { Gives (λ two. (int_seen two.0.value, int_seen two.1.value)) result
             (behind.two_ints self.now scope.now (packed (trees_of parts.now))) }
     {
         let [_, a, b] = parts else {
-            return Err(ReadFail::Meaningless);
+            return Err(Unread::Meaningless);
         };
         let a = self.integer(alloc, scope, a)?;
         let b = self.integer(alloc, scope, b)?;
@@ -411,11 +406,11 @@ impl Reader {
 
     /// A test.
     #[cycle(reading)]
-    pub(crate) fn test(&self, alloc: Global, scope: &Scope, form: &Form) -> Result<Test, ReadFail>
+    pub(crate) fn test(&self, alloc: Global, scope: &Scope, form: &Form) -> Result<Test, Unread>
         ensures { Gives test_seen result (reading.test_at self.now scope.now (tree_of form.now)) }
     {
         match form {
-            Form::Atom { .. } => Err(ReadFail::Meaningless),
+            Form::Atom { .. } => Err(Unread::Meaningless),
             Form::List { items, .. } => {
                 let parts = items.as_slice();
                 let rule = rule_at(Place::Test, parts)?;
@@ -432,7 +427,7 @@ impl Reader {
         scope: &Scope,
         rule: Rule,
         parts: &[Form],
-    ) -> Result<Test, ReadFail>
+    ) -> Result<Test, Unread>
         requires { IsTrue (fits (length parts.now) rule) }
         ensures { Gives test_seen result (behind.test_form self.now scope.now rule (packed (trees_of parts.now))) }
     {
@@ -461,18 +456,18 @@ impl Reader {
                 let (domain, bound, test) = self.quantified(alloc, scope, parts)?;
                 Ok(Test::Any(domain, bound, test))
             }
-            _ => Err(ReadFail::Meaningless),
+            _ => Err(Unread::Meaningless),
         }
     }
 
     /// Whether the card behind a head has a value.
     #[cycle(reading)]
-    fn value_test(&self, alloc: Global, scope: &Scope, parts: &[Form]) -> Result<Test, ReadFail>
+    fn value_test(&self, alloc: Global, scope: &Scope, parts: &[Form]) -> Result<Test, Unread>
         requires { length parts.now ≡ 4 }
         ensures { Gives test_seen result (behind.is_parts self.now scope.now (packed (trees_of parts.now))) }
     {
         let [_, card, attr, value] = parts else {
-            return Err(ReadFail::Meaningless);
+            return Err(Unread::Meaningless);
         };
         self.has_value(alloc, scope, card, attr, value)
     }
@@ -486,7 +481,7 @@ impl Reader {
         card: &Form,
         attr: &Form,
         value: &Form,
-    ) -> Result<Test, ReadFail>
+    ) -> Result<Test, Unread>
         ensures { Gives test_seen result
             (behind.is_of self.now scope.now (tree_of card.now) (tree_of attr.now) (tree_of value.now)) }
     {
@@ -498,20 +493,20 @@ impl Reader {
 
     /// The test behind a head.
     #[cycle(reading)]
-    fn one_test(&self, alloc: Global, scope: &Scope, parts: &[Form]) -> Result<Box<Test>, ReadFail>
+    fn one_test(&self, alloc: Global, scope: &Scope, parts: &[Form]) -> Result<Box<Test>, Unread>
         requires { length parts.now ≡ 2 }
         ensures { Gives (λ test. test_seen test.value) result
             (behind.one_test self.now scope.now (packed (trees_of parts.now))) }
     {
         let [_, test] = parts else {
-            return Err(ReadFail::Meaningless);
+            return Err(Unread::Meaningless);
         };
         self.boxed_test(alloc, scope, test)
     }
 
     /// A test in a box.
     #[cycle(reading)]
-    fn boxed_test(&self, alloc: Global, scope: &Scope, form: &Form) -> Result<Box<Test>, ReadFail>
+    fn boxed_test(&self, alloc: Global, scope: &Scope, form: &Form) -> Result<Box<Test>, Unread>
         ensures { Gives (λ test. test_seen test.value) result (reading.test_at self.now scope.now (tree_of form.now)) }
     {
         let test = self.test(alloc, scope, form)?;
@@ -520,13 +515,13 @@ impl Reader {
 
     /// The tests behind a head.
     #[cycle(reading)]
-    fn tests(&self, alloc: Global, scope: &Scope, parts: &[Form]) -> Result<Vec<Test>, ReadFail>
+    fn tests(&self, alloc: Global, scope: &Scope, parts: &[Form]) -> Result<Vec<Test>, Unread>
         requires { 1 ≤ length parts.now }
         ensures { Gives (λ all. tests_seen all.items) result
             (behind.tests_behind self.now scope.now (packed (trees_of parts.now))) }
     {
         let [_, forms @ ..] = parts else {
-            return Err(ReadFail::Meaningless);
+            return Err(Unread::Meaningless);
         };
         let mut all = Vec::new(alloc);
         for form in forms {
@@ -542,13 +537,13 @@ impl Reader {
         alloc: Global,
         scope: &Scope,
         parts: &[Form],
-    ) -> Result<(Domain, u32, Box<Test>), ReadFail>
+    ) -> Result<(Domain, u32, Box<Test>), Unread>
         requires { length parts.now ≡ 4 }
         ensures { Gives (λ found. (domain_seen found.0, found.1, test_seen found.2.value)) result
             (behind.quantified self.now scope.now (packed (trees_of parts.now))) }
     {
         let [_, range, variable, test] = parts else {
-            return Err(ReadFail::Meaningless);
+            return Err(Unread::Meaningless);
         };
         let domain = self.range(alloc, scope, range)?;
         let (bound, inner) = self.bind(alloc, scope, variable, sort_of(&domain))?;
@@ -558,12 +553,7 @@ impl Reader {
 
     /// The players, or cards.
     #[cycle(reading)]
-    pub(crate) fn range(
-        &self,
-        alloc: Global,
-        scope: &Scope,
-        form: &Form,
-    ) -> Result<Domain, ReadFail>
+    pub(crate) fn range(&self, alloc: Global, scope: &Scope, form: &Form) -> Result<Domain, Unread>
         ensures { Gives domain_seen result (reading.range_at self.now scope.now (tree_of form.now)) }
     {
         if is_form_word(Keyword::Player, form) {
@@ -575,12 +565,12 @@ impl Reader {
 
     /// The equality of the two sides behind a head.
     #[cycle(reading)]
-    fn equality(&self, alloc: Global, scope: &Scope, parts: &[Form]) -> Result<Test, ReadFail>
+    fn equality(&self, alloc: Global, scope: &Scope, parts: &[Form]) -> Result<Test, Unread>
         requires { length parts.now ≡ 3 }
         ensures { Gives test_seen result (behind.equality self.now scope.now (packed (trees_of parts.now))) }
     {
         let [_, a, b] = parts else {
-            return Err(ReadFail::Meaningless);
+            return Err(Unread::Meaningless);
         };
         let a = self.side(alloc, scope, a)?;
         let b = self.side(alloc, scope, b)?;
@@ -589,7 +579,7 @@ impl Reader {
 
     /// A side of an equation.
     #[cycle(reading)]
-    fn side(&self, alloc: Global, scope: &Scope, form: &Form) -> Result<Side, ReadFail>
+    fn side(&self, alloc: Global, scope: &Scope, form: &Form) -> Result<Side, Unread>
         ensures { Gives side_seen result (reading.side_at self.now scope.now (tree_of form.now)) }
     {
         match form {
@@ -610,7 +600,7 @@ impl Reader {
         scope: &Scope,
         rule: Rule,
         parts: &[Form],
-    ) -> Result<Side, ReadFail>
+    ) -> Result<Side, Unread>
         requires { IsTrue (fits (length parts.now) rule) }
         ensures { Gives side_seen result (behind.side_form self.now scope.now rule (packed (trees_of parts.now))) }
     {
@@ -636,7 +626,7 @@ impl Reader {
 }
 
 /// The test of which of two numbers is less.
-fn order_test(rule: Rule, a: Box<IntExpr>, b: Box<IntExpr>) -> Result<Test, ReadFail>
+fn order_test(rule: Rule, a: Box<IntExpr>, b: Box<IntExpr>) -> Result<Test, Unread>
     ensures { Gives test_seen result (behind.order_test rule (int_seen a.value) (int_seen b.value)) }
 {
     match rule {
@@ -644,7 +634,7 @@ fn order_test(rule: Rule, a: Box<IntExpr>, b: Box<IntExpr>) -> Result<Test, Read
         Rule::LessOrEqual => Ok(Test::LessEq(a, b)),
         Rule::More => Ok(Test::More(a, b)),
         Rule::MoreOrEqual => Ok(Test::MoreEq(a, b)),
-        _ => Err(ReadFail::Meaningless),
+        _ => Err(Unread::Meaningless),
     }
 }
 

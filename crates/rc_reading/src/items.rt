@@ -13,7 +13,7 @@ ghost use Rattle.rc_reading.specs.ReadEffects.{alts_at, effects_at};
 ghost use Rattle.rc_reading.specs.ReadItems as reading;
 ghost use Rattle.rc_reading.specs.Gives.{Gives};
 
-use crate::fail::ReadFail;
+use crate::fail::Unread;
 use crate::names::rule_at;
 use crate::reader::Reader;
 use crate::scope::Scope;
@@ -47,11 +47,11 @@ impl Begun {
 
 impl Reader {
     /// The test with which a stage ends.
-    pub(crate) fn end(&self, alloc: Global, form: &Form) -> Result<Test, ReadFail>
+    pub(crate) fn end(&self, alloc: Global, form: &Form) -> Result<Test, Unread>
         ensures { Gives test_seen result (reading.end_at self.now (tree_of form.now)) }
     {
         match form {
-            Form::Atom { .. } => Err(ReadFail::Meaningless),
+            Form::Atom { .. } => Err(Unread::Meaningless),
             Form::List { items, .. } => {
                 let rule = rule_at(Place::End, items)?;
                 self.end_list(alloc, rule, items)
@@ -60,18 +60,18 @@ impl Reader {
     }
 
     /// The test that a list of this form says with which a stage ends.
-    fn end_list(&self, alloc: Global, rule: Rule, parts: &[Form]) -> Result<Test, ReadFail>
+    fn end_list(&self, alloc: Global, rule: Rule, parts: &[Form]) -> Result<Test, Unread>
         requires { IsTrue (fits (length parts.now) rule) }
         ensures { Gives test_seen result (reading.end_rule self.now rule (packed (trees_of parts.now))) }
     {
         match rule {
             Rule::End => self.closed_test(alloc, &parts[1]),
-            _ => Err(ReadFail::Meaningless),
+            _ => Err(Unread::Meaningless),
         }
     }
 
     /// A test that no variable is bound around.
-    fn closed_test(&self, alloc: Global, form: &Form) -> Result<Test, ReadFail>
+    fn closed_test(&self, alloc: Global, form: &Form) -> Result<Test, Unread>
         ensures { Gives test_seen result (test_at self.now [] (tree_of form.now)) }
     {
         self.test(alloc, &Scope::empty(alloc), form)
@@ -84,7 +84,7 @@ impl Reader {
         begun: Begun,
         rule: Rule,
         parts: &[Form],
-    ) -> Result<(SheetItem, Begun), ReadFail>
+    ) -> Result<(SheetItem, Begun), Unread>
         requires { IsTrue (fits (length parts.now) rule) }
         ensures { Gives item_read result
             (reading.plain_item self.now (begun_seen begun) rule (packed (trees_of parts.now))) }
@@ -92,7 +92,7 @@ impl Reader {
         match rule {
             Rule::Do => self.setting(alloc, begun, &parts[1..]),
             Rule::Choice => self.choice(alloc, begun, &parts[1..]),
-            _ => Err(ReadFail::Meaningless),
+            _ => Err(Unread::Meaningless),
         }
     }
 
@@ -102,7 +102,7 @@ impl Reader {
         alloc: Global,
         begun: Begun,
         effects: &[Form],
-    ) -> Result<(SheetItem, Begun), ReadFail>
+    ) -> Result<(SheetItem, Begun), Unread>
         ensures { Gives item_read result (option_map (λ effects. (do_item effects, begun_seen begun))
             (effects_at self.now [] (packed (trees_of effects.now)))) }
     {
@@ -116,12 +116,12 @@ impl Reader {
         alloc: Global,
         begun: Begun,
         alts: &[Form],
-    ) -> Result<(SheetItem, Begun), ReadFail>
+    ) -> Result<(SheetItem, Begun), Unread>
         ensures { Gives item_read result
             (reading.choice_of (begun_seen begun) (alts_at self.now (packed (trees_of alts.now)))) }
     {
         if begun.sites >= MOST_SITES {
-            return Err(ReadFail::Meaningless);
+            return Err(Unread::Meaningless);
         }
         let site = begun.sites;
         let alts = self.alternatives(alloc, alts)?;
@@ -139,8 +139,8 @@ impl Reader {
         number: u16,
         class: Class,
         end: &Form,
-        body: Result<(Vec<SheetItem>, Begun), ReadFail>,
-    ) -> Result<(SheetItem, Begun), ReadFail>
+        body: Result<(Vec<SheetItem>, Begun), Unread>,
+    ) -> Result<(SheetItem, Begun), Unread>
         ensures { (read : Option (SheetItems × reading.Begun)) → Gives items_read body read
             → Gives item_read result
             (option_map (λ p. (stage number class p.0 p.1.0, p.1.1))
@@ -158,11 +158,11 @@ impl Reader {
         alloc: Global,
         begun: Begun,
         form: &Form,
-    ) -> Result<(SheetItem, Begun), ReadFail>
+    ) -> Result<(SheetItem, Begun), Unread>
         ensures { Gives item_read result (reading.item_at self.now (begun_seen begun) (tree_of form.now)) }
     {
         match form {
-            Form::Atom { .. } => Err(ReadFail::Meaningless),
+            Form::Atom { .. } => Err(Unread::Meaningless),
             Form::List { items, .. } => self.item_list(alloc, begun, items),
         }
     }
@@ -174,7 +174,7 @@ impl Reader {
         alloc: Global,
         begun: Begun,
         parts: &[Form],
-    ) -> Result<(SheetItem, Begun), ReadFail>
+    ) -> Result<(SheetItem, Begun), Unread>
         ensures { Gives item_read result
             (reading.item_of_list self.now (begun_seen begun) (packed (trees_of parts.now))) }
     {
@@ -194,13 +194,13 @@ impl Reader {
         class: Class,
         end: &Form,
         body: &[Form],
-    ) -> Result<(SheetItem, Begun), ReadFail>
+    ) -> Result<(SheetItem, Begun), Unread>
         ensures { Gives item_read result
             (reading.stage_of (begun_seen begun) class (reading.end_at self.now (tree_of end.now))
             (reading.items_at self.now (reading.with_stage (begun_seen begun)) (packed (trees_of body.now)))) }
     {
         if begun.stages >= MOST_STAGES {
-            return Err(ReadFail::Meaningless);
+            return Err(Unread::Meaningless);
         }
         let inner = Begun {
             stages: begun.stages + 1,
@@ -217,7 +217,7 @@ impl Reader {
         alloc: Global,
         begun: Begun,
         forms: &[Form],
-    ) -> Result<(Vec<SheetItem>, Begun), ReadFail>
+    ) -> Result<(Vec<SheetItem>, Begun), Unread>
         ensures { Gives items_read result
             (reading.items_at self.now (begun_seen begun) (packed (trees_of forms.now))) }
     {
@@ -232,11 +232,11 @@ impl Reader {
     }
 
     /// Which scores are best, and the score.
-    pub(crate) fn score(&self, alloc: Global, form: &Form) -> Result<(Best, IntExpr), ReadFail>
+    pub(crate) fn score(&self, alloc: Global, form: &Form) -> Result<(Best, IntExpr), Unread>
         ensures { Gives (λ p. (best_seen p.0, int_seen p.1)) result (reading.score_at self.now (tree_of form.now)) }
     {
         match form {
-            Form::Atom { .. } => Err(ReadFail::Meaningless),
+            Form::Atom { .. } => Err(Unread::Meaningless),
             Form::List { items, .. } => {
                 let rule = rule_at(Place::Scoring, items)?;
                 self.score_list(alloc, rule, items)
@@ -250,7 +250,7 @@ impl Reader {
         alloc: Global,
         rule: Rule,
         parts: &[Form],
-    ) -> Result<(Best, IntExpr), ReadFail>
+    ) -> Result<(Best, IntExpr), Unread>
         requires { IsTrue (fits (length parts.now) rule) }
         ensures { Gives (λ p. (best_seen p.0, int_seen p.1)) result
             (reading.score_rule self.now rule (packed (trees_of parts.now))) }
@@ -261,32 +261,27 @@ impl Reader {
                 let value = self.integer(alloc, &Scope::scored(alloc)?, &parts[2])?;
                 Ok((best, value))
             }
-            _ => Err(ReadFail::Meaningless),
+            _ => Err(Unread::Meaningless),
         }
     }
 
     /// The items of a sheet, of which there is one at least, and the scoring, which stands last: which scores are best, and the
     /// score.
-    pub(crate) fn body(&self, alloc: Global, parts: &[Form]) -> Result<Body, ReadFail>
+    pub(crate) fn body(&self, alloc: Global, parts: &[Form]) -> Result<Body, Unread>
         ensures { Gives (λ b. (items_seen b.0.items, (best_seen b.1.0, int_seen b.1.1))) result
             (reading.body_at self.now (packed (trees_of parts.now))) }
     {
         let Some((scoring, items)) = parts.split_last() else {
-            return Err(ReadFail::Meaningless);
+            return Err(Unread::Meaningless);
         };
         if items.is_empty() {
-            return Err(ReadFail::Meaningless);
+            return Err(Unread::Meaningless);
         }
         self.items_and_score(alloc, items, scoring)
     }
 
     /// The items of a sheet, and its scoring.
-    fn items_and_score(
-        &self,
-        alloc: Global,
-        items: &[Form],
-        scoring: &Form,
-    ) -> Result<Body, ReadFail>
+    fn items_and_score(&self, alloc: Global, items: &[Form], scoring: &Form) -> Result<Body, Unread>
         ensures { Gives (λ b. (items_seen b.0.items, (best_seen b.1.0, int_seen b.1.1))) result
             (both (option_map (λ p. p.0) (reading.items_at self.now reading.none_begun (packed (trees_of items.now))))
             (reading.score_at self.now (tree_of scoring.now))) }
@@ -298,7 +293,7 @@ impl Reader {
 }
 
 /// Which scores are best.
-fn best_at(form: &Form) -> Result<Best, ReadFail>
+fn best_at(form: &Form) -> Result<Best, Unread>
     ensures { Gives best_seen result (reading.best_at (tree_of form.now)) }
 {
     if is_form_word(Keyword::Max, form) {
@@ -307,5 +302,5 @@ fn best_at(form: &Form) -> Result<Best, ReadFail>
     if is_form_word(Keyword::Min, form) {
         return Ok(Best::Min);
     }
-    Err(ReadFail::Meaningless)
+    Err(Unread::Meaningless)
 }

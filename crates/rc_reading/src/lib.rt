@@ -21,5 +21,5 @@ mod sheet;
 mod sides;
 mod variables;
 
-pub use fail::ReadFail;
+pub use fail::Unread;
 pub use reader::Reader;

@@ -6,7 +6,7 @@ ghost use Rattle.rc_sheet_model.specs.Naming as model;
 ghost use Rattle.rc_reading.specs.ReadNames as reading;
 ghost use Rattle.rc_reading.specs.Gives.{Gives};
 
-use crate::fail::ReadFail;
+use crate::fail::Unread;
 use crate::names::{name_at, rule_at};
 use crate::owners::holder_at;
 use crate::reader::Reader;
@@ -18,14 +18,14 @@ use rc_grammar::{Keyword, Place, Rule, is_form_word};
 impl Reader {
     /// A location.
     #[tactic(auto, unfolding(crate::specs::ReadNames::loc_at))]
-    pub(crate) fn location(&self, scope: &Scope, form: &Form) -> Result<Loc, ReadFail>
+    pub(crate) fn location(&self, scope: &Scope, form: &Form) -> Result<Loc, Unread>
         ensures { Gives loc_seen result (reading.loc_at self.now scope.now (tree_of form.now)) }
     {
         match form {
-            Form::Atom { .. } => Err(ReadFail::Meaningless),
+            Form::Atom { .. } => Err(Unread::Meaningless),
             Form::List { items, span } => match rule_at(Place::Location, items)? {
                 Rule::Location => self.location_parts(scope, span.from, items),
-                _ => Err(ReadFail::Meaningless),
+                _ => Err(Unread::Meaningless),
             },
         }
     }
@@ -37,17 +37,17 @@ impl Reader {
         scope: &Scope,
         from: u32,
         parts: &[Form],
-    ) -> Result<Loc, ReadFail>
+    ) -> Result<Loc, Unread>
         requires { length parts.now ≡ 3 }
         ensures { Gives loc_seen result (reading.loc_parts self.now scope.now from (packed (trees_of parts.now))) }
     {
         let [holder, kind, name] = parts else {
-            return Err(ReadFail::Meaningless);
+            return Err(Unread::Meaningless);
         };
         let who = holder_at(scope, holder)?;
         let name = name_at(&self.names.locs, name)?;
         if !self.has_location(kind, class_of(who), name) {
-            return Err(ReadFail::Meaningless);
+            return Err(Unread::Meaningless);
         }
         Ok(Loc {
             who,
@@ -68,34 +68,34 @@ impl Reader {
 
     /// A stored number.
     #[tactic(auto, unfolding(crate::specs::ReadNames::num_at))]
-    pub(crate) fn counter(&self, scope: &Scope, form: &Form) -> Result<Num, ReadFail>
+    pub(crate) fn counter(&self, scope: &Scope, form: &Form) -> Result<Num, Unread>
         ensures { Gives num_seen result (reading.num_at self.now scope.now (tree_of form.now)) }
     {
         match form {
-            Form::Atom { .. } => Err(ReadFail::Meaningless),
+            Form::Atom { .. } => Err(Unread::Meaningless),
             Form::List { items, .. } => match rule_at(Place::Counter, items)? {
                 Rule::Counter => self.counter_parts(scope, items),
-                _ => Err(ReadFail::Meaningless),
+                _ => Err(Unread::Meaningless),
             },
         }
     }
 
     /// The stored number of a list of these parts.
     #[tactic(auto, unfolding(crate::specs::ReadNames::num_parts))]
-    pub(crate) fn counter_parts(&self, scope: &Scope, parts: &[Form]) -> Result<Num, ReadFail>
+    pub(crate) fn counter_parts(&self, scope: &Scope, parts: &[Form]) -> Result<Num, Unread>
         requires { length parts.now ≡ 3 }
         ensures { Gives num_seen result (reading.num_parts self.now scope.now (packed (trees_of parts.now))) }
     {
         let [holder, sto, name] = parts else {
-            return Err(ReadFail::Meaningless);
+            return Err(Unread::Meaningless);
         };
         if !is_form_word(Keyword::Sto, sto) {
-            return Err(ReadFail::Meaningless);
+            return Err(Unread::Meaningless);
         }
         let who = holder_at(scope, holder)?;
         let name = name_at(&self.names.nums, name)?;
         if !self.has_counter(class_of(who), name) {
-            return Err(ReadFail::Meaningless);
+            return Err(Unread::Meaningless);
         }
         Ok(Num { who, name })
     }

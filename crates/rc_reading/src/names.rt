@@ -6,7 +6,7 @@ ghost use Rattle.rc_sheet_model.specs.Naming as model;
 ghost use Rattle.rc_reading.specs.ReadNames as reading;
 ghost use Rattle.rc_reading.specs.Gives.{Gives};
 
-use crate::fail::ReadFail;
+use crate::fail::Unread;
 use crate::reader::Reader;
 use crate::scope::Scope;
 use rc_ast::{Sort, Word};
@@ -17,13 +17,13 @@ use std::alloc::Global;
 
 /// The form that a list has at a place, which has as many parts.
 #[tactic(auto, using(crate::proofs::Counts::count_packed))]
-pub fn rule_at(place: Place, parts: &[Form]) -> Result<Rule, ReadFail>
+pub fn rule_at(place: Place, parts: &[Form]) -> Result<Rule, Unread>
     ensures given { Gives (λ rule. rule) result (reading.rule_at place (packed (trees_of parts.now))) }
     ensures sized { IfOk result (λ rule. IsTrue (fits (length parts.now) rule)) }
 {
     match rule_of(place, parts) {
         Some(rule) if rule.fits(parts.len()) => Ok(rule),
-        _ => Err(ReadFail::Meaningless),
+        _ => Err(Unread::Meaningless),
     }
 }
 
@@ -52,26 +52,26 @@ pub fn number_in(words: &[Word], form: &Form) -> Option<u16>
 }
 
 /// The number of a plain word among these.
-pub fn name_at(words: &[Word], form: &Form) -> Result<u16, ReadFail>
+pub fn name_at(words: &[Word], form: &Form) -> Result<u16, Unread>
     requires few { length words.now ≤ 256 }
     ensures { Gives (λ number. number) result (reading.name_at words.now (tree_of form.now)) }
 {
     match number_in(words, form) {
         Some(number) => Ok(number),
-        None => Err(ReadFail::Meaningless),
+        None => Err(Unread::Meaningless),
     }
 }
 
 impl Reader {
     /// The number of an attribute.
-    pub(crate) fn attr(&self, form: &Form) -> Result<u16, ReadFail>
+    pub(crate) fn attr(&self, form: &Form) -> Result<u16, Unread>
         ensures { Gives (λ number. number) result (reading.name_at self.now.names.attrs (tree_of form.now)) }
     {
         name_at(&self.names.attrs, form)
     }
 
     /// The number of a value.
-    pub(crate) fn value(&self, form: &Form) -> Result<u16, ReadFail>
+    pub(crate) fn value(&self, form: &Form) -> Result<u16, Unread>
         ensures { Gives (λ number. number) result (reading.name_at self.now.names.values (tree_of form.now)) }
     {
         name_at(&self.names.values, form)
@@ -79,11 +79,11 @@ impl Reader {
 
     /// The number of a point map behind the word `using`.
     #[tactic(auto, unfolding(crate::specs::ReadNames::map_at))]
-    pub(crate) fn map(&self, word: &Form, name: &Form) -> Result<u16, ReadFail>
+    pub(crate) fn map(&self, word: &Form, name: &Form) -> Result<u16, Unread>
         ensures { Gives (λ number. number) result (reading.map_at self.now (tree_of word.now) (tree_of name.now)) }
     {
         if !is_form_word(Keyword::Using, word) {
-            return Err(ReadFail::Meaningless);
+            return Err(Unread::Meaningless);
         }
         name_at(&self.names.maps, name)
     }
@@ -96,18 +96,18 @@ impl Reader {
         scope: &Scope,
         form: &Form,
         sort: Sort,
-    ) -> Result<(u32, Scope), ReadFail>
+    ) -> Result<(u32, Scope), Unread>
         ensures given { Gives (λ bound. bound.0) result (reading.binder_at self.now.names.vars scope.now (tree_of form.now)) }
         ensures inner { IfOk result (λ bound. bound.1 ≡ model.bind self.now scope.now bound.0 sort) }
     {
         let Form::Atom { word, .. } = form else {
-            return Err(ReadFail::Meaningless);
+            return Err(Unread::Meaningless);
         };
         if !is_variable(word.bytes()) || scope.len() > MOST_VARIABLES as usize {
-            return Err(ReadFail::Meaningless);
+            return Err(Unread::Meaningless);
         }
         let Some(number) = self.variable(word) else {
-            return Err(ReadFail::Meaningless);
+            return Err(Unread::Meaningless);
         };
         let inner = scope.with(alloc, &self.names.vars[number as usize], sort)?;
         Ok((number, inner))

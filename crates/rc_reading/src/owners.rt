@@ -6,7 +6,7 @@ ghost use Rattle.rc_grammar.specs.Faults.{fits};
 ghost use Rattle.rc_reading.specs.ReadNames as reading;
 ghost use Rattle.rc_reading.specs.Gives.{Gives};
 
-use crate::fail::ReadFail;
+use crate::fail::Unread;
 use crate::names::rule_at;
 use crate::scope::Scope;
 use rc_ast::{Sort, Who};
@@ -14,7 +14,7 @@ use rc_form::Form;
 use rc_grammar::{Keyword, Place, Rule, is_form_word};
 
 /// `game` or an owner.
-pub fn holder_at(scope: &Scope, form: &Form) -> Result<Who, ReadFail>
+pub fn holder_at(scope: &Scope, form: &Form) -> Result<Who, Unread>
     ensures { Gives who_seen result (reading.holder_at scope.now (tree_of form.now)) }
 {
     if is_form_word(Keyword::Game, form) {
@@ -25,7 +25,7 @@ pub fn holder_at(scope: &Scope, form: &Form) -> Result<Who, ReadFail>
 
 /// An owner: `(current team)`, `(team of PLAYER)` or a player.
 #[tactic(auto, unfolding(crate::specs::ReadNames::owner_at))]
-pub fn owner_at(scope: &Scope, form: &Form) -> Result<Who, ReadFail>
+pub fn owner_at(scope: &Scope, form: &Form) -> Result<Who, Unread>
     ensures { Gives who_seen result (reading.owner_at scope.now (tree_of form.now)) }
 {
     match form {
@@ -35,7 +35,7 @@ pub fn owner_at(scope: &Scope, form: &Form) -> Result<Who, ReadFail>
 }
 
 /// The owner that a list of this form is.
-pub fn owner_rule(scope: &Scope, rule: Rule, parts: &[Form]) -> Result<Who, ReadFail>
+pub fn owner_rule(scope: &Scope, rule: Rule, parts: &[Form]) -> Result<Who, Unread>
     requires { IsTrue (fits (length parts.now) rule) }
     ensures { Gives who_seen result (reading.owner_rule scope.now rule (packed (trees_of parts.now))) }
 {
@@ -43,12 +43,12 @@ pub fn owner_rule(scope: &Scope, rule: Rule, parts: &[Form]) -> Result<Who, Read
         Rule::CurrentPlayer => Ok(Who::CurrentPlayer),
         Rule::CurrentTeam => Ok(Who::CurrentTeam),
         Rule::TeamOf => team_parts(scope, parts),
-        _ => Err(ReadFail::Meaningless),
+        _ => Err(Unread::Meaningless),
     }
 }
 
 /// The team of a player.
-fn team_parts(scope: &Scope, parts: &[Form]) -> Result<Who, ReadFail>
+fn team_parts(scope: &Scope, parts: &[Form]) -> Result<Who, Unread>
     requires { length parts.now ≡ 3 }
     ensures { Gives who_seen result (reading.team_parts scope.now (packed (trees_of parts.now))) }
 {
@@ -60,14 +60,14 @@ fn team_parts(scope: &Scope, parts: &[Form]) -> Result<Who, ReadFail>
 
 /// `(current player)` or a variable.
 #[tactic(auto, unfolding(crate::specs::ReadNames::player_at))]
-fn player_at(scope: &Scope, form: &Form) -> Result<Who, ReadFail>
+fn player_at(scope: &Scope, form: &Form) -> Result<Who, Unread>
     ensures { Gives who_seen result (reading.player_at scope.now (tree_of form.now)) }
 {
     match form {
         Form::Atom { word, .. } => Ok(Who::Var(scope.variable(Sort::Player, word.bytes())?)),
         Form::List { items, .. } => match rule_at(Place::Player, items)? {
             Rule::CurrentPlayer => Ok(Who::CurrentPlayer),
-            _ => Err(ReadFail::Meaningless),
+            _ => Err(Unread::Meaningless),
         },
     }
 }

@@ -5,7 +5,7 @@ ghost use Rattle.rc_ast.specs.Sheet.{teams_seen};
 ghost use Rattle.rc_reading.specs.ReadSetup as reading;
 ghost use Rattle.rc_reading.specs.Gives.{Gives};
 
-use crate::fail::ReadFail;
+use crate::fail::Unread;
 use crate::names::rule_at;
 use rc_ast::Teams;
 use rc_form::{Form, integer};
@@ -18,24 +18,24 @@ const LAST_PLAYER: u8 = MOST_PLAYERS - 1;
 
 /// A number from one to another.
 #[tactic(auto, unfolding(crate::specs::ReadSetup::count_at))]
-pub fn count_at(least: u8, most: u8, form: &Form) -> Result<u8, ReadFail>
+pub fn count_at(least: u8, most: u8, form: &Form) -> Result<u8, Unread>
     ensures { Gives (λ count. count) result (reading.count_at least most (tree_of form.now)) }
 {
     let Form::Atom { word, .. } = form else {
-        return Err(ReadFail::Meaningless);
+        return Err(Unread::Meaningless);
     };
     let Some(number) = integer(word.bytes()) else {
-        return Err(ReadFail::Meaningless);
+        return Err(Unread::Meaningless);
     };
     if i64::from(least) <= number && number <= i64::from(most) {
         Ok(number as u8)
     } else {
-        Err(ReadFail::Meaningless)
+        Err(Unread::Meaningless)
     }
 }
 
 /// Teams.
-pub fn teams_at(alloc: Global, forms: &[Form]) -> Result<Teams, ReadFail>
+pub fn teams_at(alloc: Global, forms: &[Form]) -> Result<Teams, Unread>
     ensures { Gives teams_seen result (reading.teams_at (packed (trees_of forms.now))) }
 {
     let mut list = Vec::new(alloc);
@@ -47,20 +47,20 @@ pub fn teams_at(alloc: Global, forms: &[Form]) -> Result<Teams, ReadFail>
 
 /// The players of a team.
 #[tactic(auto, unfolding(crate::specs::ReadSetup::team_at))]
-fn team_at(alloc: Global, form: &Form) -> Result<Vec<u8>, ReadFail>
+fn team_at(alloc: Global, form: &Form) -> Result<Vec<u8>, Unread>
     ensures { Gives (λ team. team.items) result (reading.team_at (tree_of form.now)) }
 {
     let Form::List { items, .. } = form else {
-        return Err(ReadFail::Meaningless);
+        return Err(Unread::Meaningless);
     };
     match rule_at(Place::Team, items)? {
         Rule::Team => members_at(alloc, items),
-        _ => Err(ReadFail::Meaningless),
+        _ => Err(Unread::Meaningless),
     }
 }
 
 /// The numbers of players.
-fn members_at(alloc: Global, forms: &[Form]) -> Result<Vec<u8>, ReadFail>
+fn members_at(alloc: Global, forms: &[Form]) -> Result<Vec<u8>, Unread>
     ensures { Gives (λ team. team.items) result (reading.members_at (packed (trees_of forms.now))) }
 {
     let mut members = Vec::new(alloc);

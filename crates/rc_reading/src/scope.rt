@@ -3,7 +3,7 @@ ghost use Rattle.std.specs.Prelude.{◌≡◌, ◌<◌, ◌≤◌, IfSome, lengt
 ghost use Rattle.rc_reading.specs.ReadNames as reading;
 ghost use Rattle.rc_reading.specs.Gives.{Gives};
 
-use crate::fail::ReadFail;
+use crate::fail::Unread;
 use rc_ast::{Sort, Word};
 use rc_grammar::is_variable;
 use std::alloc::Global;
@@ -37,7 +37,7 @@ impl Model for Scope {
 impl Scope {
     ghost use Rattle.std.specs.Prelude.{[], ◌∷◌, ◌++◌, Err, OnErr, IfOk, slice_get, option_map};
     ghost use Rattle.rc_sheet_model.specs.Naming.{self_scope};
-    ghost use Rattle.rc_reading.specs.declared.fail.ReadFail.TheVariants.{Memory};
+    ghost use Rattle.rc_reading.specs.declared.fail.Unread.TheVariants.{Memory};
 
     /// No variable.
     pub fn empty(alloc: Global) -> Scope
@@ -49,7 +49,7 @@ impl Scope {
     }
 
     /// What is bound around the score: the player who is scored is `'SELF`.
-    pub fn scored(alloc: Global) -> Result<Scope, ReadFail>
+    pub fn scored(alloc: Global) -> Result<Scope, Unread>
         ensures scope { IfOk result (λ scope. scope ≡ self_scope) }
         ensures memory { OnErr result (result ≡ Err Memory) }
     {
@@ -62,7 +62,7 @@ impl Scope {
     }
 
     /// The scope with one more variable.
-    pub fn with(&self, alloc: Global, word: &Word, sort: Sort) -> Result<Scope, ReadFail>
+    pub fn with(&self, alloc: Global, word: &Word, sort: Sort) -> Result<Scope, Unread>
         requires room { length self.now ≤ 4 }
         ensures scope { IfOk result (λ scope. scope ≡ self.now ++ record { word = word.now; sort = sort } ∷ []) }
         ensures memory { OnErr result (result ≡ Err Memory) }
@@ -98,17 +98,17 @@ impl Scope {
 
     /// The place of a variable, where it has this sort.
     #[tactic(auto, unfolding(crate::specs::ReadNames::variable_in))]
-    pub fn variable(&self, sort: Sort, word: &[u8]) -> Result<u8, ReadFail>
+    pub fn variable(&self, sort: Sort, word: &[u8]) -> Result<u8, Unread>
         ensures { Gives (λ place. place) result (reading.variable_in self.now sort word.now) }
     {
         if !is_variable(word) {
-            return Err(ReadFail::Meaningless);
+            return Err(Unread::Meaningless);
         }
         let Some(place) = self.place_of(word) else {
-            return Err(ReadFail::Meaningless);
+            return Err(Unread::Meaningless);
         };
         if !self.has_sort(place, sort) {
-            return Err(ReadFail::Meaningless);
+            return Err(Unread::Meaningless);
         }
         Ok(place)
     }

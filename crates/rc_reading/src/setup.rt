@@ -6,7 +6,7 @@ ghost use Rattle.rc_reading.specs.ReadSetup as reading;
 ghost use Rattle.rc_reading.specs.SetupViews.{setup_seen, lines_seen};
 ghost use Rattle.rc_reading.specs.Gives.{Gives};
 
-use crate::fail::ReadFail;
+use crate::fail::Unread;
 use crate::names::rule_at;
 use crate::players::{count_at, teams_at};
 use crate::reader::Reader;
@@ -50,11 +50,11 @@ impl Lines {
 
     /// `(create players n)`, of which there is one.
     #[tactic(auto, unfolding(crate::specs::ReadSetup::players_line))]
-    fn add_players(&mut self, count: &Form) -> Result<(), ReadFail>
+    fn add_players(&mut self, count: &Form) -> Result<(), Unread>
         ensures { Gives (λ _. lines_seen self.new) result (reading.players_line (lines_seen self.old) (tree_of count.now)) }
     {
         if self.players.is_some() {
-            return Err(ReadFail::Meaningless);
+            return Err(Unread::Meaningless);
         }
         self.players = Some(count_at(1, MOST_PLAYERS, count)?);
         Ok(())
@@ -62,23 +62,23 @@ impl Lines {
 
     /// `(create teams TEAM+)`, of which there is one at most.
     #[tactic(auto, unfolding(crate::specs::ReadSetup::teams_line))]
-    fn add_teams(&mut self, alloc: Global, teams: &[Form]) -> Result<(), ReadFail>
+    fn add_teams(&mut self, alloc: Global, teams: &[Form]) -> Result<(), Unread>
         ensures { Gives (λ _. lines_seen self.new) result
             (reading.teams_line (lines_seen self.old) (packed (trees_of teams.now))) }
     {
         if self.teams.is_some() {
-            return Err(ReadFail::Meaningless);
+            return Err(Unread::Meaningless);
         }
         self.teams = Some(teams_at(alloc, teams)?);
         Ok(())
     }
 
     /// What all lines say.
-    fn finish(self) -> Result<Setup, ReadFail>
+    fn finish(self) -> Result<Setup, Unread>
         ensures { Gives setup_seen result (reading.setup_of (lines_seen self)) }
     {
         let Some(players) = self.players else {
-            return Err(ReadFail::Meaningless);
+            return Err(Unread::Meaningless);
         };
         Ok(Setup {
             players,
@@ -91,7 +91,7 @@ impl Lines {
 
 impl Reader {
     /// The lines of a setup, without the word before them.
-    pub(crate) fn setup(&self, alloc: Global, forms: &[Form]) -> Result<Setup, ReadFail>
+    pub(crate) fn setup(&self, alloc: Global, forms: &[Form]) -> Result<Setup, Unread>
         ensures { Gives setup_seen result (reading.setup_at self.now (packed (trees_of forms.now))) }
     {
         let mut lines = Lines::none(alloc);
@@ -103,12 +103,12 @@ impl Reader {
 
     /// One more line.
     #[tactic(auto, unfolding(crate::specs::ReadSetup::line_at))]
-    fn line(&self, alloc: Global, lines: &mut Lines, form: &Form) -> Result<(), ReadFail>
+    fn line(&self, alloc: Global, lines: &mut Lines, form: &Form) -> Result<(), Unread>
         ensures { Gives (λ _. lines_seen lines.new) result
             (reading.line_at self.now (lines_seen lines.old) (tree_of form.now)) }
     {
         let Form::List { items, .. } = form else {
-            return Err(ReadFail::Meaningless);
+            return Err(Unread::Meaningless);
         };
         self.line_rule(alloc, lines, rule_at(Place::Line, items)?, items)
     }
@@ -120,7 +120,7 @@ impl Reader {
         lines: &mut Lines,
         rule: Rule,
         parts: &[Form],
-    ) -> Result<(), ReadFail>
+    ) -> Result<(), Unread>
         requires { IsTrue (fits (length parts.now) rule) }
         ensures { Gives (λ _. lines_seen lines.new) result
             (reading.line_rule self.now (lines_seen lines.old) rule (packed (trees_of parts.now))) }
@@ -128,29 +128,29 @@ impl Reader {
         match rule {
             Rule::CreatePlayers => {
                 let [_, _, count] = parts else {
-                    return Err(ReadFail::Meaningless);
+                    return Err(Unread::Meaningless);
                 };
                 lines.add_players(count)
             }
             Rule::CreateTeams => {
                 let [_, _, teams @ ..] = parts else {
-                    return Err(ReadFail::Meaningless);
+                    return Err(Unread::Meaningless);
                 };
                 lines.add_teams(alloc, teams)
             }
             Rule::CreateDeck => {
                 let [_, _, loc, deck] = parts else {
-                    return Err(ReadFail::Meaningless);
+                    return Err(Unread::Meaningless);
                 };
                 self.add_deck(alloc, lines, loc, deck)
             }
             Rule::PutPoints => {
                 let [_, _, map, entries] = parts else {
-                    return Err(ReadFail::Meaningless);
+                    return Err(Unread::Meaningless);
                 };
                 self.add_points(alloc, lines, map, entries)
             }
-            _ => Err(ReadFail::Meaningless),
+            _ => Err(Unread::Meaningless),
         }
     }
 
@@ -162,7 +162,7 @@ impl Reader {
         lines: &mut Lines,
         loc: &Form,
         deck: &Form,
-    ) -> Result<(), ReadFail>
+    ) -> Result<(), Unread>
         ensures { Gives (λ _. lines_seen lines.new) result
             (reading.deck_line self.now (lines_seen lines.old) (tree_of loc.now) (tree_of deck.now)) }
     {
@@ -178,7 +178,7 @@ impl Reader {
         lines: &mut Lines,
         map: &Form,
         entries: &Form,
-    ) -> Result<(), ReadFail>
+    ) -> Result<(), Unread>
         ensures { Gives (λ _. lines_seen lines.new) result
             (reading.points_line self.now (lines_seen lines.old) (tree_of map.now) (tree_of entries.now)) }
     {

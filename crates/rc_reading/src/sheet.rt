@@ -10,7 +10,7 @@ ghost use Rattle.rc_reading.specs.SetupViews.{setup_seen};
 ghost use Rattle.rc_reading.specs.ReadSheet as reading;
 ghost use Rattle.rc_reading.specs.Gives.{Gives};
 
-use crate::fail::ReadFail;
+use crate::fail::Unread;
 use crate::items::Body;
 use crate::names::rule_at;
 use crate::reader::Reader;
@@ -23,32 +23,32 @@ use std::alloc::Global;
 impl Reader {
     /// The sheet that a form says.
     #[tactic(auto, unfolding(crate::specs::ReadSheet::sheet_at))]
-    pub fn sheet(self, alloc: Global, form: &Form) -> Result<Sheet, ReadFail>
+    pub fn sheet(self, alloc: Global, form: &Form) -> Result<Sheet, Unread>
         ensures { Gives sheet_seen result (reading.sheet_at self (tree_of form.now)) }
     {
         let Form::List { items, .. } = form else {
-            return Err(ReadFail::Meaningless);
+            return Err(Unread::Meaningless);
         };
         match rule_at(Place::Sheet, items)? {
             Rule::Game => self.game(alloc, items),
-            _ => Err(ReadFail::Meaningless),
+            _ => Err(Unread::Meaningless),
         }
     }
 
     /// `(game SETUP ITEM+ SCORING)`
-    fn game(self, alloc: Global, parts: &[Form]) -> Result<Sheet, ReadFail>
+    fn game(self, alloc: Global, parts: &[Form]) -> Result<Sheet, Unread>
         requires { IsTrue (fits (length parts.now) rule.Game) }
         ensures { Gives sheet_seen result (reading.game_rule self rule.Game (packed (trees_of parts.now))) }
     {
         let [_, setup, body @ ..] = parts else {
-            return Err(ReadFail::Meaningless);
+            return Err(Unread::Meaningless);
         };
         self.game_parts(alloc, setup, body)
     }
 
     /// The sheet of a setup, and of items with the scoring behind them.
     #[tactic(auto, unfolding(crate::specs::ReadSheet::game_parts))]
-    fn game_parts(self, alloc: Global, setup: &Form, body: &[Form]) -> Result<Sheet, ReadFail>
+    fn game_parts(self, alloc: Global, setup: &Form, body: &[Form]) -> Result<Sheet, Unread>
         ensures { Gives sheet_seen result
             (reading.game_parts self (tree_of setup.now) (packed (trees_of body.now))) }
     {
@@ -59,17 +59,17 @@ impl Reader {
 
     /// `(setup LINE+)`
     #[tactic(auto, unfolding(crate::specs::ReadSheet::setup_form_at))]
-    pub(crate) fn setup_form(&self, alloc: Global, form: &Form) -> Result<Setup, ReadFail>
+    pub(crate) fn setup_form(&self, alloc: Global, form: &Form) -> Result<Setup, Unread>
         ensures { Gives setup_seen result (reading.setup_form_at self.now (tree_of form.now)) }
     {
         let Form::List { items, .. } = form else {
-            return Err(ReadFail::Meaningless);
+            return Err(Unread::Meaningless);
         };
         let Rule::Setup = rule_at(Place::Setup, items)? else {
-            return Err(ReadFail::Meaningless);
+            return Err(Unread::Meaningless);
         };
         let Some((_, lines)) = items.split_first() else {
-            return Err(ReadFail::Meaningless);
+            return Err(Unread::Meaningless);
         };
         self.setup(alloc, lines)
     }

@@ -16,7 +16,7 @@ use rc_faults::{SheetFail, check_semantics};
 use rc_form::Form;
 use rc_grammar::check_shape;
 use rc_naming::naming_of;
-use rc_reading::{ReadFail, Reader};
+use rc_reading::{Reader, Unread};
 use std::alloc::Global;
 
 /// Makes the sheet of a form. The error is the form's first fault, or that there was no memory: the first fault of its shape
@@ -60,7 +60,7 @@ fn sheet_of_faultless(alloc: Global, form: &Form) -> Result<Sheet, SheetFail>
     };
     match reader.sheet(alloc, form) {
         Ok(sheet) => Ok(sheet),
-        Err(ReadFail::Memory) => Err(SheetFail::Memory),
-        Err(ReadFail::Meaningless) => unreachable!(),
+        Err(Unread::Memory) => Err(SheetFail::Memory),
+        Err(Unread::Meaningless) => unreachable!(),
     }
 }

@@ -2,10 +2,10 @@
 use Rattle.std.specs.Prelude.{map}
 use Rattle.rc_rules.specs.Record.{record_seen, standing_seen}
 use Rattle.rc_text_model.specs.Reading.{Place as PurePlace, outside, headed, playing, told, stopped, scoring, ranking}
-use Rattle.rc_text.specs.declared.places.Place.{Place}
-use Rattle.rc_text.specs.declared.places.Place.TheVariants.{Outside, Headed, Playing, Told, Stopped, Scoring, Ranking}
+use Rattle.rc_text.specs.declared.places.Progress.{Progress}
+use Rattle.rc_text.specs.declared.places.Progress.TheVariants.{Outside, Headed, Playing, Told, Stopped, Scoring, Ranking}
 
-abbrev pub place_seen : Place → PurePlace
+abbrev pub place_seen : Progress → PurePlace
 place_seen Outside = outside
 place_seen Headed = headed
 place_seen (Playing before played) = playing (map record_seen before.items) (record_seen played)

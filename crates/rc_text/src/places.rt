@@ -14,7 +14,7 @@ use std::alloc::Global;
 /// Where a text stands: before its first line, behind the header, in a match or behind its shuffles, behind its end, behind a
 /// score, or behind a standing. Each holds the matches before, and those that a match is open in hold that match.
 #[derive(Drop)]
-pub enum Place {
+pub enum Progress {
     Outside,
     Headed,
     Playing(Vec<MatchRecord>, MatchRecord),
@@ -29,7 +29,7 @@ pub enum Place {
 /// # Errors
 ///
 /// No memory is left.
-pub fn take_bytes(alloc: Global, place: Place, bytes: &[u8]) -> Result<Option<Place>, Memory>
+pub fn take_bytes(alloc: Global, place: Progress, bytes: &[u8]) -> Result<Option<Progress>, Memory>
     ensures { IfOk result (λ found. Finds place_seen found (take_bytes (place_seen place) bytes.now)) }
 {
     match line_of(bytes) {
@@ -39,30 +39,30 @@ pub fn take_bytes(alloc: Global, place: Place, bytes: &[u8]) -> Result<Option<Pl
 }
 
 /// Where the text stands behind one more line, if that may stand there.
-fn take_line(alloc: Global, place: Place, line: Line) -> Result<Option<Place>, Memory>
+fn take_line(alloc: Global, place: Progress, line: Line) -> Result<Option<Progress>, Memory>
     ensures { IfOk result (λ found. Finds place_seen found (take_line (place_seen place) (line_seen line))) }
 {
     match place {
-        Place::Outside => Ok(before_header(line)),
-        Place::Headed => Ok(behind_header(alloc, line)),
-        Place::Playing(before, played) => in_match(before, played, line),
-        Place::Told(before, played) => Ok(behind_shuffles(before, played, line)),
-        Place::Stopped(before, played) => behind_end(before, played, line),
-        Place::Scoring(before, played) => behind_score(alloc, before, played, line),
-        Place::Ranking(matches, standings) => behind_standing(matches, standings, line),
+        Progress::Outside => Ok(before_header(line)),
+        Progress::Headed => Ok(behind_header(alloc, line)),
+        Progress::Playing(before, played) => in_match(before, played, line),
+        Progress::Told(before, played) => Ok(behind_shuffles(before, played, line)),
+        Progress::Stopped(before, played) => behind_end(before, played, line),
+        Progress::Scoring(before, played) => behind_score(alloc, before, played, line),
+        Progress::Ranking(matches, standings) => behind_standing(matches, standings, line),
     }
 }
 
-fn before_header(line: Line) -> Option<Place>
+fn before_header(line: Line) -> Option<Progress>
     ensures { Finds place_seen result (take_line outside (line_seen line)) }
 {
     match line {
-        Line::Header => Some(Place::Headed),
+        Line::Header => Some(Progress::Headed),
         _ => None,
     }
 }
 
-fn behind_header(alloc: Global, line: Line) -> Option<Place>
+fn behind_header(alloc: Global, line: Line) -> Option<Progress>
     ensures { Finds place_seen result (take_line headed (line_seen line)) }
 {
     match line {
@@ -72,7 +72,7 @@ fn behind_header(alloc: Global, line: Line) -> Option<Place>
             seats,
         } => {
             let first = opened(alloc, number, deal, seats);
-            Some(Place::Playing(Vec::new(alloc), first))
+            Some(Progress::Playing(Vec::new(alloc), first))
         }
         _ => None,
     }
@@ -82,29 +82,33 @@ fn in_match(
     before: Vec<MatchRecord>,
     mut played: MatchRecord,
     line: Line,
-) -> Result<Option<Place>, Memory>
+) -> Result<Option<Progress>, Memory>
     ensures { IfOk result (λ found. Finds place_seen found
         (take_line (playing (map record_seen before.items) (record_seen played)) (line_seen line))) }
 {
     match line {
         Line::Chosen(pick) => {
             played.picks.push(pick)?;
-            Ok(Some(Place::Playing(before, played)))
+            Ok(Some(Progress::Playing(before, played)))
         }
         Line::Shuffled(shuffles) => {
             played.shuffles = shuffles;
-            Ok(Some(Place::Told(before, played)))
+            Ok(Some(Progress::Told(before, played)))
         }
         Line::Ending { stop, turn } => {
             played.stop = stop;
             played.turn = turn;
-            Ok(Some(Place::Stopped(before, played)))
+            Ok(Some(Progress::Stopped(before, played)))
         }
         _ => Ok(None),
     }
 }
 
-fn behind_shuffles(before: Vec<MatchRecord>, mut played: MatchRecord, line: Line) -> Option<Place>
+fn behind_shuffles(
+    before: Vec<MatchRecord>,
+    mut played: MatchRecord,
+    line: Line,
+) -> Option<Progress>
     ensures { Finds place_seen result
         (take_line (told (map record_seen before.items) (record_seen played)) (line_seen line)) }
 {
@@ -112,7 +116,7 @@ fn behind_shuffles(before: Vec<MatchRecord>, mut played: MatchRecord, line: Line
         Line::Ending { stop, turn } => {
             played.stop = stop;
             played.turn = turn;
-            Some(Place::Stopped(before, played))
+            Some(Progress::Stopped(before, played))
         }
         _ => None,
     }
@@ -122,14 +126,14 @@ fn behind_end(
     before: Vec<MatchRecord>,
     mut played: MatchRecord,
     line: Line,
-) -> Result<Option<Place>, Memory>
+) -> Result<Option<Progress>, Memory>
     ensures { IfOk result (λ found. Finds place_seen found
         (take_line (stopped (map record_seen before.items) (record_seen played)) (line_seen line))) }
 {
     match line {
         Line::Scored(score) => {
             played.scores.push(score)?;
-            Ok(Some(Place::Scoring(before, played)))
+            Ok(Some(Progress::Scoring(before, played)))
         }
         _ => Ok(None),
     }
@@ -140,14 +144,14 @@ fn behind_score(
     mut before: Vec<MatchRecord>,
     mut played: MatchRecord,
     line: Line,
-) -> Result<Option<Place>, Memory>
+) -> Result<Option<Progress>, Memory>
     ensures { IfOk result (λ found. Finds place_seen found
         (take_line (scoring (map record_seen before.items) (record_seen played)) (line_seen line))) }
 {
     match line {
         Line::Scored(score) => {
             played.scores.push(score)?;
-            Ok(Some(Place::Scoring(before, played)))
+            Ok(Some(Progress::Scoring(before, played)))
         }
         Line::Opening {
             number,
@@ -156,13 +160,13 @@ fn behind_score(
         } => {
             before.push(played)?;
             let next = opened(alloc, number, deal, seats);
-            Ok(Some(Place::Playing(before, next)))
+            Ok(Some(Progress::Playing(before, next)))
         }
         Line::Ranked(standing) => {
             before.push(played)?;
             let mut standings = Vec::new(alloc);
             standings.push(standing)?;
-            Ok(Some(Place::Ranking(before, standings)))
+            Ok(Some(Progress::Ranking(before, standings)))
         }
         _ => Ok(None),
     }
@@ -172,14 +176,14 @@ fn behind_standing(
     matches: Vec<MatchRecord>,
     mut standings: Vec<Standing>,
     line: Line,
-) -> Result<Option<Place>, Memory>
+) -> Result<Option<Progress>, Memory>
     ensures { IfOk result (λ found. Finds place_seen found
         (take_line (ranking (map record_seen matches.items) (map standing_seen standings.items)) (line_seen line))) }
 {
     match line {
         Line::Ranked(standing) => {
             standings.push(standing)?;
-            Ok(Some(Place::Ranking(matches, standings)))
+            Ok(Some(Progress::Ranking(matches, standings)))
         }
         _ => Ok(None),
     }

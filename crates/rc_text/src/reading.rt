@@ -8,7 +8,7 @@ ghost use Rattle.rc_text.specs.House.{text_of, house_seen};
 ghost use Rattle.rc_text.specs.Gives.{Gives, IfTextFault};
 
 use crate::house::HouseText;
-use crate::places::{Place, take_bytes};
+use crate::places::{Progress, take_bytes};
 use rc_deck::Memory;
 use rc_text_model::{faults_are_first, texts_are_of_lines, texts_are_read};
 use std::alloc::Global;
@@ -69,7 +69,7 @@ fn read_lines(alloc: Global, bytes: &[u8]) -> Result<HouseText, TextFail>
     requires short { length bytes.now ≤ 33554432 }
     ensures { Gives result (read_text bytes.now) }
 {
-    let mut place = Place::Outside;
+    let mut place = Progress::Outside;
     let mut number: u32 = 1;
     let mut rest = bytes;
     while let Some((line, later)) = first_line(rest) {
@@ -84,7 +84,7 @@ fn read_lines(alloc: Global, bytes: &[u8]) -> Result<HouseText, TextFail>
         return Err(TextFail::Fault { line: number });
     }
     match place {
-        Place::Ranking(matches, standings) => Ok(HouseText { matches, standings }),
+        Progress::Ranking(matches, standings) => Ok(HouseText { matches, standings }),
         _ => Err(TextFail::Fault { line: number }),
     }
 }

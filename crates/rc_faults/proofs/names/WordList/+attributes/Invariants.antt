@@ -1,7 +1,7 @@
 use Rattle.std.proofs.Common.{◌≡◌, ◌++◌, drop}
 use Rattle.rc_form.specs.Form.{trees_of, packed}
 use Rattle.rc_faults.specs.SecondParts.{attributes_below, attributes_among}
-use Rattle.rc_faults.proofs.names.Names.+attributes.Given as goal
+use Rattle.rc_faults.proofs.names.WordList.+attributes.Given as goal
 
 -- the attributes so far, and those of the groups that are left, are those before and of all the groups
 abbrev pub invariant-push_all_attributes-loop-group : goal.invariant-push_all_attributes-loop-group

@@ -5,7 +5,7 @@ use Rattle.rc_form.specs.declared.form.Form.{Form}
 use Rattle.rc_faults.specs.SecondParts.{attributes_of, attributes_below}
 use Rattle.rc_faults.proofs.Words.{attach}
 use Rattle.rc_faults.proofs.GroupLemmas.{list_seen, pair_seen, none_of_short, none_of_long, none_of_lists, none_of_words, some_attributes}
-use Rattle.rc_faults.proofs.names.Names.+attributes.Goals as goal
+use Rattle.rc_faults.proofs.names.WordList.+attributes.Goals as goal
 
 -- nothing more behind these words
 nothing_more : (words : List (List ℕ)) (tree seen : Tree) → tree ≡ seen → attributes_of seen ≡ [] → words ≡ words
