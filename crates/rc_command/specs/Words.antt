@@ -1,5 +1,6 @@
 -- Options and their numbers, as words spell them.
 use Rattle.std.specs.Prelude.{ℕ, ◌≡◌, ◌≤◌, ◌⊎◌, List, [], ◌∷◌, ◌++◌, length, codes, Option, Some, None}
+use Rattle.rc_model.specs.Limits.{most_workers, most_entries}
 use Rattle.rc_model.specs.Literal.{natural}
 use Rattle.rc_command.specs.declared.option.OptionName.{OptionName}
 use Rattle.rc_command.specs.declared.option.OptionName.TheVariants.{Workers, Cache}
@@ -42,7 +43,7 @@ usual_options = record { workers = 1; cache = 1024 }
 -- the words give the options these texts, and the texts spell the numbers
 abbrev pub GivesOptions : Option (List ℕ) → Option (List ℕ) → List (List ℕ) → Options → Type 0
 GivesOptions workers cache words options = AreOptions workers cache words
-    × HasNumber usual_options.workers 64 workers options.workers × HasNumber usual_options.cache 65536 cache options.cache
+    × HasNumber usual_options.workers most_workers workers options.workers × HasNumber usual_options.cache most_entries cache options.cache
 
 -- the words are these options, each named once at most
 abbrev pub HasOptions : List (List ℕ) → Options → Type 0

@@ -7,13 +7,8 @@ use crate::number::number_of;
 use crate::option::{OptionName, are_in_order};
 use crate::reader::{Texts, texts_of};
 use rc_deck::Memory;
+use rc_names::limits::{MOST_ENTRIES, MOST_WORKERS};
 use std::alloc::Global;
-
-/// The most threads that play.
-const WORKERS: u64 = 64;
-
-/// The most totals that are kept.
-const CACHE: u64 = 65_536;
 
 /// What `play` and `bench` are told beside their sources.
 #[derive(Clone, Copy, Debug, PartialEq, Eq, Hash)]
@@ -60,8 +55,8 @@ fn options_with(words: &[String], texts: Texts<'_>) -> Option<Options>
     if !are_options(words, texts.workers, texts.cache) {
         return None;
     }
-    let workers = option_number(texts.workers, 1, WORKERS)?;
-    let cache = option_number(texts.cache, 1024, CACHE)?;
+    let workers = option_number(texts.workers, 1, MOST_WORKERS)?;
+    let cache = option_number(texts.cache, 1024, MOST_ENTRIES)?;
     Some(Options {
         workers: workers as u8,
         cache: cache as u32,

@@ -3,10 +3,13 @@
 //! A key has a sequence of words of 32 bits, those of the generator ChaCha8. What is drawn by a key depends on the key alone.
 #![tactic(auto)]
 
+mod purpose;
+
 ghost use Rattle.std.specs.Prelude.{◌≡◌, ◌<◌, ◌≤◌, length};
 ghost use Rattle.std.specs.List.Sorted.{IsPermutation};
 ghost use Rattle.rc_play_model.specs.Draws as draws;
 
+pub use purpose::Purpose;
 use rand_chacha::ChaCha8Rng;
 use rand_core::SeedableRng;
 use rand_core::utils::NextWord;

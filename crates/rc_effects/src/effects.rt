@@ -18,6 +18,7 @@ use crate::numbers::change_number;
 use crate::references::{forget, remember};
 use crate::shuffling::shuffle;
 use rc_ast::{CollExpr, Domain, Effect, IntExpr, Test};
+use rc_names::limits::MOST_TIMES;
 use rc_rules::{About, Dealer, Frames};
 use rc_state::{Change, Context, cards_now, int_now, name_next, test_now, turn_round};
 use rc_table::Table;
@@ -152,13 +153,11 @@ fn repeat<D: Dealer>(
     }
 }
 
-const MOST_REPEATS: i64 = 1000;
-
 // How often effects are repeated, by a count.
 fn times_of(count: i64) -> u16
     ensures { result ≡ times_in count }
 {
-    count.clamp(0, MOST_REPEATS) as u16
+    count.clamp(0, MOST_TIMES) as u16
 }
 
 #[cycle(effects)]

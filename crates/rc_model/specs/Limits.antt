@@ -1,4 +1,4 @@
--- The limits of a sheet, but for the range of its numbers.
+-- The limits of sheets, of plans and of options, but for the range of the numbers of a game.
 use Rattle.std.specs.Prelude.{ℕ}
 
 abbrev pub most_players : ℕ
@@ -40,3 +40,28 @@ most_repeats = 2
 -- lists that are open at one place
 abbrev pub most_open : ℕ
 most_open = 64
+
+-- the largest seed of a match, and the largest key of a strategy: eighteen digits
+abbrev pub largest_seed : ℕ
+largest_seed = 999999999999999999
+
+-- the most playouts of an item
+abbrev pub most_rounds : ℕ
+most_rounds = 1000
+
+abbrev pub most_matches : ℕ
+most_matches = 4096
+
+abbrev pub most_turns : ℕ
+most_turns = 100000
+
+-- the most turns of all matches of a plan together
+abbrev pub most_turns_in_all : ℕ
+most_turns_in_all = 262144
+
+abbrev pub most_workers : ℕ
+most_workers = 64
+
+-- totals that a cache keeps
+abbrev pub most_entries : ℕ
+most_entries = 65536

@@ -1,7 +1,7 @@
-//! The limits of texts and of sheets, and the range of numbers.
+//! The limits of texts, sheets, plans and options, and the range of numbers.
 ghost use Rattle.std.specs.Prelude.{◌≡◌, pos};
 ghost use Rattle.rc_model.specs.Clamp.{largest_number};
-ghost use Rattle.rc_model.specs.Limits.{most_players, most_cards, most_locations, most_numbers, most_attrs, most_values, most_maps, most_stages, most_sites, most_variables, most_repeats, most_open};
+ghost use Rattle.rc_model.specs.Limits.{most_players, most_cards, most_locations, most_numbers, most_attrs, most_values, most_maps, most_stages, most_sites, most_variables, most_repeats, most_open, largest_seed, most_rounds, most_matches, most_turns, most_turns_in_all, most_workers, most_entries};
 
 /// The most bytes of a word.
 pub const MOST_BYTES: usize = 64;
@@ -33,6 +33,30 @@ pub const MOST_VARIABLES: u32 = 4;
 /// The most repeats around one place.
 pub const MOST_REPEATS: u32 = 2;
 
+/// The most times that an effect repeats others.
+pub const MOST_TIMES: i64 = 1000;
+
+/// The most matches of a plan.
+pub const MOST_MATCHES: u64 = 4096;
+
+/// The largest turn limit.
+pub const MOST_TURNS: u64 = 100_000;
+
+/// The most turns of all matches of a plan together.
+pub const MOST_TURNS_IN_ALL: u64 = 262_144;
+
+/// The most rounds of a rollout.
+pub const MOST_ROUNDS: u64 = 1000;
+
+/// The largest deal and seat of a match, and the largest key of a strategy: eighteen digits.
+pub const LARGEST_SEED: u64 = 999_999_999_999_999_999;
+
+/// The most workers.
+pub const MOST_WORKERS: u64 = 64;
+
+/// The most entries of a cache.
+pub const MOST_ENTRIES: u64 = 65_536;
+
 /// The largest number of a game. The least one is as far below 0.
 pub const LARGEST_NUMBER: i64 = 1_000_000_000;
 
@@ -51,5 +75,12 @@ pub fn limits_as_defined()
     ensures variables { MOST_VARIABLES ≡ most_variables }
     ensures repeats { MOST_REPEATS ≡ most_repeats }
     ensures open { MOST_OPEN ≡ most_open }
+    ensures matches { MOST_MATCHES ≡ most_matches }
+    ensures turns { MOST_TURNS ≡ most_turns }
+    ensures turns_in_all { MOST_TURNS_IN_ALL ≡ most_turns_in_all }
+    ensures rounds { MOST_ROUNDS ≡ most_rounds }
+    ensures seeds { LARGEST_SEED ≡ largest_seed }
+    ensures workers { MOST_WORKERS ≡ most_workers }
+    ensures entries { MOST_ENTRIES ≡ most_entries }
     ensures range { LARGEST_NUMBER ≡ pos largest_number }
 {}

@@ -7,7 +7,8 @@ use Rattle.std.proofs.lemmas.List.FromFn.{length-map-range_with_len, get_or-map-
 use Rattle.rc_model.specs.Tree.{Tree, word, list, Trees, nil, cons, count, start_of}
 use Rattle.rc_sheet_model.specs.Rows.{◌▸◌, End, Row, Atom}
 use Rattle.rc_play_model.specs.Plan.{Strategy, Deal}
-use Rattle.rc_plan_model.specs.Limits.{largest_seed, most_matches, most_turns, most_turns_in_all, IsBetween, IsWithinLimits, IsStrategyWithin, IsDealWithin}
+use Rattle.rc_model.specs.Limits.{largest_seed, most_matches, most_turns, most_turns_in_all}
+use Rattle.rc_plan_model.specs.Limits.{IsBetween, IsWithinLimits, IsStrategyWithin, IsDealWithin}
 use Rattle.rc_plan_model.specs.PlanStands.{Number, InTurn, StandsStrategy, StandsDeal, later, counted_from, StandsSeats, StandsMatches, StandsTurns, PlanStands}
 use Rattle.rc_plan_model.specs.Faults.{fault_unless, is_between, spelled, number_in, seat_faults, is_countable, from_faults, each, match_faults, turn_faults, matches_said, all_matches_said, match_parts, turn_limit, is_small, second_round}
 use Rattle.rc_plan_model.specs.declared.fault.PlanKind.{PlanKind}

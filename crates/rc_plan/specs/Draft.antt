@@ -3,7 +3,7 @@ use Rattle.std.specs.Prelude.{◌≡◌, ℕ, ◌*◌, ◌&&◌, ◌==◌, Bool,
 use Rattle.rc_model.specs.Tree.{Tree, start_of}
 use Rattle.rc_sheet_model.specs.Rows.{◌▸◌, End, Row, Atom}
 use Rattle.rc_play_model.specs.Plan.{Deal, Plan}
-use Rattle.rc_plan_model.specs.Limits.{most_matches, most_turns, most_turns_in_all}
+use Rattle.rc_model.specs.Limits.{most_matches, most_turns, most_turns_in_all}
 use Rattle.rc_plan_model.specs.PlanStands.{counted_from}
 use Rattle.rc_plan_model.specs.Faults.{fault_unless, is_between, is_countable}
 use Rattle.rc_plan_model.specs.declared.fault.PlanKind.TheVariants.{Seats, Matches, Turns, TooLarge}

@@ -3,7 +3,8 @@ use Rattle.std.specs.Prelude.{◌≡◌, ℕ, List, [], ◌++◌, Result, Ok, Er
 use Rattle.rc_model.specs.Tree.{Tree, word, list, Trees, cons, start_of}
 use Rattle.rc_sheet_model.specs.Rows.{◌▸◌, End, Some as AtLeastOne, Row, Atom}
 use Rattle.rc_play_model.specs.Plan.{Strategy, Deal}
-use Rattle.rc_plan_model.specs.Limits.{largest_seed, IsBetween, IsStrategyWithin, most_rounds}
+use Rattle.rc_model.specs.Limits.{largest_seed, most_rounds}
+use Rattle.rc_plan_model.specs.Limits.{IsBetween, IsStrategyWithin}
 use Rattle.rc_plan_model.specs.PlanStands.{Number, InTurn, StandsStrategy}
 use Rattle.rc_plan_model.specs.Faults.{Place, each}
 use Rattle.rc_plan_model.specs.PlanFault.{first}

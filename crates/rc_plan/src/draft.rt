@@ -2,6 +2,7 @@
 ghost use Rattle.std.specs.Prelude.{◌≡◌, ◌≤◌, [], IfOk, map, true};
 ghost use Rattle.rc_plan_model.specs.PlanStands.{counted_from};
 ghost use Rattle.rc_form.specs.Form.{tree_of};
+ghost use Rattle.rc_model.specs.Limits.{most_turns};
 ghost use Rattle.rc_plan_model.specs.Faults as place;
 ghost use Rattle.rc_plan_model.specs.PlanFault.{first};
 ghost use Rattle.rc_rules.specs.Plan.{plan_seen, deal_seen};
@@ -9,23 +10,15 @@ ghost use Rattle.rc_plan.specs.Reads.{Reads};
 ghost use Rattle.rc_plan.specs.Draft.{IsDraft, IsLimit, deals_said, count_faults, are_few, draft_faults, plan_drafted};
 
 use crate::fail::PlanFail;
-use crate::forms::{LARGEST_NUMBER, parts_behind, read_any, start_of};
+use crate::forms::{parts_behind, read_any, start_of};
 use crate::matches::{Matches, read_matches};
 use crate::strategies::read_seats;
 use rc_deck::Memory;
 use rc_form::Form;
+use rc_names::limits::{LARGEST_SEED, MOST_MATCHES, MOST_TURNS, MOST_TURNS_IN_ALL};
 use rc_plan_model::{PlanFault, PlanKind};
 use rc_rules::{Deal, Plan, Strategy};
 use std::alloc::Global;
-
-/// The most matches, whether they are listed or counted.
-const MOST_MATCHES: u64 = 4096;
-
-/// The largest turn limit.
-const MOST_TURNS: u64 = 100_000;
-
-/// The most turns of all matches together.
-const MOST_TURNS_IN_ALL: u64 = 262_144;
 
 /// What the parts of a plan say, with the offsets of the plan, its seats and its turn limit.
 #[derive(Drop)]
@@ -117,7 +110,7 @@ impl Draft {
     /// The plan.
     pub fn plan(self, alloc: Global) -> Result<Plan, Memory>
         requires counted { count_faults self.matches ≡ [] }
-        requires limit { self.turns ≤ 100000 }
+        requires limit { self.turns ≤ most_turns }
         ensures { IfOk result (λ plan. plan_seen plan ≡ plan_drafted self) }
     {
         match self.matches.deals(alloc) {
@@ -148,7 +141,7 @@ impl Matches {
     /// Whether there aren't too many, of so many turns each.
     fn are_few(&self, turns: u64) -> bool
         requires some { 1 ≤ turns }
-        requires most { turns ≤ 100000 }
+        requires most { turns ≤ most_turns }
         ensures { result ≡ are_few self.now turns }
     {
         match self {
@@ -180,8 +173,8 @@ fn is_countable(first: &Deal, count: u64) -> bool
 {
     1 <= count
         && count <= MOST_MATCHES
-        && first.deal.saturating_add(count - 1) <= LARGEST_NUMBER
-        && first.seats.saturating_add(count - 1) <= LARGEST_NUMBER
+        && first.deal.saturating_add(count - 1) <= LARGEST_SEED
+        && first.seats.saturating_add(count - 1) <= LARGEST_SEED
 }
 
 /// So many matches from this one on.

@@ -7,10 +7,8 @@ ghost use Rattle.rc_plan.specs.Reads.{Reads, IsNumberBetween, IsBehind, IsNotHea
 
 use crate::fail::PlanFail;
 use rc_form::{Form, natural};
+use rc_names::limits::LARGEST_SEED;
 use rc_plan_model::PlanKind;
-
-/// The largest deal, seat and key.
-pub const LARGEST_NUMBER: u64 = 999_999_999_999_999_999;
 
 /// Where a form begins.
 pub fn start_of(form: &Form) -> u32
@@ -64,5 +62,5 @@ pub fn read_number(form: &Form, least: u64, most: u64) -> Result<u64, PlanFail>
 pub fn read_any(form: &Form) -> Result<u64, PlanFail>
     ensures { Reads result (λ n. IsNumberBetween 0 999999999999999999 n (tree_of form.now)) (place.any_number (tree_of form.now)) }
 {
-    read_number(form, 0, LARGEST_NUMBER)
+    read_number(form, 0, LARGEST_SEED)
 }

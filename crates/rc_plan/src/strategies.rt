@@ -9,6 +9,7 @@ ghost use Rattle.rc_plan.specs.Reads.{Reads, IsNumberBetween, IsStrategy, AreSea
 use crate::fail::PlanFail;
 use crate::forms::{parts_behind, read_any, read_number, start_of};
 use rc_form::Form;
+use rc_names::limits::MOST_ROUNDS;
 use rc_rules::Strategy;
 use std::alloc::Global;
 
@@ -105,7 +106,7 @@ fn read_rollout(parts: &[Form], from: u32) -> Result<(u16, u64), PlanFail>
     let [rounds, key] = parts else {
         return Err(PlanFail::shape(from));
     };
-    match read_number(rounds, 1, 1000) {
+    match read_number(rounds, 1, MOST_ROUNDS) {
         Ok(rounds) => match read_any(key) {
             Ok(key) => Ok((rounds as u16, key)),
             Err(fail) => Err(fail),

@@ -10,7 +10,8 @@ use Rattle.rc_model.specs.Literal.{natural}
 use Rattle.rc_model.specs.Tree.{Tree, word, list, Trees, nil, cons, count}
 use Rattle.rc_sheet_model.specs.Rows.{◌▸◌, End, Row, Word, Atom}
 use Rattle.rc_play_model.specs.Plan.{Strategy, scripted, random, rollout, Deal, Plan}
-use Rattle.rc_plan_model.specs.Limits.{largest_seed, largest_script_number, most_rounds, most_matches, most_turns, most_turns_in_all, IsBetween, IsStrategyWithin, IsDealWithin, IsWithinLimits}
+use Rattle.rc_model.specs.Limits.{largest_seed, most_rounds, most_matches, most_turns, most_turns_in_all}
+use Rattle.rc_plan_model.specs.Limits.{largest_script_number, IsBetween, IsStrategyWithin, IsDealWithin, IsWithinLimits}
 use Rattle.rc_plan_model.specs.PlanStands.{Number, InTurn, StandsStrategy, StandsDeal, later, counted_from, StandMatches, StandsSeats, StandsMatches, StandsTurns, PlanStands}
 use Rattle.rc_plan_model.specs.Faults.{Place, fault, fault_unless, is_between, is_word, is_number_between, number_between, any_number, script_number, rounds, in_turn, row, each, some, headed, strategy, match, match_list, lists_among, seats, matches, turns, first_round, number_in, seat_faults, is_countable, from_faults, match_faults, turn_faults, matches_said, all_matches_said, match_parts, turn_limit, is_small, plan_faults}
 use Rattle.rc_plan_model.specs.declared.fault.PlanKind.{PlanKind}

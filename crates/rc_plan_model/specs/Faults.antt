@@ -4,7 +4,8 @@
 use Rattle.std.specs.Prelude.{ℕ, ◌+◌, ◌*◌, ◌-◌, Bool, false, ◌&&◌, ◌==◌, nat_le, if◌then◌else◌, List, [], ◌∷◌, ◌++◌, length, codes, bytes_eq, Option, Some, None}
 use Rattle.rc_model.specs.Tree.{Tree, word, list, Trees, nil, cons, count, start_of}
 use Rattle.rc_model.specs.Literal.{natural}
-use Rattle.rc_plan_model.specs.Limits.{largest_seed, largest_script_number, most_rounds, most_matches, most_turns, most_turns_in_all}
+use Rattle.rc_model.specs.Limits.{largest_seed, most_rounds, most_matches, most_turns, most_turns_in_all}
+use Rattle.rc_plan_model.specs.Limits.{largest_script_number}
 use Rattle.rc_plan_model.specs.declared.fault.PlanKind.{PlanKind}
 use Rattle.rc_plan_model.specs.declared.fault.PlanKind.TheVariants.{Shape, Number, Seats, Matches, Turns, TooLarge}
 use Rattle.rc_plan_model.specs.declared.fault.PlanFault.{PlanFault}

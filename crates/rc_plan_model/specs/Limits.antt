@@ -1,31 +1,14 @@
 -- The limits of plans.
 use Rattle.std.specs.Prelude.{ℕ, ◌*◌, ◌≤◌, length, All}
+use Rattle.rc_model.specs.Limits.{largest_seed, most_rounds, most_matches, most_turns, most_turns_in_all}
 use Rattle.rc_play_model.specs.Plan.{Strategy, scripted, random, rollout, Deal, Plan}
-
--- the largest seed of a match, and the largest key of a strategy: eighteen digits
-abbrev pub largest_seed : ℕ
-largest_seed = 999999999999999999
 
 -- the largest number of a script
 abbrev pub largest_script_number : ℕ
 largest_script_number = 65535
 
--- the most playouts of an item
-abbrev pub most_rounds : ℕ
-most_rounds = 1000
-
 abbrev pub most_strategies : ℕ
 most_strategies = 8
-
-abbrev pub most_matches : ℕ
-most_matches = 4096
-
-abbrev pub most_turns : ℕ
-most_turns = 100000
-
--- the most turns of all matches together
-abbrev pub most_turns_in_all : ℕ
-most_turns_in_all = 262144
 
 -- the number is one of these
 abbrev pub IsBetween : ℕ → ℕ → ℕ → Type 0

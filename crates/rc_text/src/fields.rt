@@ -5,8 +5,10 @@ ghost use Rattle.rc_model.specs.Literal.{is_digit};
 ghost use Rattle.rc_text_model.specs.Fields.{behind, digits_to, number_to, number, counted, integer};
 ghost use Rattle.rc_text.specs.Finds.{Finds};
 
+use rc_names::limits;
+
 /// The largest number of a game. The least one is as far below 0.
-const LARGEST_NUMBER: u64 = 1_000_000_000;
+const LARGEST_NUMBER: u64 = limits::LARGEST_NUMBER as u64;
 
 /// The bytes behind a word.
 pub fn behind<'a>(word: &[u8], bytes: &'a [u8]) -> Option<&'a [u8]>

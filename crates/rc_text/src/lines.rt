@@ -5,10 +5,8 @@ ghost use Rattle.rc_text.specs.Finds.{Finds};
 ghost use Rattle.rc_text.specs.LineSeen.{line_seen};
 
 use crate::fields::{behind, counted, integer, number};
+use rc_names::limits::{LARGEST_SEED, MOST_TURNS};
 use rc_rules::{Ended, Pick, Score, Standing};
-
-/// The largest seed of a match.
-const LARGEST_SEED: u64 = 999_999_999_999_999_999;
 
 /// A line of a house text.
 #[derive(Clone, Copy, Debug)]
@@ -90,7 +88,7 @@ fn shuffled_in(bytes: &[u8]) -> Option<Line>
 fn done_in(bytes: &[u8]) -> Option<Line>
     ensures { Finds line_seen result (done_in bytes.now) }
 {
-    let (turn, rest) = number(b"end done ", 100_000, bytes)?;
+    let (turn, rest) = number(b"end done ", MOST_TURNS, bytes)?;
     let line = Line::Ending {
         stop: Ended::Done,
         turn: turn as u32,
@@ -101,7 +99,7 @@ fn done_in(bytes: &[u8]) -> Option<Line>
 fn limit_in(bytes: &[u8]) -> Option<Line>
     ensures { Finds line_seen result (limit_in bytes.now) }
 {
-    let (turn, rest) = number(b"end limit ", 100_000, bytes)?;
+    let (turn, rest) = number(b"end limit ", MOST_TURNS, bytes)?;
     let line = Line::Ending {
         stop: Ended::Limit,
         turn: turn as u32,

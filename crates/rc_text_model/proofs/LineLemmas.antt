@@ -4,7 +4,8 @@ use Rattle.std.specs.Fmt.{signed_decimal}
 use Rattle.rc_model.specs.Clamp.{IsWithinClamp, largest_number}
 use Rattle.rc_model.specs.Transcript.{Pick, done, limit, Score, Standing}
 use Rattle.rc_text_model.specs.Fields.{◌>>=◌, behind, number, counted, integer, last, ◌or_else◌}
-use Rattle.rc_text_model.specs.Lines.{Line, header, opening, chosen, shuffled, ending, scored, ranked, largest_seed, end_text, line_text, IsInRange, header_in, opening_in, chosen_in, shuffled_in, done_in, limit_in, scored_in, ranked_in, line_of}
+use Rattle.rc_model.specs.Limits.{largest_seed}
+use Rattle.rc_text_model.specs.Lines.{Line, header, opening, chosen, shuffled, ending, scored, ranked, end_text, line_text, IsInRange, header_in, opening_in, chosen_in, shuffled_in, done_in, limit_in, scored_in, ranked_in, line_of}
 use Rattle.rc_text_model.proofs.FieldLemmas.{bind_some, bind_is, behind_only, number-only, counted-only, integer-only, number-again, counted-again, integer-again, last-only, either, IsStop}
 
 abbrev IsRead : List ℕ → Line → Type 0
