@@ -13,7 +13,7 @@ from cases import bench, checking, tricks
 from cases.book import hits
 from cases.expected import KINDS, PLAN_FAULTS, PLAN_KINDS
 from cases.lengths import FIRST, LIMIT, lengthened, read_longest
-from cases.pages import frame_of, read_page
+from cases.language import frame_of, read_page
 from cases.notes import NO_LOOKS, any_hits, is_note
 from cases.plays import Play, lines_match, read_play, read_plays
 from cases.rows import Mistake, Row, copied, is_limit, marked, only_last_marker, read_groups, read_rows, unescaped

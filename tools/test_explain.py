@@ -11,7 +11,7 @@ from dataclasses import dataclass
 from pathlib import Path
 
 from built import PROGRAM, ROOT, Built
-from cases.pages import read_page
+from cases.language import read_page
 from cases.sheets import read_frames
 from faults import kinds
 from faults.explaining import explanation

@@ -8,7 +8,7 @@ from pathlib import Path
 
 from cases.bench import TRICKS, read_bench
 from cases.lengths import FIRST, read_longest
-from cases.pages import PAGES, read_page
+from cases.language import PAGES, read_page
 from cases.plays import read_plays
 from cases.rows import ROOT, Mistake, name_of
 from cases.running import Case, build
