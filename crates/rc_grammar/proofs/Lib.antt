@@ -2,3 +2,4 @@ pub mod Counts
 pub mod FirstFault
 pub mod InOrder
 pub mod OneForm
+pub mod ToldLemmas

@@ -101,6 +101,10 @@ second_in (first ∷ second ∷ places) = None
 abbrev pub second_word : Rule → Option Keyword
 second_word rule = second_in (front_of rule)
 
+-- the form has such a word
+abbrev pub has_second_word : Rule → Bool
+has_second_word rule = not (is_none (second_word rule))
+
 -- a list of this form may begin with this part
 abbrev pub fits_head : List Place → Tree → Bool
 fits_head [] tree = true

@@ -1,7 +1,9 @@
 //! Which form a list is to be.
-ghost use Rattle.std.specs.Prelude.{◌≡◌, ◌<◌};
+ghost use Rattle.std.specs.Prelude.{◌≡◌, ◌<◌, filter};
 ghost use Rattle.rc_form.specs.Form.{tree_of, trees_of, packed};
+ghost use Rattle.rc_grammar.specs.Grammar.{forms_of};
 ghost use Rattle.rc_grammar.specs.Faults as spec;
+ghost use Rattle.rc_grammar.specs.Faults.{has_second_word};
 
 use crate::atoms::{atom_kind, is_word};
 use crate::grammar::{Place, Rule};
@@ -49,6 +51,58 @@ impl Rule {
     }
 }
 
+impl Place {
+    /// Those of its forms that begin with two fixed words.
+    fn two_word_forms(self) -> &'static [Rule]
+        ensures { result.now ≡ filter has_second_word (forms_of self) }
+    {
+        match self {
+            Place::Line => &[
+                Rule::CreatePlayers,
+                Rule::CreateTeams,
+                Rule::CreateDeck,
+                Rule::PutPoints,
+            ],
+            Place::Item => &[Rule::PlayerStage, Rule::TeamStage],
+            Place::Effect => &[Rule::MoveAll, Rule::Next, Rule::Reverse],
+            Place::Holder | Place::Owner | Place::Side => {
+                &[Rule::CurrentPlayer, Rule::CurrentTeam, Rule::TeamOf]
+            }
+            Place::Player => &[Rule::CurrentPlayer],
+            Place::Word(_)
+            | Place::Kind
+            | Place::Best
+            | Place::Name
+            | Place::Variable
+            | Place::PlayerCount
+            | Place::Member
+            | Place::Points
+            | Place::Sheet
+            | Place::Setup
+            | Place::Team
+            | Place::Deck
+            | Place::Group
+            | Place::Branches
+            | Place::Branch
+            | Place::Entries
+            | Place::Entry
+            | Place::Values
+            | Place::Scoring
+            | Place::End
+            | Place::Alternative
+            | Place::Domain
+            | Place::Spot
+            | Place::Location
+            | Place::Counter
+            | Place::Card
+            | Place::Collection
+            | Place::Members
+            | Place::Integer
+            | Place::Test => &[],
+        }
+    }
+}
+
 /// The form that a list of these parts is to be, where it may be one.
 pub fn rule_of(place: Place, parts: &[Form]) -> Option<Rule>
     ensures { result ≡ spec.rule_of place (packed (trees_of parts.now)) }
@@ -64,7 +118,7 @@ pub fn rule_of(place: Place, parts: &[Form]) -> Option<Rule>
 fn told_rule(place: Place, head: &Form, others: &[Form]) -> Option<Rule>
     ensures { result ≡ spec.told_rule place (tree_of head.now) (packed (trees_of others.now)) }
 {
-    for rule in place.forms() {
+    for rule in place.two_word_forms() {
         if begins(head, *rule) && is_told(rule.second_word(), others) {
             return Some(*rule);
         }
