@@ -5,12 +5,10 @@ use Rattle.std.proofs.lemmas.List.Sums.{fold-append}
 use Rattle.rc_model.specs.Tree.{Tree, word, list, Trees, nil, cons}
 use Rattle.rc_form.specs.declared.form.Form.{Form}
 use Rattle.rc_form.specs.Form.{tree_of, trees_of, packed}
-use Rattle.rc_sheet_model.specs.FormMentions.{all_var_words, var_words, word_of, words_of, group_attr_words, group_value_words, branch_attr_words, branch_value_words, entry_attr_words, entry_value_words}
+use Rattle.rc_sheet_model.specs.FormMentions.{gathered, all_gathered, all_var_words, var_words, word_of, words_of, group_attr_words, group_value_words, branch_attr_words, branch_value_words, entry_attr_words, entry_value_words}
 use Rattle.rc_sheet_model.specs.StandsSetup.{begins_with, lines_with}
-use Rattle.rc_naming.specs.Mentions.{Mentions}
-use Rattle.rc_naming.specs.Known.{with_first, with_all, joined, in_tree, in_trees, variables, in_groups, in_branches, in_values, in_entries, in_deck_of, none, in_deck_line, in_deck_lines, deck_in, decks_in, in_points_line, in_points_lines, points_in, all_points_in}
-use Rattle.rc_naming.specs.declared.uses.Kind.{Kind}
-use Rattle.rc_naming.specs.declared.uses.Kind.TheVariants.{Attr, Value, Map, Loc, Num}
+use Rattle.rc_naming.specs.Mentions.{Mentions, loc_mention}
+use Rattle.rc_naming.specs.Known.{with_first, with_all, joined, in_tree, in_trees, locs_alone, variables, in_groups, in_branches, in_values, in_entries, in_deck_of, none, in_deck_line, in_deck_lines, deck_in, decks_in, in_points_line, in_points_lines, points_in, all_points_in}
 
 -- mentions are added in turn
 pub with_all-joined : (known first later : Mentions) → with_all (with_all known first) later ≡ with_all known (joined first later)
@@ -28,12 +26,11 @@ with_all-joined known first later =
 abbrev pub Splits : (Trees → Mentions) → (Tree → Mentions) → Type 0
 Splits all one = (tree : Tree) (trees : Trees) → all (cons tree trees) ≡ joined (one tree) (all trees)
 
-pub trees-split : (kind : Kind) → Splits (in_trees kind) (in_tree kind)
-trees-split Attr tree trees = refl
-trees-split Value tree trees = refl
-trees-split Map tree trees = refl
-trees-split Loc tree trees = refl
-trees-split Num tree trees = refl
+pub trees-split : Splits in_trees in_tree
+trees-split tree trees = refl
+
+pub locations-split : Splits (λ trees. locs_alone (all_gathered loc_mention trees)) (λ tree. locs_alone (gathered loc_mention tree))
+locations-split tree trees = refl
 
 pub variables-split : Splits (λ trees. variables (all_var_words trees)) (λ tree. variables (var_words tree))
 variables-split tree trees = refl

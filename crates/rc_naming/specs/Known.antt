@@ -11,8 +11,6 @@ use Rattle.rc_naming.specs.Mentions.{Mentions, loc_mention, num_mention, deck_lo
 use Rattle.rc_naming.specs.Naming.{loc_names, num_names}
 use Rattle.rc_grammar.specs.Faults.{is_form_word}
 use Rattle.rc_grammar.specs.declared.keyword.Keyword.{Keyword}
-use Rattle.rc_naming.specs.declared.uses.Kind.{Kind}
-use Rattle.rc_naming.specs.declared.uses.Kind.TheVariants.{Attr, Value, Map, Loc, Num}
 use Rattle.rc_naming.specs.declared.uses.Located.{Located}
 use Rattle.rc_naming.specs.declared.known.Known.TheInside.{Inside as Fields}
 
@@ -57,28 +55,37 @@ joined first later =
       vars = first.vars ++ later.vars;
     }
 
--- what a list of these parts mentions itself of a kind
-abbrev pub own : Kind → Trees → Mentions
-own Attr parts = record none { attrs = attr_word parts }
-own Value parts = record none { values = value_word parts }
-own Map parts = record none { maps = map_word parts }
-own Loc parts = record none { locs = loc_mention parts }
-own Num parts = record none { nums = num_mention parts }
+-- what a list of these parts mentions itself, but for variables
+abbrev pub own : Trees → Mentions
+own parts =
+    record none {
+      attrs = attr_word parts;
+      values = value_word parts;
+      maps = map_word parts;
+      locs = loc_mention parts;
+      nums = num_mention parts;
+    }
 
--- what is mentioned of a kind in a tree, and in trees
-abbrev pub in_tree : Kind → Tree → Mentions
-in_tree Attr tree = record none { attrs = gathered attr_word tree }
-in_tree Value tree = record none { values = gathered value_word tree }
-in_tree Map tree = record none { maps = gathered map_word tree }
-in_tree Loc tree = record none { locs = gathered loc_mention tree }
-in_tree Num tree = record none { nums = gathered num_mention tree }
+-- what is mentioned in a tree, and in trees, but for variables
+abbrev pub in_tree : Tree → Mentions
+in_tree tree =
+    record none {
+      attrs = gathered attr_word tree;
+      values = gathered value_word tree;
+      maps = gathered map_word tree;
+      locs = gathered loc_mention tree;
+      nums = gathered num_mention tree;
+    }
 
-abbrev pub in_trees : Kind → Trees → Mentions
-in_trees Attr trees = record none { attrs = all_gathered attr_word trees }
-in_trees Value trees = record none { values = all_gathered value_word trees }
-in_trees Map trees = record none { maps = all_gathered map_word trees }
-in_trees Loc trees = record none { locs = all_gathered loc_mention trees }
-in_trees Num trees = record none { nums = all_gathered num_mention trees }
+abbrev pub in_trees : Trees → Mentions
+in_trees trees =
+    record none {
+      attrs = all_gathered attr_word trees;
+      values = all_gathered value_word trees;
+      maps = all_gathered map_word trees;
+      locs = all_gathered loc_mention trees;
+      nums = all_gathered num_mention trees;
+    }
 
 -- variables alone
 abbrev pub variables : List (List ℕ) → Mentions

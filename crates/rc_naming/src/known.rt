@@ -2,9 +2,10 @@
 ghost use Rattle.std.specs.Prelude.{◌≡◌, [], OnOk, option_map, option_to_list};
 ghost use Rattle.rc_form.specs.Form.{tree_of, trees_of, packed};
 ghost use Rattle.rc_sheet_model.specs.FormMentions.{word_of};
+ghost use Rattle.rc_naming.specs.Mentions.{loc_mention};
 ghost use Rattle.rc_naming.specs.Known.{with_first, with_words, with_all, own, none, in_deck_of, maps_alone, locs_alone, nums_alone, variables, loc_seen, num_seen};
 
-use crate::uses::{Kind, Located, attr_in, loc_in, map_in, num_in, value_in, word_of};
+use crate::uses::{Located, attr_in, loc_in, map_in, num_in, value_in, word_of};
 use indexmap::{IndexMap, IndexSet};
 use rc_ast::Class;
 use rc_form::{Form, Word};
@@ -76,17 +77,22 @@ impl Known {
         add_word(&mut self.vars, word_of(form))
     }
 
-    /// Adds the name of this kind that a list of these parts mentions itself.
-    pub fn add_own(&mut self, kind: Kind, parts: &[Form]) -> Result<(), AllocError>
-        ensures { OnOk result (self.new ≡ with_all self.old (own kind (packed (trees_of parts.now)))) }
+    /// Adds the names that a list of these parts mentions itself, but for variables.
+    pub fn add_own(&mut self, parts: &[Form]) -> Result<(), AllocError>
+        ensures { OnOk result (self.new ≡ with_all self.old (own (packed (trees_of parts.now)))) }
     {
-        match kind {
-            Kind::Attr => add_word(&mut self.attrs, attr_in(parts)),
-            Kind::Value => add_word(&mut self.values, value_in(parts)),
-            Kind::Map => add_word(&mut self.maps, map_in(parts)),
-            Kind::Loc => self.add_location(loc_in(parts)),
-            Kind::Num => self.add_number(num_in(parts)),
-        }
+        add_word(&mut self.attrs, attr_in(parts))?;
+        add_word(&mut self.values, value_in(parts))?;
+        add_word(&mut self.maps, map_in(parts))?;
+        self.add_location(loc_in(parts))?;
+        self.add_number(num_in(parts))
+    }
+
+    /// Adds the location that a list of these parts mentions itself.
+    pub fn add_own_location(&mut self, parts: &[Form]) -> Result<(), AllocError>
+        ensures { OnOk result (self.new ≡ with_all self.old (locs_alone (loc_mention (packed (trees_of parts.now))))) }
+    {
+        self.add_location(loc_in(parts))
     }
 
     /// Adds a mention of a location, where there is one.

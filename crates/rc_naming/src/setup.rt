@@ -9,7 +9,6 @@ use crate::known::Known;
 use crate::sheet_parts::{
     begins_with, deck_groups, deck_location, parts_of, points_entries, points_map,
 };
-use crate::uses::Kind;
 use rc_form::Form;
 use rc_grammar::Keyword;
 use std::alloc::AllocError;
@@ -39,7 +38,7 @@ impl Known {
         ensures { OnOk result (self.new ≡ with_all self.old (locs_alone (mentions.deck_location (tree_of line.now)))) }
     {
         match deck_location(line) {
-            Some(location) => self.add_tree(Kind::Loc, location),
+            Some(location) => self.add_locations_in(location),
             None => Ok(()),
         }
     }

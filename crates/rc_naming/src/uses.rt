@@ -12,16 +12,6 @@ use rc_ast::{Class, LocKind};
 use rc_form::{Form, Word};
 use rc_grammar::{Keyword, Place, Rule, is_form_word, rule_of};
 
-/// The kinds of names that lists mention, but for variables.
-#[derive(Clone, Copy, PartialEq, Eq, Debug)]
-pub enum Kind {
-    Attr,
-    Value,
-    Map,
-    Loc,
-    Num,
-}
-
 /// What a mention says of a location.
 #[derive(Clone, Copy, PartialEq, Eq, Debug)]
 pub struct Located {

@@ -1,11 +1,12 @@
 //! Walks over the items and the score of a sheet, or over the location of a deck.
 ghost use Rattle.std.specs.Prelude.{◌≡◌, OnOk};
 ghost use Rattle.rc_form.specs.Form.{tree_of, trees_of, packed};
-ghost use Rattle.rc_sheet_model.specs.FormMentions.{var_words, bound_words, all_var_words};
-ghost use Rattle.rc_naming.specs.Known.{with_all, in_tree, in_trees, variables, body_in};
+ghost use Rattle.rc_sheet_model.specs.FormMentions.{gathered, all_gathered, var_words, bound_words, all_var_words};
+ghost use Rattle.rc_naming.specs.Mentions.{loc_mention};
+ghost use Rattle.rc_naming.specs.Known.{with_all, in_tree, in_trees, locs_alone, variables, body_in};
 
 use crate::known::Known;
-use crate::uses::{Kind, is_binder};
+use crate::uses::is_binder;
 use rc_form::Form;
 use std::alloc::AllocError;
 
@@ -14,34 +15,54 @@ impl Known {
     pub fn add_body(&mut self, body: &[Form]) -> Result<(), AllocError>
         ensures { OnOk result (self.new ≡ with_all self.old (body_in (packed (trees_of body.now)))) }
     {
-        self.add_trees(Kind::Attr, body)?;
-        self.add_trees(Kind::Value, body)?;
-        self.add_trees(Kind::Map, body)?;
-        self.add_trees(Kind::Loc, body)?;
-        self.add_trees(Kind::Num, body)?;
+        self.add_names(body)?;
         self.add_all_variables(body)
     }
 
-    /// Adds the names of this kind that a form mentions: those in its parts, and then its own.
-    #[cycle(walk)]
-    pub fn add_tree(&mut self, kind: Kind, form: &Form) -> Result<(), AllocError>
-        ensures { OnOk result (self.new ≡ with_all self.old (in_tree kind (tree_of form.now))) }
+    /// Adds the names that forms mention, but for variables: for each form those in its parts, and then its own.
+    #[cycle(names)]
+    fn add_names(&mut self, forms: &[Form]) -> Result<(), AllocError>
+        ensures { OnOk result (self.new ≡ with_all self.old (in_trees (packed (trees_of forms.now)))) }
+    {
+        for form in forms {
+            self.add_names_in(form)?;
+        }
+        Ok(())
+    }
+
+    #[cycle(names)]
+    fn add_names_in(&mut self, form: &Form) -> Result<(), AllocError>
+        ensures { OnOk result (self.new ≡ with_all self.old (in_tree (tree_of form.now))) }
     {
         match form {
             Form::Atom { .. } => Ok(()),
             Form::List { items, .. } => {
-                self.add_trees(kind, items)?;
-                self.add_own(kind, items)
+                self.add_names(items)?;
+                self.add_own(items)
             }
         }
     }
 
-    #[cycle(walk)]
-    fn add_trees(&mut self, kind: Kind, forms: &[Form]) -> Result<(), AllocError>
-        ensures { OnOk result (self.new ≡ with_all self.old (in_trees kind (packed (trees_of forms.now)))) }
+    /// Adds the locations that a form mentions: those in its parts, and then its own.
+    #[cycle(locations)]
+    pub fn add_locations_in(&mut self, form: &Form) -> Result<(), AllocError>
+        ensures { OnOk result (self.new ≡ with_all self.old (locs_alone (gathered loc_mention (tree_of form.now)))) }
+    {
+        match form {
+            Form::Atom { .. } => Ok(()),
+            Form::List { items, .. } => {
+                self.add_locations(items)?;
+                self.add_own_location(items)
+            }
+        }
+    }
+
+    #[cycle(locations)]
+    fn add_locations(&mut self, forms: &[Form]) -> Result<(), AllocError>
+        ensures { OnOk result (self.new ≡ with_all self.old (locs_alone (all_gathered loc_mention (packed (trees_of forms.now))))) }
     {
         for form in forms {
-            self.add_tree(kind, form)?;
+            self.add_locations_in(form)?;
         }
         Ok(())
     }
