@@ -44,8 +44,9 @@ pub(crate) fn sights_of(
 {
     // what a table keeps
     let _shape = table.shape();
-    let mut sights = Vec::new(alloc);
-    for loc in 0..shape.locations() {
+    let count = shape.locations();
+    let mut sights = Vec::with_capacity(alloc, count as usize)?;
+    for loc in 0..count {
         sights.push(sight_of(alloc, shape, table, seat, loc)?)?;
     }
     Ok(sights)
@@ -78,7 +79,7 @@ fn face_numbers(alloc: Global, shape: &Shape, ids: &[u16]) -> Result<Vec<u16>, M
     requires { All (λ id. id < length shape.now.faces) ids.now }
     ensures { IfOk result (λ numbers. numbers.items ≡ map (face_number_of shape.now) ids.now) }
 {
-    let mut numbers = Vec::new(alloc);
+    let mut numbers = Vec::with_capacity(alloc, ids.len())?;
     for id in ids {
         numbers.push(face_number(shape, *id))?;
     }

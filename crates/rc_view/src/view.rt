@@ -75,8 +75,9 @@ pub fn view_of(
 fn numbers_of(alloc: Global, table: &Table) -> Result<Vec<i64>, Memory>
     ensures { IfOk result (λ numbers. numbers.items ≡ table.now.table.numbers) }
 {
-    let mut numbers = Vec::new(alloc);
-    for num in 0..table.shape().numbers() {
+    let count = table.shape().numbers();
+    let mut numbers = Vec::with_capacity(alloc, count as usize)?;
+    for num in 0..count {
         numbers.push(table.number(num))?;
     }
     Ok(numbers)
@@ -86,7 +87,7 @@ fn numbers_of(alloc: Global, table: &Table) -> Result<Vec<i64>, Memory>
 fn copied(alloc: Global, sights: &[Sight]) -> Result<Vec<Sight>, Memory>
     ensures { IfOk result (λ copy. map sight_seen copy.items ≡ map sight_seen sights.now) }
 {
-    let mut copy = Vec::new(alloc);
+    let mut copy = Vec::with_capacity(alloc, sights.len())?;
     for sight in sights {
         copy.push(sight.copy(alloc)?)?;
     }

@@ -15,4 +15,4 @@ loop-loc-preserved c =
     ap (map sight_seen) c.in_ok-push.ensures.items
     ∙ map-append sight_seen c.loop-loc.sights.items (c.in_ok-sight_of.field-0 ∷ [])
     ∙ ap₂ (λ before last. before ++ last ∷ []) c.loop-loc.invariant c.in_ok-sight_of.ensures
-    ∙ sym (sights_next shape c.args.seat shape.places table.lists c.loop-loc.loc (omega (arith, same, within, c.locations-loc-end.ensures)) same)
+    ∙ sym (sights_next shape c.args.seat shape.places table.lists c.loop-loc.loc (omega (arith, same, within, c.locations-count.ensures)) same)
