@@ -6,7 +6,7 @@ use Rattle.std.proofs.lemmas.Option.{slice_get_within, get_or_from_slice_get}
 use Rattle.std.proofs.lemmas.Bool.Decides.{Decides-ltb}
 use Rattle.std.proofs.lemmas.Bool.{cases_lt, cond-true}
 use Rattle.std.proofs.lemmas.List.{get_or_past, get_or-set_same}
-use Rattle.std.proofs.lemmas.List.Elements.{recursion_from_All}
+use Rattle.std.proofs.lemmas.List.Elements.{recursion_from_All, All-from_get_or}
 use Rattle.std.proofs.lemmas.List.FromFn.{length-range_with_len}
 use Rattle.std.proofs.lemmas.List.Sums.{sum_by-cons, get_or-le-sum_by}
 use Rattle.rc_model.specs.Numbers.{below}
@@ -120,6 +120,12 @@ module _ (shape : Shape) (table : Table) (sound : IsSound shape table) (limits :
 
   pub list_fits : (loc : ℕ) → length (list_at table loc) ≤ longest shape
   list_fits = list_within (longest shape) (cards_fit shape limits) (mem_fits shape)
+
+-- where there is room for what a shape needs, there is for each list of a sound table
+pub all_fit : (shape : Shape) (table : Table) → IsSound shape table → IsShape shape → (room : ℕ) → longest shape ≤ room →
+    All (λ list. length list ≤ room) table.lists
+all_fit shape table sound limits room fits =
+    All-from_get_or (λ list. length list ≤ room) table.lists [] (λ loc within. let most = list_fits shape table sound limits loc in omega (arith, most, fits))
 
 -- where a sound table has one more at a place of a location, there was room for it
 pub one_more_fits : (shape : Shape) (table : Table) (id loc place : ℕ) → IsShape shape → loc < length table.lists →

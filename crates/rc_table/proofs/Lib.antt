@@ -6,5 +6,6 @@ pub mod FaceNumbers
 pub mod PutBack
 pub mod RowLemmas
 pub mod OnePlace
+pub mod Overwritten
 pub mod WhereaboutLemmas
 pub mod WhereaboutEdits

@@ -6,7 +6,7 @@ use Rattle.rc_table.specs.Rows.{Lists}
 abbrev pub held : Vec ℕ Global → List ℕ
 held row = row.items
 
-abbrev lists_of : List (List ℕ) → ℕ → Lists
+abbrev pub lists_of : List (List ℕ) → ℕ → Lists
 lists_of all room = record { all = all; room = room }
 
 -- a row that is read

@@ -3,4 +3,5 @@ pub mod Shape
 pub mod Rows
 pub mod Laid
 pub mod Restored
+pub mod Refilled
 pub mod Whereabouts

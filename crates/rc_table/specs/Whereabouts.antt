@@ -1,8 +1,8 @@
 -- Where each card of a table stands.
-use Rattle.std.specs.Prelude.{ℕ, ◌+◌, if◌then◌else◌, List, [], ◌∷◌, length, map, drop, slice_get, slice_index_or, slice_set}
+use Rattle.std.specs.Prelude.{ℕ, ℤ, ◌+◌, if◌then◌else◌, List, [], ◌∷◌, length, map, drop, slice_get, slice_index_or, slice_set}
 use Rattle.rc_model.specs.Numbers.{below}
 use Rattle.rc_play_model.specs.Shape.{Shape, holds_references}
-use Rattle.rc_play_model.specs.Table.{Table, place_of}
+use Rattle.rc_play_model.specs.Table.{Table, IsSound, place_of}
 
 -- each card's location, and its place there
 abbrev pub whereabouts : Shape → Table → List (ℕ × ℕ)
@@ -17,3 +17,11 @@ noted loc at (id ∷ ids) stand = noted loc (at + 1) ids (slice_set stand id (lo
 abbrev pub noted_in : Shape → List (List ℕ) → ℕ → ℕ → List (ℕ × ℕ) → List (ℕ × ℕ)
 noted_in shape lists loc from stand =
     if holds_references (slice_get shape.places loc) then stand else noted loc from (drop from (slice_index_or lists loc [])) stand
+
+-- a table of these lists, whose numbers don't matter
+abbrev pub laid_out : List (List ℕ) → Table
+laid_out lists = record { lists = lists; numbers = [] }
+
+-- the lists of a sound table
+abbrev pub AreSound : Shape → List (List ℕ) → Type 0
+AreSound shape lists = (numbers : List ℤ) × IsSound shape (record { lists = lists; numbers = numbers })

@@ -10,6 +10,7 @@ mod by_place;
 mod edits;
 mod faces;
 mod finding;
+mod laying;
 mod place;
 mod rows;
 mod shape;

@@ -1,6 +1,8 @@
 //! A list of ids for each location.
-ghost use Rattle.std.specs.Prelude.{◌≡◌, ◌<◌, ◌≤◌, [], length, replicate, slice_index_or, slice_set, vec_capacity, IfOk};
+ghost use Rattle.std.specs.Prelude.{◌≡◌, ◌<◌, ◌≤◌, [], length, map, replicate, slice_index_or, slice_set, vec_capacity, All, IfOk};
 ghost use Rattle.std.specs.List.{remove, insert};
+ghost use Rattle.rc_table.specs.Refilled.{CanRefill, lists_refilled};
+ghost use Rattle.rc_table.specs.Restored.{AreUntouched};
 
 use rc_deck::Memory;
 use std::alloc::Global;
@@ -66,7 +68,14 @@ impl Rows {
     pub(crate) fn list(&self, at: u16) -> &[u16]
         ensures { result.now ≡ slice_index_or self.now.all at [] }
     {
-        match self.rows.get(at as usize) {
+        self.row(at as usize)
+    }
+
+    // The same by an index.
+    fn row(&self, at: usize) -> &[u16]
+        ensures { result.now ≡ slice_index_or self.now.all at [] }
+    {
+        match self.rows.get(at) {
             Some(row) => row,
             None => &[],
         }
@@ -104,5 +113,64 @@ impl Rows {
         ensures { self.new ≡ record { all = slice_set self.old.all at list.now; room = self.old.room } }
     {
         self.rows[at as usize].copy_from_slice(list);
+    }
+
+    // Writes another list over one, of whatever length within the room.
+    fn overwrite(&mut self, at: usize, list: &[u16])
+        requires list { at < length self.old.all }
+        requires room { length list.now ≤ self.old.room }
+        ensures { self.new ≡ record { all = slice_set self.old.all at list.now; room = self.old.room } }
+    {
+        let row = &mut self.rows[at];
+        row.clear();
+        row.extend_from_slice(list).unwrap();
+    }
+
+    /// Writes other lists over all of these.
+    pub(crate) fn lay(&mut self, lists: &[Vec<u16>])
+        requires each { length lists.now ≡ length self.old.all }
+        requires room { All (λ list. length list ≤ self.old.room) (map (λ list. list.items) lists.now) }
+        ensures { self.new ≡ record { all = map (λ list. list.items) lists.now; room = self.old.room } }
+    {
+        for at in 0..lists.len() {
+            self.overwrite(at, &lists[at]);
+        }
+    }
+
+    /// Writes the lists of other rows over all of these.
+    pub(crate) fn copy_from(&mut self, other: &Rows)
+        requires each { length other.now.all ≡ length self.old.all }
+        requires room { All (λ list. length list ≤ self.old.room) other.now.all }
+        ensures { self.new ≡ record { all = other.now.all; room = self.old.room } }
+    {
+        self.lay(&other.rows);
+    }
+
+    /// Writes the lists of a base over those that were touched; the others are those of the base.
+    pub(crate) fn put_back(&mut self, base: &Rows, touched: &[bool])
+        requires each { length touched.now ≡ length self.old.all }
+        requires base { length base.now.all ≡ length self.old.all }
+        requires room { All (λ list. length list ≤ self.old.room) base.now.all }
+        requires same { AreUntouched touched.now self.old.all base.now.all }
+        ensures { self.new ≡ record { all = base.now.all; room = self.old.room } }
+    {
+        for at in 0..touched.len() {
+            if touched[at] {
+                self.overwrite(at, base.row(at));
+            }
+        }
+    }
+
+    /// Writes ids over these lists, one list after another, each with as many of them as it has.
+    pub(crate) fn refill(&mut self, lists: &[u16], ids: &[u16])
+        requires { CanRefill lists.now ids.now self.old.all }
+        ensures { self.new ≡ record { all = lists_refilled lists.now ids.now self.old.all; room = self.old.room } }
+    {
+        let mut from = 0;
+        for at in lists {
+            let to = from + self.list(*at).len();
+            self.rewrite(*at, &ids[from..to]);
+            from = to;
+        }
     }
 }

@@ -1,8 +1,7 @@
 //! Where each card stands.
 ghost use Rattle.std.specs.Prelude.{◌≡◌, ◌<◌, ◌≤◌, [], length, drop, slice_index_or, All, IfOk};
-ghost use Rattle.rc_play_model.specs.Table.{IsSound, opening};
 ghost use Rattle.rc_table.specs.Shape.{IsShape};
-ghost use Rattle.rc_table.specs.Whereabouts.{whereabouts, noted, noted_in};
+ghost use Rattle.rc_table.specs.Whereabouts.{AreSound, laid_out, whereabouts, noted, noted_in};
 
 use crate::rows::Rows;
 use crate::shape::Shape;
@@ -57,16 +56,25 @@ pub(crate) fn note_move(
     note_cards(stand, shape, lists, to, place);
 }
 
+/// Notes where each card stands, of lists of a sound table.
+pub(crate) fn note_all(stand: &mut [(u16, u16)], shape: &Shape, lists: &Rows)
+    requires limits { IsShape shape.now }
+    requires sound { AreSound shape.now lists.now.all }
+    requires each { length stand.old ≡ length shape.now.faces }
+    ensures { stand.new ≡ whereabouts shape.now (laid_out lists.now.all) }
+{
+    for loc in 0..shape.locations() {
+        note_cards(stand, shape, lists, loc, 0);
+    }
+}
+
 /// Where each card stands when a match begins.
 pub(crate) fn at_home(alloc: Global, shape: &Shape, lists: &Rows) -> Result<Vec<(u16, u16)>, Memory>
     requires limits { IsShape shape.now }
-    requires sound { IsSound shape.now (opening shape.now) }
-    requires lists { lists.now.all ≡ (opening shape.now).lists }
-    ensures { IfOk result (λ stand. stand.items ≡ whereabouts shape.now (opening shape.now)) }
+    requires sound { AreSound shape.now lists.now.all }
+    ensures { IfOk result (λ stand. stand.items ≡ whereabouts shape.now (laid_out lists.now.all)) }
 {
     let mut stand = vec![in alloc; (0, 0); shape.cards() as usize]?;
-    for loc in 0..shape.locations() {
-        note_cards(&mut stand, shape, lists, loc, 0);
-    }
+    note_all(&mut stand, shape, lists);
     Ok(stand)
 }

@@ -1,0 +1,55 @@
+//! Tables that are laid whole. None of it takes memory.
+ghost use Rattle.std.specs.Prelude.{◌≡◌, length, map};
+ghost use Rattle.rc_play_model.specs.Table.{IsSound};
+ghost use Rattle.rc_table.specs.Laid.{relaid};
+ghost use Rattle.rc_table.specs.Refilled.{CanRefill, refilled};
+ghost use Rattle.rc_table.specs.Restored.{AreUntouched};
+
+use crate::table::Table;
+use crate::whereabouts::note_all;
+
+impl Table {
+    /// Becomes the same as another table of the same shape.
+    pub fn copy_from(&mut self, other: &Table)
+        requires { self.old.shape ≡ other.now.shape }
+        ensures { self.new ≡ other.now }
+    {
+        self.lists.copy_from(&other.lists);
+        self.whereabouts.copy_from_slice(&other.whereabouts);
+        self.numbers.copy_from_slice(&other.numbers);
+    }
+
+    /// Becomes the same as a base of the same shape, with a flag for each location. Where the flag is false, the location holds the
+    /// same list in both already, and only the other lists are copied.
+    pub fn put_back(&mut self, base: &Table, touched: &[bool])
+        requires shape { self.old.shape ≡ base.now.shape }
+        requires each { length touched.now ≡ length self.old.shape.places }
+        requires same { AreUntouched touched.now self.old.table.lists base.now.table.lists }
+        ensures { self.new ≡ base.now }
+    {
+        self.lists.put_back(&base.lists, touched);
+        self.whereabouts.copy_from_slice(&base.whereabouts);
+        self.numbers.copy_from_slice(&base.numbers);
+    }
+
+    /// Becomes the table of these lists and numbers, in the same shape. That table must be sound.
+    pub fn lay(&mut self, lists: &[Vec<u16>], numbers: &[i64])
+        requires { IsSound self.old.shape (record { lists = map (λ list. list.items) lists.now; numbers = numbers.now }) }
+        ensures { self.new ≡ relaid self.old (record { lists = map (λ list. list.items) lists.now; numbers = numbers.now }) }
+    {
+        self.lists.lay(lists);
+        note_all(&mut self.whereabouts, &self.shape, &self.lists);
+        self.numbers.copy_from_slice(numbers);
+    }
+
+    /// Writes ids over what these locations hold, one location after another, each with as many of them as it has. The ids are
+    /// enough for all of the locations, and the table must then be sound.
+    pub fn refill(&mut self, locs: &[u16], ids: &[u16])
+        requires enough { CanRefill locs.now ids.now self.old.table.lists }
+        requires sound { IsSound self.old.shape (refilled locs.now ids.now self.old.table) }
+        ensures { self.new ≡ relaid self.old (refilled locs.now ids.now self.old.table) }
+    {
+        self.lists.refill(locs, ids);
+        note_all(&mut self.whereabouts, &self.shape, &self.lists);
+    }
+}
