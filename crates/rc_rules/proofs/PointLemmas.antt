@@ -1,5 +1,7 @@
 -- Sums over the players, from the first on.
-use Rattle.std.proofs.Common.{◌≡◌, ℕ, zero, suc, ◌+◌, ◌==◌, Bool, true, false, if◌then◌else◌, List, [], ◌∷◌, ◌++◌, map, fold, pos, ℤ, ◌+ℤ◌, ap, ◌∙◌, arith}
+use Rattle.std.proofs.Common.{◌≡◌, ℕ, zero, suc, ◌+◌, ◌<◌, ◌≤◌, ◌==◌, Bool, true, false, if◌then◌else◌, List, [], ◌∷◌, ◌++◌, map, fold, pos, ℤ, ◌+ℤ◌, None, inl, inr, refl, ap, ◌∙◌, arith}
+use Rattle.std.proofs.lemmas.Bool.{cases_eq, cond-true, cond-false, ne_eqb}
+use Rattle.std.proofs.lemmas.Bool.Decides.{Decides-eqb}
 use Rattle.std.specs.Prelude.{filter, slice_index_or, sum_by}
 use Rattle.std.specs.List.{range_with_len}
 use Rattle.std.proofs.lemmas.List.{map-append, append-nil}
@@ -57,3 +59,42 @@ sum_below_push sheet scores team n =
         ap (fold ◌+ℤ◌ (pos 0)) (map-append score (filter mine (below n)) (n ∷ []))
         ∙ fold_push ◌+ℤ◌ (pos 0) (map score (filter mine (below n))) (score n)
     by false = ap total (append-nil (filter mine (below n))) ∙ omega (arith, ints)
+
+-- without teams a player's share is the score of the player's own team
+share_alone : (sheet : Sheet) → sheet.teams ≡ None → (scores : List ℤ) (team player : ℕ) →
+    share sheet scores team player ≡ (if player == team then slice_index_or scores player (pos 0) else pos 0)
+share_alone sheet none scores team player =
+    ap (λ teams. if team_in teams player == team then slice_index_or scores player (pos 0) else pos 0) none
+
+none_alone : (sheet : Sheet) → sheet.teams ≡ None → (scores : List ℤ) (team n : ℕ) → n ≤ team → sum_below sheet scores team n ≡ pos 0
+none_alone sheet none scores team zero le = refl
+none_alone sheet none scores team (suc n) le =
+    let score = slice_index_or scores n (pos 0) in
+    let more = sum_below_push sheet scores team n in
+    let before = none_alone sheet none scores team n (omega (arith, le)) in
+    let last = share_alone sheet none scores team n ∙ cond-false (n == team) score (pos 0) (ne_eqb n team (λ same. omega (arith, le, same))) in
+    ap (sum_below sheet scores team) (let e : suc n ≡ n + 1 = omega arith in e) ∙ omega (arith, ints, more, before, last)
+
+-- without teams a player is alone in a team
+pub sum_alone : (sheet : Sheet) → sheet.teams ≡ None → (scores : List ℤ) (team n : ℕ) → team < n →
+    sum_below sheet scores team n ≡ slice_index_or scores team (pos 0)
+sum_alone sheet none scores team zero less = absurd (omega (arith, less))
+sum_alone sheet none scores team (suc n) less =
+    let score = slice_index_or scores n (pos 0) in
+    let more = sum_below_push sheet scores team n in
+    ap (sum_below sheet scores team) (let e : suc n ≡ n + 1 = omega arith in e)
+    ∙ elim (cases_eq n team) [
+      | inl same ↦
+          let before = none_alone sheet none scores team n (omega (arith, same)) in
+          let last = share_alone sheet none scores team n ∙ cond-true (n == team) score (pos 0) ((Decides-eqb n team).1 same)
+          ∙ ap (λ player. slice_index_or scores player (pos 0)) same in
+          omega (arith, ints, more, before, last)
+      | inr other ↦
+          let before = sum_alone sheet none scores team n (omega (arith, less, other)) in
+          let last = share_alone sheet none scores team n ∙ cond-false (n == team) score (pos 0) (ne_eqb n team other) in
+          omega (arith, ints, more, before, last)
+    ]
+
+pub sum_absent : (sheet : Sheet) → sheet.teams ≡ None → (scores : List ℤ) (team : ℕ) → sheet.players ≤ team →
+    sum_below sheet scores team sheet.players ≡ pos 0
+sum_absent sheet none scores team le = none_alone sheet none scores team sheet.players le

@@ -22,7 +22,7 @@ pub use lookup::Lookup;
 pub use machine::Machine;
 pub use menu::{Item, Menu, Scores, Spots};
 pub use plan::{Deal, Plan, Strategy};
-pub use points::rank_points;
+pub use points::{rank_points, rank_points_of};
 pub use record::{Ended, MatchRecord, Pick, Score, Standing};
 pub use shape::shape_of;
 pub use stages::{class_of_stage, current_in, is_stage_of, owner_count};

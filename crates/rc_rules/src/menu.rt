@@ -19,8 +19,12 @@ impl Item {
     pub fn copy(&self) -> Item
         ensures { item_seen result ≡ item_seen self.now }
     {
+        let own = self.spots.as_slice();
         let mut spots = Spots::new();
-        let _fits = spots.try_extend_from_slice(self.spots.as_slice());
+        // one by one: they are few, and to copy the whole list is a call
+        for place in 0..own.len() {
+            spots.push(own[place]);
+        }
         Item {
             alt: self.alt,
             spots,

@@ -10,7 +10,7 @@ loop-player-preserved c =
     record {
       is =
           c.push.ensures.items
-          ∙ ap₂ (λ before last. before ++ last ∷ []) c.loop-player.invariant.is c.points_of.ensures
+          ∙ ap₂ (λ before last. before ++ last ∷ []) c.loop-player.invariant.is c.rank_points_of.ensures
           ∙ sym (mapped_push points c.loop-player.player);
       many = c.push.ensures.len ∙ ap (λ n. n + 1) c.loop-player.invariant.many;
     }

@@ -3,7 +3,7 @@ use Rattle.rc_play_model.specs.Scores as play
 use Rattle.rc_play_model.specs.Shape.{team_in}
 use Rattle.rc_ast.specs.Sheet.{sheet_seen}
 use Rattle.rc_rules.proofs.PointLemmas.{summed_push}
-use Rattle.rc_rules.proofs.points.points_of.Goals as goal
+use Rattle.rc_rules.proofs.points.rank_points_of.Goals as goal
 
 pub loop-other-preserved : goal.loop-other-preserved
 loop-other-preserved c =

@@ -4,7 +4,7 @@ use Rattle.rc_model.specs.Numbers.{below}
 use Rattle.rc_play_model.specs.Scores as play
 use Rattle.rc_play_model.specs.Shape.{team_in}
 use Rattle.rc_ast.specs.Sheet.{sheet_seen}
-use Rattle.rc_rules.proofs.points.points_of.Given as goal
+use Rattle.rc_rules.proofs.points.rank_points_of.Given as goal
 
 abbrev pub invariant-loop-other : goal.invariant-loop-other
 invariant-loop-other l =

@@ -1,7 +1,7 @@
 use Rattle.std.proofs.Common.{◌≡◌, ◌*◌, pos, neg_ℤ, ◌≤ℤ◌}
 use Rattle.rc_ast.specs.Sheet.{sheet_seen}
 use Rattle.rc_rules.proofs.PointLemmas.{sum_below}
-use Rattle.rc_rules.proofs.points.team_score.Given as goal
+use Rattle.rc_rules.proofs.points.sum_of.Given as goal
 
 -- Each player moves the sum by at most 2^63.
 abbrev pub invariant-loop-player : goal.invariant-loop-player
