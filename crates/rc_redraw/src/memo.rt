@@ -33,13 +33,13 @@ pub trait Memo {
         requires served { Serves (serves self.old) (key_seen key.now).about }
         ensures hit { IfOk result (λ reply. IfHit reply (λ totals. totals ≡ tally_of (key_seen key.now).about (key_seen key.now).ask)) }
         ensures counted { IfOk result (λ reply. counts self.new ≡ looked_up (key_seen key.now) (is_hit reply) (counts self.old)) }
-        ensures uncounted { OnErr result (counts self.new ≡ counts self.old) }
+        ensures lacking { OnErr result (self.new ≡ self.old) }
         ensures same { serves self.new ≡ serves self.old };
 
     /// Takes totals to remember.
     fn keep(&mut self, alloc: Global, entry: Entry) -> Result<(), Memory>
         requires served { Serves (serves self.old) entry.about }
         ensures counted { OnOk result (counts self.new ≡ kept_once entry (counts self.old)) }
-        ensures uncounted { OnErr result (counts self.new ≡ counts self.old) }
+        ensures lacking { OnErr result (self.new ≡ self.old) }
         ensures same { serves self.new ≡ serves self.old };
 }

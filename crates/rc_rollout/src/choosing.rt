@@ -160,7 +160,7 @@ fn best_played<M: Memo, L: Ledger>(
     requires code { StandsFor (key_seen key.now).about.sheet (code_seen code.now.value) }
     ensures is { IfOk result (λ item. item ≡ strategy.first_largest (tally_of (key_seen key.now).about (key_seen key.now).ask)) }
     ensures kept { OnOk result (M.counts memo.new ≡ kept_once (key_seen key.now) (M.counts memo.old)) }
-    ensures lacking { OnErr result (M.counts memo.new ≡ M.counts memo.old) }
+    ensures lacking { OnErr result (memo.new ≡ memo.old) }
     ensures counted { OnOk result (steps.new ≡ steps.old + cost_of (key_seen key.now)) }
     ensures rises { steps.old ≤ steps.new }
     ensures bounded { steps.new ≤ steps.old + cost_of (key_seen key.now) }
