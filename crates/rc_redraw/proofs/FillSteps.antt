@@ -1,5 +1,5 @@
 -- One location more is filled.
-use Rattle.std.proofs.Common.{◌≡◌, ℕ, zero, suc, ◌+◌, ◌<◌, Bool, false, List, [], ◌∷◌, ◌++◌, length, map, drop, get_or, slice_get, Result, Ok, Err, IfOk, refl, sym, ap, ap₂, ◌∙◌, arith}
+use Rattle.std.proofs.Common.{◌≡◌, ℕ, zero, suc, ◌+◌, ◌<◌, nat_lt, if◌then◌else◌, Bool, false, List, [], ◌∷◌, ◌++◌, length, map, drop, get_or, slice_get, Result, Ok, Err, IfOk, refl, sym, ap, ap₂, ◌∙◌, arith}
 use Rattle.std.proofs.lemmas.List.{drop_more, drop-drop, length-append, length-map}
 use Rattle.std.proofs.Math.ListN.{get_or-map}
 use Rattle.rc_sheet_model.specs.WellFormed.{is_mem}
@@ -8,6 +8,7 @@ use Rattle.rc_play_model.specs.View.{Sight as PureSight, View as PureView, sight
 use Rattle.rc_play_model.specs.Redraw.{mems_of, faces_at, hidden_at, ids_at, seen_faces, hidden_count, filled}
 use Rattle.rc_play_model.specs.RedrawLaws.{IsViewOfSound}
 use Rattle.rc_view.specs.Seen.{sight_seen}
+use Rattle.rc_redraw.specs.Hiding.{hiding_from}
 use Rattle.rc_view.specs.declared.sight.Sight.{Sight}
 
 -- what is known of a value, where there is one, says something else of it
@@ -60,6 +61,10 @@ module _ (places : List Place) (sights : List Sight) (i : ℕ) (lengths : length
       ap₂ (λ ms ss. filled ms ss (drop a seen) (drop b hidden)) mems-are sights-are
       ∙ ap₂ (λ x y. ids_at m (sight_seen s) (drop a seen) (drop b hidden) ∷ filled rest-mems rest-sights x y)
       (drop-drop (length (faces_at m (sight_seen s))) a seen) (drop-drop (hidden_at m (sight_seen s)) b hidden)
+
+  pub hiding-more : (loc : ℕ) → hiding_from loc (drop i (mems_of places)) (drop i (map sight_seen sights))
+      ≡ (if nat_lt 0 (hidden_at m (sight_seen s)) then loc ∷ [] else []) ++ hiding_from (loc + 1) rest-mems rest-sights
+  hiding-more loc = ap₂ (hiding_from loc) mems-are sights-are
 
   pub seen-more : length (seen_faces (drop i (mems_of places)) (drop i (map sight_seen sights)))
       ≡ length (faces_at m (sight_seen s)) + length (seen_faces rest-mems rest-sights)

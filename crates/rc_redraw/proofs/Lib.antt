@@ -1,6 +1,4 @@
-mod Standing
-mod Laid
 mod FillSteps
 mod FaceSteps
 mod OtherSteps
-mod NumberSteps
+mod Anew

@@ -2,7 +2,8 @@ pub mod Asking
 pub mod Choosing
 pub mod Counts
 pub mod Entry
-pub mod Laying
+pub mod Hiding
 pub mod Need
+pub mod Redraws
 pub mod Reply
 pub mod Taken

@@ -1,6 +1,7 @@
 //! What each location of a redrawn table holds.
 ghost use Rattle.std.specs.Prelude.{◌≡◌, ◌≤◌, length, map, IfOk};
 ghost use Rattle.rc_play_model.specs.Redraw.{mems_of, faces_at, hidden_at, ids_at, seen_faces, hidden_count, filled as filled_by};
+ghost use Rattle.rc_redraw.specs.Hiding.{hiding_from};
 ghost use Rattle.rc_view.specs.Seen.{sight_seen};
 
 use crate::seen::faces_shown;
@@ -72,4 +73,19 @@ pub(crate) fn filled(
         hidden_from += hidden_places(mem, sight);
     }
     Ok(lists)
+}
+
+/// The locations that have unseen card places.
+pub(crate) fn hiding(alloc: Global, shape: &Shape, sights: &[Sight]) -> Result<Vec<u16>, Memory>
+    requires { length sights.now ≡ length shape.now.places }
+    ensures { IfOk result (λ locs. locs.items ≡ hiding_from 0 (mems_of shape.now.places) (map sight_seen sights.now)) }
+{
+    let mut locs = Vec::new(alloc);
+    for loc in 0..shape.locations() {
+        let mem = shape.holds_references(loc);
+        if hidden_places(mem, &sights[loc as usize]) > 0 {
+            locs.push(loc)?;
+        }
+    }
+    Ok(locs)
 }

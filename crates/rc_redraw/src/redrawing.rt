@@ -1,56 +1,125 @@
-//! The table that a view and a key give.
-ghost use Rattle.std.specs.Prelude.{◌≡◌, [], length, map, IfOk};
+//! The tables that a view and keys give.
+ghost use Rattle.std.specs.Prelude.{◌≡◌, ◌≤◌, length, IfOk};
 ghost use Rattle.rc_play_model.specs.Draws.{permuted};
-ghost use Rattle.rc_play_model.specs.Redraw.{mems_of, seen_faces, seen_ids, unused, hidden_count, filled as filled_by, redraw as redraw_of};
+ghost use Rattle.rc_play_model.specs.Redraw.{redraw as redraw_of};
 ghost use Rattle.rc_play_model.specs.RedrawLaws.{IsViewOfSound};
-ghost use Rattle.rc_play_model.specs.Smallest.{AreEnough};
 ghost use Rattle.rc_play_model.specs.Table.{IsSound};
 ghost use Rattle.rc_play_model.specs.View.{view_of};
-ghost use Rattle.rc_view.specs.Seen.{sight_seen, view_seen};
+ghost use Rattle.rc_redraw.specs.Redraws.{redealt};
+ghost use Rattle.rc_view.specs.Seen.{view_seen};
 
-use crate::filling::filled;
-use crate::hidden::left_by;
-use crate::laying::laid;
-use crate::seen::{faces_seen, taken_for};
+use crate::filling::hiding;
+use crate::layout::{Layout, layout_of};
 use rc_deck::Memory;
 use rc_draw::shuffle_by;
 use rc_play_model::{
     redrawn_tables_are_sound, redrawn_tables_keep_the_view, seen_places_take_the_smallest,
 };
 use rc_table::{Shape, Table};
-use rc_view::{Sight, View};
+use rc_view::View;
 use std::alloc::Global;
+use std::marker::Model;
 use std::sync::Arc;
 
-// What each location of the redrawn table holds.
-fn lists_for(
-    alloc: Global,
-    shape: &Shape,
-    sights: &[Sight],
-    key: &[u8; 32],
-) -> Result<Vec<Vec<u16>>, Memory>
-    requires each { length sights.now ≡ length shape.now.places }
-    requires few { AreEnough shape.now (seen_faces (mems_of shape.now.places) (map sight_seen sights.now)) }
-    requires rest { hidden_count (mems_of shape.now.places) (map sight_seen sights.now)
-        ≡ length (unused shape.now (seen_ids shape.now [] (seen_faces (mems_of shape.now.places) (map sight_seen sights.now)))) }
-    ensures { IfOk result (λ lists. let seen = seen_ids shape.now [] (seen_faces (mems_of shape.now.places) (map sight_seen sights.now)) in
-        map (λ list. list.items) lists.items
-        ≡ filled_by (mems_of shape.now.places) (map sight_seen sights.now) seen (permuted key.now (unused shape.now seen))) }
-{
-    seen_places_take_the_smallest();
-    let faces = faces_seen(alloc, shape, sights)?;
-    let taken = taken_for(alloc, shape, &faces)?;
-    let mut hidden = left_by(alloc, shape, &taken)?;
-    shuffle_by(key, &mut hidden);
-    filled(alloc, shape, sights, &taken.ids, &hidden)
+/// Tables that look like a view, one for each key. What the view shows is laid once. A deal only puts the other cards anew into the
+/// places that hide them, and takes no memory.
+#[derive(Drop)]
+pub struct Redraws {
+    view: View,
+    // that of the last key, or with the hidden cards in ascending order
+    table: Table,
+    // the locations that hide cards
+    hidden: Vec<u16>,
+    // their ids in ascending order
+    unused: Vec<u16>,
+    // and in that of the table
+    order: Vec<u16>,
 }
 
-/// A table that looks like the view, with the cards that are not seen in an order that the key decides. In location order and
-/// from bottom to top, each seen card place takes the smallest id of its face that is left. The other ids, put into the order of
-/// the key, fill the unseen card places. References are the smallest ids of their faces, and numbers are those of the view.
-///
-/// The view is that of some table of this shape. The redrawn table is sound, and what the seat sees of it is the view. Memory may
-/// run out.
+impl Model for Redraws {
+    ghost use Rattle.std.specs.Coded.{codes};
+    ghost use Rattle.rc_flow.specs.Codes.{sheet_codes};
+    ghost use Rattle.rc_redraw.specs.Redraws.{Redrawn};
+
+    ghost Value = { Redrawn };
+
+    ghost coded = { Prim.hlevel (sheet_codes, codes) };
+
+    ghost use Rattle.rc_redraw.specs.Redraws.{Keeps};
+    ghost use Rattle.rc_view.specs.Seen.{view_seen};
+
+    ghost view = { λ r. record { shape = r.table.shape; view = view_seen r.view; table = r.table.table } };
+
+    ghost invariant = { λ r. Keeps (record { shape = r.table.shape; view = view_seen r.view; table = r.table.table })
+        r.hidden.items r.unused.items r.order.items };
+}
+
+impl Redraws {
+    /// Lays what a view shows. The view is that of some table of this shape. It takes all memory that deals need; that may run out.
+    pub fn new(alloc: Global, shape: &Arc<Shape>, view: &View) -> Result<Redraws, Memory>
+        requires { IsViewOfSound shape.now.value (view_seen view.now) }
+        ensures shape { IfOk result (λ redraws. redraws.shape ≡ shape.now.value) }
+        ensures view { IfOk result (λ redraws. redraws.view ≡ view_seen view.now) }
+    {
+        seen_places_take_the_smallest();
+        let Layout { lists, unused } = layout_of(alloc, shape, &view.sights)?;
+        let mut table = Table::new(alloc, shape)?;
+        table.lay(&lists, &view.numbers);
+        let hidden = hiding(alloc, shape, &view.sights)?;
+        let order = Vec::from_slice(alloc, &unused)?;
+        let view = view.copy(alloc)?;
+        Ok(Redraws {
+            view,
+            table,
+            hidden,
+            unused,
+            order,
+        })
+    }
+
+    /// Deals the table of a key. In location order and from bottom to top, each seen card place has the smallest id of its face that
+    /// is left. The other ids, put into the order of the key, fill the unseen card places. References are the smallest ids of their
+    /// faces, and numbers are those of the view. The table is sound, and what the seat sees of it is the view.
+    pub fn deal(&mut self, key: &[u8; 32])
+        ensures is { self.new ≡ redealt key.now self.old }
+        ensures sound { IsSound self.new.shape self.new.table }
+        ensures view { view_of self.new.shape self.new.view.seat self.new.table self.new.view.control ≡ self.new.view }
+    {
+        redrawn_tables_are_sound();
+        redrawn_tables_keep_the_view();
+        seen_places_take_the_smallest();
+        shuffle(&mut self.order, &self.unused, key);
+        self.table.refill(&self.hidden, &self.order);
+    }
+
+    /// The table of the last key, or before the first one a table that looks like the view.
+    pub fn table(&self) -> &Table
+        ensures { result.now ≡ record { shape = self.now.shape; table = self.now.table } }
+    {
+        &self.table
+    }
+
+    // That table alone.
+    fn into_table(self) -> Table
+        ensures { result ≡ record { shape = self.shape; table = self.table } }
+    {
+        let Redraws { table, .. } = self;
+        table
+    }
+}
+
+// Writes ids into the order of a key over as many others.
+fn shuffle(order: &mut Vec<u16>, ids: &[u16], key: &[u8; 32])
+    requires each { length order.old.items ≡ length ids.now }
+    requires few { length ids.now ≤ 512 }
+    ensures is { order.new.items ≡ permuted key.now ids.now }
+    ensures each { length order.new.items ≡ length ids.now }
+{
+    order.copy_from_slice(ids);
+    shuffle_by(key, order);
+}
+
+/// The table of one key, as `Redraws` deals it. The view is that of some table of this shape. Memory may run out.
 pub fn redraw(
     alloc: Global,
     shape: &Arc<Shape>,
@@ -66,9 +135,7 @@ pub fn redraw(
     ensures view { IfOk result (λ table. let seen = view_seen view.now in
         view_of shape.now.value seen.seat table.table seen.control ≡ seen) }
 {
-    redrawn_tables_are_sound();
-    redrawn_tables_keep_the_view();
-    seen_places_take_the_smallest();
-    let lists = lists_for(alloc, shape, &view.sights, key)?;
-    laid(alloc, shape, &lists, &view.numbers)
+    let mut redraws = Redraws::new(alloc, shape, view)?;
+    redraws.deal(key);
+    Ok(redraws.into_table())
 }
