@@ -1,15 +1,12 @@
 -- Answers that are joined.
 use Rattle.std.proofs.Common.{◌≡◌, ℕ, zero, suc, ◌+◌, ◌<◌, ◌≤◌, ◌&&◌, ◌||◌, not, cond, Bool, true, false, List, [], ◌∷◌, ◌++◌, length, map, take, drop, get_or, arith, refl, sym, ap, subst, ◌∙◌, append_assoc, append-nil}
-use Rattle.std.specs.Prelude.{All, if◌then◌else◌}
 use mathlib.Core.Bool.{beq}
-use mathlib.Core.Path.{fun_ext}
-use Rattle.std.specs.List.{list_any, list_all}
-use Rattle.std.proofs.lemmas.List.{drop_all, take_all, map-append}
+use Rattle.std.proofs.lemmas.List.{drop_all, map-append}
 use Rattle.std.proofs.lemmas.List.Elements.{All-append, All-cons, All-nil}
 use Rattle.rc_sheet_model.specs.Sheet.{Test as PureTest}
 use Rattle.rc_play_model.specs.Scene.{CardValue}
 use Rattle.rc_play_model.specs.Value.{Scene as PureScene, Bind as PureBind, card_bound, player_bound, test_value, tests_value}
-use Rattle.rc_play_model.specs.Menu.{Item as PureItem, from_each}
+use Rattle.rc_play_model.specs.Menu.{Item as PureItem}
 use Rattle.rc_reads.specs.Reads.{reads_test}
 use Rattle.rc_reads.proofs.Unread.{unread_test}
 use Rattle.rc_rules.proofs.Elements.{drop_here}

@@ -9,3 +9,5 @@ pub mod PointLemmas
 pub mod Offers
 pub mod WantedLemmas
 pub mod AskLemmas
+pub mod RowLemmas
+pub mod RowOffers

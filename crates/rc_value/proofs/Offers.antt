@@ -95,7 +95,7 @@ offered_alts g done whole ms i le few told =
     ∙ ap (λ xs. take 256 (done ++ map item_of (from_each g i xs))) (sym (drop_all i ms le)) ∙ told
 
 -- what is offered of the cards of an innermost domain
-each_mapped : {A B : Type 0} (g : B → List (List ℕ)) (f : A → B) (n : ℕ) (xs : List A) → from_each g n (map f xs) ≡ from_each (λ x. g (f x)) n xs
+pub each_mapped : {A B : Type 0} (g : B → List (List ℕ)) (f : A → B) (n : ℕ) (xs : List A) → from_each g n (map f xs) ≡ from_each (λ x. g (f x)) n xs
 each_mapped g f n [] = refl
 each_mapped g f n (x ∷ xs) = ap (λ more. map (λ s. n ∷ s) (g (f x)) ++ more) (each_mapped g f (n + 1) xs)
 

@@ -1,10 +1,10 @@
 -- Tests of a card's value, which cards are to have.
-use Rattle.std.proofs.Common.{◌≡◌, ℕ, zero, suc, ◌+◌, ◌==◌, not, Bool, true, false, List, [], ◌∷◌, ◌++◌, length, map, filter, slice_get, Option, Some, None, option_map, arith, refl, sym, ap, ap₂, ◌∙◌}
+use Rattle.std.proofs.Common.{◌≡◌, ℕ, ◌==◌, not, Bool, true, false, List, [], ◌∷◌, ◌++◌, length, map, filter, slice_get, Option, Some, None, option_map, arith, refl, sym, ap, ap₂, ◌∙◌}
 use Rattle.std.specs.Prelude.{IfSome}
 use mathlib.Core.Path.{fun_ext}
 use Rattle.std.specs.List.{list_any, list_all}
 use Rattle.std.proofs.lemmas.Bool.Decides.{nat_tests}
-use Rattle.rc_sheet_model.specs.Sheet.{CardExpr, card_var, Test, eq_attr, has_value, not_of}
+use Rattle.rc_sheet_model.specs.Sheet.{CardExpr, card_var, Test, eq_attr, has_value}
 use Rattle.rc_play_model.specs.Scene.{CardValue}
 use Rattle.rc_play_model.specs.Value.{Scene as PureScene, Bind as PureBind, card_bound, player_bound, both, nat_same, card_of, attr_of_any, card_value, test_value}
 use Rattle.rc_reads.specs.Reads.{reads_card}

@@ -11,7 +11,7 @@ use Rattle.rc_value.specs.Cards.{value_seen, values_seen}
 abbrev pub bind_seen : Bind → PureBind CardValue
 bind_seen (Player n) = player_bound n
 bind_seen (CardBind c) = card_bound (value_seen c)
-bind_seen (Group cards) = group_bound (values_seen cards.now)
+bind_seen (Group cards) = group_bound (values_seen cards.now.items)
 
 -- what an id of a location stands for: a reference where the location holds references
 abbrev pub read_in : Option ℕ → ℕ → CardValue

@@ -1,14 +1,17 @@
 -- Values that cards are to have.
-use Rattle.std.specs.Prelude.{◌≡◌, ◌++◌, ◌∷◌, [], not, Bool, if◌then◌else◌, List}
+use Rattle.std.specs.Prelude.{◌≡◌, ℕ, ◌++◌, ◌∷◌, [], not, Bool, if◌then◌else◌, List, Option}
 use Rattle.rc_sheet_model.specs.Sheet.{Test}
 use Rattle.rc_play_model.specs.Value.{Scene as PureScene, Bind as PureBind, card_bound, attr_of, both, nat_same, test_value}
 use Rattle.rc_play_model.specs.Scene.{CardValue}
 use Rattle.rc_value.specs.declared.wanted.Wanted.{Wanted}
 
--- whether a card has the value for the attribute, or has it not
+-- whether a value for the attribute is the one that is wanted, or isn't
+abbrev pub meets : Wanted → Option ℕ → Bool
+meets w value = if w.equal then both nat_same value w.value else not (both nat_same value w.value)
+
+-- whether a card's value is so
 abbrev pub wanted_value : PureScene CardValue → Wanted → CardValue → Bool
-wanted_value s w c =
-    if w.equal then both nat_same (attr_of s w.name c) w.value else not (both nat_same (attr_of s w.name c) w.value)
+wanted_value s w c = meets w (attr_of s w.name c)
 
 -- the opposite
 abbrev pub turned : Wanted → Wanted

@@ -4,7 +4,7 @@ ghost use Rattle.rc_play_model.specs.Value.{player_bound, card_bound, tests_valu
 ghost use Rattle.rc_play_model.specs.Scene.{CardValue};
 ghost use Rattle.rc_ast.specs.Expressions.{test_seen, tests_seen};
 ghost use Rattle.rc_value.specs.Asks.{ask_value, ask_depth, AllFit, joined, told_of, IsJoined, IsInParts};
-ghost use Rattle.rc_value.specs.declared.asks.Ask.TheVariants.{Whole};
+ghost use Rattle.rc_value.specs.declared.asks.Ask.TheVariants.{Value, Whole};
 ghost use Rattle.rc_value.specs.Cards.{value_seen};
 ghost use Rattle.rc_value.specs.Depth.{test_depth, tests_depth};
 ghost use Rattle.rc_value.specs.Scene.{scene_seen};
@@ -59,6 +59,7 @@ fn ask_of<'t>(scene: &Scene, scope: &Scope, inside: &Scope, test: &'t Test) -> A
 }
 
 // The answer for a card.
+#[inline(always)]
 fn answer(scene: &Scene, scope: &Scope, inside: &Scope, ask: &Ask, card: Card) -> bool
     requires inside { inside.now ≡ scope.now ++ card_bound (value_seen card) ∷ [] }
     requires fits { length scope.now + ask_depth ask.now ≤ 5 }
@@ -71,6 +72,7 @@ fn answer(scene: &Scene, scope: &Scope, inside: &Scope, ask: &Ask, card: Card) -
 }
 
 /// All the answers for a card in one. Inside the scope, the card is bound.
+#[inline(always)]
 pub(crate) fn joined_answer(
     scene: &Scene,
     scope: &Scope,
@@ -195,6 +197,20 @@ fn outer_parts<'t>(
             single_part(scene, scope, inside, guard, asks)
         }
         _ => single_part(scene, scope, inside, guard, asks),
+    }
+}
+
+/// The value that a card is to have, where nothing else is asked.
+#[inline(always)]
+pub(crate) fn sole_wanted(asks: &Asks) -> Option<Wanted>
+    ensures { IfSome result (λ wanted. asks.now.items ≡ Value wanted ∷ []) }
+{
+    if asks.len() != 1 {
+        return None;
+    }
+    match asks[0] {
+        Ask::Value(wanted) => Some(wanted),
+        Ask::Whole(_) => None,
     }
 }
 

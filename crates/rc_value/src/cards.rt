@@ -1,5 +1,5 @@
 //! Cards.
-ghost use Rattle.std.specs.Prelude.{◌≡◌};
+ghost use Rattle.std.specs.Prelude.{◌≡◌, option_map};
 ghost use Rattle.rc_play_model.specs.Scene.{id_of};
 ghost use Rattle.rc_value.specs.Cards.{value_seen};
 
@@ -27,6 +27,17 @@ impl Card {
             Card::Held(id) => id,
             Card::Noted { loc: _, id } => id,
         }
+    }
+}
+
+/// The card's number, if there is a card.
+#[inline(always)]
+pub(crate) fn id_or_none(card: Option<Card>) -> Option<u16>
+    ensures { result ≡ option_map id_of (option_map value_seen card) }
+{
+    match card {
+        Some(card) => Some(card.id()),
+        None => None,
     }
 }
 

@@ -1,5 +1,5 @@
 //! Collections.
-ghost use Rattle.std.specs.Prelude.{◌≡◌, ◌<◌, ◌≤◌, length, map, Some, slice_index_or, option_map};
+ghost use Rattle.std.specs.Prelude.{◌≡◌, ◌<◌, ◌≤◌, length, map, Some, slice_index_or, option_map, IfSome};
 
 use crate::Card;
 use std::marker::Model;
@@ -32,6 +32,7 @@ impl<'s> Model for Collection<'s> {
 
 impl<'s> Collection<'s> {
     ghost use Rattle.rc_play_model.specs.Ends.{first_of, last_of};
+    ghost use Rattle.rc_play_model.specs.Scene.{id_of};
     ghost use Rattle.rc_play_model.specs.Value.{cut};
     ghost use Rattle.rc_value.specs.Seen.{read_in};
     ghost use Rattle.rc_value.specs.Cards.{value_seen, values_seen};
@@ -69,7 +70,20 @@ impl<'s> Collection<'s> {
         }
     }
 
+    /// Their ids, where they stand in a location.
+    #[inline(always)]
+    pub(crate) fn ids(&self) -> Option<&[u16]>
+        ensures is { IfSome result (λ ids. ids.now ≡ map id_of self.now) }
+        ensures few { IfSome result (λ ids. length ids.now ≤ 512) }
+    {
+        match &self.source {
+            Source::There { ids, mem: _ } => Some(*ids),
+            Source::Built(_) => None,
+        }
+    }
+
     /// How many there are.
+    #[inline(always)]
     pub fn len(&self) -> usize
         ensures is { result ≡ length self.now }
         ensures few { result ≤ 512 }
@@ -81,6 +95,7 @@ impl<'s> Collection<'s> {
     }
 
     /// The card at a place.
+    #[inline(always)]
     pub fn at(&self, place: usize) -> Card
         requires { place < length self.now }
         ensures { value_seen result ≡ slice_index_or self.now place (value_seen result) }

@@ -2,29 +2,35 @@
 ghost use Rattle.std.specs.Prelude.{◌≡◌, ◌+◌, ◌<◌, ◌≤◌, ◌++◌, ◌∷◌, [], map, filter, length, option_map, MatchOption, IfSome, true};
 ghost use Rattle.std.specs.List.{list_all, list_any};
 ghost use Rattle.rc_model.specs.Numbers.{below};
-ghost use Rattle.rc_play_model.specs.Value.{card_value, coll_value, colls_value, int_value, test_value, tests_value, card_bound, player_bound, attr_of_any, cut};
+ghost use Rattle.rc_play_model.specs.Ends.{first_of, last_of};
+ghost use Rattle.rc_play_model.specs.Scene.{id_of};
+ghost use Rattle.rc_play_model.specs.Value.{card_value, coll_value, colls_value, int_value, test_value, tests_value, card_bound, player_bound, attr_of_any, worth_of_any, sum_worth, cut};
 ghost use Rattle.rc_ast.specs.Expressions.{coll_seen, colls_seen, int_seen, test_seen, tests_seen};
 ghost use Rattle.rc_ast.specs.Expressions.{card_seen};
 ghost use Rattle.rc_value.specs.Cards.{value_seen, values_seen};
-ghost use Rattle.rc_value.specs.Depth.{card_depth, coll_depth, colls_depth, int_depth, test_depth, tests_depth, runs_over_cards};
-ghost use Rattle.rc_value.specs.Picks.{is_gathered, picked_of, measured_of};
+ghost use Rattle.rc_value.specs.Depth.{card_depth, coll_depth, colls_depth, int_depth, test_depth, tests_depth, is_calculated, runs_over_cards};
+ghost use Rattle.rc_value.specs.Picks.{is_gathered, picked_of};
 ghost use Rattle.rc_value.specs.Scene.{scene_seen};
 ghost use Rattle.rc_value.specs.Wanted.{IsWanted};
 
 use crate::arithmetic::{clamped_difference, clamped_product, clamped_sum};
+use crate::cards::id_or_none;
 use crate::collection::Collection;
-use crate::leaves::{are_same, attr_of, cards_of, number_of, worth_of_some};
-use crate::loops::{Measure, Pick, append, card_at, fill, keep, measure_from, pick_from};
+use crate::leaves::{are_same, attr_of_id, cards_of, number_of, worth_of};
+use crate::loops::{Pick, append, card_at, fill, keep, pick_from, sum};
 use crate::places::who_of;
+use crate::rows::{bottom_card, bottom_id, ids_of, top_card, top_id};
 use crate::scene::Scene;
 use crate::scope::{Bind, Scope};
 use crate::wanted::{
-    Wanted, all_as_wanted, is_against, is_variable, keep_as_wanted, some_as_wanted, unwanted,
+    Wanted, all_as_wanted, count_as_wanted, is_against, is_variable, keep_as_wanted,
+    some_as_wanted, unwanted,
 };
 use crate::{Card, Cards};
 use rc_ast::{CardExpr, CollExpr, Domain, IntExpr, Test};
 
 /// The cards of a location or of a variable, which need no list of their own. None for another expression.
+#[inline(always)]
 pub fn bare<'a>(scene: &'a Scene, scope: &'a Scope, expr: &CollExpr) -> Option<Collection<'a>>
     ensures { MatchOption result (is_gathered (coll_seen expr.now) ≡ true) (λ cards. cards ≡ coll_value (scene_seen scene.now) scope.now (coll_seen expr.now)) }
 {
@@ -110,6 +116,7 @@ fn add(scene: &Scene, scope: &Scope, expr: &CollExpr, out: &mut Cards)
 }
 
 #[cycle(values)]
+#[inline(never)]
 fn add_built(scene: &Scene, scope: &Scope, expr: &CollExpr, out: &mut Cards)
     requires fits { length scope.now + coll_depth (coll_seen expr.now) ≤ 5 }
     ensures is { values_seen out.new.items ≡ cut (values_seen out.old.items ++ coll_value (scene_seen scene.now) scope.now (coll_seen expr.now)) }
@@ -128,10 +135,94 @@ pub fn card_of(scene: &Scene, scope: &Scope, expr: &CardExpr) -> Option<Card>
 {
     match expr {
         CardExpr::Var(var) => scope.card(*var),
-        CardExpr::Top(cards) => picked(scene, scope, cards, Pick::Top),
-        CardExpr::Bottom(cards) => picked(scene, scope, cards, Pick::Bottom),
+        CardExpr::Top(cards) => top_of(scene, scope, cards),
+        CardExpr::Bottom(cards) => bottom_of(scene, scope, cards),
         CardExpr::Max(cards, map) => picked(scene, scope, cards, Pick::Max(*map)),
         CardExpr::Min(cards, map) => picked(scene, scope, cards, Pick::Min(*map)),
+    }
+}
+
+// The card at the top of a collection.
+#[cycle(values)]
+fn top_of(scene: &Scene, scope: &Scope, expr: &CollExpr) -> Option<Card>
+    requires fits { length scope.now + coll_depth (coll_seen expr.now) ≤ 5 }
+    ensures { option_map value_seen result ≡ last_of (coll_value (scene_seen scene.now) scope.now (coll_seen expr.now)) }
+{
+    match expr {
+        CollExpr::Loc(loc) => top_card(scene, scope, loc),
+        _ => picked(scene, scope, expr, Pick::Top),
+    }
+}
+
+// The card at the bottom of a collection.
+#[cycle(values)]
+fn bottom_of(scene: &Scene, scope: &Scope, expr: &CollExpr) -> Option<Card>
+    requires fits { length scope.now + coll_depth (coll_seen expr.now) ≤ 5 }
+    ensures { option_map value_seen result ≡ first_of (coll_value (scene_seen scene.now) scope.now (coll_seen expr.now)) }
+{
+    match expr {
+        CollExpr::Loc(loc) => bottom_card(scene, scope, loc),
+        _ => picked(scene, scope, expr, Pick::Bottom),
+    }
+}
+
+// The id of the card that an expression stands for: no more of a card is read by its value or its worth.
+#[cycle(values)]
+#[inline(always)]
+fn id_now(scene: &Scene, scope: &Scope, expr: &CardExpr) -> Option<u16>
+    requires fits { length scope.now + card_depth (card_seen expr.now) ≤ 5 }
+    ensures { result ≡ option_map id_of (card_value (scene_seen scene.now) scope.now (card_seen expr.now)) }
+{
+    match expr {
+        CardExpr::Var(var) => scope.id(*var),
+        CardExpr::Top(cards) => id_at_top(scene, scope, cards),
+        CardExpr::Bottom(cards) => id_at_bottom(scene, scope, cards),
+        _ => id_or_none(card_of(scene, scope, expr)),
+    }
+}
+
+#[cycle(values)]
+#[inline(always)]
+fn id_at_top(scene: &Scene, scope: &Scope, expr: &CollExpr) -> Option<u16>
+    requires fits { length scope.now + coll_depth (coll_seen expr.now) ≤ 5 }
+    ensures { result ≡ option_map id_of (last_of (coll_value (scene_seen scene.now) scope.now (coll_seen expr.now))) }
+{
+    match expr {
+        CollExpr::Loc(loc) => top_id(scene, scope, loc),
+        _ => id_or_none(picked(scene, scope, expr, Pick::Top)),
+    }
+}
+
+#[cycle(values)]
+#[inline(always)]
+fn id_at_bottom(scene: &Scene, scope: &Scope, expr: &CollExpr) -> Option<u16>
+    requires fits { length scope.now + coll_depth (coll_seen expr.now) ≤ 5 }
+    ensures { result ≡ option_map id_of (first_of (coll_value (scene_seen scene.now) scope.now (coll_seen expr.now))) }
+{
+    match expr {
+        CollExpr::Loc(loc) => bottom_id(scene, scope, loc),
+        _ => id_or_none(picked(scene, scope, expr, Pick::Bottom)),
+    }
+}
+
+// The value of the card that an expression stands for.
+#[cycle(values)]
+fn value_of(scene: &Scene, scope: &Scope, expr: &CardExpr, name: u16) -> Option<u16>
+    requires fits { length scope.now + card_depth (card_seen expr.now) ≤ 5 }
+    ensures { result ≡ attr_of_any (scene_seen scene.now) name (card_value (scene_seen scene.now) scope.now (card_seen expr.now)) }
+{
+    attr_of_id(scene, id_now(scene, scope, expr), name)
+}
+
+// What the card that an expression stands for is worth.
+#[cycle(values)]
+fn points_of(scene: &Scene, scope: &Scope, expr: &CardExpr, map: u16) -> i64
+    requires fits { length scope.now + card_depth (card_seen expr.now) ≤ 5 }
+    ensures { result ≡ worth_of_any (scene_seen scene.now) map (card_value (scene_seen scene.now) scope.now (card_seen expr.now)) }
+{
+    match id_now(scene, scope, expr) {
+        Some(id) => worth_of(scene, Card::Held(id), map),
+        None => 0,
     }
 }
 
@@ -147,6 +238,7 @@ fn picked(scene: &Scene, scope: &Scope, expr: &CollExpr, pick: Pick) -> Option<C
 }
 
 #[cycle(values)]
+#[inline(never)]
 fn picked_built(scene: &Scene, scope: &Scope, expr: &CollExpr, pick: Pick) -> Option<Card>
     requires fits { length scope.now + coll_depth (coll_seen expr.now) ≤ 5 }
     ensures { option_map value_seen result ≡ picked_of (scene_seen scene.now) pick (coll_value (scene_seen scene.now) scope.now (coll_seen expr.now)) }
@@ -165,34 +257,117 @@ pub fn int_of(scene: &Scene, scope: &Scope, expr: &IntExpr) -> i64
     match expr {
         IntExpr::Lit(value) => *value,
         IntExpr::Num(num) => number_of(scene, scope, num),
-        IntExpr::Size(cards) => measured(scene, scope, cards, Measure::Size),
-        IntExpr::Sum(cards, map) => measured(scene, scope, cards, Measure::Sum(*map)),
-        IntExpr::Points(card, map) => worth_of_some(scene, card_of(scene, scope, card), *map),
+        IntExpr::Size(cards) => count_of(scene, scope, cards) as i64,
+        IntExpr::Sum(cards, map) => sum_of(scene, scope, cards, *map),
+        IntExpr::Points(card, map) => points_of(scene, scope, card, *map),
+        IntExpr::Add(_, _) => calculated(scene, scope, expr),
+        IntExpr::Sub(_, _) => calculated(scene, scope, expr),
+        IntExpr::Mul(_, _) => calculated(scene, scope, expr),
+    }
+}
+
+// A number that is made of two others. In a function of its own, so that the others are found with nothing to be kept meanwhile.
+#[cycle(values)]
+#[inline(never)]
+fn calculated(scene: &Scene, scope: &Scope, expr: &IntExpr) -> i64
+    requires made { is_calculated (int_seen expr.now) ≡ true }
+    requires fits { length scope.now + int_depth (int_seen expr.now) ≤ 5 }
+    ensures { result ≡ int_value (scene_seen scene.now) scope.now (int_seen expr.now) }
+{
+    match expr {
         IntExpr::Add(a, b) => clamped_sum(int_of(scene, scope, a), int_of(scene, scope, b)),
         IntExpr::Sub(a, b) => clamped_difference(int_of(scene, scope, a), int_of(scene, scope, b)),
         IntExpr::Mul(a, b) => clamped_product(int_of(scene, scope, a), int_of(scene, scope, b)),
+        _ => unreachable!(),
     }
 }
 
+// How many cards a collection has. Those of several parts are counted where they stand.
 #[cycle(values)]
-fn measured(scene: &Scene, scope: &Scope, expr: &CollExpr, what: Measure) -> i64
+fn count_of(scene: &Scene, scope: &Scope, expr: &CollExpr) -> usize
     requires fits { length scope.now + coll_depth (coll_seen expr.now) ≤ 5 }
-    ensures { result ≡ measured_of (scene_seen scene.now) what (coll_value (scene_seen scene.now) scope.now (coll_seen expr.now)) }
+    ensures is { result ≡ length (coll_value (scene_seen scene.now) scope.now (coll_seen expr.now)) }
+    ensures few { result ≤ 512 }
 {
-    match bare(&*scene, &*scope, expr) {
-        Some(cards) => measure_from(scene, &cards, what),
-        None => measured_built(scene, scope, expr, what),
+    match expr {
+        CollExpr::Var(var) => scope.group(*var).len(),
+        CollExpr::Loc(loc) => ids_of(scene, scope, loc).len(),
+        CollExpr::Filter(_, _, _) => count_filtered(scene, scope, expr),
+        CollExpr::Union(parts) => count_parts(scene, scope, parts),
+    }
+}
+
+// The same, of cards that stand in a list and are to have one value, with no list of those that pass.
+#[cycle(values)]
+#[inline(never)]
+fn count_filtered(scene: &Scene, scope: &Scope, expr: &CollExpr) -> usize
+    requires fits { length scope.now + coll_depth (coll_seen expr.now) ≤ 5 }
+    ensures is { result ≡ length (coll_value (scene_seen scene.now) scope.now (coll_seen expr.now)) }
+    ensures few { result ≤ 512 }
+{
+    match expr {
+        CollExpr::Filter(cards, _, test) => match bare(&*scene, &*scope, cards) {
+            Some(all) => {
+                let inside = scope.with(Bind::Player(0));
+                match wanted_of(scene, scope, &inside, test) {
+                    Some(wanted) => count_as_wanted(scene, wanted, &all),
+                    None => count_built(scene, scope, expr),
+                }
+            }
+            None => count_built(scene, scope, expr),
+        },
+        _ => count_built(scene, scope, expr),
     }
 }
 
 #[cycle(values)]
-fn measured_built(scene: &Scene, scope: &Scope, expr: &CollExpr, what: Measure) -> i64
+#[inline(never)]
+fn count_built(scene: &Scene, scope: &Scope, expr: &CollExpr) -> usize
     requires fits { length scope.now + coll_depth (coll_seen expr.now) ≤ 5 }
-    ensures { result ≡ measured_of (scene_seen scene.now) what (coll_value (scene_seen scene.now) scope.now (coll_seen expr.now)) }
+    ensures is { result ≡ length (coll_value (scene_seen scene.now) scope.now (coll_seen expr.now)) }
+    ensures few { result ≤ 512 }
 {
     let mut room = Cards::new();
     coll_of(scene, scope, expr, &mut room);
-    measure_from(scene, &Collection::built(room.as_slice()), what)
+    room.len()
+}
+
+#[cycle(values)]
+#[tactic(auto, using(crate::proofs::Steps::colls_here))]
+fn count_parts(scene: &Scene, scope: &Scope, parts: &Vec<CollExpr>) -> usize
+    requires fits { length scope.now + colls_depth (colls_seen parts.now.items) ≤ 5 }
+    ensures is { result ≡ length (cut (colls_value (scene_seen scene.now) scope.now (colls_seen parts.now.items))) }
+    ensures few { result ≤ 512 }
+{
+    let mut count = 0;
+    for part in parts {
+        let more = count_of(scene, scope, part).min(512 - count);
+        count += more;
+    }
+    count
+}
+
+// The sum of what the cards of a collection are worth.
+#[cycle(values)]
+fn sum_of(scene: &Scene, scope: &Scope, expr: &CollExpr, map: u16) -> i64
+    requires fits { length scope.now + coll_depth (coll_seen expr.now) ≤ 5 }
+    ensures { result ≡ sum_worth (scene_seen scene.now) map (coll_value (scene_seen scene.now) scope.now (coll_seen expr.now)) }
+{
+    match bare(&*scene, &*scope, expr) {
+        Some(cards) => sum(scene, &cards, map),
+        None => sum_built(scene, scope, expr, map),
+    }
+}
+
+#[cycle(values)]
+#[inline(never)]
+fn sum_built(scene: &Scene, scope: &Scope, expr: &CollExpr, map: u16) -> i64
+    requires fits { length scope.now + coll_depth (coll_seen expr.now) ≤ 5 }
+    ensures { result ≡ sum_worth (scene_seen scene.now) map (coll_value (scene_seen scene.now) scope.now (coll_seen expr.now)) }
+{
+    let mut room = Cards::new();
+    coll_of(scene, scope, expr, &mut room);
+    sum(scene, &Collection::built(room.as_slice()), map)
 }
 
 /// Whether a test holds.
@@ -204,9 +379,8 @@ pub fn test_of(scene: &Scene, scope: &Scope, expr: &Test) -> bool
     match expr {
         Test::EqInt(a, b) => int_of(scene, scope, a) == int_of(scene, scope, b),
         Test::EqCard(a, b) => are_same(scene, card_of(scene, scope, a), card_of(scene, scope, b)),
-        Test::EqAttr(a, attr, b, other) => {
-            attr_of(scene, card_of(scene, scope, a), *attr)
-                == attr_of(scene, card_of(scene, scope, b), *other)
+        Test::EqAttr(a, name, b, other) => {
+            value_of(scene, scope, a, *name) == value_of(scene, scope, b, *other)
         }
         Test::EqWho(a, b) => who_of(scene, scope, a) == who_of(scene, scope, b),
         Test::Ne(inner) => !test_of(scene, scope, inner),
@@ -214,27 +388,51 @@ pub fn test_of(scene: &Scene, scope: &Scope, expr: &Test) -> bool
         Test::LessEq(a, b) => int_of(scene, scope, a) <= int_of(scene, scope, b),
         Test::More(a, b) => int_of(scene, scope, a) > int_of(scene, scope, b),
         Test::MoreEq(a, b) => int_of(scene, scope, a) >= int_of(scene, scope, b),
-        Test::Is(card, attr, value) => attr_of(scene, card_of(scene, scope, card), *attr)
-            == Some(*value),
+        Test::Is(card, name, value) => value_of(scene, scope, card, *name) == Some(*value),
         Test::And(tests) => all_tests(scene, scope, tests),
         Test::Or(tests) => any_test(scene, scope, tests),
         Test::Not(inner) => !test_of(scene, scope, inner),
         Test::All(domain, _, inner) => match domain {
             Domain::Players => all_players(scene, scope, inner),
-            Domain::Coll(cards) => match bare(&*scene, &*scope, cards) {
-                Some(cards) => all_cards(scene, scope, &cards, inner),
-                None => over_built(scene, scope, expr),
-            },
+            Domain::Coll(_) => over_cards(scene, scope, expr),
             Domain::Parts(_, _) => unreachable!(),
         },
         Test::Any(domain, _, inner) => match domain {
             Domain::Players => any_player(scene, scope, inner),
-            Domain::Coll(cards) => match bare(&*scene, &*scope, cards) {
-                Some(cards) => any_card(scene, scope, &cards, inner),
-                None => over_built(scene, scope, expr),
+            Domain::Coll(_) => over_cards(scene, scope, expr),
+            Domain::Parts(_, _) => unreachable!(),
+        },
+    }
+}
+
+// A test that runs over cards.
+#[cycle(values)]
+#[inline(never)]
+fn over_cards(scene: &Scene, scope: &Scope, expr: &Test) -> bool
+    requires over { runs_over_cards (test_seen expr.now) ≡ true }
+    requires fits { length scope.now + test_depth (test_seen expr.now) ≤ 5 }
+    ensures { result ≡ test_value (scene_seen scene.now) scope.now (test_seen expr.now) }
+{
+    match expr {
+        Test::All(domain, _, inner) => match domain {
+            Domain::Players => unreachable!(),
+            Domain::Coll(cards) => match cards {
+                CollExpr::Loc(loc) => all_cards(scene, scope, &cards_of(scene, scope, loc), inner),
+                CollExpr::Var(var) => all_cards(scene, scope, &scope.group(*var), inner),
+                _ => over_built(scene, scope, expr),
             },
             Domain::Parts(_, _) => unreachable!(),
         },
+        Test::Any(domain, _, inner) => match domain {
+            Domain::Players => unreachable!(),
+            Domain::Coll(cards) => match cards {
+                CollExpr::Loc(loc) => any_card(scene, scope, &cards_of(scene, scope, loc), inner),
+                CollExpr::Var(var) => any_card(scene, scope, &scope.group(*var), inner),
+                _ => over_built(scene, scope, expr),
+            },
+            Domain::Parts(_, _) => unreachable!(),
+        },
+        _ => unreachable!(),
     }
 }
 
@@ -293,11 +491,12 @@ fn value_once(
     requires fits { length scope.now + (1 + card_depth (card_seen card.now)) ≤ 5 }
     ensures { result ≡ attr_of_any (scene_seen scene.now) name (card_value (scene_seen scene.now) (scope.now ++ player_bound 0 ∷ []) (card_seen card.now)) }
 {
-    attr_of(scene, card_of(scene, inside, card), name)
+    value_of(scene, inside, card, name)
 }
 
 // A test that runs over cards which stand in no list.
 #[cycle(values)]
+#[inline(never)]
 fn over_built(scene: &Scene, scope: &Scope, expr: &Test) -> bool
     requires over { runs_over_cards (test_seen expr.now) ≡ true }
     requires fits { length scope.now + test_depth (test_seen expr.now) ≤ 5 }

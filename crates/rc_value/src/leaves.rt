@@ -1,9 +1,10 @@
 //! What a scene says of cards, locations and numbers.
-ghost use Rattle.std.specs.Prelude.{◌≡◌, option_map, slice_get, slice_index_or, Some, None, if◌then◌else◌, pos};
+ghost use Rattle.std.specs.Prelude.{◌≡◌, option_map, slice_get, slice_index_or, Option, Some, None, if◌then◌else◌, pos};
 ghost use Rattle.rc_model.specs.Clamp.{IsWithinClamp};
 ghost use Rattle.rc_model.specs.Deck.{value_at as value_at_of};
 ghost use Rattle.rc_play_model.specs.Shape.{face_at, face_eq, holds_references};
-ghost use Rattle.rc_play_model.specs.Value.{worth, worth_of_any, attr_of_any, both, loc_place, num_place, number_there, cards_there, cut};
+ghost use Rattle.rc_play_model.specs.Scene.{CardValue, id_of};
+ghost use Rattle.rc_play_model.specs.Value.{worth, attr_of_any, both, loc_place, num_place, number_there, cards_there, cut};
 ghost use Rattle.rc_ast.specs.Names.{loc_seen, num_seen};
 ghost use Rattle.rc_value.specs.Cards.{value_seen};
 ghost use Rattle.rc_value.specs.Scene.{scene_seen};
@@ -41,14 +42,14 @@ fn worth_in(row: &[i64], id: u16) -> i64
     }
 }
 
-/// What a card is worth, if there is one, and 0 else.
+/// The value of the card with an id for an attribute, if there is an id and its card has one.
 #[inline(always)]
-pub fn worth_of_some(scene: &Scene, card: Option<Card>, map: u16) -> i64
-    ensures { result ≡ worth_of_any (scene_seen scene.now) map (option_map value_seen card) }
+pub fn attr_of_id(scene: &Scene, id: Option<u16>, name: u16) -> Option<u16>
+    ensures { (card : Option CardValue) → id ≡ option_map id_of card → result ≡ attr_of_any (scene_seen scene.now) name card }
 {
-    match card {
-        Some(card) => worth_of(scene, card, map),
-        None => 0,
+    match id {
+        Some(id) => value_at(scene, id, name),
+        None => None,
     }
 }
 
@@ -86,9 +87,9 @@ fn pairs_value(shape: &Shape, id: u16, name: u16) -> Option<u16>
     }
 }
 
-// The value of a card in the row of an attribute; what isn't a card has none.
+/// The value of the card with this id in the row of an attribute; what isn't a card has none.
 #[inline(always)]
-fn value_in(row: &[Option<u16>], id: u16) -> Option<u16>
+pub(crate) fn value_in(row: &[Option<u16>], id: u16) -> Option<u16>
     ensures { result ≡ slice_index_or row.now id None }
 {
     match row.get(id as usize) {

@@ -14,6 +14,7 @@ mod loops;
 mod menu;
 mod offering;
 mod places;
+mod rows;
 mod scene;
 mod scope;
 mod wanted;

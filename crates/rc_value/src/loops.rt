@@ -1,8 +1,10 @@
 //! Loops over the cards of a collection.
-ghost use Rattle.std.specs.Prelude.{◌≡◌, ◌+◌, ◌<◌, ◌++◌, [], ◌≤◌, length, slice_set, slice_index_or, option_map, int_lt, if◌then◌else◌};
+ghost use Rattle.std.specs.Prelude.{◌≡◌, ◌+◌, ◌<◌, ◌++◌, [], ◌≤◌, length, map, fold, pos, ◌+ℤ◌, slice_set, slice_index_or, option_map, int_lt, if◌then◌else◌};
+ghost use Rattle.rc_model.specs.Clamp.{clamped};
+ghost use Rattle.rc_play_model.specs.Scene.{held};
 ghost use Rattle.rc_play_model.specs.Value.{cut, sum_worth, best_of, int_more, worth};
 ghost use Rattle.rc_value.specs.Cards.{value_seen, values_seen};
-ghost use Rattle.rc_value.specs.Picks.{picked_of, measured_of};
+ghost use Rattle.rc_value.specs.Picks.{picked_of};
 ghost use Rattle.rc_value.specs.Scene.{scene_seen};
 
 use crate::collection::Collection;
@@ -20,13 +22,6 @@ pub enum Pick {
     Min(u16),
 }
 
-/// Which number of a collection.
-#[derive(Clone, Copy)]
-pub enum Measure {
-    Size,
-    Sum(u16),
-}
-
 /// The card of a collection.
 pub fn pick_from(scene: &Scene, cards: &Collection, pick: Pick) -> Option<Card>
     ensures { option_map value_seen result ≡ picked_of (scene_seen scene.now) pick cards.now }
@@ -36,16 +31,6 @@ pub fn pick_from(scene: &Scene, cards: &Collection, pick: Pick) -> Option<Card>
         Pick::Bottom => cards.first(),
         Pick::Max(map) => best(scene, cards, map, true),
         Pick::Min(map) => best(scene, cards, map, false),
-    }
-}
-
-/// The number of a collection.
-pub fn measure_from(scene: &Scene, cards: &Collection, what: Measure) -> i64
-    ensures { result ≡ measured_of (scene_seen scene.now) what cards.now }
-{
-    match what {
-        Measure::Size => cards.len() as i64,
-        Measure::Sum(map) => sum(scene, cards, map),
     }
 }
 
@@ -77,8 +62,29 @@ pub fn card_at(cards: &Cards, place: usize) -> Card
     cards[place]
 }
 
-// The sum of what the cards are worth.
-fn sum(scene: &Scene, cards: &Collection, map: u16) -> i64
+/// The sum of what the cards are worth.
+pub fn sum(scene: &Scene, cards: &Collection, map: u16) -> i64
+    ensures { result ≡ sum_worth (scene_seen scene.now) map cards.now }
+{
+    match cards.ids() {
+        Some(ids) => sum_of_ids(scene, ids, map),
+        None => sum_one_by_one(scene, cards, map),
+    }
+}
+
+// The same of the cards with these ids.
+fn sum_of_ids(scene: &Scene, ids: &[u16], points: u16) -> i64
+    requires few { length ids.now ≤ 512 }
+    ensures { result ≡ clamped (fold ◌+ℤ◌ (pos 0) (map (λ id. worth (scene_seen scene.now) points (held id)) ids.now)) }
+{
+    let mut sum = 0i64;
+    for place in 0..ids.len() {
+        sum += worth_of(scene, Card::Held(ids[place]), points);
+    }
+    sum.clamp(-LARGEST_NUMBER, LARGEST_NUMBER)
+}
+
+fn sum_one_by_one(scene: &Scene, cards: &Collection, map: u16) -> i64
     ensures { result ≡ sum_worth (scene_seen scene.now) map cards.now }
 {
     let mut sum = 0i64;

@@ -15,8 +15,9 @@ ghost use Rattle.rc_value.specs.Menu.{extended};
 
 use crate::Cards;
 use crate::collection::Collection;
-use crate::expressions::{bare, coll_of, test_of};
+use crate::expressions::{coll_of, test_of};
 use crate::groups::{Values, note_values, regroup, value_at};
+use crate::leaves::cards_of;
 use crate::offering::{offer_every, offer_guarded, with_spot};
 use crate::scene::Scene;
 use crate::scope::{Bind, Scope};
@@ -56,10 +57,7 @@ fn offer(scene: &Scene, scope: &Scope, alt: &Alt, item: &Item, menu: &mut Menu)
         Alt::If(guard, _) => put_if(menu, item, test_of(scene, scope, guard)),
         Alt::Any(domain, _, inner) => match domain {
             Domain::Players => offer_players(scene, scope, inner, item, menu),
-            Domain::Coll(cards) => match bare(&*scene, &*scope, cards) {
-                Some(cards) => offer_cards(scene, scope, &cards, inner, item, menu),
-                None => offer_built(scene, scope, inner, cards, item, menu),
-            },
+            Domain::Coll(cards) => offer_over(scene, scope, inner, cards, item, menu),
             Domain::Parts(cards, name) => offer_parts(
                 scene, scope, inner, cards, *name, item, menu,
             ),
@@ -67,7 +65,40 @@ fn offer(scene: &Scene, scope: &Scope, alt: &Alt, item: &Item, menu: &mut Menu)
     }
 }
 
-// The same with the cards of an expression that needs a list of its own.
+// The same with the cards of an expression.
+#[cycle(menu)]
+fn offer_over(
+    scene: &Scene,
+    scope: &Scope,
+    inner: &Alt,
+    cards: &CollExpr,
+    item: &Item,
+    menu: &mut Menu,
+)
+    requires domain { length scope.now + coll_depth (coll_seen cards.now) ≤ 5 }
+    requires fits { length scope.now + (1 + alt_depth (alt_seen inner.now)) ≤ 5 }
+    requires room { length item.now.spots.items + (1 + domains_in (alt_seen inner.now)) ≤ 4 }
+    ensures { menu_seen menu.new.items ≡ take 256 (menu_seen menu.old.items
+        ++ map (extended (item_seen item.now)) (from_each (λ m. spots_of (scene_seen scene.now) (scope.now ++ m ∷ []) (alt_seen inner.now)) 0
+        (map (λ c. card_bound c) (coll_value (scene_seen scene.now) scope.now (coll_seen cards.now))))) }
+{
+    match cards {
+        CollExpr::Var(var) => offer_cards(scene, scope, &scope.group(*var), inner, item, menu),
+        CollExpr::Loc(loc) => {
+            offer_cards(
+                scene,
+                scope,
+                &cards_of(scene, scope, loc),
+                inner,
+                item,
+                menu,
+            )
+        }
+        _ => offer_built(scene, scope, inner, cards, item, menu),
+    }
+}
+
+// The same with cards that need a list of their own.
 #[cycle(menu)]
 fn offer_built(
     scene: &Scene,
@@ -230,7 +261,7 @@ fn offer_group(
 {
     offer(
         scene,
-        &(&*scope).with(Bind::Group((&*group).as_slice())),
+        &(&*scope).with(Bind::Group(group)),
         inner,
         item,
         menu,

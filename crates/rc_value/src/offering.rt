@@ -1,5 +1,5 @@
 //! Menus that grow by the cards of an innermost domain.
-ghost use Rattle.std.specs.Prelude.{◌≡◌, ◌<◌, ◌+◌, ◌≤◌, ◌++◌, ◌∷◌, [], length, map, take, if◌then◌else◌};
+ghost use Rattle.std.specs.Prelude.{◌≡◌, ◌<◌, ◌+◌, ◌≤◌, ◌++◌, ◌∷◌, [], length, map, take, slice_index_or, None, if◌then◌else◌};
 ghost use Rattle.rc_play_model.specs.Value.{player_bound};
 ghost use Rattle.rc_play_model.specs.Menu.{from_each};
 ghost use Rattle.rc_ast.specs.Expressions.{test_seen};
@@ -8,15 +8,18 @@ ghost use Rattle.rc_value.specs.Asks.{ask_value, AllFit, joined, told_of};
 ghost use Rattle.rc_value.specs.Depth.{test_depth};
 ghost use Rattle.rc_value.specs.Menu.{extended};
 ghost use Rattle.rc_value.specs.Scene.{scene_seen};
+ghost use Rattle.rc_value.specs.Wanted.{meets};
 
-use crate::asks::{Ask, Asks, joined_answer, parts_of};
+use crate::asks::{Ask, Asks, joined_answer, parts_of, sole_wanted};
 use crate::collection::Collection;
 use crate::scene::Scene;
 use crate::scope::{Bind, Scope};
+use crate::wanted::{Wanted, is_met_in};
 use rc_ast::Test;
 use rc_rules::{Item, Menu};
 
 /// The item with one more position.
+#[inline(always)]
 pub(crate) fn with_spot(item: &Item, spot: u16) -> Item
     requires { length item.now.spots.items < 4 }
     ensures { item_seen result ≡ extended (item_seen item.now) (spot ∷ []) }
@@ -27,6 +30,7 @@ pub(crate) fn with_spot(item: &Item, spot: u16) -> Item
 }
 
 // Puts the item with one more position behind the others, where there is room.
+#[inline(always)]
 fn put_at(menu: &mut Menu, item: &Item, spot: u16)
     requires { length item.now.spots.items < 4 }
     ensures { menu_seen menu.new.items ≡ take 256 (menu_seen menu.old.items ++ extended (extended (item_seen item.now) (spot ∷ [])) [] ∷ []) }
@@ -37,6 +41,7 @@ fn put_at(menu: &mut Menu, item: &Item, spot: u16)
 }
 
 // The same where it passes.
+#[inline(always)]
 fn put_at_if(menu: &mut Menu, item: &Item, spot: u16, passes: bool)
     requires { length item.now.spots.items < 4 }
     ensures { menu_seen menu.new.items ≡ take 256 (menu_seen menu.old.items ++ (if passes then extended (extended (item_seen item.now) (spot ∷ [])) [] ∷ [] else [])) }
@@ -85,6 +90,56 @@ fn offer_asked(
     }
 }
 
+// The same by the row of the one attribute that is asked for, if there is no more to it.
+fn offer_some(
+    scene: &Scene,
+    scope: &Scope,
+    inside: &mut Scope,
+    cards: &Collection,
+    asks: &Asks,
+    any: bool,
+    item: &Item,
+    menu: &mut Menu,
+)
+    requires inside { inside.old ≡ scope.now ++ player_bound 0 ∷ [] }
+    requires fits { AllFit scope.now asks.now.items }
+    requires room { length item.now.spots.items < 4 }
+    ensures { menu_seen menu.new.items ≡ take 256 (menu_seen menu.old.items
+        ++ map (extended (item_seen item.now)) (from_each (λ c. if joined any (map (ask_value (scene_seen scene.now) scope.now c) asks.now.items) then [] ∷ [] else []) 0 cards.now)) }
+{
+    if let Some(wanted) = sole_wanted(asks) {
+        if let Some(ids) = cards.ids() {
+            if let Some(row) = scene.lookup.values(wanted.name) {
+                return offer_met_in(row, wanted, ids, item, menu);
+            }
+        }
+    }
+    offer_asked(
+        scene,
+        scope,
+        inside,
+        cards,
+        asks.as_slice(),
+        any,
+        item,
+        menu,
+    );
+}
+
+// Offers those of the cards with these ids that are as wanted, by the row of the attribute's values.
+fn offer_met_in(row: &[Option<u16>], wanted: Wanted, ids: &[u16], item: &Item, menu: &mut Menu)
+    requires few { length ids.now ≤ 512 }
+    requires room { length item.now.spots.items < 4 }
+    ensures { menu_seen menu.new.items ≡ take 256 (menu_seen menu.old.items
+        ++ map (extended (item_seen item.now)) (from_each (λ id. if meets wanted (slice_index_or row.now id None) then [] ∷ [] else []) 0 ids.now)) }
+{
+    let _count = menu.len();
+    for place in 0..ids.len() {
+        let passes = is_met_in(row, wanted, ids[place]);
+        put_at_if(menu, item, place as u16, passes);
+    }
+}
+
 /// Offers those of the cards for which a guard holds.
 pub(crate) fn offer_guarded(
     scene: &Scene,
@@ -104,12 +159,12 @@ pub(crate) fn offer_guarded(
     let mut asks = Asks::new();
     let parts = parts_of(scene, scope, &inside, guard, &mut asks);
     if !parts.settled {
-        offer_asked(
+        offer_some(
             scene,
             scope,
             &mut inside,
             cards,
-            asks.as_slice(),
+            &asks,
             parts.any,
             item,
             menu,

@@ -1,8 +1,8 @@
 //! Variables.
 ghost use Rattle.std.specs.Prelude.{◌≡◌, ◌+◌, ◌<◌, ◌≤◌, [], ◌∷◌, ◌++◌, length, slice_get, option_map};
 
-use crate::Card;
 use crate::collection::Collection;
+use crate::{Card, Cards};
 use std::marker::Model;
 
 /// What a variable stands for.
@@ -10,7 +10,7 @@ use std::marker::Model;
 pub enum Bind<'g> {
     Player(u8),
     Card(Card),
-    Group(&'g [Card]),
+    Group(&'g Cards),
 }
 
 /// The variables in scope, from outside to inside.
@@ -37,7 +37,7 @@ impl<'g> Model for Scope<'g> {
 impl<'g> Scope<'g> {
     ghost use Rattle.std.specs.Prelude.{List};
     ghost use Rattle.rc_play_model.specs.Value.{Bind as PureBind, player_of, card_of, group_of, cut};
-    ghost use Rattle.rc_play_model.specs.Scene.{CardValue};
+    ghost use Rattle.rc_play_model.specs.Scene.{CardValue, id_of};
     ghost use Rattle.rc_value.specs.Seen.{bind_seen};
     ghost use Rattle.rc_value.specs.Cards.{value_seen};
 
@@ -52,6 +52,7 @@ impl<'g> Scope<'g> {
     }
 
     /// These variables and one more inside them.
+    #[inline(always)]
     pub fn with(&self, bind: Bind<'g>) -> Scope<'g>
         requires { length self.now < 5 }
         ensures { result ≡ self.now ++ bind_seen bind.entry ∷ [] }
@@ -65,14 +66,18 @@ impl<'g> Scope<'g> {
     }
 
     /// Lets the innermost variable stand for something else.
-    pub(crate) fn rebind(&mut self, bind: Bind<'g>)
+    #[inline(always)]
+    pub fn rebind(&mut self, bind: Bind<'g>)
         requires { 0 < length self.old }
         ensures { (vars : List (PureBind CardValue)) (m : PureBind CardValue) → self.old ≡ vars ++ m ∷ [] → self.new ≡ vars ++ bind_seen bind.entry ∷ [] }
     {
-        self.binds[self.count - 1] = bind;
+        let last = self.count - 1;
+        let binds = &mut self.binds[..];
+        binds[last] = bind;
     }
 
     /// How many variables there are.
+    #[inline(always)]
     pub fn len(&self) -> usize
         ensures { result ≡ length self.now }
     {
@@ -80,6 +85,7 @@ impl<'g> Scope<'g> {
     }
 
     // What a variable stands for, if there is one.
+    #[inline(always)]
     fn bind(&self, var: u8) -> Option<Bind<'g>>
         ensures { option_map bind_seen result ≡ slice_get self.now var }
     {
@@ -90,6 +96,7 @@ impl<'g> Scope<'g> {
     }
 
     /// The player that a variable stands for, or 0.
+    #[inline(always)]
     pub fn player(&self, var: u8) -> u8
         ensures { result ≡ player_of (slice_get self.now var) }
     {
@@ -104,12 +111,24 @@ impl<'g> Scope<'g> {
         ensures { result ≡ cut (group_of (slice_get self.now var)) }
     {
         match self.bind(var) {
-            Some(Bind::Group(cards)) => Collection::part(cards),
+            Some(Bind::Group(cards)) => Collection::part(cards.as_slice()),
             _ => Collection::built(&[]),
         }
     }
 
+    /// The id of the card that a variable stands for.
+    #[inline(always)]
+    pub(crate) fn id(&self, var: u8) -> Option<u16>
+        ensures { result ≡ option_map id_of (card_of (slice_get self.now var)) }
+    {
+        match self.bind(var) {
+            Some(Bind::Card(card)) => Some(card.id()),
+            _ => None,
+        }
+    }
+
     /// The card that a variable stands for.
+    #[inline(always)]
     pub fn card(&self, var: u8) -> Option<Card>
         ensures { option_map value_seen result ≡ card_of (slice_get self.now var) }
     {

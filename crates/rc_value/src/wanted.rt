@@ -1,15 +1,15 @@
 //! Values that cards are to have.
-ghost use Rattle.std.specs.Prelude.{◌≡◌, true, false, filter, option_map};
+ghost use Rattle.std.specs.Prelude.{◌≡◌, ◌+◌, ◌<◌, ◌≤◌, true, false, length, filter, option_map, slice_index_or, None, if◌then◌else◌};
 ghost use Rattle.std.specs.List.{list_any, list_all};
 ghost use Rattle.rc_sheet_model.specs.Sheet.{card_var};
 ghost use Rattle.rc_ast.specs.Expressions.{card_seen};
 ghost use Rattle.rc_reads.specs.Reads.{reads_card};
 ghost use Rattle.rc_value.specs.Cards.{value_seen, values_seen};
 ghost use Rattle.rc_value.specs.Scene.{scene_seen};
-ghost use Rattle.rc_value.specs.Wanted.{wanted_value, turned};
+ghost use Rattle.rc_value.specs.Wanted.{meets, wanted_value, turned};
 
 use crate::collection::Collection;
-use crate::leaves::attr_of;
+use crate::leaves::{attr_of, value_in};
 use crate::loops::{card_at, keep};
 use crate::scene::Scene;
 use crate::{Card, Cards};
@@ -24,20 +24,58 @@ pub(crate) struct Wanted {
     pub(crate) equal: bool,
 }
 
+// Whether a value is as it is wanted.
+#[inline(always)]
+fn is_met(wanted: Wanted, value: Option<u16>) -> bool
+    ensures { result ≡ meets wanted value }
+{
+    if wanted.equal {
+        value == wanted.value
+    } else {
+        value != wanted.value
+    }
+}
+
 /// Whether a card is as it is wanted.
 #[inline(always)]
 pub(crate) fn is_as_wanted(scene: &Scene, wanted: Wanted, card: Card) -> bool
     ensures { result ≡ wanted_value (scene_seen scene.now) wanted (value_seen card) }
 {
-    if wanted.equal {
-        attr_of(scene, Some(card), wanted.name) == wanted.value
-    } else {
-        attr_of(scene, Some(card), wanted.name) != wanted.value
-    }
+    is_met(wanted, attr_of(scene, Some(card), wanted.name))
+}
+
+/// Whether the card with this id is so, by the row of the attribute's values.
+#[inline(always)]
+pub(crate) fn is_met_in(row: &[Option<u16>], wanted: Wanted, id: u16) -> bool
+    ensures { result ≡ meets wanted (slice_index_or row.now id None) }
+{
+    is_met(wanted, value_in(row, id))
 }
 
 /// Whether all of the cards are so.
 pub(crate) fn all_as_wanted(scene: &Scene, wanted: Wanted, cards: &Collection) -> bool
+    ensures { result ≡ list_all (wanted_value (scene_seen scene.now) wanted) cards.now }
+{
+    if let Some(ids) = cards.ids() {
+        if let Some(row) = scene.lookup.values(wanted.name) {
+            return all_met_in(row, wanted, ids);
+        }
+    }
+    all_one_by_one(scene, wanted, cards)
+}
+
+fn all_met_in(row: &[Option<u16>], wanted: Wanted, ids: &[u16]) -> bool
+    ensures { result ≡ list_all (λ id. meets wanted (slice_index_or row.now id None)) ids.now }
+{
+    for place in 0..ids.len() {
+        if !is_met_in(row, wanted, ids[place]) {
+            return false;
+        }
+    }
+    true
+}
+
+fn all_one_by_one(scene: &Scene, wanted: Wanted, cards: &Collection) -> bool
     ensures { result ≡ list_all (wanted_value (scene_seen scene.now) wanted) cards.now }
 {
     for place in 0..cards.len() {
@@ -52,12 +90,55 @@ pub(crate) fn all_as_wanted(scene: &Scene, wanted: Wanted, cards: &Collection) -
 pub(crate) fn some_as_wanted(scene: &Scene, wanted: Wanted, cards: &Collection) -> bool
     ensures { result ≡ list_any (wanted_value (scene_seen scene.now) wanted) cards.now }
 {
+    if let Some(ids) = cards.ids() {
+        if let Some(row) = scene.lookup.values(wanted.name) {
+            return some_met_in(row, wanted, ids);
+        }
+    }
+    some_one_by_one(scene, wanted, cards)
+}
+
+fn some_met_in(row: &[Option<u16>], wanted: Wanted, ids: &[u16]) -> bool
+    ensures { result ≡ list_any (λ id. meets wanted (slice_index_or row.now id None)) ids.now }
+{
+    for place in 0..ids.len() {
+        if is_met_in(row, wanted, ids[place]) {
+            return true;
+        }
+    }
+    false
+}
+
+fn some_one_by_one(scene: &Scene, wanted: Wanted, cards: &Collection) -> bool
+    ensures { result ≡ list_any (wanted_value (scene_seen scene.now) wanted) cards.now }
+{
     for place in 0..cards.len() {
         if is_as_wanted(scene, wanted, cards.at(place)) {
             return true;
         }
     }
     false
+}
+
+/// How many of the cards are so.
+pub(crate) fn count_as_wanted(scene: &Scene, wanted: Wanted, cards: &Collection) -> usize
+    ensures is { result ≡ length (filter (wanted_value (scene_seen scene.now) wanted) cards.now) }
+    ensures few { result ≤ 512 }
+{
+    let mut count = 0;
+    for place in 0..cards.len() {
+        count = counted(count, is_as_wanted(scene, wanted, cards.at(place)));
+    }
+    count
+}
+
+// One more, where it passes.
+#[inline(always)]
+fn counted(count: usize, passes: bool) -> usize
+    requires { count < 512 }
+    ensures { result ≡ (if passes then count + 1 else count) }
+{
+    if passes { count + 1 } else { count }
 }
 
 /// Whether an expression for a card is this variable.

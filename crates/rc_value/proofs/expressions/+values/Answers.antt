@@ -1,16 +1,18 @@
-use Rattle.std.proofs.Common.{◌≡◌, ◌++◌, ◌∷◌, [], map, rules, arith, ap, ap₂, sym, ◌∙◌}
+use Rattle.std.proofs.Common.{◌≡◌, length, ◌++◌, ◌∷◌, [], map, rules, arith, ap, ap₂, sym, ◌∙◌}
 use Rattle.std.proofs.lemmas.Grind.{common_steps}
 use Rattle.std.proofs.lemmas.List.{length-map, take-map}
-use Rattle.std.specs.List.{list_all, list_any}
+use Rattle.std.specs.List.{filter, list_all, list_any}
 use Rattle.rc_model.specs.Numbers.{below}
 use Rattle.rc_play_model.specs.Value.{card_bound, player_bound, attr_of_any, cut, card_value, coll_value, colls_value, test_value}
+use Rattle.rc_ast.specs.Names.{loc_seen}
 use Rattle.rc_ast.specs.Expressions.{test_seen, card_seen, coll_seen, colls_seen, domain_seen}
 use Rattle.rc_value.specs.Cards.{value_seen, values_seen}
 use Rattle.rc_value.specs.Scene.{scene_seen}
-use Rattle.rc_sheet_model.specs.Sheet.{all_of, any_of, each_card, card_var}
+use Rattle.rc_sheet_model.specs.Sheet.{all_of, any_of, each_card, card_var, cards_in, filtered, group_var}
 use Rattle.rc_value.proofs.Passing.{pass_step, pass_end}
+use Rattle.rc_value.proofs.RowLemmas.{worth_by_id, worth_of_none}
 use Rattle.rc_rules.proofs.Elements.{below_length}
-use Rattle.rc_value.proofs.Steps.{players_are, all_stop, all_on, all_end, any_stop, any_on, any_end, player_here, union_on, union_end, colls_here, tests_here, and_here, or_here, union_here, and_depth, or_depth, union_depth, inner_is, tests_on, tests_off}
+use Rattle.rc_value.proofs.Steps.{players_are, all_stop, all_on, all_end, any_stop, any_on, any_end, player_here, union_on, union_end, colls_here, tests_here, and_here, or_here, union_here, and_depth, or_depth, union_depth, inner_is, tests_on, tests_off, count_on, count_end}
 use Rattle.rc_ast.specs.declared.expressions.CardExpr.TheFolds
 use Rattle.rc_value.proofs.WantedLemmas.{all_wanted, any_wanted, keep_wanted, against_is, against_turned, value_is}
 use Rattle.rc_reads.specs.Reads.{reads_card}
@@ -197,46 +199,6 @@ pass_asked-returns t c =
     ∙ pass_end (λ x. test_value (scene_seen c.args.scene.now) (c.args.scope.now ++ card_bound x ∷ []) (test_seen c.args.test.now)) (values_seen c.args.out.now.items) _ (values_seen c.loop-place.out.items) c.loop-place.kept c.loop-place.place c.loop-place.invariant.told
     (omega (arith, c.len-place-end.ensures.value))
 
-pub test_of-returns-in-Some : goal.test_of-returns-in-Some
-test_of-returns-in-Some t c =
-    let e : test_seen c.args.expr.now ≡ all_of (each_card (coll_seen c.in-Coll.cards)) c.in-All.field-1 (test_seen c.in-All.inner.value) =
-    ap test_seen c.in-All.is ∙ ap (λ d. all_of (domain_seen d) c.in-All.field-1 (test_seen c.in-All.inner.value)) c.in-Coll.is in
-    c.all_cards.ensures
-    ∙ ap (λ x. list_all (λ m. test_value (scene_seen c.args.scene.now) (c.args.scope.now ++ m ∷ []) (test_seen x)) (map (λ k. card_bound k) c.in-Some.cards)) c.deref-in-Some.ensures
-    ∙ ap (λ xs. list_all (λ m. test_value (scene_seen c.args.scene.now) (c.args.scope.now ++ m ∷ []) (test_seen c.in-All.inner.value)) (map (λ k. card_bound k) xs)) c.in-Some.ensures
-    ∙ ap (test_value (scene_seen c.args.scene.now) c.args.scope.now) (sym e)
-
-pub test_of-returns-in-Some-bare : goal.test_of-returns-in-Some-bare
-test_of-returns-in-Some-bare t c =
-    let e : test_seen c.args.expr.now ≡ any_of (each_card (coll_seen c.in-Coll-domain.cards)) c.in-Any.field-1 (test_seen c.in-Any.inner.value) =
-    ap test_seen c.in-Any.is ∙ ap (λ d. any_of (domain_seen d) c.in-Any.field-1 (test_seen c.in-Any.inner.value)) c.in-Coll-domain.is in
-    c.any_card.ensures
-    ∙ ap (λ x. list_any (λ m. test_value (scene_seen c.args.scene.now) (c.args.scope.now ++ m ∷ []) (test_seen x)) (map (λ k. card_bound k) c.in-Some-bare.cards)) c.deref-in-Some-bare.ensures
-    ∙ ap (λ xs. list_any (λ m. test_value (scene_seen c.args.scene.now) (c.args.scope.now ++ m ∷ []) (test_seen c.in-Any.inner.value)) (map (λ k. card_bound k) xs)) c.in-Some-bare.ensures
-    ∙ ap (test_value (scene_seen c.args.scene.now) c.args.scope.now) (sym e)
-
-pub over_built-returns-in-Coll : goal.over_built-returns-in-Coll
-over_built-returns-in-Coll t c =
-    let e : test_seen c.args.expr.now ≡ all_of (each_card (coll_seen c.in-Coll.cards)) c.in-All.field-1 (test_seen c.in-All.inner.value) =
-    ap test_seen c.in-All.is ∙ ap (λ d. all_of (domain_seen d) c.in-All.field-1 (test_seen c.in-All.inner.value)) c.in-Coll.is in
-    let b : c.built.result ≡ coll_value (scene_seen c.args.scene.now) c.args.scope.now (coll_seen c.in-Coll.cards) =
-    c.built.ensures ∙ ap values_seen c.as_slice.ensures.value ∙ c.coll_of.ensures in
-    c.all_cards.ensures
-    ∙ ap (λ x. list_all (λ m. test_value (scene_seen c.args.scene.now) (c.args.scope.now ++ m ∷ []) (test_seen x)) (map (λ k. card_bound k) c.built.result)) c.deref.ensures
-    ∙ ap (λ xs. list_all (λ m. test_value (scene_seen c.args.scene.now) (c.args.scope.now ++ m ∷ []) (test_seen c.in-All.inner.value)) (map (λ k. card_bound k) xs)) b
-    ∙ ap (test_value (scene_seen c.args.scene.now) c.args.scope.now) (sym e)
-
-pub over_built-returns-in-Coll-domain : goal.over_built-returns-in-Coll-domain
-over_built-returns-in-Coll-domain t c =
-    let e : test_seen c.args.expr.now ≡ any_of (each_card (coll_seen c.in-Coll-domain.cards)) c.in-Any.field-1 (test_seen c.in-Any.inner.value) =
-    ap test_seen c.in-Any.is ∙ ap (λ d. any_of (domain_seen d) c.in-Any.field-1 (test_seen c.in-Any.inner.value)) c.in-Coll-domain.is in
-    let b : c.built-in-Coll-domain.result ≡ coll_value (scene_seen c.args.scene.now) c.args.scope.now (coll_seen c.in-Coll-domain.cards) =
-    c.built-in-Coll-domain.ensures ∙ ap values_seen c.as_slice-in-Coll-domain.ensures.value ∙ c.coll_of-in-Coll-domain.ensures in
-    c.any_card.ensures
-    ∙ ap (λ x. list_any (λ m. test_value (scene_seen c.args.scene.now) (c.args.scope.now ++ m ∷ []) (test_seen x)) (map (λ k. card_bound k) c.built-in-Coll-domain.result)) c.deref-in-Coll-domain.ensures
-    ∙ ap (λ xs. list_any (λ m. test_value (scene_seen c.args.scene.now) (c.args.scope.now ++ m ∷ []) (test_seen c.in-Any.inner.value)) (map (λ k. card_bound k) xs)) b
-    ∙ ap (test_value (scene_seen c.args.scene.now) c.args.scope.now) (sym e)
-
 pub all_cards-returns-in-Some : goal.all_cards-returns-in-Some
 all_cards-returns-in-Some t c =
     c.all_as_wanted.ensures ∙ all_wanted (scene_seen c.args.scene.now) c.args.scope.now (test_seen c.args.test.now) c.in-Some.wanted c.args.cards.now c.in-Some.ensures
@@ -270,3 +232,115 @@ wanted_of-returns-then-is_variable t c =
     value_is (scene_seen c.args.scene.now) c.args.scope.now (test_seen c.args.test.now) (card_seen c.in-Is.card.value) c.in-Is.name c.in-Is.value
     (ap test_seen c.in-Is.is)
     (sym (ap card_seen c.deref-in-Is.ensures) ∙ c.is_variable.ensures c.if-is_variable.true ∙ ap card_var c.len-in-Is.ensures)
+
+pub value_of-returns : goal.value_of-returns
+value_of-returns t c = c.attr_of_id.ensures _ c.id_now.ensures
+
+pub points_of-returns-in-Some : goal.points_of-returns-in-Some
+points_of-returns-in-Some t c =
+    let e =
+    worth_by_id c.args.scene.now c.args.map c.in-Some.id c.worth_of.result
+    (card_value (scene_seen c.args.scene.now) c.args.scope.now (card_seen c.args.expr.now)) c.in-Some.ensures c.worth_of.ensures.is in
+    grind (arith, common_steps, e)
+
+pub points_of-returns-in-None : goal.points_of-returns-in-None
+points_of-returns-in-None t c =
+    worth_of_none c.args.scene.now c.args.map (card_value (scene_seen c.args.scene.now) c.args.scope.now (card_seen c.args.expr.now)) c.in-None.ensures
+
+pub over_built-returns-in-Coll : goal.over_built-returns-in-Coll
+over_built-returns-in-Coll t c =
+    let e : test_seen c.args.expr.now ≡ all_of (each_card (coll_seen c.in-Coll.cards)) c.in-All.field-1 (test_seen c.in-All.inner.value) =
+    ap test_seen c.in-All.is ∙ ap (λ d. all_of (domain_seen d) c.in-All.field-1 (test_seen c.in-All.inner.value)) c.in-Coll.is in
+    let b : c.built.result ≡ coll_value (scene_seen c.args.scene.now) c.args.scope.now (coll_seen c.in-Coll.cards) =
+    c.built.ensures ∙ ap values_seen c.as_slice.ensures.value ∙ c.coll_of.ensures in
+    c.all_cards.ensures
+    ∙ ap (λ x. list_all (λ m. test_value (scene_seen c.args.scene.now) (c.args.scope.now ++ m ∷ []) (test_seen x)) (map (λ k. card_bound k) c.built.result)) c.deref.ensures
+    ∙ ap (λ xs. list_all (λ m. test_value (scene_seen c.args.scene.now) (c.args.scope.now ++ m ∷ []) (test_seen c.in-All.inner.value)) (map (λ k. card_bound k) xs)) b
+    ∙ ap (test_value (scene_seen c.args.scene.now) c.args.scope.now) (sym e)
+
+pub over_built-returns-in-Coll-domain : goal.over_built-returns-in-Coll-domain
+over_built-returns-in-Coll-domain t c =
+    let e : test_seen c.args.expr.now ≡ any_of (each_card (coll_seen c.in-Coll-domain.cards)) c.in-Any.field-1 (test_seen c.in-Any.inner.value) =
+    ap test_seen c.in-Any.is ∙ ap (λ d. any_of (domain_seen d) c.in-Any.field-1 (test_seen c.in-Any.inner.value)) c.in-Coll-domain.is in
+    let b : c.built-in-Coll-domain.result ≡ coll_value (scene_seen c.args.scene.now) c.args.scope.now (coll_seen c.in-Coll-domain.cards) =
+    c.built-in-Coll-domain.ensures ∙ ap values_seen c.as_slice-in-Coll-domain.ensures.value ∙ c.coll_of-in-Coll-domain.ensures in
+    c.any_card.ensures
+    ∙ ap (λ x. list_any (λ m. test_value (scene_seen c.args.scene.now) (c.args.scope.now ++ m ∷ []) (test_seen x)) (map (λ k. card_bound k) c.built-in-Coll-domain.result)) c.deref-in-Coll-domain.ensures
+    ∙ ap (λ xs. list_any (λ m. test_value (scene_seen c.args.scene.now) (c.args.scope.now ++ m ∷ []) (test_seen c.in-Any.inner.value)) (map (λ k. card_bound k) xs)) b
+    ∙ ap (test_value (scene_seen c.args.scene.now) c.args.scope.now) (sym e)
+
+pub over_cards-returns-in-Loc : goal.over_cards-returns-in-Loc
+over_cards-returns-in-Loc t c =
+    let e : test_seen c.args.expr.now ≡ all_of (each_card (cards_in (loc_seen c.in-Loc.loc))) c.in-All.field-1 (test_seen c.in-All.inner.value) =
+    ap test_seen c.in-All.is ∙ ap (λ d. all_of (domain_seen d) c.in-All.field-1 (test_seen c.in-All.inner.value)) c.in-Coll.is
+    ∙ ap (λ k. all_of (each_card (coll_seen k)) c.in-All.field-1 (test_seen c.in-All.inner.value)) c.in-Loc.is in
+    c.all_cards.ensures
+    ∙ ap (λ x. list_all (λ m. test_value (scene_seen c.args.scene.now) (c.args.scope.now ++ m ∷ []) (test_seen x)) (map (λ k. card_bound k) c.cards_of.result)) c.deref.ensures
+    ∙ ap (λ xs. list_all (λ m. test_value (scene_seen c.args.scene.now) (c.args.scope.now ++ m ∷ []) (test_seen c.in-All.inner.value)) (map (λ k. card_bound k) xs)) c.cards_of.ensures
+    ∙ ap (test_value (scene_seen c.args.scene.now) c.args.scope.now) (sym e)
+
+pub over_cards-returns-in-Var : goal.over_cards-returns-in-Var
+over_cards-returns-in-Var t c =
+    let e : test_seen c.args.expr.now ≡ all_of (each_card (group_var c.in-Var.var)) c.in-All.field-1 (test_seen c.in-All.inner.value) =
+    ap test_seen c.in-All.is ∙ ap (λ d. all_of (domain_seen d) c.in-All.field-1 (test_seen c.in-All.inner.value)) c.in-Coll.is
+    ∙ ap (λ k. all_of (each_card (coll_seen k)) c.in-All.field-1 (test_seen c.in-All.inner.value)) c.in-Var.is in
+    c.all_cards-in-Var.ensures
+    ∙ ap (λ x. list_all (λ m. test_value (scene_seen c.args.scene.now) (c.args.scope.now ++ m ∷ []) (test_seen x)) (map (λ k. card_bound k) c.group.result)) c.deref-in-Var.ensures
+    ∙ ap (λ xs. list_all (λ m. test_value (scene_seen c.args.scene.now) (c.args.scope.now ++ m ∷ []) (test_seen c.in-All.inner.value)) (map (λ k. card_bound k) xs)) c.group.ensures
+    ∙ ap (test_value (scene_seen c.args.scene.now) c.args.scope.now) (sym e)
+
+pub over_cards-returns-in-Loc-cards : goal.over_cards-returns-in-Loc-cards
+over_cards-returns-in-Loc-cards t c =
+    let e : test_seen c.args.expr.now ≡ any_of (each_card (cards_in (loc_seen c.in-Loc-cards.loc))) c.in-Any.field-1 (test_seen c.in-Any.inner.value) =
+    ap test_seen c.in-Any.is ∙ ap (λ d. any_of (domain_seen d) c.in-Any.field-1 (test_seen c.in-Any.inner.value)) c.in-Coll-domain.is
+    ∙ ap (λ k. any_of (each_card (coll_seen k)) c.in-Any.field-1 (test_seen c.in-Any.inner.value)) c.in-Loc-cards.is in
+    c.any_card.ensures
+    ∙ ap (λ x. list_any (λ m. test_value (scene_seen c.args.scene.now) (c.args.scope.now ++ m ∷ []) (test_seen x)) (map (λ k. card_bound k) c.cards_of-in-Loc-cards.result)) c.deref-in-Loc-cards.ensures
+    ∙ ap (λ xs. list_any (λ m. test_value (scene_seen c.args.scene.now) (c.args.scope.now ++ m ∷ []) (test_seen c.in-Any.inner.value)) (map (λ k. card_bound k) xs)) c.cards_of-in-Loc-cards.ensures
+    ∙ ap (test_value (scene_seen c.args.scene.now) c.args.scope.now) (sym e)
+
+pub over_cards-returns-in-Var-cards : goal.over_cards-returns-in-Var-cards
+over_cards-returns-in-Var-cards t c =
+    let e : test_seen c.args.expr.now ≡ any_of (each_card (group_var c.in-Var-cards.var)) c.in-Any.field-1 (test_seen c.in-Any.inner.value) =
+    ap test_seen c.in-Any.is ∙ ap (λ d. any_of (domain_seen d) c.in-Any.field-1 (test_seen c.in-Any.inner.value)) c.in-Coll-domain.is
+    ∙ ap (λ k. any_of (each_card (coll_seen k)) c.in-Any.field-1 (test_seen c.in-Any.inner.value)) c.in-Var-cards.is in
+    c.any_card-in-Var-cards.ensures
+    ∙ ap (λ x. list_any (λ m. test_value (scene_seen c.args.scene.now) (c.args.scope.now ++ m ∷ []) (test_seen x)) (map (λ k. card_bound k) c.group-in-Var-cards.result)) c.deref-in-Var-cards.ensures
+    ∙ ap (λ xs. list_any (λ m. test_value (scene_seen c.args.scene.now) (c.args.scope.now ++ m ∷ []) (test_seen c.in-Any.inner.value)) (map (λ k. card_bound k) xs)) c.group-in-Var-cards.ensures
+    ∙ ap (test_value (scene_seen c.args.scene.now) c.args.scope.now) (sym e)
+
+pub count_of-returns-in-Union-clause-is : goal.count_of-returns-in-Union-clause-is
+count_of-returns-in-Union-clause-is t c =
+    c.count_parts.ensures.is
+    ∙ ap (λ x. length (coll_value (scene_seen c.args.scene.now) c.args.scope.now x)) (sym (union_here c.args.expr.now c.in-Union.parts c.in-Union.is))
+
+pub count_of-count_parts-requires : goal.count_of-count_parts-requires
+count_of-count_parts-requires t c =
+    let e = union_depth c.args.expr.now c.in-Union.parts c.in-Union.is in (search (rules, TheFolds.the_lemmas), omega arith)
+
+pub count_parts-loop-part-preserved : goal.count_parts-loop-part-preserved
+count_parts-loop-part-preserved t c =
+    let e = colls_here c.deref-part-items.result.now c.loop-part.part-index c.part-item.result c.loop-part-test.true c.part-item.is in
+    record {
+      few = omega (arith, c.min-more.ensures, c.loop-part.invariant.few);
+      fits = omega arith;
+      told =
+          count_on (scene_seen c.args.scene.now) c.args.scope.now c.deref-part-items.result.now c.loop-part.part-index c.part-item.result
+          c.loop-part.count c.count_of.result c.min-more.result _ c.loop-part-test.true c.part-item.is c.loop-part.invariant.few
+          c.count_of.ensures.is c.min-more.ensures c.loop-part.invariant.told;
+    }
+
+pub count_parts-returns-clause-is : goal.count_parts-returns-clause-is
+count_parts-returns-clause-is t c =
+    count_end (scene_seen c.args.scene.now) c.args.scope.now c.deref-part-items.result.now c.loop-part.part-index c.loop-part.count
+    c.loop-part-test.false c.loop-part.invariant.few c.loop-part.invariant.told
+    ∙ ap (λ xs. length (cut (colls_value (scene_seen c.args.scene.now) c.args.scope.now (colls_seen xs)))) c.deref-part-items.ensures.value
+
+pub count_filtered-returns-in-Some-wanted_of-clause-is : goal.count_filtered-returns-in-Some-wanted_of-clause-is
+count_filtered-returns-in-Some-wanted_of-clause-is t c =
+    let told = c.deref-in-Some.result.now in
+    c.count_as_wanted.ensures.is
+    ∙ ap length (keep_wanted (scene_seen c.args.scene.now) c.args.scope.now (test_seen told) c.in-Some-wanted_of.wanted c.in-Some.all c.in-Some-wanted_of.ensures)
+    ∙ ap (λ xs. length (filter (λ x. test_value (scene_seen c.args.scene.now) (c.args.scope.now ++ card_bound x ∷ []) (test_seen told)) xs)) c.in-Some.ensures
+    ∙ ap₂ (λ k u. length (coll_value (scene_seen c.args.scene.now) c.args.scope.now (filtered (coll_seen k) c.in-Filter.field-1 (test_seen u)))) c.deref.ensures c.deref-in-Some.ensures
+    ∙ ap (λ k. length (coll_value (scene_seen c.args.scene.now) c.args.scope.now k)) (sym (ap coll_seen c.in-Filter.is))

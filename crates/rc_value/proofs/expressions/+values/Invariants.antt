@@ -1,4 +1,4 @@
-use Rattle.std.proofs.Common.{◌≡◌, ◌+◌, ◌≤◌, ◌++◌, ◌∷◌, [], length, drop}
+use Rattle.std.proofs.Common.{◌≡◌, ◌+◌, ◌≤◌, ◌++◌, ◌∷◌, [], length, drop, min}
 use Rattle.std.specs.List.{list_all, list_any, filter}
 use Rattle.rc_model.specs.Numbers.{below}
 use Rattle.rc_play_model.specs.Scene.{CardValue}
@@ -65,4 +65,12 @@ invariant-any_card_asked-loop-place l = record {
   told : list_any (λ c. test_value (scene_seen l.scene) (l.scope ++ card_bound c ∷ []) (test_seen l.test)) (drop l.place l.cards)
       ≡ list_any (λ c. test_value (scene_seen l.scene) (l.scope ++ card_bound c ∷ []) (test_seen l.test)) l.cards;
   inside : (m : PureBind CardValue) × (l.inside ≡ l.scope ++ m ∷ []);
+}
+
+abbrev pub invariant-count_parts-loop-part : goal.invariant-count_parts-loop-part
+invariant-count_parts-loop-part l = record {
+  few : l.count ≤ 512;
+  fits : length l.scope + colls_depth (colls_seen (drop l.part-index l.part-items)) ≤ 5;
+  told : min 512 (l.count + length (colls_value (scene_seen l.scene) l.scope (colls_seen (drop l.part-index l.part-items))))
+      ≡ min 512 (length (colls_value (scene_seen l.scene) l.scope (colls_seen l.part-items)));
 }

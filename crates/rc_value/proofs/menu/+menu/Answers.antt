@@ -83,12 +83,12 @@ offer-returns-in-Players t c =
     ∙ ap (λ x. take 256 (menu_seen c.args.menu.now.items ++ map (extended (item_seen c.args.item.now)) (from_each (λ m. spots_of (scene_seen c.args.scene.now) (c.args.scope.now ++ m ∷ []) (alt_seen x)) 0 (map (λ k. player_bound k) (below (scene_seen c.args.scene.now).known.sheet.players))))) c.deref-in-Players.ensures
     ∙ ap (λ a. take 256 (menu_seen c.args.menu.now.items ++ map (extended (item_seen c.args.item.now)) (spots_of (scene_seen c.args.scene.now) c.args.scope.now a))) (sym e)
 
-pub offer-returns-in-None : goal.offer-returns-in-None
-offer-returns-in-None t c =
+pub offer-returns-in-Coll : goal.offer-returns-in-Coll
+offer-returns-in-Coll t c =
     let e : alt_seen c.args.alt.now ≡ any_alt (each_card (coll_seen c.in-Coll.cards)) c.in-Any.field-1 (alt_seen c.in-Any.inner.value) =
     ap alt_seen c.in-Any.is ∙ ap (λ x. any_alt (domain_seen x) c.in-Any.field-1 (alt_seen c.in-Any.inner.value)) c.in-Coll.is in
-    c.offer_built.ensures
-    ∙ ap (λ x. take 256 (menu_seen c.args.menu.now.items ++ map (extended (item_seen c.args.item.now)) (from_each (λ m. spots_of (scene_seen c.args.scene.now) (c.args.scope.now ++ m ∷ []) (alt_seen x)) 0 (map (λ k. card_bound k) (coll_value (scene_seen c.args.scene.now) c.args.scope.now (coll_seen c.in-Coll.cards)))))) c.deref-in-None.ensures
+    c.offer_over.ensures
+    ∙ ap (λ x. take 256 (menu_seen c.args.menu.now.items ++ map (extended (item_seen c.args.item.now)) (from_each (λ m. spots_of (scene_seen c.args.scene.now) (c.args.scope.now ++ m ∷ []) (alt_seen x)) 0 (map (λ k. card_bound k) (coll_value (scene_seen c.args.scene.now) c.args.scope.now (coll_seen c.in-Coll.cards)))))) c.deref-in-Coll.ensures
     ∙ ap (λ a. take 256 (menu_seen c.args.menu.now.items ++ map (extended (item_seen c.args.item.now)) (spots_of (scene_seen c.args.scene.now) c.args.scope.now a))) (sym e)
 
 pub offer-returns-in-Parts : goal.offer-returns-in-Parts

@@ -1,4 +1,4 @@
-use Rattle.std.proofs.Common.{◌++◌, true, false, cond, map, take, arith, ap, sym, ◌∙◌}
+use Rattle.std.proofs.Common.{◌++◌, true, false, map, take, arith, ap, sym, ◌∙◌}
 use Rattle.std.proofs.lemmas.List.{length-map}
 use Rattle.rc_ast.specs.Expressions.{test_seen}
 use Rattle.rc_rules.specs.Menu.{item_seen, menu_seen}
@@ -11,11 +11,10 @@ use Rattle.rc_value.proofs.offering.offer_guarded.Goals as goal
 
 pub returns-then-not-parts : goal.returns-then-not-parts
 returns-then-not-parts c =
-    c.offer_asked.ensures
+    c.offer_some.ensures
     ∙ ap (λ ps. take 256 (menu_seen c.args.menu.now.items ++ map (extended (item_seen c.args.item.now)) ps))
-    (same_offers (λ x. joined c.parts_of-parts.result.any (map (ask_value (scene_seen c.args.scene.now) c.args.scope.now x) c.as_slice.result.now)) (told_of (scene_seen c.args.scene.now) c.args.scope.now (test_seen c.args.guard.now)) c.args.cards.now
-    (λ x. ap (λ xs. joined c.parts_of-parts.result.any (map (ask_value (scene_seen c.args.scene.now) c.args.scope.now x) xs)) c.as_slice.ensures.value
-    ∙ sym (told_asked _ _ _ _ c.if-not-parts.true (c.parts_of-parts.ensures.is x))))
+    (same_offers (λ x. joined c.parts_of-parts.result.any (map (ask_value (scene_seen c.args.scene.now) c.args.scope.now x) c.parts_of-parts.new.asks.items)) (told_of (scene_seen c.args.scene.now) c.args.scope.now (test_seen c.args.guard.now)) c.args.cards.now
+    (λ x. sym (told_asked _ _ _ _ c.if-not-parts.true (c.parts_of-parts.ensures.is x))))
 
 pub returns-then-parts : goal.returns-then-parts
 returns-then-parts c =

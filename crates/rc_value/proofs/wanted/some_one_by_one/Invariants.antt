@@ -2,7 +2,7 @@ use Rattle.std.proofs.Common.{◌≡◌, drop}
 use Rattle.std.specs.List.{list_any}
 use Rattle.rc_value.specs.Scene.{scene_seen}
 use Rattle.rc_value.specs.Wanted.{wanted_value}
-use Rattle.rc_value.proofs.wanted.some_as_wanted.Given as goal
+use Rattle.rc_value.proofs.wanted.some_one_by_one.Given as goal
 
 abbrev pub invariant-loop-place : goal.invariant-loop-place
 invariant-loop-place l =
