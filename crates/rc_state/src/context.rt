@@ -20,6 +20,7 @@ pub struct Context<'c> {
 }
 
 /// What expressions are read in now.
+#[inline(always)]
 pub fn scene_now<'c>(context: &Context<'c>, table: &'c Table, frames: &'c Frames) -> Scene<'c>
     requires shape { table.now.shape ≡ context.now.about.now.shape }
     requires current { IsCurrent context.now.about.now.sheet (frames_seen frames.now.items) context.now.current }

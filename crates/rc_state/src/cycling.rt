@@ -6,7 +6,6 @@ ghost use Rattle.rc_sheet_model.specs.Naming.{class_of as class_in};
 ghost use Rattle.rc_play_model.specs.Owners.{is_stage_of as is_of_class};
 ghost use Rattle.rc_play_model.specs.Effects.{named_next, turned};
 ghost use Rattle.rc_ast.specs.Names.{who_seen};
-ghost use Rattle.rc_ast.specs.Sheet.{sheet_seen};
 ghost use Rattle.rc_rules.specs.Control.{frames_seen};
 ghost use Rattle.rc_state.specs.Context.{Stands};
 ghost use Rattle.rc_state.specs.Leads.{LeadsTo};
@@ -14,8 +13,9 @@ ghost use Rattle.rc_state.specs.Innermost.{IsInnermost};
 
 use crate::context::Context;
 use crate::reading::who_now;
-use rc_ast::{Class, Sheet, Who};
-use rc_rules::{Frame, Frames, is_stage_of};
+use crate::stages::is_stage_of;
+use rc_ast::{Class, Who};
+use rc_rules::{About, Frame, Frames};
 use rc_table::Table;
 
 /// Names who comes next in the innermost stage of the class, whoever was named before.
@@ -25,33 +25,28 @@ pub fn name_next(context: &Context, who: Who, table: &Table, frames: &mut Frames
     ensures stands { Stands context.now table.now frames.new.items }
 {
     let member = who_now(context, who, table, &*frames);
-    name_in(
-        context.about.sheet(),
-        class_of(who),
-        member,
-        frames.as_mut_slice(),
-    );
+    name_in(context.about, class_of(who), member, frames.as_mut_slice());
 }
 
-fn name_in(sheet: &Sheet, class: Class, member: u8, frames: &mut [Frame])
-    ensures { frames_seen frames.new ≡ named_next (sheet_seen sheet.now) class member (frames_seen frames.old) }
+fn name_in(about: &About, class: Class, member: u8, frames: &mut [Frame])
+    ensures { frames_seen frames.new ≡ named_next about.now.sheet class member (frames_seen frames.old) }
 {
-    match innermost(sheet, class, &*frames) {
+    match innermost(about, class, &*frames) {
         Some(at) => frames[at].named = Some(member),
         None => {}
     }
 }
 
 // The place of the innermost stage of a class.
-fn innermost(sheet: &Sheet, class: Class, frames: &[Frame]) -> Option<usize>
+fn innermost(about: &About, class: Class, frames: &[Frame]) -> Option<usize>
     ensures within { IfSome result (λ at. at < length frames.now) }
-    ensures found { IfSome result (λ at. IsInnermost (λ frame. is_of_class (sheet_seen sheet.now) class frame.stage) (frames_seen frames.now) at) }
-    ensures none { IfNone result (list_any (λ frame. is_of_class (sheet_seen sheet.now) class frame.stage) (frames_seen frames.now) ≡ false) }
+    ensures found { IfSome result (λ at. IsInnermost (λ frame. is_of_class about.now.sheet class frame.stage) (frames_seen frames.now) at) }
+    ensures none { IfNone result (list_any (λ frame. is_of_class about.now.sheet class frame.stage) (frames_seen frames.now) ≡ false) }
 {
     let mut at = frames.len();
     while at > 0 {
         at -= 1;
-        if is_stage_of(sheet, class, frames[at].stage) {
+        if is_stage_of(about, class, frames[at].stage) {
             return Some(at);
         }
     }

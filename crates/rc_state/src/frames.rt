@@ -2,19 +2,19 @@
 ghost use Rattle.std.specs.Prelude.{◌≡◌, ◌<◌, ◌≤◌, ◌++◌, ◌∷◌, [], false, length, None};
 ghost use Rattle.rc_play_model.specs.Owners.{current_in as pure_current_in};
 ghost use Rattle.rc_play_model.specs.Step.{beside as pure_beside, with_next, passed, closed};
-ghost use Rattle.rc_ast.specs.Sheet.{sheet_seen};
 ghost use Rattle.rc_rules.specs.Control.{frame_seen, frames_seen};
 
-use rc_ast::{Class, Sheet};
-use rc_rules::{Frame, Frames, current_in};
+use crate::stages::current_member;
+use rc_ast::Class;
+use rc_rules::{About, Frame, Frames};
 
 /// A stage opens at the current member of the nearest stage of its class, forward.
-pub fn open_frame(frames: &mut Frames, sheet: &Sheet, number: u16, class: Class)
+pub fn open_frame(frames: &mut Frames, about: &About, number: u16, class: Class)
     requires room { length frames.old.items < 64 }
     ensures { frames_seen frames.new.items ≡ frames_seen frames.old.items
-        ++ record { stage = number; member = pure_current_in (sheet_seen sheet.now) class (frames_seen frames.old.items); back = false; named = None } ∷ [] }
+        ++ record { stage = number; member = pure_current_in about.now.sheet class (frames_seen frames.old.items); back = false; named = None } ∷ [] }
 {
-    let member = current_in(sheet, class, frames.as_slice());
+    let member = current_member(about, class, frames.as_slice());
     frames.push(Frame {
         stage: number,
         member,

@@ -1,9 +1,9 @@
 //! The members of a domain, by their positions.
-ghost use Rattle.std.specs.Prelude.{◌≡◌, List, [], map, slice_index_or};
+ghost use Rattle.std.specs.Prelude.{◌≡◌, [], map, slice_index_or, IfSome};
 ghost use Rattle.rc_model.specs.Numbers.{below};
-ghost use Rattle.rc_play_model.specs.Value.{members, player_bound, card_bound, group_bound, coll_value, groups_by};
-ghost use Rattle.rc_play_model.specs.Bound.{IsBindOf};
+ghost use Rattle.rc_play_model.specs.Value.{Bind as PureBind, members, player_bound, card_bound, group_bound, coll_value, groups_by};
 ghost use Rattle.rc_play_model.specs.Scene.{CardValue};
+ghost use Rattle.rc_play_model.specs.Bound.{IsBindOf};
 ghost use Rattle.rc_ast.specs.Expressions.{coll_seen, domain_seen};
 ghost use Rattle.rc_value.specs.Cards.{values_seen};
 ghost use Rattle.rc_value.specs.Seen.{bind_seen};
@@ -16,7 +16,7 @@ use crate::reading::cards_now;
 use rc_ast::{CollExpr, Domain};
 use rc_rules::Frames;
 use rc_table::Table;
-use rc_value::{Bind, Card, Cards, Collection, Values, note_values, regroup, value_at};
+use rc_value::{Bind, Card, Cards, Collection, Values, bare, note_values, regroup, value_at};
 
 /// A member of a domain. The cards of a group stand in a list beside it.
 #[derive(Clone, Copy)]
@@ -33,7 +33,7 @@ pub fn bind_of<'m>(member: Member, group: &'m Cards) -> Bind<'m>
     match member {
         Member::Player(player) => Bind::Player(player),
         Member::Card(card) => Bind::Card(card),
-        Member::Group => Bind::Group(group.as_slice()),
+        Member::Group => Bind::Group(group),
     }
 }
 
@@ -56,20 +56,20 @@ pub fn member_at(
     let _fits = context.about.sheet();
     let _sound = table.shape();
     match domain {
-        Domain::Players => player_at(context, spot),
+        Domain::Players => Member::Player(player_at(context, spot)),
         Domain::Coll(cards) => card_at(context, cards, spot, table, frames, room),
         Domain::Parts(cards, attr) => group_at(context, cards, *attr, spot, table, frames, room),
     }
 }
 
-fn player_at(context: &Context, spot: u16) -> Member
-    ensures { (cards : List CardValue) → member_seen result cards
-        ≡ slice_index_or (map (λ n. player_bound n) (below context.now.about.now.sheet.players)) spot (player_bound 0) }
+// The player with this number, or player 0 where there is none.
+fn player_at(context: &Context, spot: u16) -> u8
+    ensures { let bound : PureBind CardValue = player_bound result in bound ≡ slice_index_or (map (λ n. player_bound n) (below context.now.about.now.sheet.players)) spot (player_bound 0) }
 {
     if spot < u16::from(context.about.sheet().players) {
-        Member::Player(spot as u8)
+        spot as u8
     } else {
-        Member::Player(0)
+        0
     }
 }
 
@@ -121,5 +121,75 @@ fn group_at(
         Member::Group
     } else {
         Member::Player(0)
+    }
+}
+
+/// What a variable stands for that is bound to the member of a domain at a position, or to player 0 where there is none. None where
+/// the members stand nowhere as they are: cards that pass a test or come from several places, and groups.
+#[inline(always)]
+pub fn bare_bind_at<'m>(
+    context: &Context,
+    domain: &Domain,
+    spot: u16,
+    table: &Table,
+    frames: &Frames,
+) -> Option<Bind<'m>>
+    requires stands { Stands context.now table.now frames.now.items }
+    requires well { IsDomainUnder context.now.about.now.sheet context.now.scope.now (domain_seen domain.now) }
+    ensures is { IfSome result (λ bind. bind_seen bind
+        ≡ slice_index_or (members (scene_in context.now table.now frames.now.items) context.now.scope.now (domain_seen domain.now)) spot (player_bound 0)) }
+    ensures there { IfSome result (λ bind. IsBindOf context.now.about.now.shape (bind_seen bind)) }
+{
+    let _fits = context.about.sheet();
+    let _sound = table.shape();
+    bound_at(context, domain, spot, table, frames)
+}
+
+#[inline(always)]
+fn bound_at<'m>(
+    context: &Context,
+    domain: &Domain,
+    spot: u16,
+    table: &Table,
+    frames: &Frames,
+) -> Option<Bind<'m>>
+    requires stands { Stands context.now table.now frames.now.items }
+    ensures { IfSome result (λ bind. bind_seen bind
+        ≡ slice_index_or (members (scene_in context.now table.now frames.now.items) context.now.scope.now (domain_seen domain.now)) spot (player_bound 0)) }
+{
+    match domain {
+        Domain::Players => Some(Bind::Player(player_at(context, spot))),
+        Domain::Coll(cards) => bare_card_at(context, cards, spot, table, frames),
+        Domain::Parts(_, _) => None,
+    }
+}
+
+#[inline(always)]
+fn bare_card_at<'m>(
+    context: &Context,
+    cards: &CollExpr,
+    spot: u16,
+    table: &Table,
+    frames: &Frames,
+) -> Option<Bind<'m>>
+    requires stands { Stands context.now table.now frames.now.items }
+    ensures { IfSome result (λ bind. bind_seen bind ≡ slice_index_or
+        (map (λ c. card_bound c) (coll_value (scene_in context.now table.now frames.now.items) context.now.scope.now (coll_seen cards.now))) spot (player_bound 0)) }
+{
+    let scene = scene_now(context, table, frames);
+    match bare(&scene, context.scope, cards) {
+        Some(all) => Some(card_in(&all, spot)),
+        None => None,
+    }
+}
+
+#[inline(always)]
+fn card_in<'m>(cards: &Collection, spot: u16) -> Bind<'m>
+    ensures { bind_seen result ≡ slice_index_or (map (λ c. card_bound c) cards.now) spot (player_bound 0) }
+{
+    if (spot as usize) < cards.len() {
+        Bind::Card(cards.at(spot as usize))
+    } else {
+        Bind::Player(0)
     }
 }

@@ -3,13 +3,14 @@ ghost use Rattle.std.specs.Prelude.{◌≡◌};
 ghost use Rattle.rc_play_model.specs.Menu.{alts_at};
 ghost use Rattle.rc_play_model.specs.About.{menu_at};
 ghost use Rattle.rc_ast.specs.Items.{alts_seen};
-ghost use Rattle.rc_rules.specs.Control.{control_seen};
+ghost use Rattle.rc_rules.specs.Control.{control_seen, frames_seen};
 ghost use Rattle.rc_rules.specs.Menu.{menu_seen};
+ghost use Rattle.rc_value.specs.Current.{IsCurrent};
 
 use rc_ast::Alt;
 use rc_rules::{About, Control, Menu};
 use rc_table::Table;
-use rc_value::{Scene, fill_menu};
+use rc_value::{Current, Scene, current_of, fill_menu};
 
 /// Writes what the choice with this site offers, whose alternatives these are, into a menu, whatever it held before.
 pub fn fill_menu_at(
@@ -24,11 +25,31 @@ pub fn fill_menu_at(
     requires alts { alts_seen alts.now ≡ alts_at about.now.sheet site }
     ensures { menu_seen menu.new.items ≡ menu_at about.now site table.now.table (control_seen control.now) }
 {
-    let scene = Scene::new(
+    let current = current_of(about.sheet(), about.lookup(), control.frames.as_slice());
+    fill_menu_by(about, current, table, control, site, alts, menu);
+}
+
+/// The same where it is known who is current.
+pub fn fill_menu_by(
+    about: &About,
+    current: Current,
+    table: &Table,
+    control: &Control,
+    site: u8,
+    alts: &[Alt],
+    menu: &mut Menu,
+)
+    requires laid { table.now.shape ≡ about.now.shape }
+    requires current { IsCurrent about.now.sheet (frames_seen control.now.frames.items) current }
+    requires alts { alts_seen alts.now ≡ alts_at about.now.sheet site }
+    ensures { menu_seen menu.new.items ≡ menu_at about.now site table.now.table (control_seen control.now) }
+{
+    let scene = Scene::with_current(
         about.sheet(),
         about.lookup(),
         table,
         control.frames.as_slice(),
+        current,
     );
     fill_menu(&scene, site, alts, menu);
 }

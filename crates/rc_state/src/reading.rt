@@ -1,5 +1,5 @@
 //! What expressions stand for, now.
-ghost use Rattle.std.specs.Prelude.{◌≡◌, [], length, option_map, All, IfSome};
+ghost use Rattle.std.specs.Prelude.{◌≡◌, ◌+◌, ◌≤◌, [], length, option_map, All, IfSome};
 ghost use Rattle.rc_model.specs.Clamp.{IsWithinClamp};
 ghost use Rattle.rc_sheet_model.specs.WellFormed.{holds_references};
 ghost use Rattle.rc_play_model.specs.Value.{card_value, coll_value, int_value, test_value, who_value, loc_place, num_place};
@@ -7,6 +7,7 @@ ghost use Rattle.rc_play_model.specs.Bound.{IsCardOf};
 ghost use Rattle.rc_ast.specs.Names.{who_seen, loc_seen, num_seen};
 ghost use Rattle.rc_ast.specs.Expressions.{card_seen, coll_seen, int_seen, test_seen};
 ghost use Rattle.rc_value.specs.Cards.{value_seen, values_seen};
+ghost use Rattle.rc_value.specs.Depth.{card_depth, int_depth};
 ghost use Rattle.rc_state.specs.Context.{scene_in, Stands};
 ghost use Rattle.rc_state.specs.Under.{IsCardUnder, IsCollUnder, IsIntUnder, IsTestUnder};
 ghost use Rattle.rc_state.specs.Leads.{HoldsAs};
@@ -21,6 +22,7 @@ use rc_value::{
 };
 
 /// The card that an expression stands for, if there is one.
+#[inline(always)]
 pub fn card_now(context: &Context, expr: &CardExpr, table: &Table, frames: &Frames) -> Option<Card>
     requires stands { Stands context.now table.now frames.now.items }
     requires well { IsCardUnder context.now.about.now.sheet context.now.scope.now (card_seen expr.now) }
@@ -30,7 +32,20 @@ pub fn card_now(context: &Context, expr: &CardExpr, table: &Table, frames: &Fram
     expressions_bind_few();
     let _fits = context.about.sheet();
     let _sound = table.shape();
-    card_of(&scene_now(context, table, frames), context.scope, expr)
+    found_card(context, expr, table, frames)
+}
+
+// The same. What a variable stands for is read without a scene.
+#[inline(always)]
+fn found_card(context: &Context, expr: &CardExpr, table: &Table, frames: &Frames) -> Option<Card>
+    requires stands { Stands context.now table.now frames.now.items }
+    requires fits { length context.now.scope.now + card_depth (card_seen expr.now) ≤ 5 }
+    ensures { option_map value_seen result ≡ card_value (scene_in context.now table.now frames.now.items) context.now.scope.now (card_seen expr.now) }
+{
+    match expr {
+        CardExpr::Var(var) => context.scope.card(*var),
+        _ => card_of(&scene_now(context, table, frames), context.scope, expr),
+    }
 }
 
 /// The cards that an expression stands for, written into an empty list.
@@ -54,6 +69,7 @@ pub fn cards_now(
 }
 
 /// The number that an expression stands for.
+#[inline(always)]
 pub fn int_now(context: &Context, expr: &IntExpr, table: &Table, frames: &Frames) -> i64
     requires stands { Stands context.now table.now frames.now.items }
     requires well { IsIntUnder context.now.about.now.sheet context.now.scope.now (int_seen expr.now) }
@@ -63,10 +79,24 @@ pub fn int_now(context: &Context, expr: &IntExpr, table: &Table, frames: &Frames
     expressions_bind_few();
     values_stay_within_limits();
     let _sound = table.shape();
-    int_of(&scene_now(context, table, frames), context.scope, expr)
+    found_int(context, expr, table, frames)
+}
+
+// The same. A number that is written out is read without a scene.
+#[inline(always)]
+fn found_int(context: &Context, expr: &IntExpr, table: &Table, frames: &Frames) -> i64
+    requires stands { Stands context.now table.now frames.now.items }
+    requires fits { length context.now.scope.now + int_depth (int_seen expr.now) ≤ 5 }
+    ensures { result ≡ int_value (scene_in context.now table.now frames.now.items) context.now.scope.now (int_seen expr.now) }
+{
+    match expr {
+        IntExpr::Lit(value) => *value,
+        _ => int_of(&scene_now(context, table, frames), context.scope, expr),
+    }
 }
 
 /// Whether a test holds.
+#[inline(always)]
 pub fn test_now(context: &Context, expr: &Test, table: &Table, frames: &Frames) -> bool
     requires stands { Stands context.now table.now frames.now.items }
     requires well { IsTestUnder context.now.about.now.sheet context.now.scope.now (test_seen expr.now) }
@@ -77,6 +107,7 @@ pub fn test_now(context: &Context, expr: &Test, table: &Table, frames: &Frames) 
 }
 
 /// The number of an owner.
+#[inline(always)]
 pub fn who_now(context: &Context, who: Who, table: &Table, frames: &Frames) -> u8
     requires stands { Stands context.now table.now frames.now.items }
     ensures { result ≡ who_value (scene_in context.now table.now frames.now.items).known context.now.scope.now (who_seen who) }
@@ -85,6 +116,7 @@ pub fn who_now(context: &Context, who: Who, table: &Table, frames: &Frames) -> u
 }
 
 /// The location that is meant, if there is one.
+#[inline(always)]
 pub fn loc_now(context: &Context, loc: &Loc, table: &Table, frames: &Frames) -> Option<u16>
     requires stands { Stands context.now table.now frames.now.items }
     ensures is { result ≡ loc_place (scene_in context.now table.now frames.now.items).known context.now.scope.now (loc_seen loc.now) }
@@ -95,6 +127,7 @@ pub fn loc_now(context: &Context, loc: &Loc, table: &Table, frames: &Frames) -> 
 }
 
 /// The place of the number that is meant, if there is one.
+#[inline(always)]
 pub fn num_now(context: &Context, num: &Num, table: &Table, frames: &Frames) -> Option<u16>
     requires stands { Stands context.now table.now frames.now.items }
     ensures { result ≡ num_place (scene_in context.now table.now frames.now.items).known context.now.scope.now (num_seen num.now) }

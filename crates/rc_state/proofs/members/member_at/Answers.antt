@@ -3,7 +3,6 @@ use Rattle.rc_sheet_model.specs.Sheet.{each_player, each_card, each_group}
 use Rattle.rc_play_model.specs.Bound.{IsBindOf}
 use Rattle.rc_ast.specs.Expressions.{coll_seen}
 use Rattle.rc_rules.specs.Control.{frames_seen}
-use Rattle.rc_value.specs.Cards.{values_seen}
 use Rattle.rc_state.proofs.MemberLemmas.{member_there}
 use Rattle.rc_state.proofs.members.member_at.Goals as goal
 
@@ -11,7 +10,7 @@ pub returns-in-Players-clause-there : goal.returns-in-Players-clause-there
 returns-in-Players-clause-there c =
     let context = c.args.context.now in
     let stands = c.requires.stands in
-    subst (IsBindOf context.about.now.shape) (sym (c.player_at.ensures (values_seen c.args.room.now.items)))
+    subst (IsBindOf context.about.now.shape) (sym c.player_at.ensures)
     (member_there context.about.now c.sheet-fits.ensures.shape c.sheet-fits.ensures.well c.args.table.now stands.0 c.shape-sound.ensures.sound
     (frames_seen c.args.frames.now.items) context.scope.now stands.2 each_player c.args.spot)
 

@@ -1,5 +1,3 @@
-use Rattle.std.proofs.Common.{ap, ◌∙◌}
-use Rattle.rc_play_model.specs.Value.{card_value}
 use Rattle.rc_ast.specs.Expressions.{card_seen}
 use Rattle.rc_rules.specs.Control.{frames_seen}
 use Rattle.rc_state.proofs.Readings.{card_there}
@@ -9,5 +7,4 @@ pub returns-clause-there : goal.returns-clause-there
 returns-clause-there c =
     let context = c.args.context.now in
     card_there context.about.now c.sheet-fits.ensures.shape c.args.table.now c.requires.stands.0 c.shape-sound.ensures.sound (frames_seen c.args.frames.now.items)
-    context.scope.now c.requires.stands.2 (card_seen c.args.expr.now) c.card_of.result
-    (c.card_of.ensures ∙ ap (λ scene. card_value scene context.scope.now (card_seen c.args.expr.now)) c.scene_now.ensures)
+    context.scope.now c.requires.stands.2 (card_seen c.args.expr.now) c.found_card.result c.found_card.ensures

@@ -11,7 +11,7 @@ returns-clause-clamped c =
     let context = c.args.context.now in
     let well = c.requires.well in
     let scene = scene_in context c.args.table.now c.args.frames.now.items in
-    let same : to_z w64 (of_z w64 c.int_of.result) ≡ int_value scene context.scope.now (int_seen c.args.expr.now) = grind (arith, common_steps) in
+    let same : to_z w64 (of_z w64 c.found_int.result) ≡ int_value scene context.scope.now (int_seen c.args.expr.now) = grind (arith, common_steps) in
     subst IsWithinClamp (sym same)
     (c.values_stay_within_limits.ensures.numbers context.about.now.sheet well.0 scene context.scope.now (int_seen c.args.expr.now) well.3
     c.shape-sound.ensures.sound.clamped)
