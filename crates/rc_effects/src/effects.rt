@@ -28,15 +28,15 @@ use rc_value::{Bind, Cards, Scope, current_of};
 pub fn do_effects<D: Dealer>(
     about: &About,
     scope: &Scope,
-    effects: &[Effect],
+    effects: &Vec<Effect>,
     table: &mut Table,
     frames: &mut Frames,
     dealer: &mut D,
 )
     requires shape { table.old.shape ≡ about.now.shape }
-    requires well { AreEffectsUnder about.now.sheet scope.now (effects_seen effects.now) }
+    requires well { AreEffectsUnder about.now.sheet scope.now (effects_seen effects.now.items) }
     requires bound { All (IsBindOf about.now.shape) scope.now }
-    ensures does { does about.now (D.dealing dealer.old) scope.now (effects_seen effects.now) (point_of table.old frames.old.items (D.state dealer.old))
+    ensures does { does about.now (D.dealing dealer.old) scope.now (effects_seen effects.now.items) (point_of table.old frames.old.items (D.state dealer.old))
         ≡ point_of table.new frames.new.items (D.state dealer.new) }
     ensures shape { table.new.shape ≡ about.now.shape }
     ensures dealing { D.dealing dealer.new ≡ D.dealing dealer.old }
@@ -47,27 +47,7 @@ pub fn do_effects<D: Dealer>(
         scope,
         current,
     };
-    do_under(&context, effects, table, frames, dealer);
-}
-
-/// Does effects, one after the other, in a context.
-pub fn do_under<D: Dealer>(
-    context: &Context,
-    effects: &[Effect],
-    table: &mut Table,
-    frames: &mut Frames,
-    dealer: &mut D,
-)
-    requires stands { Stands context.now table.old frames.old.items }
-    requires well { AreEffectsUnder context.now.about.now.sheet context.now.scope.now (effects_seen effects.now) }
-    ensures does { does context.now.about.now (D.dealing dealer.old) context.now.scope.now (effects_seen effects.now)
-        (point_of table.old frames.old.items (D.state dealer.old)) ≡ point_of table.new frames.new.items (D.state dealer.new) }
-    ensures stands { Stands context.now table.new frames.new.items }
-    ensures dealing { D.dealing dealer.new ≡ D.dealing dealer.old }
-{
-    for effect in effects {
-        do_effect(context, effect, table, frames, dealer);
-    }
+    do_all(&context, effects, table, frames, dealer);
 }
 
 #[cycle(effects)]
@@ -269,8 +249,9 @@ fn do_for<D: Dealer>(
     do_all(&inner, effects, table, frames, dealer);
 }
 
+/// Does effects, one after the other, in a context.
 #[cycle(effects)]
-fn do_all<D: Dealer>(
+pub(crate) fn do_all<D: Dealer>(
     context: &Context,
     effects: &Vec<Effect>,
     table: &mut Table,

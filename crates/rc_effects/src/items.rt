@@ -14,7 +14,7 @@ ghost use Rattle.rc_state.specs.Under.{IsAltUnder, IsDomainUnder};
 ghost use Rattle.rc_state.specs.Bindings.{AreAltsOutside};
 ghost use Rattle.rc_state.specs.Context.{scene_in, Stands};
 
-use crate::effects::do_under;
+use crate::effects::do_all;
 use rc_ast::{Alt, Domain};
 use rc_rules::{About, Dealer, Frames, Item};
 use rc_state::{Context, bind_of, member_at};
@@ -73,8 +73,8 @@ fn do_alt<D: Dealer>(
     ensures dealing { D.dealing dealer.new ≡ D.dealing dealer.old }
 {
     match alt {
-        Alt::Do(effects) => do_under(context, effects.as_slice(), table, frames, dealer),
-        Alt::If(_, effects) => do_under(context, effects.as_slice(), table, frames, dealer),
+        Alt::Do(effects) => do_all(context, effects, table, frames, dealer),
+        Alt::If(_, effects) => do_all(context, effects, table, frames, dealer),
         Alt::Any(domain, _, inner) => {
             do_any(context, inner, domain, spots, table, frames, dealer)
         }

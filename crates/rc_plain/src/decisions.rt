@@ -11,10 +11,11 @@ ghost use Rattle.rc_plain.specs.Plain.{IsInPlay, chosen_item};
 ghost use Rattle.rc_plain.specs.State.{IsReady, plain_of, config_at};
 
 use crate::state::State;
-use rc_ast::{Alt, Class};
+use rc_ast::Alt;
 use rc_effects::do_item;
-use rc_rules::{About, Dealer, Item, current_in};
+use rc_rules::{About, Dealer, Item};
 use rc_state::count_decision;
+use rc_value::current_of;
 
 impl State {
     /// Takes an item out of the menu of the decision that is next, and does its effects.
@@ -47,7 +48,11 @@ impl State {
         ensures dealing { D.dealing dealer.new ≡ D.dealing dealer.old }
     {
         let _turns = about.turns();
-        let seat = current_in(about.sheet(), Class::Player, self.control.frames.as_slice());
+        let current = current_of(
+            about.sheet(),
+            about.lookup(),
+            self.control.frames.as_slice(),
+        );
         do_item(
             about,
             alts,
@@ -56,7 +61,7 @@ impl State {
             &mut self.control.frames,
             dealer,
         );
-        count_decision(&mut self.control, seat);
+        count_decision(&mut self.control, current.player);
         self.path.pass();
     }
 }

@@ -15,15 +15,15 @@ use crate::state::State;
 use rc_ast::{Alt, Class, Effect, SheetItem, Test};
 use rc_effects::do_effects;
 use rc_play_model::{sites_fix_choices, stops_stay};
-use rc_rules::{About, Dealer, Stop, current_in};
+use rc_rules::{About, Dealer, Stop};
 use rc_state::{close_frame, fill_menu_at, has_ended, member_count, open_frame, pass_frame};
-use rc_value::Scope;
+use rc_value::{Scope, current_of};
 
 impl State {
     /// Does the effects that are next.
-    fn do_next<D: Dealer>(&mut self, about: &About, effects: &[Effect], dealer: &mut D)
+    fn do_next<D: Dealer>(&mut self, about: &About, effects: &Vec<Effect>, dealer: &mut D)
         requires ready { IsReady about.now self.old }
-        requires here { item_at about.now.sheet self.old.path ≡ Some (do_item (effects_seen effects.now)) }
+        requires here { item_at about.now.sheet self.old.path ≡ Some (do_item (effects_seen effects.now.items)) }
         requires fits { self.old.path.next + 1 < 2 ^ 64 }
         ensures leads { step about.now (D.dealing dealer.old) (D.state dealer.old) (config_at about.now self.old)
             ≡ goes (D.state dealer.new) (config_at about.now self.new) }
@@ -77,9 +77,16 @@ impl State {
         if self.control.turn >= about.turns() {
             return Some(Stop::Limit);
         }
-        let seat = current_in(about.sheet(), Class::Player, self.control.frames.as_slice());
+        let current = current_of(
+            about.sheet(),
+            about.lookup(),
+            self.control.frames.as_slice(),
+        );
         self.control.site = Some(site);
-        Some(Stop::Decide { seat, site })
+        Some(Stop::Decide {
+            seat: current.player,
+            site,
+        })
     }
 
     /// Opens the stage that is next, or goes on at its round.
@@ -93,7 +100,8 @@ impl State {
         if self.path.at_round() {
             return self.round_next(about, end);
         }
-        open_frame(&mut self.control.frames, about.sheet(), number, class);
+        let _sheet = about.sheet();
+        open_frame(&mut self.control.frames, about, number, class);
         self.path.open();
         None
     }

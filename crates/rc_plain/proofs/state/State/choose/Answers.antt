@@ -30,11 +30,11 @@ returns-clause-leads g c =
     let alts = alts_seen c.args.alts.now in
     let dealing = g.D.Dealer.dealing c.args.dealer.now in
     let k = g.D.Dealer.state c.args.dealer.now in
-    let seat = c.current_in-seat.result in
+    let seat = c.current_of-current.result.player in
     let before = point_of c.args.self.now.table c.args.self.now.control.frames.items k in
     let after = point_of c.do_item.new.table c.do_item.new.frames.items (g.D.Dealer.state c.do_item.new.dealer) in
     let scene = scene_at about m.table m.control.frames in
-    let moves = c.current_in-seat.ensures ∙ ap (λ sheet. mover sheet (frames_seen c.as_slice.result.now)) c.sheet.ensures.same
+    let moves = c.current_of-current.ensures.0 ∙ ap (λ sheet. mover sheet (frames_seen c.as_slice.result.now)) c.sheet.ensures.same
     ∙ ap (λ frames. mover about.sheet (frames_seen frames)) c.as_slice.ensures.value in
     λ x chosen.
     choose_leads m dealing k x c.requires.here.0 seat alts after
@@ -49,7 +49,7 @@ returns-clause-ready g c =
     let about = c.args.about.now in
     let m = plain_of about c.args.self.now in
     let play = c.requires.play in
-    let seat = c.current_in-seat.result in
+    let seat = c.current_of-current.result.player in
     let below = c.requires.below in
     record {
       laid = c.do_item.ensures.shape;

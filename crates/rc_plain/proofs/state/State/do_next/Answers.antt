@@ -30,7 +30,7 @@ returns-clause-leads g c =
     let m = plain_of about c.args.self.now in
     let dealing = g.D.Dealer.dealing c.args.dealer.now in
     let k = g.D.Dealer.state c.args.dealer.now in
-    let effects = effects_seen c.args.effects.now in
+    let effects = effects_seen c.args.effects.now.items in
     let after = point_of c.do_effects.new.table c.do_effects.new.frames.items (g.D.Dealer.state c.do_effects.new.dealer) in
     do_leads m dealing k effects after
     (not_round about.sheet m.path c.requires.ready.play.stands (ap stage_in c.requires.here)) c.requires.here

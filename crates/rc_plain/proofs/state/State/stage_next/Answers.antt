@@ -1,7 +1,7 @@
 use Rattle.std.proofs.Common.{ap, sym, ◌∙◌, subst, refl, arith}
 use Rattle.std.proofs.lemmas.List.{length-map}
 use Rattle.rc_sheet_model.specs.Sheet.{stage}
-use Rattle.rc_play_model.specs.Step.{Stage, goes, with_frames, opened}
+use Rattle.rc_play_model.specs.Step.{Stage, goes, with_frames}
 use Rattle.rc_play_model.specs.Path.{stage_in}
 use Rattle.rc_ast.specs.Expressions.{test_seen}
 use Rattle.rc_rules.specs.Control.{frames_seen, frame_seen}
@@ -17,7 +17,7 @@ pub open_frame-requires : goal.open_frame-requires
 open_frame-requires c =
     let m = plain_of c.args.about.now c.args.self.now in
     let i = stage c.args.number c.args.class (test_seen c.args.end.now) c.requires.here.0 in
-    let few = few_frames m c.requires.ready.play i c.sheet.ensures.well (sym c.at_round.ensures ∙ c.if-at_round.false) c.requires.here.1 in
+    let few = few_frames m c.requires.ready.play i c.sheet-sheet.ensures.well (sym c.at_round.ensures ∙ c.if-at_round.false) c.requires.here.1 in
     let same = length-map c.args.self.now.control.frames.items frame_seen in
     record { room = omega (arith, few, same) }
 
@@ -31,7 +31,7 @@ returns-clause-leads c =
     let frames = frames_seen c.open_frame.new.frames.items in
     λ dealing k.
     open_leads m dealing k c.args.number c.args.class end body frames (sym c.at_round.ensures ∙ c.if-at_round.false) c.requires.here.1
-    (ap (λ sheet. opened sheet s m.control.frames) (sym c.sheet.ensures.same) ∙ sym c.open_frame.ensures)
+    (sym c.open_frame.ensures)
     ∙ ap (λ path. goes k (config_of (moved m path m.table (with_frames m.control frames)))) (sym c.open.ensures)
 
 pub returns-clause-ready : goal.returns-clause-ready
