@@ -4,7 +4,13 @@ use Rattle.rc_play_model.specs.Table.{Table}
 use Rattle.rc_flat.specs.Undo.{Kept, tables, noting, edited, Keeps, GoesBack}
 
 pub keeps_all : (a b : Kept) → b ≡ a → Keeps a b
-keeps_all a b same = record { shape = ap (λ k. k.laid.shape) same; notes = ap (λ k. k.notes) same; behind = λ on. ([], ap tables same) }
+keeps_all a b same =
+    record {
+      shape = ap (λ k. k.laid.shape) same;
+      notes = ap (λ k. k.notes) same;
+      behind = λ on. ([], ap tables same);
+      home = ap (λ k. k.home) same;
+    }
 
 pub keeps_edit : (a b : Kept) (t : Table) → b ≡ edited a t → Keeps a b
 keeps_edit a b t is =
@@ -12,6 +18,7 @@ keeps_edit a b t is =
       shape = ap (λ k. k.laid.shape) is;
       notes = ap (λ k. k.notes) is;
       behind = λ on. (t ∷ [], ap tables is ∙ ap (λ notes. t ∷ noting notes a.laid.table a.before) on);
+      home = ap (λ k. k.home) is;
     }
 
 pub keeps_then : (a b c : Kept) → Keeps a b → Keeps b c → Keeps a c
@@ -23,6 +30,7 @@ keeps_then a b c first second =
           let one = first.behind on in
           let two = second.behind (first.notes ∙ on) in
           (two.0 ++ one.0, two.1 ∙ ap (λ ts. two.0 ++ ts) one.1 ∙ sym (append_assoc two.0 one.0 (tables a)));
+      home = second.home ∙ first.home;
     }
 
 -- what follows where a call answered Ok
@@ -36,4 +44,5 @@ goes_then a b c gone gone' first second =
       shape = second.shape ∙ first.shape;
       notes = second.notes ∙ first.notes;
       behind = first.behind ∙ ap (λ ts. gone ++ ts) second.behind ∙ sym (append_assoc gone gone' (tables c));
+      home = second.home ∙ first.home;
     }

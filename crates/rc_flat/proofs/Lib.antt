@@ -1,5 +1,6 @@
 pub mod EffectSteps
 pub mod UndoLemmas
+pub mod PastLemmas
 pub mod StepCases
 pub mod PlayLemmas
 pub mod ShallowLemmas
@@ -14,3 +15,4 @@ pub mod MomentLemmas
 pub mod MarkLemmas
 pub mod MachineLemmas
 pub mod SitePlaceLemmas
+pub mod HomeLemmas

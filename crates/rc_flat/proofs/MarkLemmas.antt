@@ -36,6 +36,7 @@ keeps_then a b c first then =
           let one = first.behind on in
           let two = then.behind (first.notes ∙ on) in
           (two.0 ++ one.0, two.1 ∙ ap (λ ts. two.0 ++ ts) one.1 ∙ sym (append_assoc two.0 one.0 (tables_of a)));
+      home = then.home ∙ first.home;
     }
 
 marked_still : (a b : Machine) (mark : Mark) (config : Config) → KeepsTables a b → IsMark a mark config →
@@ -68,15 +69,16 @@ one_mark m mark config other is is' = sym is.there ∙ is'.there
 -- back at the mark it is as it was
 pub whole_again : (a b c : Machine) (mark : Mark) (gone : List Table) → IsMark a mark a.config → mark.edits ≡ length a.before → KeepsTables a b →
     IsMark b mark c.config → tables_of b ≡ gone ++ tables_of c → length c.before ≡ mark.edits → c.about ≡ b.about → c.code ≡ b.code →
-    c.notes ≡ b.notes → c.spent ≡ false → a.spent ≡ false → c ≡ a
-whole_again a b c mark gone is edits keeps is' back long about code notes fresh fresh' =
+    c.notes ≡ b.notes → c.home ≡ b.home → c.spent ≡ false → a.spent ≡ false → c ≡ a
+whole_again a b c mark gone is edits keeps is' back long about code notes home fresh fresh' =
     let count : length (tables_of c) ≡ length (tables_of a) = ap suc (long ∙ edits) in
     let more = keeps.behind is.notes in
     let all : tables_of c ≡ tables_of a = same_end gone more.0 (tables_of c) (tables_of a) count (sym back ∙ more.1) in
     let config : c.config ≡ a.config = one_mark b mark c.config a.config is' (keeps_mark a b mark a.config keeps is) in
-    ap (λ x. record { about = x; code = c.code; config = c.config; before = c.before; notes = c.notes; spent = c.spent }) (about ∙ keeps.about)
-    ∙ ap (λ x. record { about = a.about; code = x; config = c.config; before = c.before; notes = c.notes; spent = c.spent }) (code ∙ keeps.code)
-    ∙ ap (λ x. record { about = a.about; code = a.code; config = x; before = c.before; notes = c.notes; spent = c.spent }) config
-    ∙ ap (λ x. record { about = a.about; code = a.code; config = a.config; before = x; notes = c.notes; spent = c.spent }) (ap rest_of all)
-    ∙ ap (λ x. record { about = a.about; code = a.code; config = a.config; before = a.before; notes = x; spent = c.spent }) (notes ∙ keeps.notes)
-    ∙ ap (λ x. record { about = a.about; code = a.code; config = a.config; before = a.before; notes = a.notes; spent = x }) (fresh ∙ sym fresh')
+    ap (λ x. record { about = x; code = c.code; config = c.config; before = c.before; notes = c.notes; home = c.home; spent = c.spent }) (about ∙ keeps.about)
+    ∙ ap (λ x. record { about = a.about; code = x; config = c.config; before = c.before; notes = c.notes; home = c.home; spent = c.spent }) (code ∙ keeps.code)
+    ∙ ap (λ x. record { about = a.about; code = a.code; config = x; before = c.before; notes = c.notes; home = c.home; spent = c.spent }) config
+    ∙ ap (λ x. record { about = a.about; code = a.code; config = a.config; before = x; notes = c.notes; home = c.home; spent = c.spent }) (ap rest_of all)
+    ∙ ap (λ x. record { about = a.about; code = a.code; config = a.config; before = a.before; notes = x; home = c.home; spent = c.spent }) (notes ∙ keeps.notes)
+    ∙ ap (λ x. record { about = a.about; code = a.code; config = a.config; before = a.before; notes = a.notes; home = x; spent = c.spent }) (home ∙ keeps.home)
+    ∙ ap (λ x. record { about = a.about; code = a.code; config = a.config; before = a.before; notes = a.notes; home = a.home; spent = x }) (fresh ∙ sym fresh')

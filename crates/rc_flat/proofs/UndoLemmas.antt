@@ -1,20 +1,19 @@
 -- Edits that are taken back leave the table that was there.
-use Rattle.std.proofs.Common.{◌≡◌, ◌≢◌, ℕ, zero, suc, ◌-◌, ◌<◌, ◌≤◌, ◌==◌, nat_lt, Bool, true, false, List, [], ◌∷◌, ◌++◌, length, map, reverse, inl, inr, refl, sym, ap, ◌∙◌, subst, arith}
+use Rattle.std.proofs.Common.{◌≡◌, ◌≢◌, ℕ, zero, suc, ◌-◌, ◌<◌, ◌≤◌, ◌==◌, nat_lt, true, false, List, [], ◌∷◌, ◌++◌, length, map, reverse, inl, inr, refl, sym, ap, ◌∙◌, subst, arith}
 use Rattle.std.specs.Prelude.{slice_index, remove, ℤ}
 use Rattle.std.specs.List.{insert}
 use Rattle.std.proofs.lemmas.Bool.{cond-true, cond-false, lt-ltb, eq-eqb, cases_lt}
 use Rattle.std.proofs.lemmas.List.Edits.{length-remove}
-use Rattle.std.proofs.lemmas.List.{set-set, set-get_or, get_or-set_same, get_or-set_other, get_or_past, length-set, length-map, length-reverse, map-append, reverse-append}
+use Rattle.std.proofs.lemmas.List.{set-set, set-get_or, get_or-set_same, get_or-set_other, get_or_past, length-set, length-map, map-append, reverse-append}
 use Rattle.rc_play_model.specs.Shape.{Shape}
 use Rattle.rc_play_model.specs.Bound.{HoldsCards, HoldsReferences}
 use Rattle.rc_play_model.proofs.FoundLemmas.{found, index_found}
 use Rattle.std.proofs.lemmas.Option.{slice_get_within}
-use Rattle.rc_table.specs.Laid.{Laid, relaid}
 use Rattle.rc_play_model.specs.Table.{Table, loc_of, list_at, with_list, number_at, set_number, place_of, put_top, put_bottom, onto, under, has_room, remember_top, remember_bottom, taken, reorder}
 use Rattle.rc_table.specs.Restored.{put_at, taken_at}
 use Rattle.rc_play_model.specs.Table.{IsSound}
-use Rattle.rc_flat.specs.Undo.{Edit, moved, changed, ordered, noted, forgotten, undone, before_of, noting, edited, IsEditOf, CanUndo}
-use Rattle.rc_flat.specs.Entry.{entry_seen, log_seen, kept_log}
+use Rattle.rc_flat.specs.Undo.{Edit, moved, changed, ordered, noted, forgotten, undone, before_of, IsEditOf, CanUndo}
+use Rattle.rc_flat.specs.Entry.{entry_seen, log_seen}
 use Rattle.rc_flat.specs.declared.entry.Entry.{Entry}
 
 -- LISTS
@@ -152,24 +151,6 @@ pub from_there : (shape : Shape) (t : Table) (id : ℕ) (at : ℕ × ℕ) → Is
 from_there shape t id at sound card is =
     subst (λ (at : ℕ × ℕ). at.0 < length shape.places) (sym is) (where_it_is shape t id sound card).1
 
--- what a board is after an edit, which was noted where it notes edits
-pub noted_edit : (notes : Bool) (shape : Shape) (t t' : Table) (log log' : List Entry) (e : Edit) (new : Laid) →
-    kept_log notes log' ≡ noting notes e (kept_log notes log) → undone e t' ≡ t → IsEditOf shape e → IsSound shape t →
-    CanUndo shape (kept_log notes log) t → new ≡ record { shape = shape; table = t' } →
-    CanUndo new.shape (kept_log notes log') new.table × (before_of (kept_log notes log') new.table ≡ noting notes t (before_of (kept_log notes log) t))
-noted_edit true shape t t' log log' e new more back is sound can same = (
-  subst (λ (laid : Laid). CanUndo laid.shape (log_seen log') laid.table) (sym same)
-      (noted_can shape (log_seen log) (log_seen log') e t t' more back is sound can),
-  ap (λ (laid : Laid). before_of (log_seen log') laid.table) same ∙ noted_before (log_seen log) (log_seen log') e t t' more back,
-)
-noted_edit false shape t t' log log' e new more back is sound can same = (tt, refl)
-
-pub board_edited : (notes : Bool) (old new : Laid) (before after : List Table) (t : Table) → new ≡ relaid old t → after ≡ noting notes old.table before →
-    record { laid = new; before = after; notes = notes } ≡ edited (record { laid = old; before = before; notes = notes }) t
-board_edited notes old new before after t is is' =
-    ap (λ (l : Laid). record { laid = l; before = after; notes = notes }) is
-    ∙ ap (λ (b : List Table). record { laid = relaid old t; before = b; notes = notes }) is'
-
 -- how long a location is without what is at a place
 pub one_shorter : (t : Table) (from place loc : ℕ) → place < length (list_at t from) → from ≡ loc →
     length (list_at t loc) - 1 ≡ length (list_at (taken_at from place t) loc)
@@ -198,9 +179,6 @@ log_more log entry = ap reverse (map-append entry_seen log (entry ∷ [])) ∙ r
 pub so_many : (edits : List Edit) (t : Table) → length (before_of edits t) ≡ length edits
 so_many [] t = refl
 so_many (e ∷ edits) t = let rest = so_many edits (undone e t) in omega (arith, rest)
-
-pub log_long : (log : List Entry) (t : Table) → length log ≡ length (before_of (log_seen log) t)
-log_long log t = let many = so_many (log_seen log) t in let back = length-reverse (map entry_seen log) in let each = length-map log entry_seen in omega (arith, many, back, each)
 
 -- a list that comes back
 pub list_back : (t : Table) (loc : ℕ) (order : List ℕ) → loc < length t.lists → length order ≡ length (list_at t loc) →

@@ -1,11 +1,11 @@
 -- A board as a table with those before it.
-use Rattle.rc_flat.specs.Undo.{before_of, CanUndo, Kept}
-use Rattle.rc_flat.specs.Entry.{kept_log}
+use Rattle.rc_flat.specs.Undo.{Kept}
+use Rattle.rc_flat.specs.Past.{IsPast, kept_of}
+use Rattle.rc_flat.specs.PastSeen.{past_seen}
 use Rattle.rc_flat.specs.declared.board.Board.TheInside.{Inside}
 
 abbrev pub board_seen : Inside → Kept
-board_seen b = record { laid = b.table; before = before_of (kept_log b.notes b.log.items) b.table.table; notes = b.notes }
+board_seen b = kept_of (past_seen b.past) b.table
 
--- each edit that is noted can be taken back
 abbrev pub IsBoard : Inside → Type 0
-IsBoard b = CanUndo b.table.shape (kept_log b.notes b.log.items) b.table.table
+IsBoard b = IsPast b.table (past_seen b.past)

@@ -1,5 +1,5 @@
 -- Entries of a log as edits.
-use Rattle.std.specs.Prelude.{Bool, true, false, List, [], map, reverse}
+use Rattle.std.specs.Prelude.{List, map, reverse}
 use Rattle.rc_flat.specs.Undo.{Edit, moved, changed, ordered, noted, forgotten}
 use Rattle.rc_flat.specs.declared.entry.Entry.{Entry}
 use Rattle.rc_flat.specs.declared.entry.Entry.TheVariants.{Moved, Changed, Ordered, Noted, Forgotten}
@@ -14,8 +14,3 @@ entry_seen (Forgotten id loc place) = forgotten id loc place
 -- the edits of a log, the last one first
 abbrev pub log_seen : List Entry → List Edit
 log_seen entries = reverse (map entry_seen entries)
-
--- the edits of a log of a board that notes them; of one that notes nothing there are none
-abbrev pub kept_log : Bool → List Entry → List Edit
-kept_log true entries = log_seen entries
-kept_log false entries = []

@@ -1,5 +1,7 @@
 pub mod Undo
 pub mod Entry
+pub mod Past
+pub mod PastSeen
 pub mod Board
 pub mod Places
 pub mod Shallow
@@ -10,3 +12,5 @@ pub mod Machine
 pub mod Marks
 pub mod Codes
 pub mod MachineSeen
+pub mod Home
+pub mod HomeSeen

@@ -13,6 +13,7 @@ machine_seen m =
       config = config_at m.about (list_seen m.code.value.list.items) m.state;
       before = m.state.board.before;
       notes = m.state.board.notes;
+      home = m.state.board.home;
       spent = m.spent;
     }
 

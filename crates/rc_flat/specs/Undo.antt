@@ -1,5 +1,5 @@
 -- Edits of a table that can be taken back.
-use Rattle.std.specs.Prelude.{◌≡◌, ℕ, ◌<◌, nat_lt, if◌then◌else◌, Bool, true, false, List, [], ◌∷◌, ◌++◌, length, ℤ}
+use Rattle.std.specs.Prelude.{◌≡◌, ℕ, ◌<◌, nat_lt, if◌then◌else◌, Bool, true, false, List, [], ◌∷◌, ◌++◌, length, Option, Some, unwrap_or, ℤ}
 use Rattle.rc_model.specs.Clamp.{IsWithinClamp}
 use Rattle.rc_play_model.specs.Shape.{Shape}
 use Rattle.rc_play_model.specs.Bound.{HoldsReferences}
@@ -48,11 +48,12 @@ abbrev pub noting : {X : Type 0} → Bool → X → List X → List X
 noting true x xs = x ∷ xs
 noting false x xs = xs
 
--- a table with those before it, the last one first, and whether edits are noted
+-- a table with those before it, the last one first, whether edits are noted, and the table to which it goes home, if there is one
 pub record Kept : Type 0 where
   pub laid : Laid
   pub before : List Table
   pub notes : Bool
+  pub home : Option Table
 
 abbrev pub tables : Kept → List Table
 tables kept = kept.laid.table ∷ kept.before
@@ -60,16 +61,37 @@ tables kept = kept.laid.table ∷ kept.before
 -- after one more edit
 abbrev pub edited : Kept → Table → Kept
 edited kept table =
-    record { laid = relaid kept.laid table; before = noting kept.notes kept.laid.table kept.before; notes = kept.notes }
+    record {
+      laid = relaid kept.laid table;
+      before = noting kept.notes kept.laid.table kept.before;
+      notes = kept.notes;
+      home = kept.home;
+    }
 
--- where edits are noted, all tables that were there are there, with others behind them
+-- back at home, where there is one
+abbrev pub gone_home : Kept → Kept
+gone_home kept =
+    record {
+      laid = relaid kept.laid (unwrap_or kept.home kept.laid.table);
+      before = kept.before;
+      notes = kept.notes;
+      home = kept.home;
+    }
+
+-- at home with this table
+abbrev pub home_at : Laid → Kept
+home_at laid = record { laid = laid; before = []; notes = false; home = Some laid.table }
+
+-- the home stays, and where edits are noted, all tables that were there are there, with others behind them
 pub record Keeps (old new : Kept) : Type 0 where
   pub shape : new.laid.shape ≡ old.laid.shape
   pub notes : new.notes ≡ old.notes
   pub behind : old.notes ≡ true → (more : List Table) × (tables new ≡ more ++ tables old)
+  pub home : new.home ≡ old.home
 
 -- the last tables are gone, and those before them are there
 pub record GoesBack (old new : Kept) (gone : List Table) : Type 0 where
   pub shape : new.laid.shape ≡ old.laid.shape
   pub notes : new.notes ≡ old.notes
   pub behind : tables old ≡ gone ++ tables new
+  pub home : new.home ≡ old.home

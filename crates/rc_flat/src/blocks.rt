@@ -1,13 +1,14 @@
 //! Blocks of code: effects, one after the other.
-ghost use Rattle.std.specs.Prelude.{◌≡◌, ◌+◌, ◌<◌, ◌≤◌, [], ◌∷◌, ◌++◌, length, take, drop, map, fold, OnOk};
+ghost use Rattle.std.specs.Prelude.{◌≡◌, ◌+◌, ◌<◌, ◌≤◌, [], ◌∷◌, ◌++◌, length, take, drop, map, fold, All, OnOk};
 ghost use Rattle.rc_model.specs.Numbers.{below};
 ghost use Rattle.rc_sheet_model.specs.Sheet.{when, repeat as repeat_of, for_each as for_each_of};
 ghost use Rattle.rc_sheet_model.specs.WellFormed.{Around, AreEffects};
 ghost use Rattle.rc_play_model.specs.Value.{Bind as PureBind, player_bound, card_bound, coll_value};
 ghost use Rattle.rc_play_model.specs.Scene.{CardValue};
-ghost use Rattle.rc_play_model.specs.Bound.{IsBindOf};
+ghost use Rattle.rc_play_model.specs.Bound.{IsBindOf, IsCardOf};
 ghost use Rattle.rc_play_model.specs.Effects.{does_one, does, times as times_in};
 ghost use Rattle.rc_ast.specs.Expressions.{coll_seen, int_seen, test_seen, domain_seen};
+ghost use Rattle.rc_value.specs.Cards.{value_seen, values_seen};
 ghost use Rattle.rc_value.specs.Seen.{bind_seen};
 ghost use Rattle.rc_state.specs.Point.{point_of};
 ghost use Rattle.rc_state.specs.Under.{IsCollUnder, IsEffectUnder, AreEffectsUnder};
@@ -23,12 +24,14 @@ use crate::simple::do_simple;
 use rc_ast::{CollExpr, Domain, IntExpr, Test};
 use rc_code::Instruction;
 use rc_deck::Memory;
+use rc_names::limits::MOST_TIMES;
 use rc_rules::{About, Dealer, Frames};
-use rc_state::{Context, cards_now, int_now, test_now};
-use rc_value::{Bind, Cards, Scope, current_of};
+use rc_state::{Context, FewCards, cards_now, few_cards_now, int_now, test_now};
+use rc_value::{Bind, Card, Cards, Scope, current_of};
 
 /// The first instructions, so many of them.
 #[tactic(auto, using(crate::proofs::ListLemmas::front_seen, crate::proofs::ListLemmas::all_seen, crate::proofs::ListLemmas::front_simple))]
+#[inline(always)]
 pub fn front(code: &[Instruction], count: usize) -> &[Instruction]
     ensures is { list_seen result.now ≡ take count (list_seen code.now) }
     ensures simple { AreSimple (list_seen code.now) → AreSimple (list_seen result.now) }
@@ -42,6 +45,7 @@ pub fn front(code: &[Instruction], count: usize) -> &[Instruction]
 
 /// The instructions behind so many.
 #[tactic(auto, using(crate::proofs::ListLemmas::past_rest, crate::proofs::ListLemmas::none_seen, crate::proofs::ListLemmas::past_simple))]
+#[inline(always)]
 pub fn past(code: &[Instruction], count: usize) -> &[Instruction]
     ensures is { list_seen result.now ≡ drop count (list_seen code.now) }
     ensures simple { AreSimple (list_seen code.now) → AreSimple (list_seen result.now) }
@@ -54,6 +58,7 @@ pub fn past(code: &[Instruction], count: usize) -> &[Instruction]
 }
 
 // How many instructions are passed with this one where effects are done.
+#[inline(always)]
 fn passed_with(first: &Instruction) -> usize
     ensures { result ≡ passed_over (instruction_seen first.now) }
 {
@@ -209,13 +214,12 @@ fn repeat<D: Dealer>(
     Ok(())
 }
 
-const MOST_REPEATS: i64 = 1000;
-
 // How often effects are repeated, by a count.
+#[inline(always)]
 fn times_of(count: i64) -> u16
     ensures { result ≡ times_in count }
 {
-    count.clamp(0, MOST_REPEATS) as u16
+    count.clamp(0, MOST_TIMES) as u16
 }
 
 #[tactic(auto, using(crate::proofs::ShuffleLemmas::not_shuffled))]
@@ -267,8 +271,10 @@ fn for_players<D: Dealer>(
     ensures shuffled { HasShuffled (D.dealing dealer.old) (D.state dealer.old) (D.state dealer.new) }
     ensures dealing { D.dealing dealer.new ≡ D.dealing dealer.old }
 {
+    let mut scope = context.scope.with(Bind::Player(0));
     for player in 0..context.about.sheet().players {
-        match do_for(context, inside, Bind::Player(player), board, frames, dealer) {
+        let bind = Bind::Player(player);
+        match do_for(context, &mut scope, bind, inside, board, frames, dealer) {
             Ok(()) => {}
             Err(Memory) => return Err(Memory),
         }
@@ -301,10 +307,43 @@ fn for_cards<D: Dealer>(
     ensures shuffled { HasShuffled (D.dealing dealer.old) (D.state dealer.old) (D.state dealer.new) }
     ensures dealing { D.dealing dealer.new ≡ D.dealing dealer.old }
 {
+    let mut few = FewCards::new();
+    if few_cards_now(context, cards, board.table(), &*frames, &mut few) {
+        return for_these(context, few.as_slice(), inside, board, frames, dealer);
+    }
     let mut room = Cards::new();
     cards_now(context, cards, board.table(), &*frames, &mut room);
-    for card in room.as_slice() {
-        match do_for(context, inside, Bind::Card(*card), board, frames, dealer) {
+    for_these(context, room.as_slice(), inside, board, frames, dealer)
+}
+
+// The same with these cards.
+#[tactic(auto, using(crate::proofs::ShuffleLemmas::not_shuffled))]
+#[cycle(blocks)]
+fn for_these<D: Dealer>(
+    context: &Context,
+    cards: &[Card],
+    inside: &[Instruction],
+    board: &mut Board,
+    frames: &mut Frames,
+    dealer: &mut D,
+) -> Result<(), Memory>
+    requires stands { Stands context.now board.old.laid frames.old.items }
+    requires cards { All (λ card. IsCardOf context.now.about.now.shape (value_seen card)) cards.now }
+    requires room { length context.now.scope.now < 5 }
+    requires well { (member : PureBind CardValue) → AreEffectsUnder context.now.about.now.sheet (context.now.scope.now ++ member ∷ []) (effects_in (list_seen inside.now)) }
+    requires simple { AreSimple (list_seen inside.now) }
+    ensures does { OnOk result (fold (λ mid member. does context.now.about.now (D.dealing dealer.old) (context.now.scope.now ++ member ∷ []) (effects_in (list_seen inside.now)) mid)
+        (point_of board.old.laid frames.old.items (D.state dealer.old)) (map (λ c. card_bound c) (values_seen cards.now))
+        ≡ point_of board.new.laid frames.new.items (D.state dealer.new)) }
+    ensures stands { OnOk result (Stands context.now board.new.laid frames.new.items) }
+    ensures keeps { Keeps board.old board.new }
+    ensures shuffled { HasShuffled (D.dealing dealer.old) (D.state dealer.old) (D.state dealer.new) }
+    ensures dealing { D.dealing dealer.new ≡ D.dealing dealer.old }
+{
+    let mut scope = context.scope.with(Bind::Player(0));
+    for card in cards {
+        let bind = Bind::Card(*card);
+        match do_for(context, &mut scope, bind, inside, board, frames, dealer) {
             Ok(()) => {}
             Err(Memory) => return Err(Memory),
         }
@@ -312,39 +351,42 @@ fn for_cards<D: Dealer>(
     Ok(())
 }
 
-// Does effects with one variable more.
+// Does effects with this for the innermost variable of the scope. The context's variables are those outside it.
 #[tactic(auto, using(crate::proofs::ShuffleLemmas::not_shuffled))]
 #[cycle(blocks)]
-fn do_for<D: Dealer>(
+fn do_for<'g, D: Dealer>(
     context: &Context,
+    scope: &mut Scope<'g>,
+    bind: Bind<'g>,
     inside: &[Instruction],
-    member: Bind,
     board: &mut Board,
     frames: &mut Frames,
     dealer: &mut D,
 ) -> Result<(), Memory>
     requires stands { Stands context.now board.old.laid frames.old.items }
-    requires room { length context.now.scope.now < 5 }
-    requires member { IsBindOf context.now.about.now.shape (bind_seen member) }
-    requires well { AreEffectsUnder context.now.about.now.sheet (context.now.scope.now ++ bind_seen member ∷ []) (effects_in (list_seen inside.now)) }
+    requires scope { (other : PureBind CardValue) × (scope.old ≡ context.now.scope.now ++ other ∷ []) }
+    requires bind { IsBindOf context.now.about.now.shape (bind_seen bind) }
+    requires well { AreEffectsUnder context.now.about.now.sheet (context.now.scope.now ++ bind_seen bind ∷ []) (effects_in (list_seen inside.now)) }
     requires simple { AreSimple (list_seen inside.now) }
-    ensures does { OnOk result (does context.now.about.now (D.dealing dealer.old) (context.now.scope.now ++ bind_seen member.entry ∷ []) (effects_in (list_seen inside.now))
+    ensures does { OnOk result (does context.now.about.now (D.dealing dealer.old) (context.now.scope.now ++ bind_seen bind.entry ∷ []) (effects_in (list_seen inside.now))
         (point_of board.old.laid frames.old.items (D.state dealer.old)) ≡ point_of board.new.laid frames.new.items (D.state dealer.new)) }
+    ensures scope { (other : PureBind CardValue) × (scope.new ≡ context.now.scope.now ++ other ∷ []) }
     ensures stands { OnOk result (Stands context.now board.new.laid frames.new.items) }
     ensures keeps { Keeps board.old board.new }
     ensures shuffled { HasShuffled (D.dealing dealer.old) (D.state dealer.old) (D.state dealer.new) }
     ensures dealing { D.dealing dealer.new ≡ D.dealing dealer.old }
 {
-    let scope = context.scope.with(member);
+    scope.rebind(bind);
     let inner = Context {
         about: context.about,
-        scope: &scope,
+        scope: &*scope,
         current: context.current,
     };
     do_block(&inner, inside, board, frames, dealer)
 }
 
 /// Where the code behind so many instructions begins, that stand from a place on.
+#[inline(always)]
 pub fn behind(code: &[Instruction], from: usize, inside: usize) -> usize
     requires { from ≤ length code.now }
     ensures { drop result (list_seen code.now) ≡ drop (from + inside) (list_seen code.now) }

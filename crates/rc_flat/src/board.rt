@@ -1,5 +1,5 @@
-//! A table whose edits can be taken back.
-ghost use Rattle.std.specs.Prelude.{◌≡◌, ◌<◌, ◌≤◌, true, false, List, [], ◌∷◌, length, slice_index, MatchOption, OnOk, OnErr};
+//! A table whose edits can be taken back, or which goes home.
+ghost use Rattle.std.specs.Prelude.{◌≡◌, ◌<◌, ◌≤◌, true, false, List, [], ◌∷◌, length, slice_index, None, IsSome, IfOk, OnOk};
 ghost use Rattle.std.specs.List.Sorted.{IsPermutation};
 ghost use Rattle.rc_model.specs.Numbers.{below};
 ghost use Rattle.rc_model.specs.Clamp.{IsWithinClamp};
@@ -7,24 +7,23 @@ ghost use Rattle.rc_play_model.specs.Bound.{HoldsCards, HoldsReferences};
 ghost use Rattle.rc_play_model.specs.Table.{Table as PureTable, list_at, place_of, without, put_top, put_bottom, remember_top, remember_bottom, forget_in, set_number, reorder};
 ghost use Rattle.rc_table.specs.Laid.{relaid};
 ghost use Rattle.rc_table.specs.Restored.{taken_at};
-ghost use Rattle.rc_flat.specs.Entry.{entry_seen, log_seen, kept_log};
-ghost use Rattle.rc_flat.specs.Undo.{changed, noting, edited, Keeps, GoesBack};
+ghost use Rattle.rc_flat.specs.Entry.{entry_seen};
+ghost use Rattle.rc_flat.specs.Undo.{changed, edited, gone_home, home_at, Keeps, GoesBack};
 
 use crate::entry::{Entry, take_back};
+use crate::past::Past;
 use rc_deck::Memory;
 use rc_play_model::edits_keep_tables_sound;
 use rc_table::Table;
 use std::alloc::Global;
 use std::marker::Model;
 
-/// A table, with what takes each of its edits back, the last one at the end, where it notes them.
+/// A table, with what is kept of those before it: nothing, what takes each edit back, or the table to which it goes home.
 #[derive(Drop)]
 pub struct Board {
     alloc: Global,
     table: Table,
-    // whether edits are noted; else the log stays as it is
-    notes: bool,
-    log: Vec<Entry>,
+    past: Past,
 }
 
 impl Model for Board {
@@ -42,26 +41,32 @@ impl Model for Board {
 impl Board {
     /// A table with none before it, whose edits are noted.
     pub fn new(alloc: Global, table: Table) -> Board
-        ensures { result ≡ record { laid = table; before = []; notes = true } }
+        ensures { result ≡ record { laid = table; before = []; notes = true; home = None } }
     {
         Board {
             alloc,
             table,
-            notes: true,
-            log: Vec::new(alloc),
+            past: Past::Edits(Vec::new(alloc)),
         }
     }
 
-    /// A table whose edits are not noted.
+    /// A table of which nothing before it is kept.
     pub fn onward(alloc: Global, table: Table) -> Board
-        ensures { result ≡ record { laid = table; before = []; notes = false } }
+        ensures { result ≡ record { laid = table; before = []; notes = false; home = None } }
     {
         Board {
             alloc,
             table,
-            notes: false,
-            log: Vec::new(alloc),
+            past: Past::Nothing,
         }
+    }
+
+    /// A table that is at home, to which it goes back.
+    pub fn at_home(alloc: Global, table: Table) -> Result<Board, Memory>
+        ensures { IfOk result (λ board. board ≡ home_at table) }
+    {
+        let past = Past::at_home(alloc, &table)?;
+        Ok(Board { alloc, table, past })
     }
 
     /// The table as it is now.
@@ -73,10 +78,9 @@ impl Board {
 
     /// How many edits can be taken back.
     pub fn edits(&self) -> usize
-        requires { self.now.notes ≡ true }
         ensures { result ≡ length self.now.before }
     {
-        self.log.len()
+        self.past.edits()
     }
 
     /// Takes a card out of its place and puts it on top of a location of cards.
@@ -96,7 +100,7 @@ impl Board {
             to: loc,
             at,
         };
-        match note(self.notes, &mut self.log, entry) {
+        match self.past.note(entry) {
             Ok(()) => {}
             Err(Memory) => return Err(Memory),
         }
@@ -120,7 +124,7 @@ impl Board {
             to: loc,
             at: 0,
         };
-        match note(self.notes, &mut self.log, entry) {
+        match self.past.note(entry) {
             Ok(()) => {}
             Err(Memory) => return Err(Memory),
         }
@@ -141,7 +145,7 @@ impl Board {
             return Ok(());
         }
         let at = count_of(&self.table, loc);
-        match note(self.notes, &mut self.log, Entry::Noted { loc, at }) {
+        match self.past.note(Entry::Noted { loc, at }) {
             Ok(()) => {}
             Err(Memory) => return Err(Memory),
         }
@@ -161,7 +165,7 @@ impl Board {
         if !self.table.has_room(loc) {
             return Ok(());
         }
-        match note(self.notes, &mut self.log, Entry::Noted { loc, at: 0 }) {
+        match self.past.note(Entry::Noted { loc, at: 0 }) {
             Ok(()) => {}
             Err(Memory) => return Err(Memory),
         }
@@ -188,7 +192,7 @@ impl Board {
             loc,
             place,
         };
-        match note(self.notes, &mut self.log, entry) {
+        match self.past.note(entry) {
             Ok(()) => {}
             Err(Memory) => return Err(Memory),
         }
@@ -205,7 +209,7 @@ impl Board {
     {
         let _sound = self.table.shape();
         let entry = changed_entry(num, self.table.number(num));
-        match note(self.notes, &mut self.log, entry) {
+        match self.past.note(entry) {
             Ok(()) => {}
             Err(Memory) => return Err(Memory),
         }
@@ -222,11 +226,7 @@ impl Board {
         ensures keeps { Keeps self.old self.new }
     {
         let _sound = self.table.shape();
-        let list = match Vec::from_slice(self.alloc, self.table.list(loc)) {
-            Ok(list) => list,
-            Err(_) => return Err(Memory),
-        };
-        match note(self.notes, &mut self.log, Entry::Ordered { loc, list }) {
+        match self.past.note_order(self.alloc, loc, self.table.list(loc)) {
             Ok(()) => {}
             Err(Memory) => return Err(Memory),
         }
@@ -240,7 +240,7 @@ impl Board {
         requires some { 0 < length self.old.before }
         ensures { GoesBack self.old self.new (self.old.laid.table ∷ []) }
     {
-        match take_last(&mut self.log) {
+        match self.past.take_last() {
             Some(entry) => take_back(&mut self.table, &entry),
             None => {}
         }
@@ -256,6 +256,23 @@ impl Board {
         while self.edits() > edits {
             self.undo();
         }
+    }
+
+    /// Goes home, where there is one. It takes no memory.
+    pub fn go_home(&mut self)
+        ensures { self.new ≡ gone_home self.old }
+    {
+        self.past.go_home(&mut self.table);
+    }
+
+    /// Goes to another home, a table of the same shape. It takes no memory.
+    pub fn move_home(&mut self, table: &Table)
+        requires shape { self.old.laid.shape ≡ table.now.shape }
+        requires home { IsSome self.old.home }
+        ensures { self.new ≡ home_at table.now }
+    {
+        self.past.move_home(table);
+        self.table.copy_from(table);
     }
 }
 
@@ -282,30 +299,6 @@ fn top_without(table: &Table, from: u16, place: u16, loc: u16) -> u16
 {
     let count = table.list(loc).len() as u16;
     if from == loc { count - 1 } else { count }
-}
-
-// Takes the last entry, if there is one.
-#[tactic(auto, using(crate::proofs::UndoLemmas::log_more))]
-fn take_last(log: &mut Vec<Entry>) -> Option<Entry>
-    ensures { MatchOption result (log.old.items ≡ []) (λ entry. log_seen log.old.items ≡ entry_seen entry ∷ log_seen log.new.items) }
-{
-    log.pop()
-}
-
-// Puts an entry behind the others, where edits are noted.
-#[tactic(auto, using(crate::proofs::UndoLemmas::log_more))]
-fn note(notes: bool, log: &mut Vec<Entry>, entry: Entry) -> Result<(), Memory>
-    ensures noted { OnOk result (kept_log notes log.new.items ≡ noting notes (entry_seen entry) (kept_log notes log.old.items)) }
-    ensures still { notes ≡ false → log.new.items ≡ log.old.items }
-    ensures lacking { OnErr result (log.new.items ≡ log.old.items) }
-{
-    if !notes {
-        return Ok(());
-    }
-    match log.push(entry) {
-        Ok(()) => Ok(()),
-        Err(_) => Err(Memory),
-    }
 }
 
 // An entry of a number's value.

@@ -1,16 +1,22 @@
 //! The calls of the machine.
-ghost use Rattle.std.specs.Prelude.{◌≡◌, ◌<◌, ◌≤◌, ◌++◌, List, true, false, length, Some, is_err, IfOk, OnOk, OnErr};
+ghost use Rattle.std.specs.Prelude.{◌≡◌, ℕ, ◌<◌, ◌≤◌, ◌++◌, List, true, false, length, Some, is_err, IsSome, IfOk, OnOk, OnErr};
 ghost use Rattle.rc_play_model.specs.Table.{Table as PureTable};
+ghost use Rattle.rc_play_model.specs.About.{menu_at};
 ghost use Rattle.rc_play_model.specs.Step.{Config, goes};
 ghost use Rattle.rc_play_model.specs.Stop.{stop_of};
 ghost use Rattle.rc_play_model.specs.Decision.{choose};
-ghost use Rattle.rc_rules.specs.Control.{stop_seen};
+ghost use Rattle.rc_rules.specs.Control.{control_seen, stop_seen};
 ghost use Rattle.rc_rules.specs.Dealer.{HasShuffled};
 ghost use Rattle.rc_rules.specs.Machine.{StandsAtDecision, StandsWhereItStops, menu_here};
+ghost use Rattle.rc_rules.specs.Menu.{menu_seen};
+ghost use Rattle.rc_flat.specs.Flat.{config_of, flat_from};
+ghost use Rattle.rc_flat.specs.Moments.{IsInMatch};
+ghost use Rattle.rc_flat.specs.Home.{config_at_home, IsHome};
 ghost use Rattle.rc_flat.specs.Machine.{KeepsTables, tables_of};
 ghost use Rattle.rc_flat.specs.Marks.{IsMark};
 
 use crate::machine::{FlatMachine, Mark};
+use crate::stand::{Stand, write_menu};
 use rc_deck::Memory;
 use rc_rules::{Control, Dealer, Machine, Menu, Scores, Stop};
 use rc_state::copy_menu;
@@ -37,10 +43,50 @@ impl FlatMachine {
         ensures about { self.new.about ≡ self.old.about }
         ensures code { self.new.code ≡ self.old.code }
         ensures notes { self.new.notes ≡ self.old.notes }
+        ensures home { self.new.home ≡ self.old.home }
     {
         self.state.go_back(mark);
         self.state.refill(&self.about, &self.code.list);
         self.spent = false;
+    }
+
+    /// Goes home, where it stands as it is told. A machine that was spent is whole again.
+    pub(crate) fn go_home(&mut self, stand: &Stand)
+        requires { IsHome self.old.about self.old.code self.old.home stand.now }
+        ensures at { self.new.config ≡ config_at_home self.old.about self.old.code self.old.home stand.now }
+        ensures about { self.new.about ≡ self.old.about }
+        ensures code { self.new.code ≡ self.old.code }
+        ensures home { self.new.home ≡ self.old.home }
+        ensures fresh { self.new.spent ≡ false }
+    {
+        self.state.go_home(stand);
+        self.spent = false;
+    }
+
+    /// Goes to another home with this table, where it stands as it is told, but for the menu. A machine that was spent is whole again.
+    pub(crate) fn move_home(&mut self, table: &Table, stand: &Stand)
+        requires laid { table.now.shape ≡ self.old.about.shape }
+        requires home { IsSome self.old.home }
+        requires on { IsInMatch (flat_from self.old.about self.old.code stand.now.place table.now.table (control_seen stand.now.control)) }
+        ensures at { self.new.config
+            ≡ config_of (flat_from self.old.about self.old.code stand.now.place table.now.table (control_seen stand.now.control)) }
+        ensures about { self.new.about ≡ self.old.about }
+        ensures code { self.new.code ≡ self.old.code }
+        ensures home { self.new.home ≡ Some table.now.table }
+        ensures fresh { self.new.spent ≡ false }
+    {
+        self.state.move_home(table, stand);
+        self.state.refill(&self.about, &self.code.list);
+        self.spent = false;
+    }
+
+    /// Writes the menu of the site at which it stands, if there is one, over another one.
+    pub(crate) fn write_menu(&self, menu: &mut Menu)
+        requires { self.now.spent ≡ false }
+        ensures { (site : ℕ) → self.now.config.control.site ≡ Some site →
+            menu_seen menu.new.items ≡ menu_at self.now.about site self.now.config.table self.now.config.control }
+    {
+        write_menu(&self.state.menu, menu);
     }
 }
 

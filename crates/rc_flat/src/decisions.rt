@@ -18,11 +18,12 @@ use crate::blocks::{behind, front, past};
 use crate::items::do_item;
 use crate::state::State;
 use crate::there::choice_there;
-use rc_ast::{Alt, Class};
+use rc_ast::Alt;
 use rc_code::{Block, Instruction};
 use rc_deck::Memory;
-use rc_rules::{About, Dealer, Item, current_in};
+use rc_rules::{About, Dealer, Item};
 use rc_state::count_decision;
+use rc_value::current_of;
 
 impl State {
     /// Takes an item out of the menu of the decision that is next, and does its effects.
@@ -113,11 +114,16 @@ impl State {
         ensures dealing { D.dealing dealer.new ≡ D.dealing dealer.old }
     {
         let _turns = about.turns();
-        let seat = current_in(about.sheet(), Class::Player, self.control.frames.as_slice());
+        let current = current_of(
+            about.sheet(),
+            about.lookup(),
+            self.control.frames.as_slice(),
+        );
         let next = self.place.next() + 1;
         let block = block_of(past(code, next), blocks, item.alt);
         match do_item(
             about,
+            current,
             alts,
             block,
             item,
@@ -128,7 +134,7 @@ impl State {
             Ok(()) => {}
             Err(Memory) => return Err(Memory),
         }
-        count_decision(&mut self.control, seat);
+        count_decision(&mut self.control, current.player);
         self.place.go_to(behind(code, next, inside));
         Ok(())
     }

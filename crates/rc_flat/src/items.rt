@@ -3,12 +3,15 @@ ghost use Rattle.std.specs.Prelude.{◌≡◌, ◌<◌, [], ◌∷◌, ◌++◌,
 ghost use Rattle.rc_sheet_model.specs.Sheet.{any_alt};
 ghost use Rattle.rc_play_model.specs.Value.{Bind as PureBind};
 ghost use Rattle.rc_play_model.specs.Scene.{CardValue};
+ghost use Rattle.rc_play_model.specs.Bound.{IsBindOf};
 ghost use Rattle.rc_play_model.specs.About.{scene_at};
 ghost use Rattle.rc_play_model.specs.Menu.{alt_in, bindings_of, effects_of};
 ghost use Rattle.rc_play_model.specs.Effects.{does};
 ghost use Rattle.rc_ast.specs.Expressions.{domain_seen};
 ghost use Rattle.rc_ast.specs.Items.{alt_seen, alts_seen};
 ghost use Rattle.rc_rules.specs.Control.{frames_seen};
+ghost use Rattle.rc_value.specs.Current.{IsCurrent};
+ghost use Rattle.rc_value.specs.Seen.{bind_seen};
 ghost use Rattle.rc_state.specs.Point.{point_of};
 ghost use Rattle.rc_state.specs.Under.{IsAltUnder, IsDomainUnder};
 ghost use Rattle.rc_state.specs.Bindings.{AreAltsOutside};
@@ -25,15 +28,16 @@ use rc_ast::{Alt, Domain};
 use rc_code::Instruction;
 use rc_deck::Memory;
 use rc_rules::{About, Dealer, Frames, Item};
-use rc_state::{Context, bind_of, member_at};
-use rc_value::{Cards, Scope, current_of};
+use rc_state::{Context, bare_bind_at, bind_of, member_at};
+use rc_value::{Bind, Cards, Current, Scope};
 
-/// Does the effects of an item of a menu, with its variables bound. Their code is a block.
+/// Does the effects of an item of a menu, with its variables bound, where it is known who is current. Their code is a block.
 ///
 /// An alternative that isn't there has no effects, and a position that isn't there stands for player 0.
 #[tactic(auto, using(crate::proofs::ShuffleLemmas::not_shuffled))]
 pub fn do_item<D: Dealer>(
     about: &About,
+    current: Current,
     alts: &[Alt],
     block: &[Instruction],
     item: &Item,
@@ -42,6 +46,7 @@ pub fn do_item<D: Dealer>(
     dealer: &mut D,
 ) -> Result<(), Memory>
     requires shape { board.old.laid.shape ≡ about.now.shape }
+    requires current { IsCurrent about.now.sheet (frames_seen frames.old.items) current }
     requires well { AreAltsOutside about.now.sheet (alts_seen alts.now) }
     requires block { effects_in (list_seen block.now) ≡ effects_of (alt_in (alts_seen alts.now) item.now.alt) }
     requires simple { AreSimple (list_seen block.now) }
@@ -57,7 +62,6 @@ pub fn do_item<D: Dealer>(
         return Ok(());
     };
     let scope = Scope::empty();
-    let current = current_of(about.sheet(), about.lookup(), frames.as_slice());
     let context = Context {
         about,
         scope: &scope,
@@ -136,16 +140,50 @@ fn do_any<D: Dealer>(
 {
     match spots.split_first() {
         None => do_alt(context, inner, block, spots, board, frames, dealer),
-        Some((spot, rest)) => {
-            let mut room = Cards::new();
-            let member = member_at(context, domain, *spot, board.table(), &*frames, &mut room);
-            let scope = context.scope.with(bind_of(member, &room));
-            let within = Context {
-                about: context.about,
-                scope: &scope,
-                current: context.current,
-            };
-            do_alt(&within, inner, block, rest, board, frames, dealer)
-        }
+        Some((spot, rest)) => match bare_bind_at(context, domain, *spot, board.table(), &*frames) {
+            Some(bind) => do_bound(context, inner, bind, block, rest, board, frames, dealer),
+            None => {
+                let mut room = Cards::new();
+                let member = member_at(context, domain, *spot, board.table(), &*frames, &mut room);
+                let bind = bind_of(member, &room);
+                do_bound(context, inner, bind, block, rest, board, frames, dealer)
+            }
+        },
     }
+}
+
+// Does the effects of an alternative with one variable more.
+#[tactic(auto, using(crate::proofs::ShuffleLemmas::not_shuffled))]
+#[cycle(alternatives)]
+fn do_bound<D: Dealer>(
+    context: &Context,
+    alt: &Alt,
+    bind: Bind,
+    block: &[Instruction],
+    spots: &[u16],
+    board: &mut Board,
+    frames: &mut Frames,
+    dealer: &mut D,
+) -> Result<(), Memory>
+    requires stands { Stands context.now board.old.laid frames.old.items }
+    requires room { length context.now.scope.now < 5 }
+    requires bind { IsBindOf context.now.about.now.shape (bind_seen bind) }
+    requires well { IsAltUnder context.now.about.now.sheet (context.now.scope.now ++ bind_seen bind ∷ []) (alt_seen alt.now) }
+    requires block { effects_in (list_seen block.now) ≡ effects_of (alt_seen alt.now) }
+    requires simple { AreSimple (list_seen block.now) }
+    ensures does { OnOk result (does context.now.about.now (D.dealing dealer.old)
+        (bindings_of (scene_in context.now board.old.laid frames.old.items) (context.now.scope.now ++ bind_seen bind.entry ∷ []) (alt_seen alt.now) spots.now)
+        (effects_of (alt_seen alt.now))
+        (point_of board.old.laid frames.old.items (D.state dealer.old)) ≡ point_of board.new.laid frames.new.items (D.state dealer.new)) }
+    ensures keeps { Keeps board.old board.new }
+    ensures shuffled { HasShuffled (D.dealing dealer.old) (D.state dealer.old) (D.state dealer.new) }
+    ensures dealing { D.dealing dealer.new ≡ D.dealing dealer.old }
+{
+    let scope = context.scope.with(bind);
+    let within = Context {
+        about: context.about,
+        scope: &scope,
+        current: context.current,
+    };
+    do_alt(&within, alt, block, spots, board, frames, dealer)
 }

@@ -160,30 +160,32 @@ impl FlatMachine {
         let _sheet = about.sheet();
         let place = place_of(code, site_of(&control));
         let code = Arc::try_clone(code)?;
-        Ok(FlatMachine::at_place(alloc, code, about, table, control, place))
+        let board = Board::new(alloc, table);
+        Ok(FlatMachine::at_place(code, about, board, control, place))
     }
 
-    // A match at this place of its code.
-    fn at_place(
-        alloc: Global,
+    /// A match at this place of its code, with the table of this board.
+    pub(crate) fn at_place(
         code: Arc<Code>,
         about: About,
-        table: Table,
+        board: Board,
         control: Control,
         place: Place,
     ) -> FlatMachine
         requires stands { StandsFor about.sheet (code_seen code.value) }
-        requires laid { table.shape ≡ about.shape }
-        requires on { IsInMatch (flat_from about (list_seen code.value.list.items) place table.table (control_seen control)) }
+        requires laid { board.laid.shape ≡ about.shape }
+        requires on { IsInMatch (flat_from about (list_seen code.value.list.items) place board.laid.table (control_seen control)) }
         ensures about { result.about ≡ about }
-        ensures at { result.config ≡ config_of (flat_from about (list_seen code.value.list.items) place table.table (control_seen control)) }
+        ensures code { result.code ≡ list_seen code.value.list.items }
+        ensures at { result.config ≡ config_of (flat_from about (list_seen code.value.list.items) place board.laid.table (control_seen control)) }
+        ensures home { result.home ≡ board.home }
         ensures fresh { result.spent ≡ false }
-        ensures notes { result.notes ≡ true }
+        ensures notes { result.notes ≡ board.notes }
     {
         standing_code_serves();
         let _sheet = about.sheet();
         let mut state = State {
-            board: Board::new(alloc, table),
+            board,
             control,
             place,
             menu: Menu::new(),

@@ -3,13 +3,14 @@ ghost use Rattle.std.specs.Prelude.{◌≡◌, ◌<◌, length, fold, All, OnOk}
 ghost use Rattle.rc_sheet_model.specs.Sheet.{move, move_all as move_all_of};
 ghost use Rattle.rc_play_model.specs.Bound.{HoldsCards, IsCardOf};
 ghost use Rattle.rc_play_model.specs.Effects.{move_card, put as put_of};
+ghost use Rattle.rc_play_model.specs.Value.{coll_value};
 ghost use Rattle.rc_ast.specs.Names.{loc_seen};
 ghost use Rattle.rc_ast.specs.Expressions.{card_seen, coll_seen};
 ghost use Rattle.rc_ast.specs.Effects.{end_seen};
 ghost use Rattle.rc_table.specs.Laid.{relaid};
 ghost use Rattle.rc_value.specs.Cards.{value_seen, values_seen};
-ghost use Rattle.rc_state.specs.Context.{Stands};
-ghost use Rattle.rc_state.specs.Under.{IsEffectUnder};
+ghost use Rattle.rc_state.specs.Context.{scene_in, Stands};
+ghost use Rattle.rc_state.specs.Under.{IsCollUnder, IsEffectUnder};
 ghost use Rattle.rc_state.specs.Leads.{LeadsTo};
 ghost use Rattle.rc_flat.specs.Undo.{Keeps};
 
@@ -17,7 +18,7 @@ use crate::board::Board;
 use rc_ast::{CardExpr, CollExpr, End, Loc};
 use rc_deck::Memory;
 use rc_rules::Frames;
-use rc_state::{Context, card_now, cards_now, loc_now};
+use rc_state::{Context, FewCards, card_now, cards_now, few_cards_now, loc_now};
 use rc_value::{Card, Cards};
 
 /// Moves a card to an end of a location.
@@ -60,6 +61,29 @@ pub fn move_all(
     let Some(at) = loc_now(context, loc, board.table(), frames) else {
         return Ok(());
     };
+    let mut few = FewCards::new();
+    if few_cards_now(context, cards, board.table(), frames, &mut few) {
+        return put_all(board, few.as_slice(), end, at);
+    }
+    put_many(context, cards, end, at, board, frames)
+}
+
+// Puts all cards of a collection there, however many they are.
+fn put_many(
+    context: &Context,
+    cards: &CollExpr,
+    end: End,
+    at: u16,
+    board: &mut Board,
+    frames: &Frames,
+) -> Result<(), Memory>
+    requires stands { Stands context.now board.old.laid frames.now.items }
+    requires well { IsCollUnder context.now.about.now.sheet context.now.scope.now (coll_seen cards.now) }
+    requires holds { HoldsCards board.old.laid.shape at }
+    ensures leads { OnOk result (board.new.laid ≡ relaid board.old.laid (fold (move_card board.old.laid.shape (end_seen end) at) board.old.laid.table
+        (coll_value (scene_in context.now board.old.laid frames.now.items) context.now.scope.now (coll_seen cards.now)))) }
+    ensures keeps { Keeps board.old board.new }
+{
     let mut room = Cards::new();
     cards_now(context, cards, board.table(), frames, &mut room);
     put_all(board, room.as_slice(), end, at)
@@ -82,6 +106,7 @@ fn put_all(board: &mut Board, cards: &[Card], end: End, at: u16) -> Result<(), M
 }
 
 // Puts a card there. A reference stays where it is.
+#[inline(always)]
 fn put(board: &mut Board, card: Card, end: End, at: u16) -> Result<(), Memory>
     requires card { IsCardOf board.old.laid.shape (value_seen card) }
     requires holds { HoldsCards board.old.laid.shape at }
@@ -94,6 +119,7 @@ fn put(board: &mut Board, card: Card, end: End, at: u16) -> Result<(), Memory>
     }
 }
 
+#[inline(always)]
 fn put_card(board: &mut Board, id: u16, end: End, at: u16) -> Result<(), Memory>
     requires card { id < length board.old.laid.shape.faces }
     requires holds { HoldsCards board.old.laid.shape at }

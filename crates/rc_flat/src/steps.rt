@@ -1,11 +1,12 @@
 //! The steps of a match.
 ghost use Rattle.std.specs.Prelude.{◌≡◌, ℕ, ◌+◌, ◌<◌, ◌^◌, IsSome, None, Some, true, false, List, [], ◌∷◌, ◌++◌, drop, slice_get, IfOk, OnOk};
 ghost use Rattle.rc_sheet_model.specs.Sheet.{Class as PureClass, Test as PureTest};
+ghost use Rattle.rc_play_model.specs.Owners.{mover};
 ghost use Rattle.rc_play_model.specs.Step.{goes, step};
 ghost use Rattle.rc_play_model.specs.Stop.{stop_of};
 ghost use Rattle.rc_ast.specs.Expressions.{test_seen};
 ghost use Rattle.rc_ast.specs.Items.{alts_seen};
-ghost use Rattle.rc_rules.specs.Control.{stop_seen};
+ghost use Rattle.rc_rules.specs.Control.{frames_seen, stop_seen};
 ghost use Rattle.rc_rules.specs.Machine.{StandsWhereItStops};
 ghost use Rattle.rc_code.specs.Instruction.{Block as PureBlock, do_all, begin_stage, offer};
 ghost use Rattle.rc_code.specs.Meaning.{items_from};
@@ -22,8 +23,9 @@ use rc_ast::{Alt, Class, Test};
 use rc_code::Instruction;
 use rc_deck::Memory;
 use rc_play_model::stops_stay;
-use rc_rules::{About, Dealer, Stop, current_in};
-use rc_state::{close_frame, fill_menu_at, member_count, open_frame, pass_frame};
+use rc_rules::{About, Dealer, Stop};
+use rc_state::{close_frame, fill_menu_by, member_count, open_frame, pass_frame};
+use rc_value::current_of;
 
 impl State {
     /// Does the effects that are next, so many instructions.
@@ -79,9 +81,14 @@ impl State {
         ensures ready { IsReady about.now (list_seen code.now) self.new }
         ensures keeps { self.new.board ≡ self.old.board }
     {
-        let _sheet = about.sheet();
-        fill_menu_at(
+        let current = current_of(
+            about.sheet(),
+            about.lookup(),
+            self.control.frames.as_slice(),
+        );
+        fill_menu_by(
             about,
+            current,
             self.board.table(),
             &self.control,
             site,
@@ -93,11 +100,12 @@ impl State {
             self.place.go_to(behind(code, next, inside));
             return None;
         }
-        self.decide(about, code, site)
+        self.decide(about, code, site, current.player)
     }
 
-    /// Stops at the choice that is next, where the turn limit isn't met.
-    fn decide(&mut self, about: &About, code: &[Instruction], site: u8) -> Option<Stop>
+    /// Stops at the choice that is next, whose mover has this seat, where the turn limit isn't met.
+    fn decide(&mut self, about: &About, code: &[Instruction], site: u8, seat: u8) -> Option<Stop>
+        requires seat { seat ≡ mover about.now.sheet (frames_seen self.old.control.frames.items) }
         requires ready { IsReady about.now (list_seen code.now) self.old }
         requires here { KeepsMenu about.now (list_seen code.now) self.old site }
         ensures leads { LeadsTo about.now (config_at about.now (list_seen code.now) self.old) result (config_at about.now (list_seen code.now) self.new) }
@@ -107,7 +115,6 @@ impl State {
         if self.control.turn >= about.turns() {
             return Some(Stop::Limit);
         }
-        let seat = current_in(about.sheet(), Class::Player, self.control.frames.as_slice());
         self.control.site = Some(site);
         Some(Stop::Decide { seat, site })
     }
@@ -121,7 +128,7 @@ impl State {
         ensures ready { IsReady about.now (list_seen code.now) self.new }
         ensures keeps { self.new.board ≡ self.old.board }
     {
-        open_frame(&mut self.control.frames, about.sheet(), number, class);
+        open_frame(&mut self.control.frames, about, number, class);
         self.place.open();
     }
 

@@ -25,7 +25,7 @@ do_block-do_first-requires g t c κs within =
     let long = ap length rest in
     let shorter = loop.invariant.shorter in
     let whole = c.decreases in
-    let less : 6 * length c.in-Some.behind.now + 5 < t = omega (arith, long, shorter, whole) in (
+    let less : 7 * length c.in-Some.behind.now + 6 < t = omega (arith, long, shorter, whole) in (
       less,
       (
         within,
@@ -79,19 +79,20 @@ do_block-returns-in-Err-clause-keeps g t c = keeps_then _ _ _ c.loop-first.invar
 pub do_block-returns-in-Err-clause-shuffled : goal.do_block-returns-in-Err-clause-shuffled
 do_block-returns-in-Err-clause-shuffled g t c = shuffled_then _ _ _ _ _ c.loop-first.invariant.dealing c.loop-first.invariant.shuffled c.in-Err.ensures.shuffled
 
-pub for_cards-returns-in-Err-clause-keeps : goal.for_cards-returns-in-Err-clause-keeps
-for_cards-returns-in-Err-clause-keeps g t c = keeps_then _ _ _ c.loop-card.invariant.2 c.in-Err.ensures.keeps
+pub for_these-returns-in-Err-clause-keeps : goal.for_these-returns-in-Err-clause-keeps
+for_these-returns-in-Err-clause-keeps g t c = keeps_then _ _ _ c.loop-card.invariant.2 c.in-Err.ensures.keeps
 
-pub for_cards-returns-in-Err-clause-shuffled : goal.for_cards-returns-in-Err-clause-shuffled
-for_cards-returns-in-Err-clause-shuffled g t c = shuffled_then _ _ _ _ _ c.loop-card.invariant.1 c.loop-card.invariant.4 c.in-Err.ensures.shuffled
+pub for_these-returns-in-Err-clause-shuffled : goal.for_these-returns-in-Err-clause-shuffled
+for_these-returns-in-Err-clause-shuffled g t c = shuffled_then _ _ _ _ _ c.loop-card.invariant.1 c.loop-card.invariant.4 c.in-Err.ensures.shuffled
 
-pub for_cards-loop-card-preserved : goal.for_cards-loop-card-preserved
-for_cards-loop-card-preserved g t c = (
+pub for_these-loop-card-preserved : goal.for_these-loop-card-preserved
+for_these-loop-card-preserved g t c = (
   c.in-Ok.ensures.stands,
   c.in-Ok.ensures.dealing ∙ c.loop-card.invariant.1,
   keeps_then _ _ _ c.loop-card.invariant.2 c.in-Ok.ensures.keeps,
   grind (arith, common_steps),
   shuffled_then _ _ _ _ _ c.loop-card.invariant.1 c.loop-card.invariant.4 c.in-Ok.ensures.shuffled,
+  c.do_for.ensures.scope,
 )
 
 pub for_players-returns-in-Err-clause-keeps : goal.for_players-returns-in-Err-clause-keeps
@@ -114,6 +115,7 @@ for_players-loop-player-preserved g t c =
       one_player (λ mid member. does context.about.now (g.D.Dealer.dealing c.args.dealer.now) (context.scope.now ++ member ∷ []) effects mid)
           context.about.now.sheet.players loop.player now _ _ (omega (arith, c.loop-player-test.true, players)) one loop.invariant.3,
       shuffled_then _ _ _ _ _ loop.invariant.1 loop.invariant.4 c.in-Ok.ensures.shuffled,
+      c.do_for.ensures.scope,
     )
 
 pub for_players-returns-clause-does : goal.for_players-returns-clause-does

@@ -1,7 +1,8 @@
 use Rattle.std.proofs.Common.{◌≡◌, ◌+◌, ◌-◌, ◌*◌, ◌≤◌, ◌++◌, ◌∷◌, [], length, drop, map}
 use Rattle.std.specs.Prelude.{fold}
 use Rattle.rc_model.specs.Numbers.{below}
-use Rattle.rc_play_model.specs.Value.{player_bound, card_bound}
+use Rattle.rc_play_model.specs.Value.{Bind as PureBind, player_bound, card_bound}
+use Rattle.rc_play_model.specs.Scene.{CardValue}
 use Rattle.rc_play_model.specs.Effects.{does, again}
 use Rattle.rc_value.specs.Cards.{values_seen}
 use Rattle.rc_rules.specs.Dealer.{HasShuffled}
@@ -16,28 +17,31 @@ use Rattle.rc_flat.proofs.blocks.+blocks.Given as goal
 
 -- what a block holds is shorter than the block
 abbrev pub decreases-do_block : goal.decreases-do_block
-decreases-do_block g l = 6 * length l.code.now
+decreases-do_block g l = 7 * length l.code.now
 
 abbrev pub decreases-do_first : goal.decreases-do_first
-decreases-do_first g l = 6 * length l.behind.now + 5
+decreases-do_first g l = 7 * length l.behind.now + 6
 
 abbrev pub decreases-do_if : goal.decreases-do_if
-decreases-do_if g l = 6 * length l.inside.now + 4
+decreases-do_if g l = 7 * length l.inside.now + 5
 
 abbrev pub decreases-repeat : goal.decreases-repeat
-decreases-repeat g l = 6 * length l.inside.now + 4
+decreases-repeat g l = 7 * length l.inside.now + 5
 
 abbrev pub decreases-for_each : goal.decreases-for_each
-decreases-for_each g l = 6 * length l.inside.now + 4
+decreases-for_each g l = 7 * length l.inside.now + 5
 
 abbrev pub decreases-for_players : goal.decreases-for_players
-decreases-for_players g l = 6 * length l.inside.now + 3
+decreases-for_players g l = 7 * length l.inside.now + 3
 
 abbrev pub decreases-for_cards : goal.decreases-for_cards
-decreases-for_cards g l = 6 * length l.inside.now + 3
+decreases-for_cards g l = 7 * length l.inside.now + 4
+
+abbrev pub decreases-for_these : goal.decreases-for_these
+decreases-for_these g l = 7 * length l.inside.now + 3
 
 abbrev pub decreases-do_for : goal.decreases-do_for
-decreases-do_for g l = 6 * length l.inside.now + 2
+decreases-do_for g l = 7 * length l.inside.now + 2
 
 -- what is left to do, from here, leads to what all leads to
 abbrev pub invariant-do_block-loop-first : goal.invariant-do_block-loop-first
@@ -79,14 +83,16 @@ invariant-for_players-loop-player g l =
     (λ mid member. does l.context.about.now (g.D.Dealer.dealing l.fn.dealer) (l.context.scope.now ++ member ∷ []) (effects_in (list_seen l.inside)) mid)
     (point_of l.fn.board.laid l.fn.frames.items (g.D.Dealer.state l.fn.dealer)) (map (λ n. player_bound n) (below l.context.about.now.sheet.players)))
     × HasShuffled (g.D.Dealer.dealing l.fn.dealer) (g.D.Dealer.state l.fn.dealer) (g.D.Dealer.state l.dealer)
+    × ((other : PureBind CardValue) × (l.scope ≡ l.context.scope.now ++ other ∷ []))
 
-abbrev pub invariant-for_cards-loop-card : goal.invariant-for_cards-loop-card
-invariant-for_cards-loop-card g l =
+abbrev pub invariant-for_these-loop-card : goal.invariant-for_these-loop-card
+invariant-for_these-loop-card g l =
     Stands l.context l.board.laid l.frames.items × (g.D.Dealer.dealing l.dealer ≡ g.D.Dealer.dealing l.fn.dealer) × Keeps l.fn.board l.board
     × (fold
     (λ mid member. does l.context.about.now (g.D.Dealer.dealing l.fn.dealer) (l.context.scope.now ++ member ∷ []) (effects_in (list_seen l.inside)) mid)
-    (point_of l.board.laid l.frames.items (g.D.Dealer.state l.dealer)) (map (λ c. card_bound c) (values_seen (drop l.card-index l.card-items)))
+    (point_of l.board.laid l.frames.items (g.D.Dealer.state l.dealer)) (map (λ c. card_bound c) (values_seen (drop l.card-index l.cards)))
     ≡ fold
     (λ mid member. does l.context.about.now (g.D.Dealer.dealing l.fn.dealer) (l.context.scope.now ++ member ∷ []) (effects_in (list_seen l.inside)) mid)
-    (point_of l.fn.board.laid l.fn.frames.items (g.D.Dealer.state l.fn.dealer)) (map (λ c. card_bound c) (values_seen l.card-items)))
+    (point_of l.fn.board.laid l.fn.frames.items (g.D.Dealer.state l.fn.dealer)) (map (λ c. card_bound c) (values_seen l.cards)))
     × HasShuffled (g.D.Dealer.dealing l.fn.dealer) (g.D.Dealer.state l.fn.dealer) (g.D.Dealer.state l.dealer)
+    × ((other : PureBind CardValue) × (l.scope ≡ l.context.scope.now ++ other ∷ []))

@@ -1,29 +1,27 @@
-use Rattle.std.proofs.Common.{◌≡◌, sym, ap, ◌∙◌, subst}
+use Rattle.std.proofs.Common.{sym, ap, ◌∙◌, subst}
 use Rattle.rc_play_model.specs.Bound.{HoldsReferences}
 use Rattle.rc_play_model.specs.Table.{remember_bottom}
-use Rattle.rc_flat.specs.Undo.{Kept, noting, noted, edited, before_of, CanUndo}
-use Rattle.rc_flat.specs.Entry.{kept_log}
-use Rattle.rc_flat.proofs.UndoLemmas.{remembered_bottom_back, noted_edit, board_edited}
+use Rattle.rc_flat.specs.Undo.{Kept, noted, edited}
+use Rattle.rc_flat.specs.Past.{kept_of}
+use Rattle.rc_flat.specs.PastSeen.{past_seen}
+use Rattle.rc_flat.proofs.UndoLemmas.{remembered_bottom_back}
+use Rattle.rc_flat.proofs.PastLemmas.{AreNoted, noted_edit}
 use Rattle.rc_flat.proofs.KeepsLemmas.{keeps_edit}
 use Rattle.rc_flat.proofs.board.Board.remember_bottom.Goals as goal
 
 kept : (c : goal.After-remember_bottom) →
-    CanUndo c.remember_bottom.new.self.shape (kept_log c.self.inside.notes c.note.new.log.items) c.remember_bottom.new.self.table
-    × (before_of (kept_log c.self.inside.notes c.note.new.log.items) c.remember_bottom.new.self.table ≡ noting c.self.inside.notes c.self.inside.table.table (before_of (kept_log c.self.inside.notes c.self.inside.log.items) c.self.inside.table.table))
+    AreNoted (past_seen c.note.new.self) c.remember_bottom.new.self
+    (edited (kept_of (past_seen c.self.inside.past) c.self.inside.table) (remember_bottom c.self.inside.table.shape c.args.id c.args.loc c.self.inside.table.table))
 kept c =
     let now = c.self.inside.table in
     let holds = subst (λ (k : Kept). HoldsReferences k.laid.shape c.args.loc) (sym c.self.view_is) c.requires.loc in
-    noted_edit c.self.inside.notes now.shape now.table (remember_bottom now.shape c.args.id c.args.loc now.table) c.self.inside.log.items c.note.new.log.items
-    (noted c.args.loc 0) c.remember_bottom.new.self c.in-Ok.ensures.noted
+    noted_edit (noted c.args.loc 0) (past_seen c.self.inside.past) (past_seen c.note.new.self) now c.remember_bottom.new.self
+    (remember_bottom now.shape c.args.id c.args.loc now.table) c.in-Ok.ensures.noted c.remember_bottom.ensures
     (remembered_bottom_back now.shape now.table c.args.id c.args.loc c.shape-sound.ensures.sound holds (sym c.has_room.ensures ∙ c.if-not-has_room.false))
-    holds c.shape-sound.ensures.sound c.self.invariant c.remember_bottom.ensures
+    holds c.shape-sound.ensures.sound c.self.invariant
 
 pub invariant_of-self-2 : goal.invariant_of-self-2
 invariant_of-self-2 c = (kept c).0
 
 pub returns-clause-keeps : goal.returns-clause-keeps
-returns-clause-keeps c =
-    let now = c.self.inside.table in
-    keeps_edit _ _ _
-    (board_edited c.self.inside.notes now c.remember_bottom.new.self (before_of (kept_log c.self.inside.notes c.self.inside.log.items) now.table) _ (remember_bottom now.shape c.args.id c.args.loc now.table) c.remember_bottom.ensures (kept c).1
-    ∙ ap (λ (k : Kept). edited k (remember_bottom k.laid.shape c.args.id c.args.loc k.laid.table)) c.self.view_is)
+returns-clause-keeps c = keeps_edit _ _ _ ((kept c).1 ∙ ap (λ (k : Kept). edited k (remember_bottom k.laid.shape c.args.id c.args.loc k.laid.table)) c.self.view_is)

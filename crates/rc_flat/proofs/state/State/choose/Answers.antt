@@ -24,11 +24,11 @@ returns-clause-leads g c =
     let alts = alts_seen c.args.alts.now in
     let dealing = g.D.Dealer.dealing c.args.dealer.now in
     let k = g.D.Dealer.state c.args.dealer.now in
-    let seat = c.current_in-seat.result in
+    let seat = c.current_of-current.result.player in
     let before = point_of c.args.self.now.board.laid c.args.self.now.control.frames.items k in
     let after = point_of c.do_item.new.board.laid c.do_item.new.frames.items (g.D.Dealer.state c.do_item.new.dealer) in
     let scene = scene_at about m.table m.control.frames in
-    let moves = c.current_in-seat.ensures ∙ ap (λ sheet. mover sheet (frames_seen c.as_slice.result.now)) c.sheet.ensures.same
+    let moves = c.current_of-current.ensures.0 ∙ ap (λ sheet. mover sheet (frames_seen c.as_slice.result.now)) c.sheet.ensures.same
     ∙ ap (λ frames. mover about.sheet (frames_seen frames)) c.as_slice.ensures.value in
     λ x chosen.
     choose_leads m dealing k c.requires.here.0 alts (map block_seen c.args.blocks.now) c.args.inside c.requires.round c.requires.here.1
@@ -51,7 +51,7 @@ returns-clause-ready g c =
           (subst (IsPlace m.code) (sym c.go_to.ensures) (went_place m play c.behind.result))
           (subst (λ (control : Control). control.turn ≤ about.turns) (sym c.count_decision.ensures) (omega (arith, below)))
           (subst (λ (control : Control). All (λ n. n ≤ control.turn) control.made) (sym c.count_decision.ensures)
-          (one_decision_counts m.control.turn c.current_in-seat.result m.control.made play.counts))
+          (one_decision_counts m.control.turn c.current_of-current.result.player m.control.made play.counts))
           (returns-clause-leads g c c.requires.offered.0 c.requires.offered.1);
       kept = λ site is. absurd (let none = ap (λ (control : Control). control.site) c.count_decision.ensures in cc);
     }

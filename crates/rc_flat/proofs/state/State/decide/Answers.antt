@@ -1,7 +1,5 @@
-use Rattle.std.proofs.Common.{ap, ◌∙◌, ◌<◌, ◌≤◌, subst}
-use Rattle.rc_play_model.specs.Owners.{mover}
+use Rattle.std.proofs.Common.{◌<◌, ◌≤◌, subst}
 use Rattle.rc_play_model.specs.Menu.{alts_at}
-use Rattle.rc_rules.specs.Control.{frames_seen}
 use Rattle.rc_code.specs.Seen.{list_seen}
 use Rattle.rc_flat.specs.State.{flat_of}
 use Rattle.rc_flat.proofs.StepCases.{full_leads, decide_leads}
@@ -23,6 +21,4 @@ returns-clause-leads c =
     let offered = c.requires.here.offered in
     λ dealing k.
     decide_leads m dealing k c.args.site (alts_at about.sheet c.args.site) offered.blocks offered.inside offered.here offered.there
-    c.current_in-seat.result offered.some (subst (λ n. m.control.turn < n) c.turns.ensures c.if-self-turns.false)
-    (c.current_in-seat.ensures ∙ ap (λ sheet. mover sheet (frames_seen c.as_slice.result.now)) c.sheet.ensures.same
-    ∙ ap (λ frames. mover about.sheet (frames_seen frames)) c.as_slice.ensures.value)
+    c.args.seat offered.some (subst (λ n. m.control.turn < n) c.turns.ensures c.if-self-turns.false) c.requires.seat

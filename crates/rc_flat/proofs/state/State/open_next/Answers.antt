@@ -1,6 +1,6 @@
 use Rattle.std.proofs.Common.{◌+◌, drop, ap, sym, ◌∙◌, subst, arith}
 use Rattle.std.proofs.lemmas.List.{length-map}
-use Rattle.rc_play_model.specs.Step.{Stage, goes, with_frames, opened}
+use Rattle.rc_play_model.specs.Step.{Stage, goes, with_frames}
 use Rattle.rc_rules.specs.Control.{frame_seen, frames_seen}
 use Rattle.rc_code.specs.Meaning.{items_in}
 use Rattle.rc_code.specs.Seen.{list_seen}
@@ -33,7 +33,7 @@ returns-clause-leads c =
     let s : Stage = record { number = c.args.number; class = c.args.class; end = here.0; body = items_in (drop (m.place.next + 1) m.code) } in
     λ dealing k.
     open_leads m dealing k c.args.number c.args.class here.0 here.1 frames c.requires.round here.2
-    (ap (λ sheet. opened sheet s m.control.frames) (sym c.sheet.ensures.same) ∙ sym c.open_frame.ensures)
+    (sym c.open_frame.ensures)
     ∙ ap (λ path. goes k (config_of (moved m path m.table (with_frames m.control frames)))) (sym c.open.ensures)
 
 pub returns-clause-ready : goal.returns-clause-ready

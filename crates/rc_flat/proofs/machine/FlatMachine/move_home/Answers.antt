@@ -1,0 +1,30 @@
+use Rattle.std.proofs.Common.{◌≡◌, rules, sym, ap, ◌∙◌, subst}
+use Rattle.rc_rules.specs.Control.{control_seen}
+use Rattle.rc_code.specs.Seen.{list_seen}
+use Rattle.rc_flat.specs.Flat.{config_of, flat_from}
+use Rattle.rc_flat.specs.State.{flat_of}
+use Rattle.rc_flat.specs.Moments.{IsInMatch}
+use Rattle.rc_flat.specs.Machine.{Machine}
+use Rattle.rc_flat.proofs.MomentLemmas.{config_same}
+use Rattle.rc_flat.proofs.machine.FlatMachine.move_home.Goals as goal
+
+pub refill-requires-clause-on : goal.refill-requires-clause-on
+refill-requires-clause-on c =
+    let m = c.self.inside in
+    let code = list_seen m.code.value.list.items in
+    let stand = c.args.stand.now in
+    let same : c.deref-2.result.now ≡ m.code.value.list.items = search rules in
+    let on = subst (λ (m : Machine). IsInMatch (flat_from m.about m.code stand.place c.args.table.now.table (control_seen stand.control)))
+    (sym c.self.view_is) c.requires.on in
+    subst (λ list. IsInMatch (flat_of m.about (list_seen list) c.move_home.new.self)) (sym same)
+    (subst IsInMatch (sym (c.move_home.ensures.there m.about code)) on)
+
+pub returns-clause-at : goal.returns-clause-at
+returns-clause-at c =
+    let m = c.self.inside in
+    let code = list_seen m.code.value.list.items in
+    let stand = c.args.stand.now in
+    let filled = c.refill.ensures in
+    config_same m.about code c.move_home.new.self c.refill.new.self filled.board filled.control filled.place
+    ∙ ap config_of (c.move_home.ensures.there m.about code)
+    ∙ ap (λ (m : Machine). config_of (flat_from m.about m.code stand.place c.args.table.now.table (control_seen stand.control))) c.self.view_is

@@ -1,0 +1,213 @@
+//! What a board keeps of what was before.
+ghost use Rattle.std.specs.Prelude.{◌≡◌, ◌∷◌, [], true, false, length, replicate, slice_set, MatchOption, IfOk, OnOk, OnErr};
+ghost use Rattle.rc_table.specs.Laid.{relaid};
+ghost use Rattle.rc_flat.specs.Undo.{ordered};
+ghost use Rattle.rc_flat.specs.Entry.{entry_seen, log_seen};
+ghost use Rattle.rc_flat.specs.Past.{home_kept, edits_of, home_table, noted_in, touched_by, untouched, moved_to, IsFromHome, IsPast, HasShape, TookLast};
+ghost use Rattle.rc_flat.specs.PastSeen.{past_seen};
+
+use crate::entry::Entry;
+use rc_deck::Memory;
+use rc_table::Table;
+use std::alloc::Global;
+
+/// What a board keeps of what was before.
+#[derive(Drop)]
+pub enum Past {
+    /// Nothing.
+    Nothing,
+    /// What takes each edit back, the last one at the end.
+    Edits(Vec<Entry>),
+    /// The table to which it goes home.
+    Home(Home),
+}
+
+/// A table to which a board goes home, with a flag for each location: whether the board may hold another list there.
+#[derive(Drop)]
+pub struct Home {
+    table: Table,
+    touched: Vec<bool>,
+}
+
+impl Past {
+    /// Home at this table, which is copied.
+    pub fn at_home(alloc: Global, table: &Table) -> Result<Past, Memory>
+        ensures { IfOk result (λ past. past_seen past ≡ home_kept table.now (replicate (length table.now.shape.places) false)) }
+    {
+        let home = Home::new(alloc, table)?;
+        Ok(Past::Home(home))
+    }
+
+    /// How many edits can be taken back.
+    pub fn edits(&self) -> usize
+        ensures { result ≡ length (edits_of (past_seen self.now)) }
+    {
+        match self {
+            Past::Edits(log) => log.len(),
+            Past::Nothing => 0,
+            Past::Home(_) => 0,
+        }
+    }
+
+    /// Notes an edit: what takes it back, or which locations it changes.
+    #[inline(always)]
+    pub fn note(&mut self, entry: Entry) -> Result<(), Memory>
+        ensures noted { OnOk result (past_seen self.new ≡ noted_in (entry_seen entry) (past_seen self.old)) }
+        ensures lacking { OnErr result (past_seen self.new ≡ past_seen self.old) }
+    {
+        match self {
+            Past::Nothing => Ok(()),
+            Past::Edits(log) => log_entry(log, entry),
+            Past::Home(home) => {
+                home.touch_by(&entry);
+                Ok(())
+            }
+        }
+    }
+
+    /// Notes that the list of a location, which was this one, is put into another order.
+    #[inline(always)]
+    pub fn note_order(&mut self, alloc: Global, loc: u16, list: &[u16]) -> Result<(), Memory>
+        ensures noted { OnOk result (past_seen self.new ≡ noted_in (ordered loc list.now) (past_seen self.old)) }
+        ensures lacking { OnErr result (past_seen self.new ≡ past_seen self.old) }
+    {
+        match self {
+            Past::Nothing => Ok(()),
+            Past::Edits(log) => log_order(alloc, log, loc, list),
+            Past::Home(home) => {
+                home.touch(loc);
+                Ok(())
+            }
+        }
+    }
+
+    /// Takes the last edit, if one was noted.
+    pub fn take_last(&mut self) -> Option<Entry>
+        ensures { MatchOption result (edits_of (past_seen self.old) ≡ [])
+            (λ entry. TookLast (entry_seen entry) (past_seen self.old) (past_seen self.new)) }
+    {
+        match self {
+            Past::Edits(log) => pop_entry(log),
+            Past::Nothing => None,
+            Past::Home(_) => None,
+        }
+    }
+
+    /// Puts the home's table back, where there is a home.
+    pub fn go_home(&mut self, table: &mut Table)
+        requires { IsPast table.old (past_seen self.old) }
+        ensures table { table.new ≡ relaid table.old (home_table (past_seen self.old) table.old.table) }
+        ensures past { past_seen self.new ≡ untouched (past_seen self.old) }
+    {
+        match self {
+            Past::Home(home) => home.put_back(table),
+            Past::Nothing => {}
+            Past::Edits(_) => {}
+        }
+    }
+
+    /// Makes this table the home's, where there is a home.
+    pub fn move_home(&mut self, to: &Table)
+        requires { HasShape to.now.shape (past_seen self.old) }
+        ensures { past_seen self.new ≡ moved_to to.now (past_seen self.old) }
+    {
+        match self {
+            Past::Home(home) => home.move_to(to),
+            Past::Nothing => {}
+            Past::Edits(_) => {}
+        }
+    }
+}
+
+impl Home {
+    // A home with this table, which is copied.
+    fn new(alloc: Global, table: &Table) -> Result<Home, Memory>
+        ensures table { IfOk result (λ home. home.table ≡ table.now) }
+        ensures touched { IfOk result (λ home. home.touched.items ≡ replicate (length table.now.shape.places) false) }
+    {
+        let touched = vec![in alloc; false; table.shape().locations() as usize]?;
+        let table = table.copy(alloc)?;
+        Ok(Home { table, touched })
+    }
+
+    // Sets the flag of a location, if there is one.
+    #[inline(always)]
+    fn touch(&mut self, loc: u16)
+        ensures table { self.new.table ≡ self.old.table }
+        ensures touched { self.new.touched.items ≡ slice_set self.old.touched.items loc true }
+    {
+        if let Some(flag) = self.touched.get_mut(loc as usize) {
+            *flag = true;
+        }
+    }
+
+    // Sets the flags of the locations that an edit changes.
+    #[inline(always)]
+    fn touch_by(&mut self, entry: &Entry)
+        ensures table { self.new.table ≡ self.old.table }
+        ensures touched { self.new.touched.items ≡ touched_by (entry_seen entry.now) self.old.touched.items }
+    {
+        match entry {
+            Entry::Moved { from, to, .. } => {
+                self.touch(*from);
+                self.touch(*to);
+            }
+            Entry::Changed { .. } => {}
+            Entry::Ordered { loc, .. } => self.touch(*loc),
+            Entry::Noted { loc, .. } => self.touch(*loc),
+            Entry::Forgotten { loc, .. } => self.touch(*loc),
+        }
+    }
+
+    // Puts its table back.
+    fn put_back(&mut self, table: &mut Table)
+        requires { IsFromHome self.old.table self.old.touched.items table.old }
+        ensures back { table.new ≡ self.old.table }
+        ensures table { self.new.table ≡ self.old.table }
+        ensures touched { self.new.touched.items ≡ replicate (length self.old.touched.items) false }
+    {
+        table.put_back(&self.table, &self.touched);
+        self.touched.fill(false);
+    }
+
+    // Makes another table the one of the home.
+    fn move_to(&mut self, to: &Table)
+        requires { self.old.table.shape ≡ to.now.shape }
+        ensures table { self.new.table ≡ to.now }
+        ensures touched { self.new.touched.items ≡ replicate (length self.old.touched.items) false }
+    {
+        self.table.copy_from(to);
+        self.touched.fill(false);
+    }
+}
+
+// Puts an entry behind the others.
+#[tactic(auto, using(crate::proofs::UndoLemmas::log_more))]
+fn log_entry(log: &mut Vec<Entry>, entry: Entry) -> Result<(), Memory>
+    ensures noted { OnOk result (log_seen log.new.items ≡ entry_seen entry ∷ log_seen log.old.items) }
+    ensures lacking { OnErr result (log.new.items ≡ log.old.items) }
+{
+    match log.push(entry) {
+        Ok(()) => Ok(()),
+        Err(_) => Err(Memory),
+    }
+}
+
+// Puts the list of a location behind the others.
+fn log_order(alloc: Global, log: &mut Vec<Entry>, loc: u16, list: &[u16]) -> Result<(), Memory>
+    ensures noted { OnOk result (log_seen log.new.items ≡ ordered loc list.now ∷ log_seen log.old.items) }
+    ensures lacking { OnErr result (log.new.items ≡ log.old.items) }
+{
+    match Vec::from_slice(alloc, list) {
+        Ok(list) => log_entry(log, Entry::Ordered { loc, list }),
+        Err(_) => Err(Memory),
+    }
+}
+
+// Takes the last entry, if there is one.
+#[tactic(auto, using(crate::proofs::UndoLemmas::log_more))]
+fn pop_entry(log: &mut Vec<Entry>) -> Option<Entry>
+    ensures { MatchOption result (log.old.items ≡ []) (λ entry. log_seen log.old.items ≡ entry_seen entry ∷ log_seen log.new.items) }
+{
+    log.pop()
+}
