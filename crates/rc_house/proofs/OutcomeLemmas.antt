@@ -1,5 +1,6 @@
 -- How the outcome of a command follows from what its parts did.
-use Rattle.std.proofs.Common.{◌≡◌, ◌<◌, ◌≤◌, ◌+◌, ◌⊎◌, ℕ, List, [], ◌∷◌, ◌++◌, length, drop, length-append, Option, Some, None, Result, Ok, Err, inl, inr, refl, sym, ◌∙◌, ap, subst, arith}
+use Rattle.std.proofs.Common.{◌≡◌, ◌<◌, ◌≤◌, ◌+◌, ◌⊎◌, ◌↔◌, ℕ, List, [], ◌∷◌, ◌++◌, length, drop, length-append, Option, Some, None, Result, Ok, Err, inl, inr, refl, sym, ◌∙◌, ap, subst, arith}
+use Rattle.std.proofs.lemmas.Bool.{cases_lt}
 use Rattle.std.proofs.lemmas.List.{append-nil}
 use Rattle.rc_model.specs.Tree.{Tree}
 use Rattle.rc_sheet_model.specs.Sheet.{Sheet}
@@ -14,7 +15,7 @@ use Rattle.rc_judge_model.specs.Judged.{first_illegal}
 use Rattle.rc_series.specs.Series.{looks_of}
 use Rattle.rc_outside.specs.Source.{Gave, IsAtEnd}
 use Rattle.rc_outside.specs.declared.errors.ReadFail.{ReadFail}
-use Rattle.rc_outside.specs.declared.errors.ReadFail.TheVariants as read
+use Rattle.rc_outside.specs.declared.errors.ReadFail.TheVariants as fails
 use Rattle.rc_house.specs.declared.task.Task.{Task}
 use Rattle.rc_house.specs.declared.task.Task.TheVariants as named
 use Rattle.rc_house.specs.declared.task.Task.TheVariants.{Play}
@@ -28,12 +29,12 @@ use Rattle.rc_house.specs.declared.answer.Prepared.TheVariants.{Answered, Playin
 use Rattle.rc_house.specs.Task.{IsNoteOf, limit_of}
 use Rattle.rc_house.specs.Note.{note_line}
 use Rattle.rc_house.specs.Answer.{Answer, text, refused, seen, text_judged, verdict, AreAlike, IsAnswered, HasAnswer, form_faulty, sheet_faulty, plan_faulty, accepted, IsGameOf, IsPrepared}
-use Rattle.rc_house.specs.Status.{line_of, refusal_status, read_status}
-use Rattle.rc_house.specs.Port.{Port, Ports, port, HasFailed, Took, Delivers}
-use Rattle.rc_house.specs.Outcome.{GaveTooMuch, Answers, CountedFew, Outcome, written, refusing, no_memory, read_failed, too_long, text_failed, note_failed, NoPortFailed, Succeeds, status_of}
+use Rattle.rc_house.specs.Status.{refusal_status, read_status}
+use Rattle.rc_house.specs.Port.{Port, Ports, port, HasFailed, Supplied, Delivers}
+use Rattle.rc_house.specs.Outcome.{GaveTooMuch, Answers, CountedFew, Refuses, Outcome, written, refusing, no_memory, read_failed, too_long, text_failed, note_failed, NoPortFailed, Succeeds, status_of}
 use Rattle.rc_house.specs.Ends.{Performs}
 use Rattle.rc_house.specs.Reading.{IsAcceptedWith}
-use Rattle.rc_house.specs.Running.{HasNoteOf, ReadsGame, ReadsNone, ReadsPrepared}
+use Rattle.rc_house.specs.Running.{HasNoteOf, ReadsGame, ReadsNone, ReadsPrepared, AnswersSource, Concludes}
 use Rattle.rc_house.proofs.OneAnswer.{alike_answers}
 
 -- what a source gave to its end is all that it told
@@ -114,6 +115,26 @@ reads_prepared told after faults faults' task bytes (Answered answer) given end 
 reads_prepared told after faults faults' task bytes (Playing game) given end few is =
     (is.0, reads_game told after faults faults' task bytes game.checked (plan_seen game.plan) given end few is.1, (bytes, given, few))
 
+-- why a source wasn't read to its end
+pub unread_is : (task : Task) (limit : ℕ) (before after : Port) (fail : ReadFail) → limit ≡ limit_of task
+    → (fail ≡ fails.ReadFault → HasFailed before after)
+    → (taken : List ℕ) × Supplied before after taken × ((fail ≡ fails.TooLong) ↔ (limit < length taken))
+    → ReadsNone task before after (read_status fail)
+unread_is task limit before after fails.ReadFault same cause lost =
+    inl (refl, cause refl, (lost.0, lost.1, few_taken (cases_lt limit (length lost.0))))
+  where
+    few_taken : (limit < length lost.0) ⊎ (length lost.0 ≤ limit) → length lost.0 ≤ limit_of task
+    few_taken (inl more) = let long = lost.2.1 more in absurd cc
+    few_taken (inr few) = omega (arith, few, same)
+unread_is task limit before after fails.TooLong same cause lost =
+    let more = lost.2.0 refl in inr (inl (refl, (lost.0, lost.1, omega (arith, more, same))))
+unread_is task limit before after fails.Memory same cause lost =
+    inr (inr (refl, (lost.0, lost.1, few_taken (cases_lt limit (length lost.0)))))
+  where
+    few_taken : (limit < length lost.0) ⊎ (length lost.0 ≤ limit) → length lost.0 ≤ limit_of task
+    few_taken (inl more) = let long = lost.2.1 more in absurd cc
+    few_taken (inr few) = omega (arith, few, same)
+
 -- no step is counted where nobody plays
 counted_none : (before : Port) (task : Task) (steps : ℕ) → CountedFew before task steps steps
 counted_none before task steps = by before.told
@@ -138,23 +159,29 @@ delivered task before after steps steps' playouts bytes note status noted answer
     note_failed failed.0 failed.1 note noted
     (answers_with before.source after.source task (text bytes note playouts) _ answers (bytes, playouts, refl, counted, failed.2)) failed.3
 
--- a refusal
-pub refused_so : (task : Task) (before after : Ports) (steps : ℕ) (refusal : Refusal) (status : Status) → status ≡ refusal_status refusal
-    → Answers before.source after.source task (λ other. other ≡ refused refusal) → after.out ≡ before.out
-    → Took before.notes after.notes (line_of status) → Outcome task before after steps steps status
-refused_so task before after steps refusal status is answers untouched noted =
-    refusing refusal is answers (record { untouched = untouched; noted = noted }) refl
-
 -- a source that wasn't read to its end, or for whose answer there was no memory
-pub unread_so : (task : Task) (before after : Ports) (steps : ℕ) (fail : ReadFail) (status : Status) → status ≡ read_status fail
-    → ReadsNone task before.source after.source fail → after.out ≡ before.out
-    → Took before.notes after.notes (line_of status) → Outcome task before after steps steps status
-unread_so task before after steps read.ReadFault status is none untouched noted =
-    read_failed is none.0 none.1 (record { untouched = untouched; noted = noted }) refl
-unread_so task before after steps read.TooLong status is none untouched noted =
-    too_long is none (record { untouched = untouched; noted = noted }) refl
-unread_so task before after steps read.Memory status is none untouched noted =
-    no_memory is none (record { untouched = untouched; noted = noted }) (counted_none before.source task steps)
+unread_so : (task : Task) (before after : Ports) (steps : ℕ) (status : Status) → ReadsNone task before.source after.source status
+    → Refuses status before after → Outcome task before after steps steps status
+unread_so task before after steps status (inl none) refuses = read_failed none.0 none.1 none.2 refuses refl
+unread_so task before after steps status (inr (inl none)) refuses = too_long none.0 none.1 refuses refl
+unread_so task before after steps status (inr (inr none)) refuses =
+    no_memory none.0 none.1 refuses (counted_none before.source task steps)
+
+-- what follows from a command's answer and from what was done with it
+pub concluded : (task : Task) (before after : Ports) (steps steps' : ℕ) (answered : Result Stored Status) (status : Status)
+    → AnswersSource task before.source after.source steps steps' answered
+    → Concludes answered before.out after.out before.notes after.notes status → Outcome task before after steps steps' status
+concluded task before after steps steps' (Ok (Text bytes note)) status is ends =
+    delivered task before after steps steps' is.0 bytes.items (note_line note) status is.1.1 is.1.0 is.2 ends
+concluded task before after steps steps' (Ok (Refused refusal)) status is ends =
+    let counted = is.2 in
+    refusing refusal ends.0 is.1.0 (record { untouched = ends.1; noted = ends.2 }) (omega (arith, counted))
+concluded task before after steps steps' (Err why) status (inl none) ends =
+    subst (λ steps'. Outcome task before after steps steps' status) (sym none.1)
+    (unread_so task before after steps status (subst (ReadsNone task before.source after.source) (sym ends.0) none.0)
+    (record { untouched = ends.1; noted = ends.2 }))
+concluded task before after steps steps' (Err why) status (inr lacks) ends =
+    no_memory (ends.0 ∙ lacks.0) lacks.1 (record { untouched = ends.1; noted = ends.2 }) lacks.2
 
 -- the answers that two readings of one source give are alike
 same_answer : (before after : Port) (task : Task) (P : Answer → Type 0) (source : List ℕ) (other : Answer)

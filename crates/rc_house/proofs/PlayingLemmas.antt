@@ -1,5 +1,6 @@
--- How a command that has matches played ends.
-use Rattle.std.proofs.Common.{◌≡◌, ◌≤◌, ◌+◌, inl, inr, ℕ, List, map, Option, Some, None, Result, Ok, Err, refl, sym, subst, ap, ◌∙◌, arith}
+-- How the answers of commands that have matches played come about.
+use Rattle.std.proofs.Common.{◌≡◌, ◌≤◌, ◌+◌, inr, ℕ, List, map, Option, Some, None, Result, Ok, Err, Vec, inl, refl, sym, subst, ap, ◌∙◌, arith}
+use Rattle.std.specs.Global.{Global}
 use Rattle.rc_model.specs.Transcript.{house_text}
 use Rattle.rc_sheet_model.specs.Sheet.{Sheet}
 use Rattle.rc_play_model.specs.About.{about_of}
@@ -8,31 +9,36 @@ use Rattle.rc_play_model.specs.Plan.{Plan}
 use Rattle.rc_trick.specs.Bench.{bench_plan, bench_text}
 use Rattle.rc_series.specs.Series.{looks_of, matches_of}
 use Rattle.rc_series.specs.declared.plays.Series.{Series}
+use Rattle.rc_rules.specs.Plan.{plan_seen}
 use Rattle.rc_rules.specs.Record.{record_seen, standing_seen}
 use Rattle.rc_text.specs.House.{text_of}
 use Rattle.rc_trick.specs.Trick.{IsTrickGame}
 use Rattle.rc_command.specs.declared.options.Options.{Options}
+use Rattle.rc_command.specs.Command.{options_of}
+use Rattle.rc_command.specs.declared.command.Command.{Command}
+use Rattle.rc_command.specs.declared.command.Command.TheVariants as command
+use Rattle.rc_house.specs.declared.answer.Answer.{Answer as Stored}
+use Rattle.rc_house.specs.declared.answer.Answer.TheVariants.{Text, Refused}
+use Rattle.rc_house.specs.declared.answer.Game.{Game}
+use Rattle.rc_house.specs.declared.answer.Prepared.TheVariants.{Answered, Playing}
+use Rattle.rc_house.specs.declared.note.Note.{Note}
+use Rattle.rc_house.specs.declared.note.Note.TheVariants.{Looks}
 use Rattle.rc_house.specs.declared.status.Status.{Status}
+use Rattle.rc_house.specs.declared.status.Status.TheVariants.{Memory}
 use Rattle.rc_house.specs.declared.task.Task.{Task}
-use Rattle.rc_house.specs.declared.task.Task.TheVariants.{Play}
-use Rattle.rc_house.specs.Answer.{Answer, text, house_played, playouts_of}
-use Rattle.rc_house.specs.Bench.{BenchOutcome, summary, no_memory as bench_no_memory}
-use Rattle.rc_house.specs.Ends.{Performs}
-use Rattle.rc_house.specs.Note.{looks_line}
-use Rattle.rc_house.specs.Outcome.{Answers, CountedFew, GaveFew, Refuses, no_memory}
+use Rattle.rc_house.specs.declared.task.Task.TheVariants.{Play, Check, Sheet as PrintsSheet}
+use Rattle.rc_house.specs.Answer.{Answer, text, house_played, playouts_of, seen, IsGame}
+use Rattle.rc_house.specs.Bench.{BenchOutcome, IsBenchAnswer, summary, no_memory as bench_no_memory}
+use Rattle.rc_house.specs.Ends.{Runs}
+use Rattle.rc_house.specs.Note.{looks_line, note_line}
+use Rattle.rc_house.specs.Outcome.{Answers, CountedFew}
 use Rattle.rc_house.specs.Players.{counted_playouts}
-use Rattle.rc_house.specs.Port.{Port, Ports, port, Took}
-use Rattle.rc_house.specs.Running.{ReadsGame, IsSeriesOf, PlaysSeries, LacksMemory, EndsWith}
-use Rattle.rc_house.specs.Status.{line_of}
+use Rattle.rc_house.specs.Port.{Port, Ports, port}
+use Rattle.rc_house.specs.Running.{ReadsAnswer, ReadsGame, IsSeriesOf, TellsOf, PreparesCommand, PreparesNone, AnswersBench, AnswersSource, AnswersCommand, Concludes}
 use Rattle.rc_house.proofs.AnswerLaws.{counted_few}
 use Rattle.rc_house.proofs.BenchLaws.{summary_is, few_steps}
-use Rattle.rc_house.proofs.OutcomeLemmas.{delivered, performed}
+use Rattle.rc_house.proofs.OutcomeLemmas.{concluded, performed}
 use Rattle.rc_house.proofs.SomeAnswer.{some_hits}
-
--- nothing was done but that want of memory was noted
-lacks_so : (before after : Ports) (status : Status) → LacksMemory before.out after.out before.notes after.notes status → Refuses status before after
-lacks_so before after status lacks =
-    record { untouched = lacks.1; noted = subst (λ told. Took before.notes after.notes (line_of told)) (sym lacks.0) lacks.2 }
 
 -- No more steps than playouts are for the command's answer.
 few_of : (options : Options) (answer : Answer) (told : Option (List ℕ)) (faults : ℕ) (after : Port) (steps steps' : ℕ)
@@ -50,71 +56,116 @@ few_counted options before after sheet plan steps steps' reads few =
     let answer = house_played options about plan hits.0 in
     few_of options answer before.told before.faults after steps steps' (reads answer (hits.0, hits.1, refl)) few
 
--- there was no memory to play, or for the text
-lacking_so : (options : Options) (before after : Ports) (sheet : Sheet) (plan : Plan) (steps steps' : ℕ) (status : Status)
-    → ReadsGame (Play options) before.source after.source sheet plan → GaveFew (Play options) before.source after.source
-    → steps' ≤ steps + counted_playouts options (looks_of (about_of sheet plan.turns) plan)
-    → LacksMemory before.out after.out before.notes after.notes status → Performs (Play options) before after steps steps' status
-lacking_so options before after sheet plan steps steps' status reads gave few lacks =
-    performed (Play options) before after steps steps' status
-    (no_memory lacks.0 gave (lacks_so before after status lacks)
-    (few_counted options before.source after.source sheet plan steps steps' reads few))
-
--- the house text of a series
-house_is : (options : Options) (sheet : Sheet) (plan : Plan) (steps steps' : ℕ) (series : Series)
-    → IsSeriesOf options (about_of sheet plan.turns) plan steps steps' series
-    → text (text_of series.text) (looks_line series.looks series.hits) (counted_playouts options (looks_of (about_of sheet plan.turns) plan))
-    ≡ house_played options (about_of sheet plan.turns) plan series.hits
-house_is options sheet plan steps steps' series is =
+-- what `play` tells of a series
+house_answers : (options : Options) (before after : Port) (sheet : Sheet) (plan : Plan) (steps steps' : ℕ) (series : Series) (bytes : Vec ℕ Global) (note : Note)
+    → ReadsGame (Play options) before after sheet plan → IsSeriesOf options (about_of sheet plan.turns) plan steps steps' series
+    → bytes.items ≡ text_of series.text → note ≡ Looks series.looks series.hits
+    → AnswersSource (Play options) before after steps steps' (Ok (Text bytes note))
+house_answers options before after sheet plan steps steps' series bytes note reads is written noted =
     let about = about_of sheet plan.turns in
     let playouts = counted_playouts options (looks_of about plan) in
-    let wrote : text_of series.text ≡ keyed_house about plan =
-    ap (λ records. house_text records (map standing_seen series.text.standings.items)) is.matches
+    let wrote : bytes.items ≡ keyed_house about plan =
+    written
+    ∙ ap (λ records. house_text records (map standing_seen series.text.standings.items)) is.matches
     ∙ ap (house_text (matches_of about plan)) is.standings in
-    ap (λ bytes. text bytes (looks_line series.looks series.hits) playouts) wrote
-    ∙ ap (λ looks. text (keyed_house about plan) (looks_line looks series.hits) playouts) is.looks
+    let told : seen (Text bytes note) playouts ≡ house_played options about plan series.hits =
+    ap (λ bytes. text bytes (note_line note) playouts) wrote
+    ∙ ap (λ note. text (keyed_house about plan) (note_line note) playouts) noted
+    ∙ ap (λ looks. text (keyed_house about plan) (looks_line looks series.hits) playouts) is.looks in
+    (playouts, (reads (seen (Text bytes note) playouts) (series.hits, is.hits, told), (series.looks, series.hits, ap note_line noted)), is.counted)
 
-pub played_on : {E : Type 0} (options : Options) (before after : Ports) (sheet : Sheet) (plan : Plan) (steps steps' : ℕ) (series : Result Series E)
-    (status : Status)
-    → ReadsGame (Play options) before.source after.source sheet plan → GaveFew (Play options) before.source after.source
-    → PlaysSeries options (about_of sheet plan.turns) plan steps steps' series
-    → EndsWith (λ series. text_of series.text) series before.out after.out before.notes after.notes status
-    → Performs (Play options) before after steps steps' status
-played_on options before after sheet plan steps steps' (Ok series) status reads gave is (inl delivers) =
-    let looks = looks_of (about_of sheet plan.turns) plan in
-    let playouts = counted_playouts options looks in
-    let bytes = text_of series.text in
-    let note = looks_line series.looks series.hits in
-    let answers = reads (text bytes note playouts) (series.hits, is.hits, house_is options sheet plan steps steps' series is) in
-    performed (Play options) before after steps steps' status
-    (delivered (Play options) before after steps steps' playouts bytes note status (series.looks, series.hits, refl) answers is.counted delivers)
-played_on options before after sheet plan steps steps' (Ok series) status reads gave is (inr lacks) =
-    lacking_so options before after sheet plan steps steps' status reads gave (at_most is.counted) lacks
-  where
-    at_most : {m n : ℕ} → m ≡ n → m ≤ n
-    at_most same = omega (arith, same)
-played_on options before after sheet plan steps steps' (Err error) status reads gave few lacks =
-    lacking_so options before after sheet plan steps steps' status reads gave few lacks
+-- what `bench` tells of it
+bench_answers : (options : Options) (number : ℕ) (sheet : Sheet) (plan : Plan) (steps steps' : ℕ) (series : Series) (bytes : Vec ℕ Global) (note : Note)
+    → IsTrickGame sheet → plan ≡ bench_plan number → IsSeriesOf options (about_of sheet plan.turns) plan steps steps' series
+    → bytes.items ≡ bench_text number (map record_seen series.text.matches.items) (map standing_seen series.text.standings.items)
+    → note ≡ Looks series.looks series.hits → AnswersBench options number steps steps' (Ok (Text bytes note))
+bench_answers options number sheet plan steps steps' series bytes note game planned is wrote noted =
+    let records = map record_seen series.text.matches.items in
+    let standings = map standing_seen series.text.standings.items in
+    let playouts = counted_playouts options (looks_of (about_of sheet plan.turns) plan) in
+    let benched =
+    summary_is options number sheet plan records standings bytes.items series.looks series.hits planned is.matches is.standings is.looks is.hits wrote in
+    (playouts, subst (λ note. IsBenchAnswer options number (text bytes.items (note_line note) playouts)) (sym noted) (sheet, game, benched), is.counted)
 
--- the summary of the bench
-module _ (options : Options) (number : ℕ) (before after : Ports) (sheet : Sheet) (plan : Plan) (steps steps' : ℕ) (status : Status)
-    (game : IsTrickGame sheet) (one : (other : Sheet) → IsTrickGame other → other ≡ sheet) (planned : plan ≡ bench_plan number) where
-  bench_lacking : steps' ≤ steps + counted_playouts options (looks_of (about_of sheet plan.turns) plan)
-      → LacksMemory before.out after.out before.notes after.notes status → BenchOutcome options number before after steps steps' status
-  bench_lacking few lacks =
-      bench_no_memory lacks.0 (lacks_so before after status lacks)
-      (λ answer is. few_steps options number sheet plan steps steps' answer planned one is few)
+module _ (before after : Port) where
+  -- what a command answers for which nobody plays: no playouts are counted for it
+  unplayed : (task : Task) (steps : ℕ) (answer : Stored) → ReadsAnswer task before after 0 answer → AnswersSource task before after steps steps (Ok answer)
+  unplayed task steps (Text bytes note) reads = (0, reads, omega arith)
+  unplayed task steps (Refused refusal) reads = (0, reads, omega arith)
 
-  pub bench_played : {E : Type 0} (series : Result Series E) → PlaysSeries options (about_of sheet plan.turns) plan steps steps' series
-      → EndsWith (λ series. bench_text number (map record_seen series.text.matches.items) (map standing_seen series.text.standings.items))
-      series before.out after.out before.notes after.notes status
-      → BenchOutcome options number before after steps steps' status
-  bench_played (Ok series) is (inl delivers) =
-      let records = map record_seen series.text.matches.items in
-      let standings = map standing_seen series.text.standings.items in
-      let bytes = bench_text number records standings in
-      summary bytes (looks_line series.looks series.hits) (counted_playouts options (looks_of (about_of sheet plan.turns) plan))
-      (sheet, game, summary_is options number sheet plan records standings bytes series.looks series.hits planned is.matches is.standings is.looks is.hits refl)
-      is.counted delivers
-  bench_played (Ok series) is (inr lacks) = let counted = is.counted in bench_lacking (omega (arith, counted)) lacks
-  bench_played (Err error) few lacks = bench_lacking few lacks
+  pub answered : (called : Command) (steps : ℕ) (answer : Stored) → PreparesCommand called before after (Answered answer)
+      → AnswersCommand called before after steps steps (Ok answer)
+  answered (command.Play options) steps answer is = unplayed (Play options) steps answer is
+  answered command.Check steps answer is = unplayed Check steps answer is
+  answered command.Sheet steps answer is = unplayed PrintsSheet steps answer is
+  answered (command.Bench number options) steps answer is = absurd is.1
+
+  -- why it answers nothing, where nothing was prepared
+  pub unprepared : (called : Command) (steps : ℕ) (status : Status) → PreparesNone called before after status
+      → AnswersCommand called before after steps steps (Err status)
+  unprepared (command.Play options) steps status none = inl (none, refl)
+  unprepared command.Check steps status none = inl (none, refl)
+  unprepared command.Sheet steps status none = inl (none, refl)
+  unprepared (command.Bench number options) steps status none = (none.0, (none.1, λ answer is. omega arith))
+
+  -- what it tells of the matches that were played for it
+  pub told : (called : Command) (game : Game) (steps steps' : ℕ) (series : Series) (answer : Stored)
+      → PreparesCommand called before after (Playing game)
+      → IsSeriesOf (options_of called) (about_of game.checked game.plan.turns) (plan_seen game.plan) steps steps' series
+      → TellsOf called series answer → AnswersCommand called before after steps steps' (Ok answer)
+  told called game steps steps' series (Refused refusal) prepared is tells = absurd tells
+  told (command.Play options) game steps steps' series (Text bytes note) prepared is tells =
+      house_answers options before after game.checked (plan_seen game.plan) steps steps' series bytes note prepared.1 is tells.0 tells.1
+  told command.Check game steps steps' series (Text bytes note) prepared is tells = absurd prepared.1
+  told command.Sheet game steps steps' series (Text bytes note) prepared is tells = absurd prepared.1
+  told (command.Bench number options) game steps steps' series (Text bytes note) prepared is tells =
+      let made = prepared.1 in
+      (prepared.0, bench_answers options number game.checked (plan_seen game.plan) steps steps' series bytes note made.1 made.3 is tells.0 tells.1)
+
+  -- there was no memory to play, or for what is told
+  pub lacking : (called : Command) (game : Game) (steps steps' : ℕ) (status : Status) → PreparesCommand called before after (Playing game)
+      → steps' ≤ steps + counted_playouts (options_of called) (looks_of (about_of game.checked game.plan.turns) (plan_seen game.plan))
+      → status ≡ Memory → AnswersCommand called before after steps steps' (Err status)
+  lacking (command.Play options) game steps steps' status prepared few is =
+      inr (is, prepared.2, few_counted options before after game.checked (plan_seen game.plan) steps steps' prepared.1 few)
+  lacking command.Check game steps steps' status prepared few is = absurd prepared.1
+  lacking command.Sheet game steps steps' status prepared few is = absurd prepared.1
+  lacking (command.Bench number options) game steps steps' status prepared few is =
+      let made = prepared.1 in
+      (prepared.0, (is, λ answer benched. few_steps options number game.checked (plan_seen game.plan) steps steps' answer made.3 made.2 benched few))
+
+  pub lacking_text : (called : Command) (game : Game) (steps steps' : ℕ) (series : Series) (status : Status) → PreparesCommand called before after (Playing game)
+      → IsSeriesOf (options_of called) (about_of game.checked game.plan.turns) (plan_seen game.plan) steps steps' series
+      → status ≡ Memory → AnswersCommand called before after steps steps' (Err status)
+  lacking_text called game steps steps' series status prepared is lacks =
+      let counted = is.counted in lacking called game steps steps' status prepared (omega (arith, counted)) lacks
+
+  -- the game that a command has played
+  pub game_of : (called : Command) (game : Game) → PreparesCommand called before after (Playing game) → IsGame game.checked (plan_seen game.plan)
+  game_of (command.Play options) game prepared = prepared.0
+  game_of command.Check game prepared = prepared.0
+  game_of command.Sheet game prepared = prepared.0
+  game_of (command.Bench number options) game prepared = let made = prepared.1 in made.0
+
+-- what was done with the answer of the bench
+bench_concluded : (options : Options) (number : ℕ) (before after : Ports) (steps steps' : ℕ) (answered : Result Stored Status) (status : Status)
+    → AnswersBench options number steps steps' answered → Concludes answered before.out after.out before.notes after.notes status
+    → BenchOutcome options number before after steps steps' status
+bench_concluded options number before after steps steps' (Ok (Text bytes note)) status is ends =
+    summary bytes.items (note_line note) is.0 is.1 is.2 ends
+bench_concluded options number before after steps steps' (Ok (Refused refusal)) status is ends = absurd is
+bench_concluded options number before after steps steps' (Err why) status is ends =
+    bench_no_memory (ends.0 ∙ is.0) (record { untouched = ends.1; noted = ends.2 }) is.1
+
+-- a command was run
+pub runs_so : (called : Command) (before after : Ports) (steps steps' : ℕ) (answered : Result Stored Status) (status : Status)
+    → AnswersCommand called before.source after.source steps steps' answered
+    → Concludes answered before.out after.out before.notes after.notes status → Runs called before after steps steps' status
+runs_so (command.Play options) before after steps steps' answered status is ends =
+    performed (Play options) before after steps steps' status (concluded (Play options) before after steps steps' answered status is ends)
+runs_so command.Check before after steps steps' answered status is ends =
+    performed Check before after steps steps' status (concluded Check before after steps steps' answered status is ends)
+runs_so command.Sheet before after steps steps' answered status is ends =
+    performed PrintsSheet before after steps steps' status (concluded PrintsSheet before after steps steps' answered status is ends)
+runs_so (command.Bench number options) before after steps steps' answered status is ends =
+    (is.0, bench_concluded options number before after steps steps' answered status is.1 ends)

@@ -2,6 +2,8 @@
 use Rattle.std.specs.Prelude.{Some, ◌≡◌, ℕ, ◌⊎◌}
 use Rattle.rc_model.specs.Tree.{Tree}
 use Rattle.rc_grammar.specs.declared.fault.SheetFault.{SheetFault}
+use Rattle.rc_faults.specs.declared.fault.SheetFail.{SheetFail}
+use Rattle.rc_faults.specs.declared.fault.SheetFail.TheVariants as found
 use Rattle.rc_faults.specs.SecondFaults.{sheet_fault}
 use Rattle.rc_sheet_model.specs.Sheet.{Sheet}
 use Rattle.rc_sheet_model.specs.Sight.{IsUnseen}
@@ -24,6 +26,11 @@ HasSightFault form kind at = (kind ≡ Unseen) × (sheet : Sheet) × IsSheetOf f
 -- the first fault of a form that is to be a sheet: of its parts, or else of sight
 abbrev pub HasFirstFault : Tree → SourceKind → ℕ → Type 0
 HasFirstFault form kind at = HasPartFault form kind at ⊎ HasSightFault form kind at
+
+-- why it isn't accepted, where its parts fail so
+abbrev pub source_fail : SheetFail → SourceFail
+source_fail found.Memory = fails.Memory
+source_fail (found.Fault fault) = fails.Fault (sheet_kind fault.kind) fault.at
 
 -- what holds of a fault; nothing is said where memory ran out
 abbrev pub IfSourceFault : SourceFail → (SourceKind → ℕ → Type 0) → Type 0

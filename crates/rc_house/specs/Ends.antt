@@ -1,5 +1,5 @@
 -- How words end: those of a command, and all others.
-use Rattle.std.specs.Prelude.{◌≡◌, ◌<◌, ℕ, List}
+use Rattle.std.specs.Prelude.{◌≡◌, ◌<◌, ℕ, Bool, true, false, List}
 use Rattle.rc_command.specs.Command.{IsCommand, workers_of}
 use Rattle.rc_command.specs.declared.command.Command.{Command}
 use Rattle.rc_command.specs.declared.command.Command.TheVariants.{Play, Check, Sheet, Bench}
@@ -37,6 +37,11 @@ HowEnded = Command → Ports → Ports → ℕ → ℕ → Status → Type 0
 -- The command has more workers than there are here: its words are those of none.
 abbrev pub RefusesMany : HowEnded
 RefusesMany command before after steps steps' status = (status ≡ ending.Usage) × Rests status before after steps steps'
+
+-- where several workers can play at one time, and where one plays alone
+abbrev pub ended_by : (many : Bool) → HowEnded
+ended_by true = Runs
+ended_by false = RefusesMany
 
 -- Words that began with these ports and so many steps ended so, where `many` is how commands of more than one worker end.
 pub data Ending (many : HowEnded) (words : List (List ℕ)) (before after : Ports) (steps steps' : ℕ) (status : Status) : Type 0 where

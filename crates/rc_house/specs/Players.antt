@@ -1,5 +1,5 @@
 -- Who plays the matches of a plan: so many workers over one book of so many totals. What comes of their looks.
-use Rattle.std.specs.Prelude.{◌≡◌, ℕ, ◌<◌, ◌≤◌, nat_lt, if◌then◌else◌, List, length}
+use Rattle.std.specs.Prelude.{◌≡◌, ℕ, ◌<◌, ◌≤◌, Bool, true, false, nat_lt, if◌then◌else◌, List, length}
 use Rattle.rc_redraw.specs.Asking.{Key}
 use Rattle.rc_cache.specs.Hits.{hits, cost}
 use Rattle.rc_command.specs.declared.options.Options.{Options}
@@ -10,6 +10,11 @@ pub record AreWithin (options : Options) : Type 0 where
   pub workers : options.workers ≤ 64
   pub some_cache : 1 ≤ options.cache
   pub cache : options.cache ≤ 65536
+
+-- So many workers can play: one always can, and any number where several can play at one time.
+abbrev pub CanPlay : (many : Bool) → ℕ → Type 0
+CanPlay true workers = Unit {0}
+CanPlay false workers = workers ≡ 1
 
 -- So many of the looks hit. One worker looks the keys up in order, in a list that holds so many totals and keeps those of each miss.
 -- Where several play at one time, not all looks hit, if there is one.

@@ -1,8 +1,5 @@
 -- What the parts of a command do.
-use Rattle.std.specs.Prelude.{◌≡◌, ◌≤◌, ◌⊎◌, ℕ, ◌+◌, List, Vec, Result, Ok, Err, length, map}
-use Rattle.std.specs.Global.{Global}
-use Rattle.rc_outside.specs.declared.errors.ReadFail.{ReadFail}
-use Rattle.rc_outside.specs.declared.errors.ReadFail.TheVariants.{ReadFault, TooLong, Memory}
+use Rattle.std.specs.Prelude.{◌≡◌, ◌≤◌, ◌⊎◌, ℕ, ◌+◌, Bool, List, Result, Ok, Err, length, map}
 use Rattle.rc_play_model.specs.About.{About, about_of}
 use Rattle.rc_play_model.specs.House.{standings_of}
 use Rattle.rc_play_model.specs.Plan.{Plan}
@@ -10,7 +7,13 @@ use Rattle.rc_series.specs.Series.{looks_of, matches_of}
 use Rattle.rc_series.specs.declared.plays.Series.{Series}
 use Rattle.rc_rules.specs.Plan.{plan_seen}
 use Rattle.rc_rules.specs.Record.{record_seen, standing_seen}
+use Rattle.rc_trick.specs.Bench.{bench_plan, bench_text}
 use Rattle.rc_sheet_model.specs.Sheet.{Sheet}
+use Rattle.rc_text.specs.House.{text_of}
+use Rattle.rc_trick.specs.Trick.{IsTrickGame}
+use Rattle.rc_command.specs.Command.{IsCommand, workers_of}
+use Rattle.rc_command.specs.declared.command.Command.{Command}
+use Rattle.rc_command.specs.declared.command.Command.TheVariants as command
 use Rattle.rc_command.specs.declared.options.Options.{Options}
 use Rattle.rc_house.specs.declared.task.Task.{Task}
 use Rattle.rc_house.specs.declared.task.Task.TheVariants.{Play, Check, Sheet as PrintsSheet}
@@ -21,21 +24,23 @@ use Rattle.rc_house.specs.declared.answer.Prepared.TheVariants.{Answered, Playin
 use Rattle.rc_house.specs.declared.status.Status.{Status}
 use Rattle.rc_house.specs.declared.status.Status.TheVariants as ending
 use Rattle.rc_house.specs.Task.{IsNoteOf}
-use Rattle.rc_house.specs.Note.{looks_line, note_line}
-use Rattle.rc_house.specs.Players.{AreHits, counted_playouts}
-use Rattle.rc_house.specs.Answer.{Answer, seen, IsGame, IsPlayed}
+use Rattle.rc_house.specs.declared.note.Note.TheVariants.{Looks}
+use Rattle.rc_house.specs.Note.{note_line}
+use Rattle.rc_house.specs.Players.{AreHits, CanPlay, counted_playouts}
+use Rattle.rc_house.specs.Answer.{Answer, seen, playouts_of, IsGame, IsPlayed}
+use Rattle.rc_house.specs.Bench.{IsBenchAnswer}
 use Rattle.rc_house.specs.Port.{Port, HasFailed, Delivers, Took}
-use Rattle.rc_house.specs.Status.{line_of}
-use Rattle.rc_house.specs.Outcome.{Answers, GaveFew, GaveTooMuch}
+use Rattle.rc_house.specs.Status.{line_of, refusal_status}
+use Rattle.rc_house.specs.Outcome.{Answers, CountedFew, GaveFew, GaveTooMuch}
 
 -- a text's note is one of the command's
 abbrev pub HasNoteOf : Task → Stored → Type 0
 HasNoteOf task (stored.Text bytes note) = IsNoteOf task (note_line note)
 HasNoteOf task (stored.Refused refusal) = Unit {0}
 
--- the source was read, and this is the command's answer to it, for which nobody plays
-abbrev pub ReadsAnswer : Task → Port → Port → Stored → Type 0
-ReadsAnswer task before after answer = Answers before after task (λ other. other ≡ seen answer 0) × HasNoteOf task answer
+-- the source was read, and this is the command's answer to it, where it takes so many playouts
+abbrev pub ReadsAnswer : Task → Port → Port → ℕ → Stored → Type 0
+ReadsAnswer task before after playouts answer = Answers before after task (λ other. other ≡ seen answer playouts) × HasNoteOf task answer
 
 -- the source was read, and what is played of this sheet and plan is the command's answer to it
 abbrev pub ReadsGame : Task → Port → Port → Sheet → Plan → Type 0
@@ -45,16 +50,17 @@ ReadsGame Check before after sheet plan = ⊥
 ReadsGame PrintsSheet before after sheet plan = ⊥
 
 abbrev pub ReadsPrepared : Task → Port → Port → Prepared → Type 0
-ReadsPrepared task before after (Answered answer) = ReadsAnswer task before after answer
+ReadsPrepared task before after (Answered answer) = ReadsAnswer task before after 0 answer
 ReadsPrepared task before after (Playing game) =
     IsGame game.checked (plan_seen game.plan) × ReadsGame task before after game.checked (plan_seen game.plan)
     × GaveFew task before after
 
--- why there is neither
-abbrev pub ReadsNone : Task → Port → Port → ReadFail → Type 0
-ReadsNone task before after ReadFault = HasFailed before after × GaveFew task before after
-ReadsNone task before after TooLong = GaveTooMuch task before after
-ReadsNone task before after Memory = GaveFew task before after
+-- Why the command makes nothing of its source: a read failed, the source gave too much, or there was no memory.
+abbrev pub ReadsNone : Task → Port → Port → Status → Type 0
+ReadsNone task before after status =
+    ((status ≡ ending.ReadFault) × HasFailed before after × GaveFew task before after)
+    ⊎ ((status ≡ ending.TooLong) × GaveTooMuch task before after)
+    ⊎ ((status ≡ ending.Memory) × GaveFew task before after)
 
 -- The matches of a sheet and a plan were played as the options say, and so many playouts were counted for them.
 pub record IsSeriesOf (options : Options) (about : About) (plan : Plan) (steps steps' : ℕ) (series : Series) : Type 0 where
@@ -69,18 +75,73 @@ abbrev pub PlaysSeries : {E : Type 0} → Options → About → Plan → ℕ →
 PlaysSeries options about plan steps steps' (Ok series) = IsSeriesOf options about plan steps steps' series
 PlaysSeries options about plan steps steps' (Err error) = steps' ≤ steps + counted_playouts options (looks_of about plan)
 
--- nothing was done to where the text goes, and want of memory was noted
-abbrev pub LacksMemory : Port → Port → Port → Port → Status → Type 0
-LacksMemory out out' notes notes' status =
-    (status ≡ ending.Memory) × (out' ≡ out) × Took notes notes' (line_of ending.Memory)
+-- What a command tells of the matches of a series: their house text, or the summary of the bench.
+abbrev pub told_of : Command → Series → List ℕ
+told_of (command.Play options) series = text_of series.text
+told_of command.Check series = text_of series.text
+told_of command.Sheet series = text_of series.text
+told_of (command.Bench number options) series =
+    bench_text number (map record_seen series.text.matches.items) (map standing_seen series.text.standings.items)
 
--- A text that tells of matches was handed on with its note, or there was no memory for it.
-abbrev pub DeliversPlayed : {E : Type 0} → Result (Vec ℕ Global) E → ℕ → ℕ → Port → Port → Port → Port → Status → Type 0
-DeliversPlayed (Ok text) looks hits out out' notes notes' status = Delivers text.items (looks_line looks hits) out out' notes notes' status
-DeliversPlayed (Err error) looks hits out out' notes notes' status = LacksMemory out out' notes notes' status
+-- and with it how their looks went
+abbrev pub TellsOf : Command → Series → Stored → Type 0
+TellsOf called series (stored.Text bytes note) = (bytes.items ≡ told_of called series) × (note ≡ Looks series.looks series.hits)
+TellsOf called series (stored.Refused refusal) = ⊥
 
--- What matches came to was handed on, or there was no memory for it.
-abbrev pub EndsWith : {E : Type 0} → (Series → List ℕ) → Result Series E → Port → Port → Port → Port → Status → Type 0
-EndsWith told (Ok series) out out' notes notes' status =
-    Delivers (told series) (looks_line series.looks series.hits) out out' notes notes' status ⊎ LacksMemory out out' notes notes' status
-EndsWith told (Err error) out out' notes notes' status = LacksMemory out out' notes notes' status
+-- This is the command's answer to its source, and as many steps were counted as it takes playouts; or this is why there is none.
+abbrev pub AnswersSource : Task → Port → Port → ℕ → ℕ → Result Stored Status → Type 0
+AnswersSource task before after steps steps' (Ok answer) =
+    (playouts : ℕ) × ReadsAnswer task before after playouts answer × (steps' ≡ steps + playouts_of (seen answer playouts))
+AnswersSource task before after steps steps' (Err status) =
+    (ReadsNone task before after status × (steps' ≡ steps))
+    ⊎ ((status ≡ ending.Memory) × GaveFew task before after × CountedFew before task steps steps')
+
+-- What `bench` makes before anybody plays: its game.
+abbrev pub PreparesBench : ℕ → Prepared → Type 0
+PreparesBench number (Answered answer) = ⊥
+PreparesBench number (Playing game) =
+    IsGame game.checked (plan_seen game.plan) × IsTrickGame game.checked × ((other : Sheet) → IsTrickGame other → other ≡ game.checked)
+    × (plan_seen game.plan ≡ bench_plan number)
+
+-- What a command makes of its source before anybody plays, and why it makes nothing of it.
+abbrev pub PreparesCommand : Command → Port → Port → Prepared → Type 0
+PreparesCommand (command.Play options) before after prepared = ReadsPrepared (Play options) before after prepared
+PreparesCommand command.Check before after prepared = ReadsPrepared Check before after prepared
+PreparesCommand command.Sheet before after prepared = ReadsPrepared PrintsSheet before after prepared
+PreparesCommand (command.Bench number options) before after prepared = (after ≡ before) × PreparesBench number prepared
+
+abbrev pub PreparesNone : Command → Port → Port → Status → Type 0
+PreparesNone (command.Play options) before after status = ReadsNone (Play options) before after status
+PreparesNone command.Check before after status = ReadsNone Check before after status
+PreparesNone command.Sheet before after status = ReadsNone PrintsSheet before after status
+PreparesNone (command.Bench number options) before after status = (after ≡ before) × (status ≡ ending.Memory)
+
+-- This is what `bench` answers with so many matches, and as many steps were counted as it takes playouts; or there was no memory.
+abbrev pub AnswersBench : Options → ℕ → ℕ → ℕ → Result Stored Status → Type 0
+AnswersBench options number steps steps' (Ok (stored.Text bytes note)) =
+    (playouts : ℕ) × IsBenchAnswer options number (seen (stored.Text bytes note) playouts) × (steps' ≡ steps + playouts)
+AnswersBench options number steps steps' (Ok (stored.Refused refusal)) = ⊥
+AnswersBench options number steps steps' (Err status) =
+    (status ≡ ending.Memory) × ((answer : Answer) → IsBenchAnswer options number answer → steps' ≤ steps + playouts_of answer)
+
+-- This is what a command answers; or this is why there is no answer.
+abbrev pub AnswersCommand : Command → Port → Port → ℕ → ℕ → Result Stored Status → Type 0
+AnswersCommand (command.Play options) before after steps steps' answered = AnswersSource (Play options) before after steps steps' answered
+AnswersCommand command.Check before after steps steps' answered = AnswersSource Check before after steps steps' answered
+AnswersCommand command.Sheet before after steps steps' answered = AnswersSource PrintsSheet before after steps steps' answered
+AnswersCommand (command.Bench number options) before after steps steps' answered =
+    (after ≡ before) × AnswersBench options number steps steps' answered
+
+-- Why words name no command here: they are none's, or those of one with more workers than can play, or there was no memory to read them.
+pub data NamesNone (many : Bool) (words : List (List ℕ)) (status : Status) : Type 0 where
+  no_command : ((command : Command) → IsCommand words command → ⊥) → status ≡ ending.Usage → NamesNone many words status
+  too_many : (command : Command) → IsCommand words command → (CanPlay many (workers_of command) → ⊥) → status ≡ ending.Usage
+      → NamesNone many words status
+  unread : status ≡ ending.Memory → NamesNone many words status
+
+-- The text of an answer was handed on with its note; or the refusal, or why there is no answer, was noted.
+abbrev pub Concludes : Result Stored Status → Port → Port → Port → Port → Status → Type 0
+Concludes (Ok (stored.Text bytes note)) out out' notes notes' status = Delivers bytes.items (note_line note) out out' notes notes' status
+Concludes (Ok (stored.Refused refusal)) out out' notes notes' status =
+    (status ≡ refusal_status refusal) × (out' ≡ out) × Took notes notes' (line_of status)
+Concludes (Err why) out out' notes notes' status = (status ≡ why) × (out' ≡ out) × Took notes notes' (line_of status)

@@ -16,12 +16,6 @@ limit_of (Play options) = 1048576
 limit_of Check = 8388608
 limit_of Sheet = 1048576
 
--- a command that plays nothing
-abbrev pub PlaysNothing : Task → Type 0
-PlaysNothing (Play options) = ⊥
-PlaysNothing Check = Unit {0}
-PlaysNothing Sheet = Unit {0}
-
 -- what a command may note where all went well
 abbrev pub IsNoteOf : Task → List ℕ → Type 0
 IsNoteOf (Play options) note = (looks : ℕ) × (found : ℕ) × (note ≡ looks_line looks found)

@@ -21,6 +21,38 @@ pub enum SourceFail {
     Memory,
 }
 
+impl From<SheetFail> for SourceFail {
+    ghost use Rattle.std.specs.Prelude.{◌≡◌};
+    ghost use Rattle.rc_house.specs.Accepted.{source_fail};
+
+    ghost from_gives = { λ found fail. fail ≡ source_fail found };
+
+    fn from(found: SheetFail) -> SourceFail {
+        match found {
+            SheetFail::Fault(fault) => SourceFail::Fault {
+                kind: SourceKind::from(fault.kind),
+                at: fault.at,
+            },
+            SheetFail::Memory => SourceFail::Memory,
+        }
+    }
+}
+
+impl From<Unseen> for SourceFail {
+    ghost use Rattle.std.specs.Prelude.{◌≡◌};
+    ghost use Rattle.rc_house.specs.declared.accepting.SourceFail.TheVariants as fails;
+    ghost use Rattle.rc_house.specs.declared.status.SourceKind.TheVariants as kinds;
+
+    ghost from_gives = { λ unseen fail. fail ≡ fails.Fault kinds.Unseen unseen.at };
+
+    fn from(unseen: Unseen) -> SourceFail {
+        SourceFail::Fault {
+            kind: SourceKind::Unseen,
+            at: unseen.at,
+        }
+    }
+}
+
 /// The sheet of a form, if the form has no fault and the sheet keeps the sight rule.
 pub fn accept(alloc: Global, form: &Form) -> Result<Checked, SourceFail>
     requires placed { (size : ℕ) × IsPlaced size (tree_of form.now) }
@@ -29,21 +61,7 @@ pub fn accept(alloc: Global, form: &Form) -> Result<Checked, SourceFail>
     ensures accepted { IfOk result (λ checked. IsAccepted (tree_of form.now) checked) }
     ensures refused { IfErr result (λ fail. IfSourceFault fail (HasFirstFault (tree_of form.now))) }
 {
-    let sheet = match sheet_of(alloc, form) {
-        Ok(sheet) => sheet,
-        Err(SheetFail::Fault(found)) => {
-            return Err(SourceFail::Fault {
-                kind: SourceKind::from(found.kind),
-                at: found.at,
-            });
-        }
-        Err(SheetFail::Memory) => return Err(SourceFail::Memory),
-    };
-    match check_sight(sheet) {
-        Ok(checked) => Ok(checked),
-        Err(Unseen { at, .. }) => Err(SourceFail::Fault {
-            kind: SourceKind::Unseen,
-            at,
-        }),
-    }
+    let sheet = sheet_of(alloc, form)?;
+    let checked = check_sight(sheet)?;
+    Ok(checked)
 }

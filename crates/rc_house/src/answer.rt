@@ -36,7 +36,7 @@ use rc_plan::PlanFail;
 use rc_rules::Plan;
 use rc_series::shared_about;
 use rc_text::{HouseText, TextFail, read_house};
-use std::alloc::{AllocError, Global};
+use std::alloc::Global;
 
 /// What a command answers to its source.
 #[derive(Drop)]
@@ -63,15 +63,15 @@ pub enum Prepared {
     Playing(Game),
 }
 
-/// What a command makes of its source before anybody plays. `Err` is want of memory alone.
-pub fn prepare(alloc: Global, task: Task, source: &[u8]) -> Result<Prepared, AllocError>
+/// What a command makes of its source before anybody plays. Memory may run out.
+pub fn prepare(alloc: Global, task: Task, source: &[u8]) -> Result<Prepared, Memory>
     requires { length source.now ≤ 8388608 }
     ensures { IfOk result (IsPrepared task source.now) }
 {
     match read_forms(alloc, source, task.wanted()) {
         Ok(forms) => prepare_forms(alloc, task, source, &forms),
         Err(FormFail::Fault(form_fault)) => Ok(Prepared::Answered(fault_of(form_fault))),
-        Err(FormFail::Memory) => Err(AllocError),
+        Err(FormFail::Memory) => Err(Memory),
     }
 }
 
@@ -91,7 +91,7 @@ fn prepare_forms(
     task: Task,
     source: &[u8],
     forms: &Forms,
-) -> Result<Prepared, AllocError>
+) -> Result<Prepared, Memory>
     requires small { length source.now ≤ 8388608 }
     requires within { forms.now.rest ≤ length source.now }
     requires read { Spelled source.now (wanted task) (trees_of forms.now.list.items) forms.now.rest }
@@ -108,7 +108,7 @@ fn prepare_forms(
         Err(SourceFail::Fault { kind, at }) => Ok(Prepared::Answered(Answer::Refused(
             Refusal::Sheet { kind, at },
         ))),
-        Err(SourceFail::Memory) => Err(AllocError),
+        Err(SourceFail::Memory) => Err(Memory),
     }
 }
 
@@ -130,7 +130,7 @@ fn prepare_sheet(
     source: &[u8],
     forms: &Forms,
     checked: Checked,
-) -> Result<Prepared, AllocError>
+) -> Result<Prepared, Memory>
     requires small { length source.now ≤ 8388608 }
     requires within { forms.now.rest ≤ length source.now }
     requires read { Spelled source.now (wanted task) (trees_of forms.now.list.items) forms.now.rest }
@@ -140,14 +140,8 @@ fn prepare_sheet(
 {
     match task {
         Task::Play(_) => prepare_play(alloc, source, forms, checked),
-        Task::Check => match check_answer(alloc, source, forms, checked) {
-            Ok(answer) => Ok(Prepared::Answered(answer)),
-            Err(error) => Err(error),
-        },
-        Task::Sheet => match sheet_answer(alloc, &checked) {
-            Ok(answer) => Ok(Prepared::Answered(answer)),
-            Err(error) => Err(error),
-        },
+        Task::Check => Ok(Prepared::Answered(check_answer(alloc, source, forms, checked)?)),
+        Task::Sheet => Ok(Prepared::Answered(sheet_answer(alloc, &checked)?)),
     }
 }
 
@@ -157,7 +151,7 @@ fn prepare_play(
     source: &[u8],
     forms: &Forms,
     checked: Checked,
-) -> Result<Prepared, AllocError>
+) -> Result<Prepared, Memory>
     requires small { length source.now ≤ 8388608 }
     requires within { forms.now.rest ≤ length source.now }
     requires read { Spelled source.now 2 (trees_of forms.now.list.items) forms.now.rest }
@@ -168,10 +162,7 @@ fn prepare_play(
     let players = checked.sheet().players;
     match read_plan(alloc, source, forms, players) {
         Ok(plan) => Ok(Prepared::Playing(Game { checked, plan })),
-        Err(fail) => match plan_failed(fail) {
-            Ok(answer) => Ok(Prepared::Answered(answer)),
-            Err(error) => Err(error),
-        },
+        Err(fail) => Ok(Prepared::Answered(plan_failed(fail)?)),
     }
 }
 
@@ -181,7 +172,7 @@ fn check_answer(
     source: &[u8],
     forms: &Forms,
     checked: Checked,
-) -> Result<Answer, AllocError>
+) -> Result<Answer, Memory>
     requires small { length source.now ≤ 8388608 }
     requires within { forms.now.rest ≤ length source.now }
     requires read { Spelled source.now 2 (trees_of forms.now.list.items) forms.now.rest }
@@ -190,7 +181,7 @@ fn check_answer(
     ensures { IfOk result (IsAnswerTo task.Check source.now) }
 {
     let players = checked.sheet().players;
-    match plan_behind(alloc, source, forms, players) {
+    match plan_behind(alloc, forms, players) {
         Ok(plan) => judged_answer(alloc, checked, &plan, &source[forms.rest..]),
         Err(fail) => plan_failed(fail),
     }
@@ -202,7 +193,7 @@ fn judged_answer(
     checked: Checked,
     plan: &Plan,
     bytes: &[u8],
-) -> Result<Answer, AllocError>
+) -> Result<Answer, Memory>
     requires short { length bytes.now ≤ 8388608 }
     requires within { IsWithinLimits (plan_seen plan.now) }
     requires seats { length (plan_seen plan.now).strategies ≡ checked.players }
@@ -211,7 +202,7 @@ fn judged_answer(
     match read_house(alloc, bytes) {
         Ok(text) => verdict_answer(alloc, checked, plan, &text),
         Err(TextFail::Fault { line }) => Ok(Answer::Refused(Refusal::Text { line })),
-        Err(TextFail::Memory) => Err(AllocError),
+        Err(TextFail::Memory) => Err(Memory),
     }
 }
 
@@ -221,7 +212,7 @@ fn verdict_answer(
     checked: Checked,
     plan: &Plan,
     text: &HouseText,
-) -> Result<Answer, AllocError>
+) -> Result<Answer, Memory>
     requires within { IsWithinLimits (plan_seen plan.now) }
     requires seats { length (plan_seen plan.now).strategies ≡ checked.players }
     requires text { IsHouseText (house_seen text.now) }
@@ -229,19 +220,15 @@ fn verdict_answer(
     ensures { IfOk result (λ answer. seen answer 0
         ≡ verdict (first_illegal (about_of checked plan.now.turns) dealing_of (plan_seen plan.now) (house_seen text.now))) }
 {
-    let about = match shared_about(alloc, checked, plan.turns) {
-        Ok(about) => about,
-        Err(Memory) => return Err(AllocError),
-    };
-    match judge(alloc, &about, plan, text) {
-        Ok(Verdict::Legal) => legal_answer(alloc),
-        Ok(Verdict::Illegal { line, why }) => Ok(Answer::Refused(Refusal::Illegal { line, why })),
-        Err(Memory) => Err(AllocError),
+    let about = shared_about(alloc, checked, plan.turns)?;
+    match judge(alloc, &about, plan, text)? {
+        Verdict::Legal => legal_answer(alloc),
+        Verdict::Illegal { line, why } => Ok(Answer::Refused(Refusal::Illegal { line, why })),
     }
 }
 
 /// The answer to a legal transcript.
-fn legal_answer(alloc: Global) -> Result<Answer, AllocError>
+fn legal_answer(alloc: Global) -> Result<Answer, Memory>
     ensures { IfOk result (λ answer. seen answer 0 ≡ verdict None) }
 {
     let text = Vec::from_slice(alloc, b"legal\n")?;
@@ -249,7 +236,7 @@ fn legal_answer(alloc: Global) -> Result<Answer, AllocError>
 }
 
 /// The answer of `sheet` where this sheet is accepted.
-fn sheet_answer(alloc: Global, checked: &Checked) -> Result<Answer, AllocError>
+fn sheet_answer(alloc: Global, checked: &Checked) -> Result<Answer, Memory>
     ensures { IfOk result (IsSheetText checked.now) }
 {
     let line = print_line(alloc, checked.sheet())?;
@@ -257,7 +244,7 @@ fn sheet_answer(alloc: Global, checked: &Checked) -> Result<Answer, AllocError>
 }
 
 /// The answer where the plan fails so.
-fn plan_failed(fail: PlanFail) -> Result<Answer, AllocError>
+fn plan_failed(fail: PlanFail) -> Result<Answer, Memory>
     ensures { IfOk result (IsPlanRefusal fail) }
 {
     match fail {
@@ -265,6 +252,6 @@ fn plan_failed(fail: PlanFail) -> Result<Answer, AllocError>
             kind: fault.kind,
             at: fault.at,
         })),
-        PlanFail::Memory => Err(AllocError),
+        PlanFail::Memory => Err(Memory),
     }
 }

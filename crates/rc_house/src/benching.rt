@@ -12,14 +12,13 @@ ghost use Rattle.rc_house.specs.Answer.{IsGame};
 
 use crate::accepting::{SourceFail, accept};
 use crate::answer::Game;
-use rc_trick::bench_plan;
 use rc_deck::Memory;
 use rc_flow::Checked;
 use rc_form::{FormFail, Forms, read_forms};
-use rc_trick::{the_trick_game_is_accepted, trick_text};
+use rc_trick::{bench_plan, the_trick_game_is_accepted, trick_text};
 use std::alloc::Global;
 
-/// The matches of the bench, so many. `Err` is want of memory alone.
+/// The matches of the bench, so many. Memory may run out.
 pub fn bench_game(alloc: Global, number: u16) -> Result<Game, Memory>
     requires some { 1 ≤ number }
     requires few { number ≤ 1000 }
@@ -28,17 +27,12 @@ pub fn bench_game(alloc: Global, number: u16) -> Result<Game, Memory>
     ensures plan { IfOk result (λ game. plan_seen game.plan ≡ bench_plan number) }
     ensures game { IfOk result (λ game. IsGame game.checked (plan_seen game.plan)) }
 {
-    let checked = match trick_game(alloc) {
-        Ok(checked) => checked,
-        Err(Memory) => return Err(Memory),
-    };
-    match bench_plan(alloc, number) {
-        Ok(plan) => Ok(Game { checked, plan }),
-        Err(Memory) => Err(Memory),
-    }
+    let checked = trick_game(alloc)?;
+    let plan = bench_plan(alloc, number)?;
+    Ok(Game { checked, plan })
 }
 
-/// The trick game, which its text stands for. `Err` is want of memory alone.
+/// The trick game, which its text stands for. Memory may run out.
 fn trick_game(alloc: Global) -> Result<Checked, Memory>
     ensures is { IfOk result (λ checked. IsTrickGame checked) }
     ensures one { IfOk result (λ checked. (other : Sheet) → IsTrickGame other → other ≡ checked) }

@@ -1,9 +1,11 @@
 //! What a command notes where all went well.
 ghost use Rattle.std.specs.Prelude.{◌≡◌};
+ghost use Rattle.rc_house.specs.declared.note.Note.TheVariants.{Looks};
 ghost use Rattle.rc_house.specs.Note.{looks_line, note_line};
 
 use crate::status::LINE;
 use arrayvec::ArrayString;
+use rc_series::Series;
 
 /// What goes to the notes behind a text.
 #[derive(Clone, Copy, Debug, PartialEq, Eq, Hash)]
@@ -15,6 +17,16 @@ pub enum Note {
 }
 
 impl Note {
+    /// What is noted behind a text that tells of these matches.
+    pub(crate) fn of(series: &Series) -> Note
+        ensures { result ≡ Looks series.now.looks series.now.hits }
+    {
+        Note::Looks {
+            looks: series.looks,
+            hits: series.hits,
+        }
+    }
+
     /// The line, with its LF.
     pub(crate) fn line(&self) -> ArrayString<LINE>
         ensures { result.bytes ≡ note_line self.now }

@@ -1,5 +1,5 @@
 //! Plans that are accepted.
-ghost use Rattle.std.specs.Prelude.{◌≡◌, ◌≢◌, ◌≤◌, length, IfOk, IfErr, IfSome, IfNone, All};
+ghost use Rattle.std.specs.Prelude.{◌≡◌, ◌≢◌, ◌≤◌, ℕ, length, IfOk, IfErr, IfSome, IfNone, All};
 ghost use Rattle.rc_model.specs.Placed.{IsPlaced};
 ghost use Rattle.rc_form.specs.Form.{tree_of, trees_of};
 ghost use Rattle.rc_plan_model.specs.Limits.{IsWithinLimits};
@@ -26,10 +26,7 @@ pub fn read_plan(alloc: Global, source: &[u8], forms: &Forms, players: u8) -> Re
     ensures fault { IfErr result (λ fail. IfPlanFault fail (λ fault.
         IsPlanFaulty source.now players (trees_of forms.now.list.items) forms.now.rest fault.kind fault.at)) }
 {
-    let plan = match plan_behind(alloc, source, forms, players) {
-        Ok(plan) => plan,
-        Err(fail) => return Err(fail),
-    };
+    let plan = plan_behind(alloc, forms, players)?;
     match rest_fault(source, forms.rest) {
         Some(fault) => Err(PlanFail::Fault(fault)),
         None => Ok(plan),
@@ -37,15 +34,9 @@ pub fn read_plan(alloc: Global, source: &[u8], forms: &Forms, players: u8) -> Re
 }
 
 /// The plan behind the sheet in a source with these forms, for so many players, whatever follows it; or its first fault.
-pub fn plan_behind(
-    alloc: Global,
-    source: &[u8],
-    forms: &Forms,
-    players: u8,
-) -> Result<Plan, PlanFail>
-    requires small { length source.now ≤ 8388608 }
-    requires within { forms.now.rest ≤ length source.now }
-    requires placed { All (λ form. IsPlaced (length source.now) (tree_of form)) forms.now.list.items }
+pub fn plan_behind(alloc: Global, forms: &Forms, players: u8) -> Result<Plan, PlanFail>
+    requires small { forms.now.rest ≤ 8388608 }
+    requires placed { All (λ form. (size : ℕ) × IsPlaced size (tree_of form)) forms.now.list.items }
     requires some { 1 ≤ players }
     requires few { players ≤ 8 }
     ensures behind { IfOk result (λ plan. IsBehind players (trees_of forms.now.list.items) (plan_seen plan)) }
@@ -60,10 +51,7 @@ pub fn plan_behind(
             at: forms.rest as u32,
         }));
     };
-    match plan_of(alloc, form, players) {
-        Ok(plan) => Ok(plan),
-        Err(fail) => Err(fail),
-    }
+    plan_of(alloc, form, players)
 }
 
 // The fault of a source where something follows what was read of it.

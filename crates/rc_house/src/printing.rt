@@ -5,15 +5,14 @@ ghost use Rattle.rc_sheet_model.specs.Printing.{printed_sheet};
 ghost use Rattle.rc_ast.specs.Sheet.{sheet_seen};
 
 use rc_ast::{Sheet, print_sheet};
-use std::alloc::{AllocError, Global};
+use rc_deck::Memory;
+use std::alloc::Global;
 
-/// A sheet as it is printed on a line.
-pub fn print_line(alloc: Global, sheet: &Sheet) -> Result<Vec<u8>, AllocError>
+/// A sheet as it is printed on a line. Memory may run out.
+pub fn print_line(alloc: Global, sheet: &Sheet) -> Result<Vec<u8>, Memory>
     ensures { IfOk result (λ bytes. bytes.items ≡ line (printed_sheet (sheet_seen sheet.now))) }
 {
-    let Ok(mut bytes) = print_sheet(alloc, sheet) else {
-        return Err(AllocError);
-    };
+    let mut bytes = print_sheet(alloc, sheet)?;
     bytes.push(b'\n')?;
     Ok(bytes)
 }

@@ -3,6 +3,7 @@ ghost use Rattle.std.specs.Prelude.{◌≡◌, ◌++◌, ◌≤◌, length, code
 ghost use Rattle.rc_house.specs.Status.{code_of, line_of, kind_name, plan_kind_name, why_name};
 
 use arrayvec::ArrayString;
+use rc_deck::Memory;
 use rc_form::FormKind;
 use rc_grammar::SheetKind;
 use rc_judge::Why;
@@ -196,6 +197,17 @@ impl Status {
             Status::TooLong => fixed_line("too long\n"),
             Status::Usage => fixed_line("usage: cardhouse play, check, sheet or bench\n"),
         }
+    }
+}
+
+impl From<Memory> for Status {
+    ghost use Rattle.std.specs.Prelude.{◌≡◌};
+    ghost use Rattle.rc_house.specs.declared.status.Status.TheVariants as ending;
+
+    ghost from_gives = { λ _ status. status ≡ ending.Memory };
+
+    fn from(_: Memory) -> Status {
+        Status::Memory
     }
 }
 

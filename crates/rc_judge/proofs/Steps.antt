@@ -1,6 +1,7 @@
 -- Judging goes line by line: where a row applies to a line it halts, and else it goes on behind it.
-use Rattle.std.proofs.Common.{◌≡◌, ◌≢◌, ◌↔◌, ℕ, ◌+◌, ◌<◌, ◌==◌, Bool, true, false, if◌then◌else◌, List, [], ◌∷◌, map, drop, get_or, length, Option, Some, None, Result, Ok, Err, IfOk, refl, sym, ap, ◌∙◌, eqb-true}
+use Rattle.std.proofs.Common.{◌≡◌, ◌≢◌, ◌↔◌, ℕ, ◌+◌, ◌<◌, ◌==◌, Bool, true, false, if◌then◌else◌, List, [], ◌∷◌, map, drop, get_or, length, Option, Some, None, Result, Ok, Err, IfOk, IsErrAnd, refl, sym, ap, subst, ◌∙◌, eqb-true}
 use Rattle.std.proofs.lemmas.List.{at_drop_more}
+use Rattle.std.proofs.lemmas.Result.{err_from_is_err_and}
 use Rattle.rc_model.specs.Transcript.{Pick, Record, Standing}
 use Rattle.rc_play_model.specs.About.{About}
 use Rattle.rc_play_model.specs.Effects.{Dealing}
@@ -20,7 +21,7 @@ use Rattle.rc_judge.specs.declared.verdict.Halt.{Halt}
 use Rattle.rc_judge.specs.declared.verdict.Halt.TheVariants.{Illegal, NoMemory}
 use Rattle.rc_judge.specs.declared.verdict.Verdict.{Verdict}
 use Rattle.rc_judge.specs.declared.verdict.Verdict.TheVariants.{Legal, Illegal as IllegalAt}
-use Rattle.rc_judge.specs.Seen.{IsHalted, IsFound, verdict_seen, why_seen}
+use Rattle.rc_judge.specs.Seen.{IsHalted, IsFound, Judges, Finds, verdict_seen, why_seen}
 
 -- the element at a place, and what is behind it
 pub dropped : {X Y : Type 0} (view : X → Y) (xs : List X) (i : ℕ) (d : X) → i < length xs →
@@ -42,6 +43,19 @@ pub halts : {A : Type 0} (n : ℕ) (halt : Halt) (seen row : Option PureWhy) (la
 halts n (Illegal line why) seen row later told is begins e =
     begins ∙ halt_is later n row (record { line = line; why = why_seen why }) (ap (λ r. at_line n r None) (sym is) ∙ e)
 halts n NoMemory seen row later told is begins e = tt
+
+-- what a `?` hands on
+pub hands_on : {X A : Type 0} (seen : X → A) (r : Result X Halt) (halt : Halt) (told : Judging A) → IsErrAnd r (λ other. other ≡ halt)
+    → IsHalted halt told → Judges seen r told
+hands_on seen r halt told is halts =
+    let passed = err_from_is_err_and r is in
+    subst (λ r. Judges seen r told) (sym passed.1) (subst (λ halt. IsHalted halt told) (sym passed.2) halts)
+
+pub hands_found : {X : Type 0} (r : Result X Halt) (halt : Halt) (told : Option PureIllegal) → IsErrAnd r (λ other. other ≡ halt)
+    → IsFound halt told → Finds r told
+hands_found r halt told is found =
+    let passed = err_from_is_err_and r is in
+    subst (λ r. Finds r told) (sym passed.1) (subst (λ halt. IsFound halt told) (sym passed.2) found)
 
 -- what is judged first halts
 pub halts_first : {A B : Type 0} (halt : Halt) (first : Judging A) (later : A → Judging B) → IsHalted halt first → IsHalted halt (and_then first later)

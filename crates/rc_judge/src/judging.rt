@@ -65,18 +65,9 @@ fn text_along(alloc: Global, about: &About, plan: &Plan, text: &HouseText) -> Re
     requires few { length (lines_of (house_seen text.now)) ≤ 33554432 }
     ensures { Finds result (along.judged about.now dealing_of (plan_seen plan.now) (house_seen text.now)) }
 {
-    let line = match matches_along(alloc, about, plan, &text.matches) {
-        Ok(line) => line,
-        Err(halt) => return Err(halt),
-    };
-    match on_row(line, further_row(plan, &text.matches)) {
-        Ok(()) => {}
-        Err(halt) => return Err(halt),
-    }
-    let standings = match standings(alloc, plan, &text.matches) {
-        Ok(standings) => standings,
-        Err(Memory) => return Err(Halt::NoMemory),
-    };
+    let line = matches_along(alloc, about, plan, &text.matches)?;
+    on_row(line, further_row(plan, &text.matches))?;
+    let standings = standings(alloc, plan, &text.matches)?;
     standings_along(line, &standings, &text.standings)
 }
 
@@ -97,14 +88,8 @@ fn matches_along(
     let mut line = 2;
     let mut number = 0;
     for played in matches {
-        line = match record_along(alloc, about, plan, number, line, played) {
-            Ok(line) => line,
-            Err(halt) => return Err(halt),
-        };
-        match on_row(line, lacking_row(about, played)) {
-            Ok(()) => {}
-            Err(halt) => return Err(halt),
-        }
+        line = record_along(alloc, about, plan, number, line, played)?;
+        on_row(line, lacking_row(about, played))?;
         number += 1;
     }
     Ok(line)
@@ -142,10 +127,7 @@ fn standings_along(from: u32, standings: &[Standing], told: &[Standing]) -> Resu
 {
     let mut line = from;
     for (index, standing) in told.iter().enumerate() {
-        match on_row(line, ranked_row(standings, index, standing)) {
-            Ok(()) => {}
-            Err(halt) => return Err(halt),
-        }
+        on_row(line, ranked_row(standings, index, standing))?;
         line += 1;
     }
     on_row(line, missing_row(standings, told))

@@ -36,14 +36,8 @@ pub(crate) fn record_along(
     ensures few { OnOk result (length played.now.scores.items ≤ about.now.sheet.players) }
     ensures there { OnOk result (number < length plan.now.matches.items) }
 {
-    match on_row(line, opening_row(plan, number, played)) {
-        Ok(()) => {}
-        Err(halt) => return Err(halt),
-    }
-    let machine = match PlainMachine::start_of(alloc, about) {
-        Ok(machine) => machine,
-        Err(Memory) => return Err(Halt::NoMemory),
-    };
+    on_row(line, opening_row(plan, number, played))?;
+    let machine = PlainMachine::start_of(alloc, about)?;
     body_along(about, plan, number, line + 1, machine, played)
 }
 
@@ -53,7 +47,7 @@ fn body_along<M: Machine + Drop>(
     plan: &Plan,
     number: u32,
     line: u32,
-    machine: M,
+    mut machine: M,
     played: &MatchRecord,
 ) -> Result<u32, Halt>
     requires about { M.about machine ≡ about.now }
@@ -66,16 +60,9 @@ fn body_along<M: Machine + Drop>(
     ensures far { IfOk result (λ n. n + 1 ≡ line + lines_in played.now) }
     ensures few { OnOk result (length played.now.scores.items ≤ about.now.sheet.players) }
 {
-    let mut machine = machine;
     let mut dealer = MatchDealer::new(plan.matches[number as usize].deal);
-    let stop = match machine.advance(&mut dealer) {
-        Ok(stop) => stop,
-        Err(Memory) => return Err(Halt::NoMemory),
-    };
-    let (line, stop) = match picks_along(&mut machine, &mut dealer, stop, line, &played.picks) {
-        Ok(played) => played,
-        Err(halt) => return Err(halt),
-    };
+    let stop = machine.advance(&mut dealer)?;
+    let (line, stop) = picks_along(&mut machine, &mut dealer, stop, line, &played.picks)?;
     end_along(about, &machine, stop, dealer.count(), line, played)
 }
 
@@ -100,14 +87,8 @@ fn picks_along<M: Machine>(
     let mut line = from;
     let mut stop = start;
     for pick in picks {
-        match on_row(line, chosen_row(machine, stop, pick)) {
-            Ok(()) => {}
-            Err(halt) => return Err(halt),
-        }
-        stop = match go_on(machine, dealer, pick.item) {
-            Ok(stop) => stop,
-            Err(Memory) => return Err(Halt::NoMemory),
-        };
+        on_row(line, chosen_row(machine, stop, pick))?;
+        stop = go_on(machine, dealer, pick.item)?;
         line += 1;
     }
     Ok((line, stop))
@@ -126,10 +107,7 @@ fn go_on<M: Machine>(machine: &mut M, dealer: &mut MatchDealer, item: u16) -> Re
     ensures same { M.about machine.new ≡ M.about machine.old }
     ensures dealing { dealing_of dealer.new.deal ≡ dealing_of dealer.old.deal }
 {
-    match machine.apply(item, dealer) {
-        Ok(()) => {}
-        Err(Memory) => return Err(Memory),
-    }
+    machine.apply(item, dealer)?;
     machine.advance(dealer)
 }
 
@@ -151,17 +129,11 @@ fn end_along<M: Machine>(
     ensures far { IfOk result (λ n. n ≡ line + length (shuffles_told played.now.shuffles) + 1 + length played.now.scores.items) }
     ensures few { OnOk result (length played.now.scores.items ≤ about.now.sheet.players) }
 {
-    let line = match told_along(stop, count, line, played.shuffles) {
-        Ok(line) => line,
-        Err(halt) => return Err(halt),
-    };
-    match on_row(
+    let line = told_along(stop, count, line, played.shuffles)?;
+    on_row(
         line,
         ending_row(stop, count, machine.control().turn, played),
-    ) {
-        Ok(()) => {}
-        Err(halt) => return Err(halt),
-    }
+    )?;
     scores_along(about, machine, line + 1, &played.scores)
 }
 
@@ -174,10 +146,8 @@ fn told_along(stop: Stop, count: u32, line: u32, told: u32) -> Result<u32, Halt>
     if told == 0 {
         return Ok(line);
     }
-    match on_row(line, shuffled_row(stop, count, told)) {
-        Ok(()) => Ok(line + 1),
-        Err(halt) => Err(halt),
-    }
+    on_row(line, shuffled_row(stop, count, told))?;
+    Ok(line + 1)
 }
 
 // Judges the score lines of a match that stands at its end. Answers the line behind them.
@@ -200,10 +170,7 @@ fn scores_along<M: Machine>(
     let mut line = from;
     let mut index = 0;
     for score in told {
-        match on_row(line, scored_row(&scores, &points, index, score)) {
-            Ok(()) => {}
-            Err(halt) => return Err(halt),
-        }
+        on_row(line, scored_row(&scores, &points, index, score))?;
         line += 1;
         index += 1;
     }

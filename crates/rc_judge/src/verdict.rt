@@ -3,6 +3,8 @@ ghost use Rattle.std.specs.Prelude.{◌≡◌, None, OnOk};
 ghost use Rattle.rc_judge_model.specs.Judged.{at_line};
 ghost use Rattle.rc_judge.specs.Seen.{Finds, row_seen};
 
+use rc_deck::Memory;
+
 /// Why a line is illegal.
 #[derive(Clone, Copy, PartialEq, Eq, Debug)]
 pub enum Why {
@@ -37,6 +39,17 @@ pub enum Verdict {
 pub(crate) enum Halt {
     Illegal { line: u32, why: Why },
     NoMemory,
+}
+
+impl From<Memory> for Halt {
+    ghost use Rattle.std.specs.Prelude.{◌≡◌};
+    ghost use Rattle.rc_judge.specs.declared.verdict.Halt.TheVariants as halt;
+
+    ghost from_gives = { λ _ e. e ≡ halt.NoMemory };
+
+    fn from(_: Memory) -> Halt {
+        Halt::NoMemory
+    }
 }
 
 /// Stops where a row applies to the line.

@@ -9,12 +9,12 @@ use Rattle.rc_house.proofs.accepting.accept.Goals as goal
 pub sheet_of-requires-clause-shallow : goal.sheet_of-requires-clause-shallow
 sheet_of-requires-clause-shallow c = fits (tree_of c.args.form.now) c.requires.printable
 
-pub returns-in-Ok-check_sight-clause-accepted : goal.returns-in-Ok-check_sight-clause-accepted
-returns-in-Ok-check_sight-clause-accepted c =
-    let made = c.in-Ok.ensures in
-    let is : IsSheetOf (tree_of c.args.form.now) (sheet_seen c.in-Ok.sheet) =
+pub returns-clause-accepted : goal.returns-clause-accepted
+returns-clause-accepted c =
+    let made = c.in_ok-sheet.ensures in
+    let is : IsSheetOf (tree_of c.args.form.now) (sheet_seen c.in_ok-sheet.sheet) =
     record { faultless = made.fine; stands = made.stands; well = made.well } in
     record {
-      of_form = subst (IsSheetOf (tree_of c.args.form.now)) (sym c.in-Ok-check_sight.ensures.same) is;
-      sight = subst IsInSight (sym c.in-Ok-check_sight.ensures.same) c.in-Ok-check_sight.ensures.sight;
+      of_form = subst (IsSheetOf (tree_of c.args.form.now)) (sym c.in_ok-checked.ensures.same) is;
+      sight = subst IsInSight (sym c.in_ok-checked.ensures.same) c.in_ok-checked.ensures.sight;
     }

@@ -1,13 +1,21 @@
-use Rattle.std.proofs.Common.{IfOk, ap, ◌∙◌, subst}
+use Rattle.std.proofs.Common.{ℕ, length, IfOk, ap, ◌∙◌, subst}
 use Rattle.std.proofs.lemmas.List.{take_rest}
 use Rattle.rc_play_model.specs.About.{about_of}
-use Rattle.rc_form.specs.Form.{trees_of}
+use Rattle.std.proofs.lemmas.List.Elements.{All-weaker}
+use Rattle.rc_model.specs.Placed.{IsPlaced}
+use Rattle.rc_form.specs.Form.{tree_of, trees_of}
 use Rattle.rc_plan.specs.Reads.{IfPlanFault}
 use Rattle.rc_rules.specs.Plan.{plan_seen}
 use Rattle.rc_house.specs.AcceptedPlan.{IsBehind, IsFaultyBehind}
 use Rattle.rc_house.specs.Answer.{IsJudged}
 use Rattle.rc_house.proofs.AnswerLaws.{judged_answers, unread_answers}
 use Rattle.rc_house.proofs.answer.check_answer.Goals as goal
+
+pub plan_behind-requires-clause-placed : goal.plan_behind-requires-clause-placed
+plan_behind-requires-clause-placed c =
+    let size = length c.args.source.now in
+    All-weaker (λ form. IsPlaced size (tree_of form)) (λ form. (size : ℕ) × IsPlaced size (tree_of form)) (λ form placed. (size, placed))
+    c.args.forms.now.list.items c.requires.placed
 
 pub judged_answer-requires-clause-seats : goal.judged_answer-requires-clause-seats
 judged_answer-requires-clause-seats c = c.in-Ok.ensures.seats ∙ ap (λ sheet. sheet.players) c.sheet.ensures.same

@@ -16,12 +16,12 @@ returns-in-Ok c = λ options.
       game_is options c.args.source.now (trees_of forms.list.items) forms.rest c.args.checked (plan_seen c.in-Ok.plan) c.requires.read c.requires.accepted planned,
     )
 
-pub returns-in-Ok-plan_failed : goal.returns-in-Ok-plan_failed
-returns-in-Ok-plan_failed c = λ options.
+pub returns-in_ok-plan_failed-in-Err : goal.returns-in_ok-plan_failed-in-Err
+returns-in_ok-plan_failed-in-Err c = λ options.
     let forms = c.args.forms.now in
     let source = c.args.source.now in
     let faulty =
     subst (λ sheet. IfPlanFault c.in-Err.fail (λ fault. IsPlanFaulty source sheet.players (trees_of forms.list.items) forms.rest fault.kind fault.at))
     c.sheet.ensures.same c.in-Err.ensures.fault in
-    failed_answer options source (trees_of forms.list.items) forms.rest c.args.checked c.in-Err.fail c.in-Ok-plan_failed.answer
-    c.requires.read c.requires.accepted faulty c.in-Ok-plan_failed.ensures
+    failed_answer options source (trees_of forms.list.items) forms.rest c.args.checked c.in-Err.fail c.in_ok-plan_failed-in-Err.field-0
+    c.requires.read c.requires.accepted faulty c.in_ok-plan_failed-in-Err.ensures

@@ -6,16 +6,18 @@ use Rattle.rc_judge_model.proofs.LegalLemmas.{or_on}
 use Rattle.rc_rules.specs.Plan.{plan_seen}
 use Rattle.rc_rules.specs.Record.{record_seen, standing_seen}
 use Rattle.rc_judge.specs.Seen.{IsFound, row_seen}
-use Rattle.rc_judge.proofs.Steps.{further_found}
+use Rattle.rc_judge.proofs.Steps.{further_found, hands_found}
 use Rattle.rc_judge.proofs.judging.text_along.Goals as goal
 
-pub returns-in-Err-on_row : goal.returns-in-Err-on_row
-returns-in-Err-on_row c =
+pub returns-in_err-on_row : goal.returns-in_err-on_row
+returns-in_err-on_row c =
     let plan = plan_seen c.args.plan.now in
     let matches = map record_seen c.args.text.now.matches.items in
     let standings = map standing_seen c.args.text.now.standings.items in
-    subst (IsFound c.in-Err-on_row.halt)
-    (sym (or_on (along.matches_along c.args.about.now dealing_of plan 0 2 matches) (λ n. along.standings_along plan n matches 0 standings) c.in-Ok.line
-    (subst (λ all. along.matches_along c.args.about.now dealing_of plan 0 2 (map record_seen all) ≡ Ok c.in-Ok.line) c.deref.ensures.value c.in-Ok.ensures.is)))
-    (further_found plan c.in-Ok.line matches standings c.in-Err-on_row.halt (row_seen c.further_row.result) c.requires.text.standings
-    (c.further_row.ensures ∙ ap (λ all. further_row plan (map record_seen all)) c.deref-2.ensures.value) c.in-Err-on_row.ensures.is)
+    let halt = c.in_err-on_row.field-0.0 in
+    hands_found c.from_residual-in_err-on_row.result halt _ c.from_residual-in_err-on_row.ensures.1
+    (subst (IsFound halt)
+    (sym (or_on (along.matches_along c.args.about.now dealing_of plan 0 2 matches) (λ n. along.standings_along plan n matches 0 standings) c.in_ok-line.line
+    (subst (λ all. along.matches_along c.args.about.now dealing_of plan 0 2 (map record_seen all) ≡ Ok c.in_ok-line.line) c.deref.ensures.value c.in_ok-line.ensures.is)))
+    (further_found plan c.in_ok-line.line matches standings halt (row_seen c.further_row.result) c.requires.text.standings
+    (c.further_row.ensures ∙ ap (λ all. further_row plan (map record_seen all)) c.deref-2.ensures.value) c.in_err-on_row.ensures.is))

@@ -6,7 +6,7 @@ use Rattle.rc_judge_model.specs.Along as along
 use Rattle.rc_judge_model.proofs.LegalLemmas.{on_row_none}
 use Rattle.rc_rules.specs.Record.{score_seen}
 use Rattle.rc_judge.specs.Seen.{row_seen, stands_at}
-use Rattle.rc_judge.proofs.Steps.{dropped, halts}
+use Rattle.rc_judge.proofs.Steps.{dropped, halts, hands_on}
 use Rattle.rc_judge.proofs.Told.{long_scores}
 use Rattle.rc_judge.proofs.playing.scores_along.Goals as goal
 
@@ -16,8 +16,8 @@ rank_points-points-requires-clause-each g c =
     long_scores (g.M.Machine.about c.args.machine.now) here c.scores-scores.result.items c.scores-scores.ensures
     ∙ ap (λ a. a.sheet.players) c.requires.about ∙ ap (λ (s : Sheet). s.players) (sym c.sheet.ensures.same)
 
-pub returns-in-Err-clause-is : goal.returns-in-Err-clause-is
-returns-in-Err-clause-is g c = λ stop count.
+pub returns-in_err-on_row-clause-is : goal.returns-in_err-on_row-clause-is
+returns-in_err-on_row-clause-is g c = λ stop count.
     let about = c.args.about.now in
     let here = g.M.Machine.config c.args.machine.now in
     let at = Some (stands_at stop here count) in
@@ -25,12 +25,14 @@ returns-in-Err-clause-is g c = λ stop count.
     c.scores-scores.ensures ∙ ap (λ a. scores_of a here.table here.control) c.requires.about in
     let ranked : c.rank_points-points.result.items ≡ map (rank_points about.sheet c.scores-scores.result.items) (below about.sheet.players) =
     c.rank_points-points.ensures ∙ ap (λ (s : Sheet). map (rank_points s c.scores-scores.result.items) (below s.players)) c.sheet.ensures.same in
-    halts c.loop-score.line c.in-Err.halt (row_seen c.scored_row.result) _
+    let halt = c.in_err-on_row.field-0.0 in
+    hands_on (λ n. n) c.from_residual.result halt _ c.from_residual.ensures.1
+    (halts c.loop-score.line halt (row_seen c.scored_row.result) _
     (along.scores_along about (c.loop-score.line + 1) at (c.loop-score.index + 1) (map score_seen (drop (c.loop-score.score-index + 1) c.args.told.now))) _
     (c.scored_row.ensures.is about here stop count scores ranked)
     (sym (c.loop-score.invariant.on stop count)
     ∙ ap (along.scores_along about c.loop-score.line at c.loop-score.index) (dropped score_seen c.args.told.now c.loop-score.score-index _ c.loop-score-test.true))
-    c.in-Err.ensures.is
+    c.in_err-on_row.ensures.is)
 
 pub loop-score-preserved : goal.loop-score-preserved
 loop-score-preserved g c =
@@ -40,7 +42,7 @@ loop-score-preserved g c =
     c.scores-scores.ensures ∙ ap (λ a. scores_of a here.table here.control) c.requires.about in
     let ranked : c.rank_points-points.result.items ≡ map (rank_points about.sheet c.scores-scores.result.items) (below about.sheet.players) =
     c.rank_points-points.ensures ∙ ap (λ (s : Sheet). map (rank_points s c.scores-scores.result.items) (below s.players)) c.sheet.ensures.same in
-    let there : c.loop-score.index < length c.scores-scores.result.items = c.scored_row.ensures.there c.in-Ok.ensures.free in
+    let there : c.loop-score.index < length c.scores-scores.result.items = c.scored_row.ensures.there c.in_ok-on_row.ensures.free in
     record {
       index = omega (arith, c.loop-score.invariant.index);
       line = omega (arith, c.loop-score.invariant.line);
@@ -50,6 +52,6 @@ loop-score-preserved g c =
           sym (ap (along.scores_along about c.loop-score.line at c.loop-score.index) (dropped score_seen c.args.told.now c.loop-score.score-index _ c.loop-score-test.true)
           ∙ on_row_none c.loop-score.line _
           (along.scores_along about (c.loop-score.line + 1) at (c.loop-score.index + 1) (map score_seen (drop (c.loop-score.score-index + 1) c.args.told.now)))
-          (sym (c.scored_row.ensures.is about here stop count scores ranked) ∙ ap row_seen c.in-Ok.ensures.free))
+          (sym (c.scored_row.ensures.is about here stop count scores ranked) ∙ ap row_seen c.in_ok-on_row.ensures.free))
           ∙ c.loop-score.invariant.on stop count;
     }

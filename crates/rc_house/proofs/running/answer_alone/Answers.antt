@@ -1,0 +1,48 @@
+use Rattle.std.proofs.Common.{subst, ◌≤◌, ◌+◌}
+use Rattle.rc_play_model.specs.About.{about_of}
+use Rattle.rc_series.specs.Series.{looks_of}
+use Rattle.rc_rules.specs.Plan.{plan_seen}
+use Rattle.rc_house.specs.declared.answer.Prepared.TheVariants.{Playing}
+use Rattle.rc_house.specs.Players.{counted_playouts}
+use Rattle.rc_house.specs.Port.{port}
+use Rattle.rc_house.specs.Running.{AnswersCommand, IsSeriesOf, PreparesCommand}
+use Rattle.rc_house.proofs.Exits.{at_err}
+use Rattle.rc_house.proofs.PlayingLemmas.{lacking, lacking_text, told}
+use Rattle.rc_house.proofs.running.answer_alone.Goals as goal
+
+pub returns-in_err-series-in-Playing-clause-answers : goal.returns-in_err-series-in-Playing-clause-answers
+returns-in_err-series-in-Playing-clause-answers g c =
+    let before = port (g.S.Source.left c.args.source.now) (g.S.Source.faults c.args.source.now) in
+    let after = port (g.S.Source.left c.prepare_command.new.source) (g.S.Source.faults c.prepare_command.new.source) in
+    let game = c.in-Playing.game in
+    let about = about_of game.checked game.plan.turns in
+    let plan = plan_seen game.plan in
+    let prepared : PreparesCommand c.args.command before after (Playing game) = rw c.in-Playing.is at c.in_ok-answer.ensures.prepared in
+    let few = subst (λ options. c.play_alone.new.steps ≤ c.args.steps.now + counted_playouts options (looks_of about plan)) c.options.ensures c.in_err-series-in-Playing.ensures in
+    at_err (AnswersCommand c.args.command before after c.args.steps.now c.play_alone.new.steps) c.from_residual-in_err-series-in-Playing.result c.from_residual-in_err-series-in-Playing.ensures.1
+    (λ status lacks. lacking before after c.args.command game c.args.steps.now c.play_alone.new.steps status prepared few lacks)
+
+pub returns-in_err-answer-in-Playing-clause-answers : goal.returns-in_err-answer-in-Playing-clause-answers
+returns-in_err-answer-in-Playing-clause-answers g c =
+    let before = port (g.S.Source.left c.args.source.now) (g.S.Source.faults c.args.source.now) in
+    let after = port (g.S.Source.left c.prepare_command.new.source) (g.S.Source.faults c.prepare_command.new.source) in
+    let game = c.in-Playing.game in
+    let about = about_of game.checked game.plan.turns in
+    let plan = plan_seen game.plan in
+    let prepared : PreparesCommand c.args.command before after (Playing game) = rw c.in-Playing.is at c.in_ok-answer.ensures.prepared in
+    let series = c.in_ok-series-in-Playing.series in
+    let is = subst (λ options. IsSeriesOf options about plan c.args.steps.now c.play_alone.new.steps series) c.options.ensures c.in_ok-series-in-Playing.ensures in
+    at_err (AnswersCommand c.args.command before after c.args.steps.now c.play_alone.new.steps) c.from_residual-in_err-answer-in-Playing.result c.from_residual-in_err-answer-in-Playing.ensures.1
+    (λ status lacks. lacking_text before after c.args.command game c.args.steps.now c.play_alone.new.steps series status prepared is lacks)
+
+pub returns-in_ok-answer-in-Playing-clause-answers : goal.returns-in_ok-answer-in-Playing-clause-answers
+returns-in_ok-answer-in-Playing-clause-answers g c =
+    let before = port (g.S.Source.left c.args.source.now) (g.S.Source.faults c.args.source.now) in
+    let after = port (g.S.Source.left c.prepare_command.new.source) (g.S.Source.faults c.prepare_command.new.source) in
+    let game = c.in-Playing.game in
+    let about = about_of game.checked game.plan.turns in
+    let plan = plan_seen game.plan in
+    let prepared : PreparesCommand c.args.command before after (Playing game) = rw c.in-Playing.is at c.in_ok-answer.ensures.prepared in
+    let series = c.in_ok-series-in-Playing.series in
+    let is = subst (λ options. IsSeriesOf options about plan c.args.steps.now c.play_alone.new.steps series) c.options.ensures c.in_ok-series-in-Playing.ensures in
+    told before after c.args.command game c.args.steps.now c.play_alone.new.steps series c.in_ok-answer-in-Playing.answer prepared is c.in_ok-answer-in-Playing.ensures

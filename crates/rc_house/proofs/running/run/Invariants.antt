@@ -1,4 +1,0 @@
-use Rattle.rc_house.proofs.running.run.Given as goal
-
-abbrev pub ghosts-run_from : goal.ghosts-run_from
-ghosts-run_from g a = record { name = a.blank.name; parts = a.blank.parts }
