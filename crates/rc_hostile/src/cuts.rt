@@ -1,24 +1,13 @@
 //! A source that is cut off behind each of its bytes.
 use crate::expect::expect_same;
 use crate::ports::{End, expect_end};
+use rc_games::GAME;
 use rc_house::{PlanKind, SourceKind, Status};
 use std::alloc::{AllocError, Global};
 use std::process::Abort;
 use std::test::Fail;
 
-/// Two players with two cards each who choose the first one each time, of which the last dealt is worth least.
-pub const GAME: &[u8] = b"\
-(game
-(setup (create players 2)
-(create deck (game hloc STOCK) (deck (RANK (1 2 3 4))))
-(put points WORTH ((RANK (1) 1) (RANK (2) 2) (RANK (3) 3) (RANK (4) 4))))
-(do (all player 'P (repeat 2 (move (top (game hloc STOCK)) (top ('P iloc HAND))))))
-(stage player (end (all player 'P (= (size ('P iloc HAND)) 0)))
-(choice (any ((current player) iloc HAND) 'C
-(do (move 'C (top ((current player) vloc PLAYED)))))))
-(scoring max (sum ('SELF vloc PLAYED) using WORTH)))
-";
-
+/// Both players choose the first card each time, of which the last dealt is worth least.
 const PLAN: &[u8] = b"(plan (seats (script) (script)) (matches (0 0)) (turns 100))
 ";
 

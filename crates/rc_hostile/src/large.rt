@@ -1,6 +1,6 @@
 //! Texts of the largest size, numbers out of their ranges, and plays that come to the limits of references and numbers.
-use crate::cuts::GAME;
 use crate::ports::{End, expect_end};
+use rc_games::GAME;
 use rc_house::{SourceKind, Status};
 use std::process::Abort;
 use std::test::Fail;

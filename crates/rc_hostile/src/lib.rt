@@ -1,15 +1,11 @@
-//! Tests of hostile use: sources that are cut off, texts that are large or refused by a number, and a memo that forgets. That reads and
-//! writes fail is tested in `rc_tests`.
+//! Tests of hostile use: sources that are cut off, and texts that are large or refused by a number. That reads and writes fail is tested
+//! in `rc_house_tests`, and a memo that forgets in `rc_memo_tests`.
 #![tactic(auto)]
 
 #[cfg(test)]
 mod cuts;
 #[cfg(test)]
 mod expect;
-#[cfg(test)]
-mod fickle;
-#[cfg(test)]
-mod forgetting;
 #[cfg(test)]
 mod large;
 #[cfg(test)]

@@ -1,0 +1,90 @@
+//! The sheets of texts.
+ghost use Rattle.std.specs.Prelude.{ℕ, IfOk};
+ghost use Rattle.rc_model.specs.Placed.{IsPlaced};
+ghost use Rattle.rc_form.specs.Form.{tree_of, IsPrintable};
+ghost use Rattle.rc_form.specs.SameForm.{IsOfAtoms};
+ghost use Rattle.rc_ast.specs.Sheet.{sheet_seen};
+ghost use Rattle.rc_sheet_model.specs.WellFormed.{IsWellFormed};
+
+use rc_ast::Sheet;
+use rc_deck::Memory;
+use rc_flow::{Checked, check_sight};
+use rc_form::{Form, FormFail, read_forms};
+use rc_sheet::{SheetFail, sheet_of};
+use std::alloc::Global;
+
+/// How many bytes a text may have.
+const LONGEST: usize = 8_388_608;
+
+/// Why a text tells no game.
+#[derive(Clone, Copy, Debug, PartialEq, Eq)]
+pub enum NoGame {
+    /// It is longer than 8,388,608 bytes, or its forms have a fault.
+    Forms,
+    /// Its first list is no sheet, or it has none.
+    Sheet,
+    /// The sheet breaks the sight rule.
+    Sight,
+    /// There was no memory.
+    Memory,
+}
+
+impl From<Memory> for NoGame {
+    fn from(_error: Memory) -> NoGame {
+        NoGame::Memory
+    }
+}
+
+/// The sheet of a form that was read.
+pub fn sheet_of_form(alloc: Global, form: &Form) -> Result<Sheet, NoGame>
+    requires placed { (size : ℕ) × IsPlaced size (tree_of form.now) }
+    requires printable { IsPrintable (tree_of form.now) }
+    requires of_atoms { IsOfAtoms (tree_of form.now) }
+    ensures { IfOk result (λ sheet. IsWellFormed (sheet_seen sheet)) }
+{
+    match sheet_of(alloc, form) {
+        Ok(sheet) => Ok(sheet),
+        Err(SheetFail::Fault(_)) => Err(NoGame::Sheet),
+        Err(SheetFail::Memory) => Err(NoGame::Memory),
+    }
+}
+
+/// The sheet of a form that was read, where it keeps the sight rule.
+pub fn checked_of_form(alloc: Global, form: &Form) -> Result<Checked, NoGame>
+    requires placed { (size : ℕ) × IsPlaced size (tree_of form.now) }
+    requires printable { IsPrintable (tree_of form.now) }
+    requires of_atoms { IsOfAtoms (tree_of form.now) }
+{
+    match sheet_of_form(alloc, form) {
+        Ok(sheet) => checked(sheet),
+        Err(why) => Err(why),
+    }
+}
+
+/// The sheet of a text, which is its first list.
+pub fn sheet_in(alloc: Global, text: &[u8]) -> Result<Sheet, NoGame>
+    ensures { IfOk result (λ sheet. IsWellFormed (sheet_seen sheet)) }
+{
+    if text.len() > LONGEST {
+        return Err(NoGame::Forms);
+    }
+    let forms = match read_forms(alloc, text, 1) {
+        Ok(forms) => forms,
+        Err(FormFail::Fault(_)) => return Err(NoGame::Forms),
+        Err(FormFail::Memory) => return Err(NoGame::Memory),
+    };
+    match forms.list.first() {
+        Some(form) => sheet_of_form(alloc, form),
+        None => Err(NoGame::Sheet),
+    }
+}
+
+/// The sheet, where it keeps the sight rule.
+pub(crate) fn checked(sheet: Sheet) -> Result<Checked, NoGame>
+    requires { IsWellFormed (sheet_seen sheet) }
+{
+    match check_sight(sheet) {
+        Ok(checked) => Ok(checked),
+        Err(_) => Err(NoGame::Sight),
+    }
+}

@@ -1,0 +1,9 @@
+//! Tests of whole commands: over sources and sinks that fail, and by several workers.
+#![tactic(auto)]
+
+#[cfg(test)]
+mod expect;
+#[cfg(test)]
+mod house;
+#[cfg(test)]
+mod workers;

@@ -1,0 +1,178 @@
+//! Matches by several workers: who enters while a match is held, and what a match finds behind those before it. The rollouts are two
+//! seats' with two cards each, of which each decision asks something else.
+use crate::expect::expect_same;
+use crate::house::owned;
+use rc_games::GAME;
+use rc_house::{Status, run};
+use rc_outside::{Gate, Plain, Room};
+use std::alloc::{AllocError, Global};
+use std::process::Abort;
+use std::sync::Wait;
+use std::sync::atomic::{AtomicU64, Ordering};
+use std::test::Fail;
+use std::thread::Threads;
+
+/// How often a match that is held looks whether another one has entered. That takes some seconds, and only a play that fails takes them.
+const TURNS: u64 = 1_000_000_000;
+
+/// Holds one match until another one enters, but not forever, and tells whether that one entered in time.
+#[derive(Drop)]
+struct Held {
+    held: u32,
+    until: u32,
+    entered: AtomicU64,
+    in_time: AtomicU64,
+}
+
+impl Held {
+    fn new(held: u32, until: u32) -> Held {
+        Held {
+            held,
+            until,
+            entered: AtomicU64::new(0),
+            in_time: AtomicU64::new(0),
+        }
+    }
+
+    fn was_in_time(&self) -> bool {
+        self.in_time.load(Ordering::SeqCst) == 1
+    }
+
+    /// Waits for the other match.
+    fn hold(&self) {
+        for _ in 0..TURNS {
+            if self.entered.load(Ordering::SeqCst) == 1 {
+                self.in_time.store(1, Ordering::SeqCst);
+                return;
+            }
+        }
+    }
+}
+
+impl Gate for Held {
+    fn enter(&self, m: u32) {
+        if m == self.until {
+            self.entered.store(1, Ordering::SeqCst);
+        }
+        if m == self.held {
+            self.hold();
+        }
+    }
+}
+
+const TWICE: &[u8] =
+    b"(plan (seats (rollout 4 9) (rollout 4 9)) (matches (0 7) (0 7)) (turns 100))";
+
+const THRICE: &[u8] =
+    b"(plan (seats (rollout 4 9) (rollout 4 9)) (matches (0 7) (0 7) (0 7)) (turns 100))";
+
+/// The text of the first plan. Both cards of a player are played in any case, so all items do as well, and the first one is taken.
+const TEXT: &[u8] = b"\
+house 1
+match 0 deal 0 seats 7
+choose 0 0 0 2
+choose 1 0 0 2
+choose 0 0 0 1
+choose 1 0 0 1
+end done 8
+score 0 7 2
+score 1 3 0
+match 1 deal 0 seats 7
+choose 0 0 0 2
+choose 1 0 0 2
+choose 0 0 0 1
+choose 1 0 0 1
+end done 8
+score 0 7 2
+score 1 3 0
+standing 1 strategy 0 points 2
+standing 1 strategy 1 points 2
+";
+
+const WORDS: &[&str] = &["play", "--workers", "2"];
+
+const WORDS_WITH_CACHE: &[&str] = &["play", "--workers", "2", "--cache", "65536"];
+
+/// What a play writes and notes.
+#[derive(Drop)]
+struct Sinks {
+    out: Room,
+    notes: Room,
+}
+
+fn fresh_sinks(alloc: Global) -> Result<Sinks, Fail> {
+    let out = Room::new(alloc, 4096, 4096, Vec::new(alloc))?;
+    let notes = Room::new(alloc, 100, 100, Vec::new(alloc))?;
+    Ok(Sinks { out, notes })
+}
+
+/// The game with a plan.
+fn source_of(alloc: Global, plan: &[u8]) -> Result<Plain, AllocError> {
+    let mut text = GAME.to_vec(alloc)?;
+    text.extend_from_slice(plan)?;
+    Ok(Plain::new(text))
+}
+
+fn run_words<R: AllocGlobal + Threads + Wait + Sync>(
+    rt: &R,
+    words: &[&str],
+    plan: &[u8],
+    sinks: &mut Sinks,
+    gate: &Held,
+) -> Result<Status, AllocError> {
+    let words = owned(rt.alloc(), words)?;
+    let mut source = source_of(rt.alloc(), plan)?;
+    let Sinks { out, notes } = sinks;
+    Ok(run(
+        rt.alloc(),
+        rt,
+        words.as_slice(),
+        &mut source,
+        out,
+        notes,
+        gate,
+    ))
+}
+
+/// What two workers write and note who play a plan behind a gate. Fails unless the gate lets a match enter in time.
+fn played<R: AllocGlobal + Abort + Threads + Wait + Sync>(
+    rt: &R,
+    words: &[&str],
+    plan: &[u8],
+    gate: &Held,
+) -> Result<Sinks, Fail> {
+    let mut sinks = fresh_sinks(rt.alloc())?;
+    let status = run_words(rt, words, plan, &mut sinks, gate)?;
+    expect_same(rt, status, Status::Done);
+    assert!(rt; gate.was_in_time());
+    Ok(sinks)
+}
+
+/// Workers that play one behind the other, in whatever order, let none of the two enter while the other is held.
+#[test]
+fn either_of_two_matches_enters_while_the_other_is_held(rt: HostRuntime) -> Result<(), Fail> {
+    for (held, until) in [(0, 1), (1, 0)] {
+        let sinks = played(&rt, WORDS, TWICE, &Held::new(held, until))?;
+        expect_same(&rt, sinks.out.written(), TEXT);
+    }
+    Ok(())
+}
+
+/// Match 1 is held until match 2 enters, which it does behind all of match 0. So both find the four totals that match 0 left.
+#[test]
+fn matches_find_the_totals_of_one_that_is_over(rt: HostRuntime) -> Result<(), Fail> {
+    let sinks = played(&rt, WORDS_WITH_CACHE, THRICE, &Held::new(1, 2))?;
+    expect_same(
+        &rt,
+        sinks.notes.written(),
+        b"cache looks 12 hits 8\n".as_slice(),
+    );
+    Ok(())
+}
+
+/// Where each worker played every second match, match 2 would come behind match 0.
+#[test]
+fn the_matches_behind_a_held_one_are_played(rt: HostRuntime) -> Result<(), Fail> {
+    played(&rt, WORDS_WITH_CACHE, THRICE, &Held::new(0, 2))?;
+    Ok(())
+}

@@ -1,0 +1,170 @@
+//! Matches that take turns in a house over events.
+use crate::expect::expect_same;
+use crate::twice::{about_in, plan_in};
+use rc_core::{Event, House, run_core};
+use rc_match::Phase;
+use rc_redraw::Key;
+use rc_text::write_record;
+use std::process::Abort;
+use std::sync::Arc;
+use std::test::Fail;
+
+/// The records of the two matches. Whatever is chosen, both players play all their cards in the end. So in each choice all items have
+/// the same total, and the first one is taken.
+const FIRST: &[u8] = b"\
+match 0 deal 0 seats 7
+choose 0 0 0 2
+choose 1 0 0 2
+choose 0 0 0 1
+choose 1 0 0 1
+end done 8
+score 0 7 2
+score 1 3 0
+";
+
+const SECOND: &[u8] = b"\
+match 1 deal 0 seats 7
+choose 0 0 0 2
+choose 1 0 0 2
+choose 0 0 0 1
+choose 1 0 0 1
+end done 8
+score 0 7 2
+score 1 3 0
+";
+
+/// What a turn of a match comes to: its work, its look and its keep.
+#[derive(Clone, Copy, Debug, PartialEq, Eq)]
+enum Turn {
+    /// It asks, and finds nothing.
+    Misses,
+    /// It plays out what it didn't find, and keeps it.
+    Keeps,
+    /// It asks, and finds what was kept.
+    Hits,
+    /// It is over.
+    Ends,
+    /// Anything else.
+    Stays,
+}
+
+use Turn::{Ends, Hits, Keeps, Misses, Stays};
+
+/// The turns of a match with four choices, where nothing was kept for it.
+const ALONE: [Turn; 9] = [
+    Misses, Keeps, Misses, Keeps, Misses, Keeps, Misses, Keeps, Ends,
+];
+
+/// And where all was kept.
+const BEHIND: [Turn; 5] = [Hits, Hits, Hits, Hits, Ends];
+
+/// A house for both matches, before the first event.
+fn opened(rt: &(impl AllocGlobal + Abort)) -> Result<House, Fail> {
+    let about = about_in(rt.alloc())?;
+    let plan = plan_in(rt.alloc())?;
+    assert!(rt; about.sheet().players == 2);
+    Ok(House::new(rt.alloc(), about, plan, 1024)?)
+}
+
+/// The key of the entry that a match holds, if it holds one.
+fn held(phase: &Phase) -> Result<Option<Key>, Fail> {
+    match phase {
+        Phase::Holds(_, entry) => {
+            let about = Arc::try_clone(&entry.key().about)?;
+            let ask = Arc::try_clone(&entry.key().ask)?;
+            Ok(Some(Key { about, ask }))
+        }
+        _ => Ok(None),
+    }
+}
+
+/// What a match waits for.
+fn phase_in<'a>(rt: &impl Abort, house: &'a House, m: u32) -> &'a Phase {
+    assert!(rt; (m as usize) < house.matches());
+    house.phase_of(m)
+}
+
+/// What a turn comes to, by what the match waits for behind its look.
+fn turn_to(phase: &Phase) -> Turn {
+    match phase {
+        Phase::Missed(_) => Misses,
+        Phase::Holds(..) => Keeps,
+        Phase::Ready(_) => Hits,
+        Phase::Over => Ends,
+        _ => Stays,
+    }
+}
+
+/// The entry of a key is lost, if there is one.
+fn lose(rt: &impl AllocGlobal, house: &mut House, key: Option<Key>) -> Result<(), Fail> {
+    if let Some(key) = key {
+        run_core(rt.alloc(), house, &[Event::Lose(key)])?;
+    }
+    Ok(())
+}
+
+/// A turn of a match: it works, looks up what it asks, and keeps what it holds. That is lost again, or not.
+fn take_turn(
+    rt: &(impl AllocGlobal + Abort),
+    house: &mut House,
+    m: u32,
+    loses: bool,
+) -> Result<Turn, Fail> {
+    run_core(rt.alloc(), house, &[Event::Private(m), Event::Look(m)])?;
+    let phase = phase_in(rt, house, m);
+    let turn = turn_to(phase);
+    let key = held(phase)?;
+    run_core(rt.alloc(), house, &[Event::Keep(m)])?;
+    if loses {
+        lose(rt, house, key)?;
+    }
+    Ok(turn)
+}
+
+/// The turns of a match, until it is over.
+fn turns_of(
+    rt: &(impl AllocGlobal + Abort),
+    house: &mut House,
+    m: u32,
+    loses: bool,
+) -> Result<Vec<Turn>, Fail> {
+    let mut turns = Vec::new(rt.alloc());
+    for _ in 0..20u8 {
+        let turn = take_turn(rt, house, m, loses)?;
+        turns.push(turn)?;
+        if turn == Ends {
+            break;
+        }
+    }
+    Ok(turns)
+}
+
+/// Fails unless a match takes these turns and is recorded so.
+fn expect_turns(
+    rt: &(impl AllocGlobal + Abort),
+    house: &mut House,
+    m: u32,
+    loses: bool,
+    expected: (&[Turn], &[u8]),
+) -> Result<(), Fail> {
+    let turns = turns_of(rt, house, m, loses)?;
+    expect_same(rt, turns.as_slice(), expected.0);
+    assert!(rt; (m as usize) < house.matches());
+    let written = write_record(rt.alloc(), house.notes_of(m))?;
+    expect_same(rt, written.as_slice(), expected.1);
+    Ok(())
+}
+
+#[test]
+fn a_second_match_finds_what_the_first_one_kept(rt: HostRuntime) -> Result<(), Fail> {
+    let mut house = opened(&rt)?;
+    expect_turns(&rt, &mut house, 0, false, (&ALONE, FIRST))?;
+    expect_turns(&rt, &mut house, 1, false, (&BEHIND, SECOND))
+}
+
+#[test]
+fn matches_are_the_same_where_all_is_lost(rt: HostRuntime) -> Result<(), Fail> {
+    let mut house = opened(&rt)?;
+    expect_turns(&rt, &mut house, 0, true, (&ALONE, FIRST))?;
+    expect_turns(&rt, &mut house, 1, true, (&ALONE, SECOND))
+}

@@ -1,6 +1,0 @@
-use Rattle.rc_form.specs.Form.{tree_of}
-use Rattle.rc_sheet.proofs.Accepted.{fits_in}
-use Rattle.rc_tests.proofs.names.made.Goals as goal
-
-pub sheet_of-requires-clause-shallow : goal.sheet_of-requires-clause-shallow
-sheet_of-requires-clause-shallow c = fits_in (tree_of c.args.form.now) c.requires.printable
