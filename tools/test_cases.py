@@ -9,7 +9,7 @@ from itertools import islice
 from pathlib import Path
 from unittest.mock import patch
 
-from cases import bench, checking, tricks
+from cases import bench, checking, side_by_side, tricks
 from cases.book import hits
 from cases.expected import KINDS, PLAN_FAULTS, PLAN_KINDS
 from cases.lengths import FIRST, LIMIT, lengthened, read_longest
@@ -421,6 +421,39 @@ class Lengths(unittest.TestCase):
         room = sum(len(line) + 1 for line in text)
         self.assertEqual(lengthened(text, room), text)
         self.assertEqual(lengthened(text, room + 31), [*text[:3], "choose 0 0 1 20", "choose 0 0 1 2", *text[3:]])
+
+
+class SideBySide(InFolder):
+    TEXT = "house 1\nmatch 0 deal 0 seats 0\nchoose 0 0 0 1\nchoose 1 0 0 1\nend done 2\nscore 0 1 2\n"
+
+    def met(self, source: str) -> list[bool]:
+        case = side_by_side.paired_case(ROW, source, self.TEXT)
+        ends = (End(0, "3 stops agree\n", ""), End(0, "4 stops agree\n", ""), End(0, "", ""), End(1, "", "Memory\n"))
+        return [case.is_met(end) for end in ends]
+
+    def test_there_are_as_many_stops_as_choices_and_ends(self) -> None:
+        self.assertEqual(side_by_side.stops_in(self.TEXT), 3)
+        self.assertEqual(self.met("(plan (seats (script) (random 1)))"), [True, False, False, False])
+
+    def test_seats_that_roll_out_may_make_more_choices_or_fewer(self) -> None:
+        self.assertEqual(self.met("(plan (seats (script) (rollout 4 9)))"), [True, True, False, False])
+
+    def test_plays_with_a_whole_text(self) -> None:
+        first, others = "[one]\na: 1\nb: 2\n> house 1\n> end done 0\n", "[two]\n> house 1\n> ..\n[three]\na: ^2\nNumber\n"
+        plays = read_plays(self.write("a.plays", first + others), Plays.SOURCE)
+        cases = [(case.source, case.expected) for case in side_by_side.of_plays(plays)]
+        self.assertEqual(cases, [("(game 1 2)", "that 1 stops agree")])
+
+    def test_examples_with_a_plan(self) -> None:
+        for name, text in (("a.sheet", "(game)\n"), ("a.plan", "(plan)\n"), ("a.transcript", self.TEXT), ("b.sheet", "(")):
+            self.write(name, text)
+        cases = [(case.source, case.expected) for case in side_by_side.of_examples(self.folder)]
+        self.assertEqual(cases, [("(game)\n(plan)\n", "that 3 stops agree")])
+
+    def test_crates_below(self) -> None:
+        below = side_by_side.crates_below("rc_side_by_side")
+        self.assertLess({"rc_side_by_side", "rc_flat", "rc_plain", "rc_model"}, below)
+        self.assertFalse({"rc_house", "lru"} & below)
 
 
 class Files(unittest.TestCase):

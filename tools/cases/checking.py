@@ -6,6 +6,7 @@ from collections.abc import Iterator
 from concurrent.futures import ThreadPoolExecutor
 from pathlib import Path
 
+from cases import side_by_side
 from cases.bench import TRICKS, read_bench
 from cases.lengths import FIRST, read_longest
 from cases.language import PAGES, read_page
@@ -44,6 +45,8 @@ def read_all() -> dict[Path, list[Case]]:
     cases[HERE / "words.rows"] = list(read_words(HERE / "words.rows"))
     for folder in sorted(path for path in HERE.iterdir() if path.is_dir()):
         cases.update(read_folder(folder))
+    plays = side_by_side.of_plays(case for of_file in cases.values() for case in of_file)
+    cases[side_by_side.CRATE] = [*plays, *side_by_side.of_examples(side_by_side.EXAMPLES)]
     for file, of_file in cases.items():
         if not of_file:
             raise Mistake(f"{name_of(file)}: it has no cases")
@@ -60,6 +63,7 @@ def main() -> int:
     try:
         cases = read_all()
         build()
+        side_by_side.build()
         failed = failures(cases)
     except (Mistake, OSError, UnicodeError) as error:
         print(f"cases/check: {error}", file=sys.stderr)

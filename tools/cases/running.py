@@ -4,6 +4,7 @@ import re
 import subprocess
 from collections.abc import Callable, Iterator
 from dataclasses import dataclass
+from pathlib import Path
 
 from cases.rows import ROOT, Mistake, Row
 
@@ -43,18 +44,19 @@ class End:
 
 @dataclass(frozen=True)
 class Case:
-    """A run of the program: where it stands, the words, the source, and what is expected."""
+    """A run of a program: where it stands, the words, the source, what is expected, and which program it is if not `cardhouse`."""
 
     row: Row
     words: tuple[str, ...]
     source: str
     expected: str
     is_met: Callable[[End], bool]
+    program: Path | None = None
 
     def run(self) -> str | None:
         """Returns what is to be said where the case fails, and otherwise nothing."""
         try:
-            end = run(self.words, self.source)
+            end = run(self.words, self.source, self.program)
         except subprocess.TimeoutExpired:
             return self.said(f"no end within {SECONDS} seconds")
         return None if self.is_met(end) else self.said(str(end))
@@ -63,8 +65,8 @@ class Case:
         return f"{self.row.place()}: expected {self.expected}, found {found[:2000]}\n    {self.source[:2000]}"
 
 
-def run(words: tuple[str, ...], source: str) -> End:
-    command = [str(PROGRAM).encode(), *(word.encode() for word in words)]
+def run(words: tuple[str, ...], source: str, program: Path | None = None) -> End:
+    command = [str(program or PROGRAM).encode(), *(word.encode() for word in words)]
     ran = subprocess.run(command, input=source.encode("latin-1"), capture_output=True, timeout=SECONDS)
     return End(ran.returncode, ran.stdout.decode("latin-1"), ran.stderr.decode("latin-1"))
 
