@@ -137,7 +137,7 @@ class Texts(unittest.TestCase):
 
     def test_faults_of_the_grammar_are_where_the_judge_has_them(self) -> None:
         count = 0
-        for folder in ("judge", "judge-matches"):
+        for folder in ("transcript", "transcript-of-two"):
             lines = (ROOT / "cases" / folder / "text").read_text("ascii").splitlines()
             for group in read_groups(ROOT / "cases" / folder / "lines.texts"):
                 with self.subTest(group.heading.place()):

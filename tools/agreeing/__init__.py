@@ -1,0 +1,1 @@
+"""Sheets and plans made by chance, and what the program is to write alike of them."""

@@ -1,0 +1,193 @@
+"""What the program writes of a case in all ways in which it is to write the same."""
+
+import re
+from collections.abc import Iterator
+from dataclasses import dataclass, field
+from enum import Enum
+
+from agreeing.cases import Case, chance_of
+from agreeing.chance import Chance
+from agreeing.program import End, Program
+from agreeing.reading import Reading, reading_of
+from agreeing.transcripts import count, looks_of, spoiled
+from second.strategies import hits_of
+
+NOTE = re.compile(rb"cache looks (\d+) hits (\d+)\n")
+REFUSED = re.compile(rb"(?:sheet|plan) (\w+) (\d+)\n")
+REFUSALS = (1, 3)
+
+# How many seconds of a processor the first run of a case may take, and the second reading. Other runs have more.
+FIRST_SECONDS = 4
+READING_SECONDS = 5
+
+PLAY, CHECK, SHEET = ("play",), ("check",), ("sheet",)
+LEGAL = End(0, b"legal\n", b"")
+ROOM, LARGEST = 1024, 65_536
+
+
+class Kind(Enum):
+    ACCEPTED = "accepted"
+    REFUSED = "refused"
+    DROPPED = "dropped"
+
+
+@dataclass
+class Result:
+    """What came of a case: its kind, with the kind of the refusal; what was played; and in what runs disagree."""
+
+    kind: Kind
+    why: str = ""
+    matches: int = 0
+    choices: int = 0
+    shuffles: int = 0
+    looks: int = 0
+    hits: int = 0
+    read: int = 0
+    disagreements: list[str] = field(default_factory=list)
+
+
+@dataclass(frozen=True)
+class Played:
+    """A case that was played by one worker: how the first run ended, and what was noted of it."""
+
+    case: Case
+    end: End
+    looks: int
+    hits: int
+
+
+class Comparing:
+    """Compares the runs of a program, with another one, and with the second reading of the rules, where that is wanted."""
+
+    def __init__(self, program: Program, other: Program | None = None, reads: bool = False) -> None:
+        self.program = program
+        self.other = other
+        self.reads = reads
+
+    def result(self, case: Case) -> Result:
+        """What comes of a case."""
+        first = self.program.run(PLAY, case.source(), FIRST_SECONDS)
+        if first.is_out_of_bounds():
+            return Result(Kind.DROPPED)
+        if first.status:
+            return self.refused(case, first)
+        noted = NOTE.fullmatch(first.note)
+        if not noted:
+            return Result(Kind.ACCEPTED, disagreements=[f"play ended with {first}"])
+        return self.accepted(Played(case, first, int(noted[1]), int(noted[2])))
+
+    def refused(self, case: Case, first: End) -> Result:
+        """A refusal is one line with a place in the source. `check` and the other program say the same; but what stands behind the
+        plan is a fault for `play` alone."""
+        told = REFUSED.fullmatch(first.note)
+        result = Result(Kind.REFUSED, told[1].decode() if told else "")
+        if not told or first.text or first.status not in REFUSALS or int(told[2]) > len(case.source()):
+            result.disagreements.append(f"play ended with {first}")
+        if result.why != "Rest":
+            result.disagreements += differing("check", self.program.run(CHECK, case.source()), first)
+        if self.other:
+            result.disagreements += differing("play of the other program", self.other.run(PLAY, case.source()), first)
+        return result
+
+    def accepted(self, it: Played) -> Result:
+        """What comes of a case that was played."""
+        text, by_room = it.end.text, {ROOM: it.hits}
+        counts = (count(text, head) for head in (b"match", b"choose", b"shuffles"))
+        result = Result(Kind.ACCEPTED, "", *counts, it.looks, it.hits)
+        for said in (self.rooms(it, by_room), self.workers(it, by_room), self.judged(it), self.printed(it), self.of_other(it)):
+            result.disagreements += said
+        if self.reads and (reading := reading_of(it.case, text, READING_SECONDS)):
+            result.read = 1
+            result.disagreements += self.of_reading(it, by_room, reading)
+        return result
+
+    def rooms(self, it: Played, by_room: dict[int, int]) -> Iterator[str]:
+        """A look is told for each decision of a seat that rolls out. Less and more room for totals write the same text, and more
+        room has as many hits or more."""
+        looks = looks_of(it.end.text, rolls_out(it.case))
+        if looks != it.looks:
+            yield f"play notes {it.end.note!r} of {looks} decisions of seats that roll out"
+        for room in (1, options_of(it).randint(2, 9), LARGEST) if looks else ():
+            end = self.program.run((*PLAY, "--cache", str(room)), it.case.source())
+            yield from differing(f"play with room for {room}", end, it.end)
+            by_room[room] = noted_hits(end, looks)
+        hits = [by_room[room] for room in sorted(by_room)]
+        if hits != sorted(hits) or hits[0] < 0:
+            yield f"with more room there are fewer hits, or looks differ: {sorted(by_room.items())}"
+
+    def workers(self, it: Played, by_room: dict[int, int]) -> Iterator[str]:
+        """More workers write the same text, and have no more hits than one worker with room for all."""
+        for workers in (2, 4):
+            words = (*PLAY, "--workers", str(workers), "--cache", str(options_of(it, workers).choice((1, 3, ROOM))))
+            end = self.program.run(words, it.case.source())
+            yield from differing(" ".join(words), end, it.end)
+            if not 0 <= noted_hits(end, it.looks) <= max(by_room.values()):
+                yield f"{' '.join(words)} notes {end.note!r}, and one worker {it.end.note!r}"
+
+    def judged(self, it: Played) -> Iterator[str]:
+        """The transcript is legal, and with a line spoiled it is illegal at this line."""
+        end = self.program.run(CHECK, it.case.source() + it.end.text)
+        if end != LEGAL:
+            yield f"check of the transcript ended with {end}"
+        told = spoiled(it.end.text, options_of(it, "spoiled"))
+        if told:
+            end = self.program.run(CHECK, it.case.source() + told[0])
+            if end != End(4, b"", told[1]):
+                yield f"check of a transcript that is spoiled, and so {told[1]!r}, ended with {end}"
+
+    def printed(self, it: Played) -> Iterator[str]:
+        """The printed sheet is printed as itself, and played as the sheet."""
+        end = self.program.run(SHEET, it.case.source())
+        again = self.program.run(SHEET, end.text)
+        if (end.status, end.note) != (0, b"") or again != end:
+            yield f"sheet ended with {end}, and of what it wrote with {again}"
+        yield from differing("play of the printed sheet", self.program.run(PLAY, end.text + it.case.plan), it.end)
+
+    def of_other(self, it: Played) -> Iterator[str]:
+        """Another program writes the same."""
+        if self.other:
+            yield from differing("play of the other program", self.other.run(PLAY, it.case.source()), it.end)
+            yield from differing("check of the other program", self.other.run(CHECK, it.case.source() + it.end.text), LEGAL)
+            ours, theirs = (program.run(SHEET, it.case.sheet) for program in (self.program, self.other))
+            yield from differing("sheet of the other program", theirs, ours)
+
+    def of_reading(self, it: Played, by_room: dict[int, int], reading: Reading) -> Iterator[str]:
+        """The second reading has the same transcript, which is legal, the same printed sheet, and the same hits in each room."""
+        yield from differing("the second reading", End(0, reading.text, b""), it.end)
+        if not reading.is_legal:
+            yield "the transcript is illegal by the second reading"
+        yield from differing("sheet", self.program.run(SHEET, it.case.sheet), End(0, reading.sheet, b""))
+        hits = {room: hits_of(reading.asks, room) for room in by_room}
+        if hits != by_room or len(reading.asks) != it.looks:
+            yield f"by room {by_room} of {it.looks} looks hit, and by the second reading {hits} of {len(reading.asks)}"
+
+
+def options_of(it: Played, what: object = "options") -> Chance:
+    """Chance by which options and spoiled lines are taken."""
+    return chance_of(it.case.seed, it.case.number, str(what))
+
+
+def rolls_out(case: Case) -> list[bool]:
+    """Of each strategy of a plan, whether it rolls out."""
+    without_comments = re.sub(rb";[^\n]*", b"", case.plan)
+    return [kind == b"rollout" for kind in re.findall(rb"\b(script|random|rollout)\b", without_comments)]
+
+
+def noted_hits(end: End, looks: int) -> int:
+    """The hits that a run notes beside so many looks; -1 where it notes other looks."""
+    found = NOTE.fullmatch(end.note)
+    return int(found[2]) if found and int(found[1]) == looks else -1
+
+
+def differing(what: str, end: End, wanted: End) -> Iterator[str]:
+    """Says so where a run didn't end as is wanted. Where both ended well, their notes may differ."""
+    if (end.status, end.text) != (wanted.status, wanted.text) or end.status and end.note != wanted.note:
+        line = first_difference(end.text, wanted.text)
+        yield f"{what} ended with {end}, and not with {wanted}; they differ from line {line} on"
+
+
+def first_difference(one: bytes, other: bytes) -> int:
+    """The first line in which two texts differ, from 1."""
+    lines, others = one.splitlines(), other.splitlines()
+    same = (index for index, pair in enumerate(zip(lines, others)) if pair[0] != pair[1])
+    return next(same, min(len(lines), len(others))) + 1

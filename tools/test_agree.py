@@ -1,0 +1,289 @@
+"""Tests of bench/agree: of the cases that it makes, and that it sees where runs disagree."""
+
+import re
+import tempfile
+import unittest
+from dataclasses import dataclass, field
+from pathlib import Path
+
+from agreeing.cases import Case, case_of, likeness, with_a_slip
+from agreeing.chance import Chance
+from agreeing.comparing import Comparing, Kind, Played, Result, first_difference, rolls_out
+from agreeing.decks import Group, cards_of, deck_of
+from agreeing.forms import in_lines, plain, strewn
+from agreeing.program import PROGRAM, End, Program
+from agreeing.reading import reading_of
+from agreeing.running import Tally, keep
+from agreeing.transcripts import count, looks_of, spoiled
+from built import Built
+from faults.tokens import end_of, gap_end, tokens
+
+CASES = 60
+DEEPEST, LONGEST = 64, 64
+ROOT = Path(__file__).resolve().parent.parent
+
+SHEET = b"(game ..)\n"
+PLAN = b"(plan (seats (rollout 2 1) ; (random 3)\n(script 1)) (matches (from 5 7 2)) (turns 9))\n"
+TEXT = b"""\
+house 1
+match 0 deal 5 seats 7
+choose 0 0 0 2
+choose 1 0 1 256
+end done 4
+score 0 -3 2
+score 1 -5 0
+match 1 deal 6 seats 8
+choose 0 0 0 1
+choose 0 0 0 1
+choose 1 0 0 1
+shuffles 3
+end limit 8
+score 0 1 0
+score 1 4 2
+standing 1 strategy 0 points 4
+standing 2 strategy 1 points 0
+"""
+
+
+Ends = dict[tuple[str, ...], End]
+
+
+@dataclass
+class Told:
+    """A program that ends as it is told, by its words. Without that it plays `TEXT`, and judges as the program does."""
+
+    ends: Ends = field(default_factory=dict)
+
+    def run(self, words: tuple[str, ...], source: bytes, _: int = 0) -> End:
+        if words in self.ends:
+            return self.ends[words]
+        if words == ("check",):
+            return End(0, b"legal\n", b"") if source.endswith(TEXT) else End(4, b"", self.why(source.removeprefix(SHEET + PLAN)))
+        if words == ("sheet",):
+            return End(0, SHEET, b"")
+        return End(0, TEXT, b"cache looks 2 hits 1\n")
+
+    def why(self, text: bytes) -> bytes:
+        """The line that differs, with the reason that its kind has."""
+        if not text:
+            return b"text 1\n"
+        line = first_difference(text, TEXT)
+        head, *numbers = TEXT.splitlines()[line - 1].split()
+        whys = {b"match": b"Match", b"shuffles": b"Shuffle", b"end": b"End", b"score": b"Score", b"standing": b"Standing"}
+        seat, _, _, size = text.splitlines()[line - 1].split()[1:] if head == b"choose" else [b""] * 4
+        why = whys.get(head) or (b"Seat" if seat != numbers[0] else b"Menu" if size != numbers[3] else b"Item")
+        return b"illegal %d %s\n" % (line, why)
+
+
+class Forms(unittest.TestCase):
+    form = ("a", ("b", 7, ()), "007", (-3, 0))
+
+    def test_texts(self) -> None:
+        self.assertEqual(plain(self.form), "(a (b 7 ()) 007 (-3 0))")
+        self.assertEqual(in_lines(self.form), "(a\n(b 7 ())007\n(-3 0))")
+
+    def test_strewn_texts_say_the_same(self) -> None:
+        for seed in range(200):
+            text = strewn(self.form, Chance(seed)).encode("latin-1")
+            said = [token.text for token in tokens(text)]
+            numbers = [said.pop(index) for index in (11, 10, 4)]
+            self.assertEqual(said, ["(", "a", "(", "b", "(", ")", ")", "007", "(", ")", ")"])
+            self.assertEqual([int(it) for it in numbers], [0, -3, 7])
+
+    def test_a_plan_has_no_signs(self) -> None:
+        self.assertNotIn("-", "".join(strewn((0, 0), Chance(seed), signs=False) for seed in range(200)))
+
+
+class Decks(unittest.TestCase):
+    def test_cards(self) -> None:
+        inner = (Group("S", (("x", ()), ("y", ()))),)
+        groups = (Group("A", (("1", ()), ("2", inner))), Group("B", (("1", ()), ("2", ()))))
+        self.assertEqual(cards_of(groups), 6)
+        self.assertEqual(groups[0].form(), ("A", ("1", ("2", ("S", ("x", "y"))))))
+
+    def test_no_card_has_an_attribute_twice(self) -> None:
+        def faces(groups: tuple[Group, ...]) -> list[list[str]]:
+            if not groups:
+                return [[]]
+            first = [[groups[0].attribute, *face] for _, inner in groups[0].branches for face in faces(inner)]
+            return [one + other for one in first for other in faces(groups[1:])]
+
+        for seed in range(100):
+            for face in faces(deck_of(Chance(seed), 40)):
+                self.assertEqual(len(face), len({*face}))
+
+
+class Cases(unittest.TestCase):
+    def test_a_case_hangs_on_its_seed_and_number(self) -> None:
+        self.assertEqual(case_of(3, 4), case_of(3, 4))
+        self.assertEqual(len({case_of(seed, number).source() for seed in range(3) for number in range(10)}), 30)
+
+    def test_a_text_is_one_list_of_allowed_bytes(self) -> None:
+        for number in range(CASES):
+            case = case_of(1, number)
+            for text in (case.sheet, case.plan):
+                self.assertTrue(text.endswith(b"\n"))
+                self.assertFalse(re.search(rb"[^\t\n\r -~]", re.sub(rb";[^\n]*", b"", text)))
+
+    def test_most_texts_are_one_list(self) -> None:
+        cases = [case_of(1, number) for number in range(CASES)]
+        lists = sum(gap_end(text, end_of(text, 1)) == len(text) for case in cases for text in (case.sheet, case.plan))
+        self.assertGreater(lists, 2 * CASES * 0.9)
+
+    def test_slips(self) -> None:
+        slips = {with_a_slip(b"(a (b))", Chance(seed)) for seed in range(600)}
+        self.assertLessEqual({b"( a a  (b))", b"(a (  ))", b"(a ( b b ))", b"(a ( a ))", b"( b  (b))"}, slips)
+        self.assertEqual([likeness(it) for it in ("'", "07", "RANK", "=", "deck", ")")], ["'", "number", "name", "name", "word", "("])
+
+    def test_lists_and_atoms_stay_within_bounds(self) -> None:
+        for number in range(CASES):
+            depth = 0
+            for token in tokens(case_of(1, number).source()):
+                depth += {"(": 1, ")": -1}.get(token.text, 0)
+                self.assertTrue(depth <= DEEPEST and len(token.text) <= LONGEST)
+
+    def test_there_is_a_strategy_for_each_player(self) -> None:
+        agreeing = 0
+        for number in range(CASES):
+            case = case_of(1, number)
+            said = [token.text for token in tokens(case.sheet)]
+            players = [said[at + 1] for at, text in enumerate(said) if text == "players" and said[at - 1] == "create"]
+            agreeing += [int(it) for it in players if it.isdigit()] == [len(rolls_out(case))]
+        self.assertGreater(agreeing, CASES * 0.9)
+
+
+class Transcripts(unittest.TestCase):
+    def test_looks(self) -> None:
+        self.assertEqual(looks_of(TEXT, [True, False]), 2)
+        self.assertEqual(looks_of(TEXT, [False, True]), 3)
+        self.assertEqual((count(TEXT, b"choose"), count(TEXT, b"match"), count(TEXT, b"shuffles")), (5, 2, 1))
+
+    def test_spoiled_lines(self) -> None:
+        found = {}
+        for seed in range(300):
+            if told := spoiled(TEXT, Chance(seed)):
+                line = first_difference(told[0], TEXT)
+                found[told[1].decode()] = told[0].splitlines()[line - 1].decode()
+                self.assertIn(f"illegal {line} ", told[1].decode())
+        self.assertEqual(found["illegal 2 Match\n"], "match 0 deal 5 seats 8")
+        self.assertEqual(found["illegal 3 Menu\n"], "choose 0 0 0 3")
+        self.assertEqual(found["illegal 3 Item\n"], "choose 0 0 2 2")
+        self.assertEqual(found["illegal 5 End\n"], "end done 5")
+        self.assertEqual(found["illegal 6 Score\n"], "score 0 -3 3")
+        self.assertEqual(found["illegal 12 Shuffle\n"], "shuffles 4")
+        self.assertEqual(found["illegal 16 Standing\n"], "standing 1 strategy 0 points 5")
+        self.assertNotIn("illegal 4 Item\n", found)
+
+    def test_the_first_line_that_differs(self) -> None:
+        self.assertEqual([first_difference(b"a\nb\n", it) for it in (b"x\nb\n", b"a\nc\n", b"a\n", b"a\nb\nc\n")], [1, 2, 2, 3])
+
+
+class Runs(unittest.TestCase):
+    case = Case(1, 2, SHEET, PLAN)
+
+    def result(self, ends: Ends, other: Ends | None = None) -> Result:
+        return Comparing(Told(ends), None if other is None else Told(other)).result(self.case)  # type: ignore[arg-type]
+
+    def said(self, ends: Ends, other: Ends | None = None) -> list[str]:
+        result = self.result(ends, other)
+        self.assertIs(result.kind, Kind.ACCEPTED)
+        return result.disagreements
+
+    def test_runs_that_agree(self) -> None:
+        result = self.result({}, {})
+        self.assertEqual(result.disagreements, [])
+        self.assertEqual((result.matches, result.choices, result.shuffles, result.looks, result.hits), (2, 5, 1, 2, 1))
+
+    def test_another_text(self) -> None:
+        note = b"cache looks 2 hits 1\n"
+        for words in (("play", "--cache", "1"), ("play", "--cache", "65536")):
+            (said,) = self.said({words: End(0, TEXT + b"standing\n", note)})
+            self.assertIn(f"play with room for {words[2]} ended", said)
+            self.assertIn("they differ from line 18 on", said)
+
+    def test_other_looks_and_hits(self) -> None:
+        self.assertEqual(len(self.said({("play",): End(0, TEXT, b"cache looks 3 hits 1\n")})), 3)
+        self.assertEqual(len(self.said({("play", "--cache", "1"): End(0, TEXT, b"cache looks 2 hits 2\n")})), 1)
+        self.assertEqual(len(self.said({("play",): End(0, TEXT, b"cache looks\n")})), 1)
+
+    def test_the_judge(self) -> None:
+        self.assertEqual(len(self.said({("check",): End(0, b"legal\n", b"")})), 1)
+        self.assertEqual(len(self.said({("check",): End(4, b"", b"illegal 3 Menu\n")})), 2)
+
+    def test_a_sheet_that_is_printed_badly(self) -> None:
+        self.assertEqual(len(self.said({("sheet",): End(1, b"", b"sheet Shape 0\n")})), 1)
+
+    def test_another_program(self) -> None:
+        said = self.said({}, {("play",): End(0, b"house 1\n", b""), ("sheet",): End(0, b"(game)\n", b"")})
+        self.assertEqual([text.split(" ended")[0] for text in said], ["play of the other program", "sheet of the other program"])
+        refused = End(1, b"", b"sheet Unseen 7\n")
+        self.assertEqual(len(self.result({("play",): refused, ("check",): refused}, {}).disagreements), 1)
+
+    def test_refusals(self) -> None:
+        def result(end: End) -> tuple[Kind, str, int]:
+            got = self.result({("play",): end, ("check",): end}, {("play",): end})
+            return got.kind, got.why, len(got.disagreements)
+
+        self.assertEqual(result(End(1, b"", b"sheet Unseen 7\n")), (Kind.REFUSED, "Unseen", 0))
+        self.assertEqual(result(End(3, b"", b"plan Turns 9\n")), (Kind.REFUSED, "Turns", 0))
+        self.assertEqual(result(End(1, b"x", b"sheet Unseen 7\n")), (Kind.REFUSED, "Unseen", 1))
+        self.assertEqual(result(End(1, b"", b"sheet Unseen 7\nsheet Unseen 7\n")), (Kind.REFUSED, "", 1))
+        self.assertEqual(result(End(-11, b"", b"")), (Kind.REFUSED, "", 1))
+        self.assertEqual(result(End(1, b"", b"sheet Unseen 9999\n")), (Kind.REFUSED, "Unseen", 1))
+        self.assertEqual(len(self.result({("play",): End(3, b"", b"plan Turns 9\n")}).disagreements), 1)
+        self.assertEqual(len(self.result({("play",): End(3, b"", b"plan Rest 9\n")}).disagreements), 0)
+        self.assertEqual(result(End(5, b"", b"no memory\n")), (Kind.DROPPED, "", 0))
+
+    def test_what_is_told_and_kept(self) -> None:
+        result = self.result({("check",): End(0, b"legal\n", b"")})
+        tally = Tally()
+        tally.add(result)
+        self.assertIn("1 cases: 1 accepted, 0 refused, 0 dropped; 0 without a choice", str(tally))
+        self.assertIn("1 cases in which runs disagree", str(tally))
+        with tempfile.TemporaryDirectory() as folder:
+            keep(Path(folder) / "kept", self.case, result)
+            kept = {file.name: file.read_bytes() for file in (Path(folder) / "kept").iterdir()}
+        self.assertEqual(sorted(kept), ["1-2.plan", "1-2.said", "1-2.sheet"])
+        self.assertEqual((kept["1-2.sheet"], kept["1-2.plan"]), (SHEET, PLAN))
+
+
+class Read(unittest.TestCase):
+    """The second reading beside what the program wrote of an example, in which two matches are alike."""
+
+    case = Case(1, 2, (ROOT / "examples/first.sheet").read_bytes(), (ROOT / "examples/first.plan").read_bytes())
+    text = (ROOT / "examples/first.transcript").read_bytes()
+    printed = (ROOT / "examples/first.printed").read_bytes()
+
+    def said(self, text: bytes, printed: bytes, hits: int) -> list[str]:
+        program = Told({("sheet",): End(0, printed, b"")})
+        reading = reading_of(self.case, text, 60)
+        assert reading
+        comparing = Comparing(program, reads=True)  # type: ignore[arg-type]
+        return list(comparing.of_reading(Played(self.case, End(0, text, b""), 0, hits), {1024: hits}, reading))
+
+    def test_an_example(self) -> None:
+        self.assertEqual(self.said(self.text, self.printed, 0), [])
+
+    def test_what_differs(self) -> None:
+        self.assertEqual(len(self.said(self.text.replace(b"end done 8", b"end done 9"), self.printed, 0)), 2)
+        self.assertEqual(len(self.said(self.text, self.printed[1:], 0)), 1)
+        self.assertEqual(len(self.said(self.text, self.printed, 1)), 1)
+
+    def test_what_takes_too_long(self) -> None:
+        plan = b"(plan (seats (rollout 1000 1) (rollout 1000 1)) (matches (from 1 1 4096)) (turns 9))"
+        self.assertIsNone(reading_of(Case(1, 2, self.case.sheet, plan), b"", 0.2))
+
+
+class OfProgram(Built):
+    def test_most_cases_are_accepted_and_none_disagrees(self) -> None:
+        tally = Tally()
+        comparing = Comparing(Program(PROGRAM), reads=True)
+        for number in range(12):
+            result = comparing.result(case_of(1, number))
+            self.assertEqual(result.disagreements, [], f"case {number}")
+            tally.add(result)
+        self.assertGreater(tally.kinds["accepted"], 6, str(tally))
+
+
+if __name__ == "__main__":
+    unittest.main()
