@@ -6,4 +6,4 @@ pub mod limits;
 mod word;
 
 pub use classes::{Class, LocKind, Sort};
-pub use word::Word;
+pub use word::{Word, is_same};

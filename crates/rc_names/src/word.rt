@@ -1,10 +1,16 @@
 //! The bytes of an atom.
 
+ghost use Rattle.std.specs.Prelude.{◌≡◌, [], ◌∷◌, nat_eq};
+ghost use Rattle.std.specs.Cmp.Lexicographic.{pointwise};
+ghost use Rattle.std.specs.Cmp.Rules.{comparing, hashing};
+ghost use Rattle.std.proofs.Common.{rules};
+
 use crate::limits::MOST_BYTES;
+use std::hash::{Hash, Hasher};
 use std::marker::Model;
 
 /// 1 to 64 bytes that may stand in an atom. Contracts see the list of them.
-#[derive(Clone, Copy, PartialEq, Eq, Hash, Debug)]
+#[derive(Clone, Copy, Debug)]
 pub struct Word {
     bytes: [u8; MOST_BYTES],
     count: usize,
@@ -55,4 +61,44 @@ impl Word {
     {
         &self.bytes[..self.count]
     }
+}
+
+// Words are compared and hashed by their bytes, and not by the zeros behind them: most are short.
+impl PartialEq for Word {
+    ghost eq = { pointwise nat_eq };
+
+    ghost laws = { Prim.search (comparing, rules) };
+
+    fn eq(&self, other: &Word) -> bool {
+        is_same(self.bytes(), other.bytes())
+    }
+}
+
+impl Eq for Word {
+    ghost laws = { Prim.search (comparing, rules) };
+}
+
+impl Hash for Word {
+    ghost hash_input = { λ word. word ∷ [] };
+
+    ghost respects_eq = { Prim.search (hashing, rules) };
+
+    fn hash<H: Hasher>(&self, state: &mut H) {
+        state.write(self.bytes());
+    }
+}
+
+/// Whether these bytes are the same. It is made for words: most are short, and differ in length or in an early byte.
+pub fn is_same(bytes: &[u8], others: &[u8]) -> bool
+    ensures { result ≡ pointwise nat_eq bytes.now others.now }
+{
+    if bytes.len() != others.len() {
+        return false;
+    }
+    for (byte, other) in bytes.iter().zip(others) {
+        if *byte != *other {
+            return false;
+        }
+    }
+    true
 }
