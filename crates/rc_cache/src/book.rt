@@ -1,6 +1,7 @@
 //! The book.
 ghost use Rattle.std.specs.Prelude.{◌≡◌, ◌+◌, ◌^◌, ◌<◌, ◌≤◌, [], map, true, IfOk, OnOk, OnErr};
 ghost use Rattle.std.specs.List.{AllByRecursion};
+ghost use Rattle.rc_model.specs.Limits.{most_entries, most_workers};
 ghost use Rattle.rc_play_model.specs.Tally.{tally as tally_of};
 ghost use Rattle.rc_redraw.specs.Asking.{key_seen};
 ghost use Rattle.rc_redraw.specs.Counts.{looked, kept};
@@ -60,8 +61,8 @@ impl<N: Naming> Book<N> {
         lanes: u8,
     ) -> Result<(Book<N>, Vec<Lane<N>>), Memory>
         requires about { about.now ≡ N.about }
-        requires capacity { (1 ≤ capacity) × (capacity ≤ 65536) × (capacity ≡ N.capacity) }
-        requires lanes { (1 ≤ lanes) × (lanes ≤ 64) × (lanes ≡ N.lanes) }
+        requires capacity { (1 ≤ capacity) × (capacity ≤ most_entries) × (capacity ≡ N.capacity) }
+        requires lanes { (1 ≤ lanes) × (lanes ≤ most_workers) × (lanes ≡ N.lanes) }
         requires names { (fresh.looks.name ≡ N.looks) × (fresh.hits.name ≡ N.hits) × (fresh.keeps.name ≡ N.keeps) }
         requires parts { (fresh.looks.parts ≡ N.lanes) × (fresh.hits.parts ≡ N.lanes) × (fresh.keeps.parts ≡ N.lanes) }
         ensures book { IfOk result (λ made. made.0 ≡ []) }

@@ -2,6 +2,7 @@
 ghost use Rattle.std.specs.Prelude.{◌≡◌, ◌≤◌, ◌<◌, ◌+◌, ℕ, [], length, map, All, IfSome, IfNone, IfOk, drop, take};
 ghost use Rattle.std.specs.List.Sorted.{IsPermutation};
 ghost use Rattle.rc_model.specs.Numbers.{below};
+ghost use Rattle.rc_model.specs.Limits.{most_matches, most_workers};
 ghost use Rattle.rc_claims.specs.Claims.{fresh, joined, with_number};
 
 use crate::views::{Draws, EachOnce, GivesOne, Limits, PassView, TakesIn};
@@ -41,6 +42,7 @@ impl Model for Claims {
     ghost coded = { claims_coded };
 
     ghost use Rattle.std.specs.Prelude.{◌≡◌, ◌≤◌};
+    ghost use Rattle.rc_model.specs.Limits.{most_matches, most_workers};
 
     ghost view = { λ c. record {
       table = c.table.shared.table_id;
@@ -49,7 +51,7 @@ impl Model for Claims {
     } };
 
     ghost invariant = { λ c. (c.table.shared.table_id.words ≡ 1) × (c.table.shared.table_id.slots ≡ 0)
-        × (c.count ≡ c.table.shared.key.count) × (c.table.shared.key.count ≤ 4096) × (c.table.shared.key.passes ≤ 64) };
+        × (c.count ≡ c.table.shared.key.count) × (c.table.shared.key.count ≤ most_matches) × (c.table.shared.key.passes ≤ most_workers) };
 }
 
 /// The right to claim. Contracts see the word that it draws from, its holders, one at least, and the numbers that it has claimed.
@@ -75,8 +77,8 @@ impl Model for Pass {
 impl Claims {
     /// Claims of so many numbers, from 0, and as many passes to claim them by. Memory may run out.
     pub fn new(alloc: Global, count: u32, passes: u8) -> Result<(Claims, Vec<Pass>), Memory>
-        requires count { (1 ≤ count) × (count ≤ 4096) }
-        requires passes { (1 ≤ passes) × (passes ≤ 64) }
+        requires count { (1 ≤ count) × (count ≤ most_matches) }
+        requires passes { (1 ≤ passes) × (passes ≤ most_workers) }
         ensures claims { IfOk result (λ r. (r.0.count ≡ count) × (r.0.passes ≡ passes)) }
         ensures passes { IfOk result (λ r. r.1.items ≡ map (fresh r.0.table) (below passes)) }
     {

@@ -10,6 +10,7 @@ ghost use Rattle.rc_form.specs.SameForm.{IsOfAtoms};
 ghost use Rattle.rc_model.specs.Placed.{IsPlaced};
 ghost use Rattle.rc_model.specs.Spelled.{Spelled, IsTopList, next_offset};
 ghost use Rattle.rc_model.specs.Tree.{Tree, spelling};
+ghost use Rattle.rc_model.specs.Limits.{longest_text};
 
 use crate::fault::{FormFail, FormKind};
 use crate::form::Form;
@@ -27,10 +28,10 @@ pub struct Forms {
 /// Reads up to `want` lists from the front of a text: fewer where the text ends before.
 ///
 /// White space is space, tab, CR, LF and comma; a comment runs from `;` to the next LF. An atom has at most 64 bytes, and
-/// at most 64 lists are open at one place. The text has at most 8388608 bytes. Where memory runs out, nothing is said of
+/// at most 64 lists are open at one place. The text has at most 8,388,608 bytes. Where memory runs out, nothing is said of
 /// the text.
 pub fn read_forms(alloc: Global, text: &[u8], want: usize) -> Result<Forms, FormFail>
-    requires { length text.now ≤ 8388608 }
+    requires { length text.now ≤ longest_text }
     ensures spelled { IfOk result (λ f. Spelled text.now want (trees_of f.list.items) f.rest) }
     ensures within { IfOk result (λ f. f.rest ≤ length text.now) }
 
@@ -65,7 +66,7 @@ pub fn texts_are_spelled_or_faulty()
 
 /// The wanted lists, or the first fault of the text.
 fn read_lists(alloc: Global, text: &[u8], want: usize) -> Result<Forms, FormFail>
-    requires { length text.now ≤ 8388608 }
+    requires { length text.now ≤ longest_text }
     ensures reads { IfOk result (λ f. read want [] [] (tokens text.now) ≡ Ok (trees_of f.list.items, tokens_at text.now f.rest)) }
     ensures rest { IfOk result (λ f. f.rest ≡ next_offset (tokens_at text.now f.rest) (length text.now)) }
     ensures within { IfOk result (λ f. f.rest ≤ length text.now) }

@@ -10,11 +10,9 @@ use rc_ast::Sheet;
 use rc_deck::Memory;
 use rc_flow::{Checked, check_sight};
 use rc_form::{Form, FormFail, read_forms};
+use rc_names::limits::LONGEST_TEXT;
 use rc_sheet::{SheetFail, sheet_of};
 use std::alloc::Global;
-
-/// How many bytes a text may have.
-const LONGEST: usize = 8_388_608;
 
 /// Why a text tells no game.
 #[derive(Clone, Copy, Debug, PartialEq, Eq)]
@@ -65,7 +63,7 @@ pub fn checked_of_form(alloc: Global, form: &Form) -> Result<Checked, NoGame>
 pub fn sheet_in(alloc: Global, text: &[u8]) -> Result<Sheet, NoGame>
     ensures { IfOk result (λ sheet. IsWellFormed (sheet_seen sheet)) }
 {
-    if text.len() > LONGEST {
+    if text.len() > LONGEST_TEXT {
         return Err(NoGame::Forms);
     }
     let forms = match read_forms(alloc, text, 1) {

@@ -1,5 +1,6 @@
 -- What commands do with a source, and how much of it they take.
 use Rattle.std.specs.Prelude.{◌≡◌, ℕ, List, []}
+use Rattle.rc_model.specs.Limits.{longest_source, longest_text}
 use Rattle.rc_house.specs.declared.task.Task.{Task}
 use Rattle.rc_house.specs.declared.task.Task.TheVariants.{Play, Check, Sheet}
 use Rattle.rc_house.specs.Note.{looks_line}
@@ -12,9 +13,9 @@ wanted Sheet = 1
 
 -- the most bytes that a command takes from its source
 abbrev pub limit_of : Task → ℕ
-limit_of (Play options) = 1048576
-limit_of Check = 8388608
-limit_of Sheet = 1048576
+limit_of (Play options) = longest_source
+limit_of Check = longest_text
+limit_of Sheet = longest_source
 
 -- what a command may note where all went well
 abbrev pub IsNoteOf : Task → List ℕ → Type 0

@@ -2,6 +2,7 @@
 ghost use Rattle.std.specs.Prelude.{◌≡◌, ◌≤◌, length, None, IfOk, All};
 ghost use Rattle.rc_model.specs.Placed.{IsPlaced};
 ghost use Rattle.rc_model.specs.Spelled.{Spelled};
+ghost use Rattle.rc_model.specs.Limits.{longest_text};
 ghost use Rattle.rc_form.specs.Form.{tree_of, trees_of, IsPrintable};
 ghost use Rattle.rc_form.specs.SameForm.{IsOfAtoms};
 ghost use Rattle.rc_plan_model.specs.Limits.{IsWithinLimits};
@@ -65,7 +66,7 @@ pub enum Prepared {
 
 /// What a command makes of its source before anybody plays. Memory may run out.
 pub fn prepare(alloc: Global, task: Task, source: &[u8]) -> Result<Prepared, Memory>
-    requires { length source.now ≤ 8388608 }
+    requires { length source.now ≤ longest_text }
     ensures { IfOk result (IsPrepared task source.now) }
 {
     match read_forms(alloc, source, task.wanted()) {
@@ -92,7 +93,7 @@ fn prepare_forms(
     source: &[u8],
     forms: &Forms,
 ) -> Result<Prepared, Memory>
-    requires small { length source.now ≤ 8388608 }
+    requires small { length source.now ≤ longest_text }
     requires within { forms.now.rest ≤ length source.now }
     requires read { Spelled source.now (wanted task) (trees_of forms.now.list.items) forms.now.rest }
     requires printable { All (λ form. IsPrintable (tree_of form)) forms.now.list.items }
@@ -114,7 +115,7 @@ fn prepare_forms(
 
 /// The answer where the sheet is missing.
 fn missing(forms: &Forms) -> Answer
-    requires { forms.now.rest ≤ 8388608 }
+    requires { forms.now.rest ≤ longest_text }
     ensures { result ≡ stored.Refused (refusal.Sheet Shape forms.now.rest) }
 {
     Answer::Refused(Refusal::Sheet {
@@ -131,7 +132,7 @@ fn prepare_sheet(
     forms: &Forms,
     checked: Checked,
 ) -> Result<Prepared, Memory>
-    requires small { length source.now ≤ 8388608 }
+    requires small { length source.now ≤ longest_text }
     requires within { forms.now.rest ≤ length source.now }
     requires read { Spelled source.now (wanted task) (trees_of forms.now.list.items) forms.now.rest }
     requires placed { All (λ form. IsPlaced (length source.now) (tree_of form)) forms.now.list.items }
@@ -152,7 +153,7 @@ fn prepare_play(
     forms: &Forms,
     checked: Checked,
 ) -> Result<Prepared, Memory>
-    requires small { length source.now ≤ 8388608 }
+    requires small { length source.now ≤ longest_text }
     requires within { forms.now.rest ≤ length source.now }
     requires read { Spelled source.now 2 (trees_of forms.now.list.items) forms.now.rest }
     requires placed { All (λ form. IsPlaced (length source.now) (tree_of form)) forms.now.list.items }
@@ -173,7 +174,7 @@ fn check_answer(
     forms: &Forms,
     checked: Checked,
 ) -> Result<Answer, Memory>
-    requires small { length source.now ≤ 8388608 }
+    requires small { length source.now ≤ longest_text }
     requires within { forms.now.rest ≤ length source.now }
     requires read { Spelled source.now 2 (trees_of forms.now.list.items) forms.now.rest }
     requires placed { All (λ form. IsPlaced (length source.now) (tree_of form)) forms.now.list.items }
@@ -194,7 +195,7 @@ fn judged_answer(
     plan: &Plan,
     bytes: &[u8],
 ) -> Result<Answer, Memory>
-    requires short { length bytes.now ≤ 8388608 }
+    requires short { length bytes.now ≤ longest_text }
     requires within { IsWithinLimits (plan_seen plan.now) }
     requires seats { length (plan_seen plan.now).strategies ≡ checked.players }
     ensures { IfOk result (IsJudged (about_of checked plan.now.turns) (plan_seen plan.now) bytes.now) }
@@ -216,7 +217,7 @@ fn verdict_answer(
     requires within { IsWithinLimits (plan_seen plan.now) }
     requires seats { length (plan_seen plan.now).strategies ≡ checked.players }
     requires text { IsHouseText (house_seen text.now) }
-    requires few { length (lines_of (house_seen text.now)) ≤ 8388608 }
+    requires few { length (lines_of (house_seen text.now)) ≤ longest_text }
     ensures { IfOk result (λ answer. seen answer 0
         ≡ verdict (first_illegal (about_of checked plan.now.turns) dealing_of (plan_seen plan.now) (house_seen text.now))) }
 {

@@ -1,6 +1,7 @@
 //! Plans that are accepted.
 ghost use Rattle.std.specs.Prelude.{◌≡◌, ◌≢◌, ◌≤◌, ℕ, length, IfOk, IfErr, IfSome, IfNone, All};
 ghost use Rattle.rc_model.specs.Placed.{IsPlaced};
+ghost use Rattle.rc_model.specs.Limits.{longest_text};
 ghost use Rattle.rc_form.specs.Form.{tree_of, trees_of};
 ghost use Rattle.rc_plan_model.specs.Limits.{IsWithinLimits};
 ghost use Rattle.rc_plan_model.specs.declared.fault.PlanKind.TheVariants as plan_kind;
@@ -15,7 +16,7 @@ use std::alloc::Global;
 
 /// The plan behind the sheet in a source with these forms, for so many players, behind which nothing stands; or its first fault.
 pub fn read_plan(alloc: Global, source: &[u8], forms: &Forms, players: u8) -> Result<Plan, PlanFail>
-    requires small { length source.now ≤ 8388608 }
+    requires small { length source.now ≤ longest_text }
     requires within { forms.now.rest ≤ length source.now }
     requires placed { All (λ form. IsPlaced (length source.now) (tree_of form)) forms.now.list.items }
     requires some { 1 ≤ players }
@@ -35,7 +36,7 @@ pub fn read_plan(alloc: Global, source: &[u8], forms: &Forms, players: u8) -> Re
 
 /// The plan behind the sheet in a source with these forms, for so many players, whatever follows it; or its first fault.
 pub fn plan_behind(alloc: Global, forms: &Forms, players: u8) -> Result<Plan, PlanFail>
-    requires small { forms.now.rest ≤ 8388608 }
+    requires small { forms.now.rest ≤ longest_text }
     requires placed { All (λ form. (size : ℕ) × IsPlaced size (tree_of form)) forms.now.list.items }
     requires some { 1 ≤ players }
     requires few { players ≤ 8 }
@@ -56,7 +57,7 @@ pub fn plan_behind(alloc: Global, forms: &Forms, players: u8) -> Result<Plan, Pl
 
 // The fault of a source where something follows what was read of it.
 fn rest_fault(source: &[u8], rest: usize) -> Option<PlanFault>
-    requires { rest ≤ 8388608 }
+    requires { rest ≤ longest_text }
     ensures found { IfSome result (λ fault. (rest ≢ length source.now) × (fault.kind ≡ plan_kind.Rest) × (fault.at ≡ rest)) }
     ensures none { IfNone result (rest ≡ length source.now) }
 {

@@ -1,9 +1,11 @@
 //! What commands do with a source.
 ghost use Rattle.std.specs.Prelude.{◌≡◌, ◌≤◌};
+ghost use Rattle.rc_model.specs.Limits.{longest_text};
 ghost use Rattle.rc_house.specs.declared.task.Task.{Task};
 ghost use Rattle.rc_house.specs.Task.{limit_of, wanted};
 
 use rc_command::Options;
+use rc_names::limits::{LONGEST_SOURCE, LONGEST_TEXT};
 
 /// What a command does with its source.
 #[derive(Clone, Copy, Debug, PartialEq, Eq, Hash)]
@@ -31,12 +33,12 @@ impl Task {
     /// The most bytes that it takes from its source.
     pub fn limit(self) -> usize
         ensures is { result ≡ limit_of self }
-        ensures few { result ≤ 8388608 }
+        ensures few { result ≤ longest_text }
     {
         match self {
-            Task::Play(_) => 1_048_576,
-            Task::Check => 8_388_608,
-            Task::Sheet => 1_048_576,
+            Task::Play(_) => LONGEST_SOURCE,
+            Task::Check => LONGEST_TEXT,
+            Task::Sheet => LONGEST_SOURCE,
         }
     }
 }

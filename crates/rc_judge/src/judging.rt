@@ -1,6 +1,7 @@
 //! The judge of whole house texts.
 ghost use Rattle.std.specs.Prelude.{◌≡◌, ◌+◌, ◌<◌, ◌≤◌, ◌^◌, ◌↔◌, List, Option, length, map, None, All, IfOk, OnOk};
 ghost use Rattle.rc_model.specs.Transcript.{Record};
+ghost use Rattle.rc_model.specs.Limits.{most_matches};
 ghost use Rattle.rc_play_model.specs.Keyed.{dealing_of};
 ghost use Rattle.rc_play_model.specs.House as house;
 ghost use Rattle.rc_play_model.specs.Plan.{Plan as PurePlan};
@@ -78,7 +79,7 @@ fn matches_along(
     plan: &Plan,
     matches: &[MatchRecord],
 ) -> Result<u32, Halt>
-    requires within { length plan.now.matches.items ≤ 4096 }
+    requires within { length plan.now.matches.items ≤ most_matches }
     requires room { 2 + lines_in_all matches.now < 2 ^ 32 }
     ensures is { Judges (λ n. n) result (along.matches_along about.now dealing_of (plan_seen plan.now) 0 2 (map record_seen matches.now)) }
     ensures far { IfOk result (λ n. n ≡ 2 + lines_in_all matches.now) }

@@ -1,4 +1,4 @@
--- The limits of sheets, of plans and of options, but for the range of the numbers of a game.
+-- The limits of sheets, of plans, of options and of texts, but for the range of the numbers of a game.
 use Rattle.std.specs.Prelude.{ℕ}
 
 abbrev pub most_players : ℕ
@@ -65,3 +65,11 @@ most_workers = 64
 -- totals that a cache keeps
 abbrev pub most_entries : ℕ
 most_entries = 65536
+
+-- bytes of a sheet with its plan
+abbrev pub longest_source : ℕ
+longest_source = 1048576
+
+-- bytes of a sheet with its plan and the transcript of a house
+abbrev pub longest_text : ℕ
+longest_text = 8388608

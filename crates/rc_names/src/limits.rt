@@ -1,7 +1,7 @@
 //! The limits of texts, sheets, plans and options, and the range of numbers.
 ghost use Rattle.std.specs.Prelude.{◌≡◌, pos};
 ghost use Rattle.rc_model.specs.Clamp.{largest_number};
-ghost use Rattle.rc_model.specs.Limits.{most_players, most_cards, most_locations, most_numbers, most_attrs, most_values, most_maps, most_stages, most_sites, most_variables, most_repeats, most_open, largest_seed, most_rounds, most_matches, most_turns, most_turns_in_all, most_workers, most_entries};
+ghost use Rattle.rc_model.specs.Limits.{most_players, most_cards, most_locations, most_numbers, most_attrs, most_values, most_maps, most_stages, most_sites, most_variables, most_repeats, most_open, largest_seed, most_rounds, most_matches, most_turns, most_turns_in_all, most_workers, most_entries, longest_source, longest_text};
 
 /// The most bytes of a word.
 pub const MOST_BYTES: usize = 64;
@@ -57,6 +57,12 @@ pub const MOST_WORKERS: u64 = 64;
 /// The most entries of a cache.
 pub const MOST_ENTRIES: u64 = 65_536;
 
+/// The most bytes of a sheet with its plan.
+pub const LONGEST_SOURCE: usize = 1_048_576;
+
+/// The most bytes of a sheet with its plan and the transcript of a house.
+pub const LONGEST_TEXT: usize = 8_388_608;
+
 /// The largest number of a game. The least one is as far below 0.
 pub const LARGEST_NUMBER: i64 = 1_000_000_000;
 
@@ -82,5 +88,7 @@ pub fn limits_as_defined()
     ensures seeds { LARGEST_SEED ≡ largest_seed }
     ensures workers { MOST_WORKERS ≡ most_workers }
     ensures entries { MOST_ENTRIES ≡ most_entries }
+    ensures source { LONGEST_SOURCE ≡ longest_source }
+    ensures text { LONGEST_TEXT ≡ longest_text }
     ensures range { LARGEST_NUMBER ≡ pos largest_number }
 {}

@@ -1,5 +1,6 @@
 //! Plays of all matches, one after the other, over one book.
 ghost use Rattle.std.specs.Prelude.{◌≡◌, ◌<◌, ◌≤◌, ◌+◌, [], map, length, Some, All, IfOk, OnOk, OnErr};
+ghost use Rattle.rc_model.specs.Limits.{most_matches, most_entries};
 ghost use Rattle.rc_play_model.specs.About.{about_of, About as PureAbout};
 ghost use Rattle.rc_play_model.specs.House.{standings_of};
 ghost use Rattle.rc_play_model.specs.Keyed.{keyed_match};
@@ -54,7 +55,7 @@ pub fn series_of<L: Ledger>(
 ) -> Result<Series, Memory>
     requires within { IsWithinLimits (plan_seen plan) }
     requires seats { length (plan_seen plan).strategies ≡ checked.players }
-    requires capacity { (1 ≤ capacity) × (capacity ≤ 65536) }
+    requires capacity { (1 ≤ capacity) × (capacity ≤ most_entries) }
     ensures matches { IfOk result (λ series. map record_seen series.text.matches.items ≡ matches_of (about_of checked plan.turns) (plan_seen plan)) }
     ensures standings { IfOk result (λ series. map standing_seen series.text.standings.items
         ≡ standings_of (plan_seen plan) (matches_of (about_of checked plan.turns) (plan_seen plan))) }
@@ -118,7 +119,7 @@ fn played<N: Naming, L: Ledger>(
     requires within { IsWithinLimits (plan_seen plan.now.value) }
     requires seats { length plan.now.value.strategies.items ≡ about.now.value.sheet.players }
     requires code { StandsFor about.now.value.sheet (code_seen code.now.value) }
-    requires room { (1 ≤ capacity) × (capacity ≤ 65536) }
+    requires room { (1 ≤ capacity) × (capacity ≤ most_entries) }
     requires name { (about.now.value ≡ N.about) × (capacity ≡ N.capacity) × (1 ≡ N.lanes) }
     requires names { (fresh.looks.name ≡ N.looks) × (fresh.hits.name ≡ N.hits) × (fresh.keeps.name ≡ N.keeps) }
     requires parts { (fresh.looks.parts ≡ N.lanes) × (fresh.hits.parts ≡ N.lanes) × (fresh.keeps.parts ≡ N.lanes) }
@@ -168,7 +169,7 @@ fn own_book<N: Naming>(
     about: &About,
     capacity: u32,
 ) -> Result<OwnBook<N>, Memory>
-    requires room { (1 ≤ capacity) × (capacity ≤ 65536) }
+    requires room { (1 ≤ capacity) × (capacity ≤ most_entries) }
     requires name { (about.now ≡ N.about) × (capacity ≡ N.capacity) × (1 ≡ N.lanes) }
     requires names { (fresh.looks.name ≡ N.looks) × (fresh.hits.name ≡ N.hits) × (fresh.keeps.name ≡ N.keeps) }
     requires parts { (fresh.looks.parts ≡ N.lanes) × (fresh.hits.parts ≡ N.lanes) × (fresh.keeps.parts ≡ N.lanes) }
@@ -194,7 +195,7 @@ fn records_of<C: Chooser, L: Ledger>(
 ) -> Result<Vec<MatchRecord>, Memory>
     requires code { StandsFor about.now.value.sheet (code_seen code.now.value) }
     requires served { C.serves chooser.old about.now.value }
-    requires matches { length plan.now.value.matches.items ≤ 4096 }
+    requires matches { length plan.now.value.matches.items ≤ most_matches }
     requires seats { length plan.now.value.strategies.items ≡ about.now.value.sheet.players }
     ensures are { IfOk result (λ records. map record_seen records.items
         ≡ records_below about.now.value (plan_seen plan.now.value) (length plan.now.value.matches.items)) }

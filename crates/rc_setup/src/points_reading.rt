@@ -8,6 +8,7 @@ ghost use Rattle.rc_setup.specs.Reading as reading;
 use crate::Numbers;
 use rc_deck::{Memory, PointEntry, PointMap};
 use rc_form::{Form, integer};
+use rc_names::limits::LARGEST_NUMBER;
 use std::alloc::Global;
 
 /// The point map that a form `(ENTRY ..)` stands for, each entry an `(ATTR (VALUE ..) n)`, by any numbers of its names. `None` where it stands for none. There are at
@@ -106,7 +107,7 @@ fn read_points(form: &Form) -> Option<i64>
         return None;
     };
     let points = integer(word.bytes())?;
-    if -1_000_000_000 <= points && points <= 1_000_000_000 {
+    if -LARGEST_NUMBER <= points && points <= LARGEST_NUMBER {
         Some(points)
     } else {
         None

@@ -18,8 +18,9 @@ ghost use Rattle.rc_code.specs.Stands.{StandsFor};
 use crate::fail::Fail;
 use crate::pair::{Dealers, stops_of};
 use crate::picks::Picks;
-use crate::source::{Game, LONGEST, game_in};
+use crate::source::{Game, game_in};
 use rc_flat::FlatMachine;
+use rc_names::limits::LONGEST_TEXT;
 use rc_outside::{StdSource, read_all};
 use rc_plain::PlainMachine;
 use rc_rules::Deal;
@@ -54,7 +55,7 @@ fn stops_in_all(alloc: Global, game: &Game) -> Result<u64, Fail>
 /// At how many stops they agree in all matches of what stands on standard input.
 fn stops_in_input(rt: &HostRuntime) -> Result<u64, Fail> {
     let mut input = StdSource::new(rt.stdin());
-    let text = read_all(rt.alloc(), &mut input, LONGEST)?;
+    let text = read_all(rt.alloc(), &mut input, LONGEST_TEXT)?;
     let game = game_in(rt.alloc(), &text)?;
     stops_in_all(rt.alloc(), &game)
 }

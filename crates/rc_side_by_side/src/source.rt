@@ -1,6 +1,7 @@
 //! Sources: a sheet with a plan.
 ghost use Rattle.std.specs.Prelude.{◌≡◌, ◌≤◌, ℕ, length, IfOk};
 ghost use Rattle.rc_model.specs.Placed.{IsPlaced};
+ghost use Rattle.rc_model.specs.Limits.{longest_text};
 ghost use Rattle.rc_form.specs.Form.{tree_of};
 ghost use Rattle.rc_play_model.specs.Shape.{shape_of};
 ghost use Rattle.rc_code.specs.Seen.{code_seen};
@@ -17,9 +18,6 @@ use rc_rules::Plan;
 use std::alloc::Global;
 use std::sync::Arc;
 
-/// How many bytes a source may have.
-pub const LONGEST: usize = 8_388_608;
-
 /// What the matches of a source are played by.
 #[derive(Drop)]
 pub struct Game {
@@ -30,7 +28,7 @@ pub struct Game {
 
 /// The game of a source.
 pub fn game_in(alloc: Global, text: &[u8]) -> Result<Game, Fail>
-    requires { length text.now ≤ 8388608 }
+    requires { length text.now ≤ longest_text }
     ensures shape { IfOk result (λ game. game.basis.shape.value ≡ shape_of game.basis.checked.value) }
     ensures code { IfOk result (λ game. StandsFor game.basis.checked.value (code_seen game.code.value)) }
 {

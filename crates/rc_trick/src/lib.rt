@@ -7,6 +7,7 @@ mod writing;
 ghost use Rattle.std.specs.Prelude.{◌≡◌, ◌≤◌, ℕ, List, [], ◌∷◌, length, None};
 ghost use Rattle.rc_model.specs.Tree.{Tree};
 ghost use Rattle.rc_model.specs.Spelled.{Spelled};
+ghost use Rattle.rc_model.specs.Limits.{longest_source};
 ghost use Rattle.rc_form.specs.FormFault.{IsFormFault};
 ghost use Rattle.rc_form.specs.declared.fault.FormKind.{FormKind};
 ghost use Rattle.rc_sheet_model.specs.Sheet.{Sheet};
@@ -21,7 +22,7 @@ pub use writing::summary;
 /// The text of the trick game.
 pub fn trick_text() -> &'static [u8]
     ensures text { result.now ≡ trick_text }
-    ensures small { length result.now ≤ 1048576 }
+    ensures small { length result.now ≤ longest_source }
 {
     b"(game\n\
       (setup (create players 4)\n\

@@ -1,5 +1,6 @@
 //! All matches of a plan by several workers, over a book that is made for them.
 ghost use Rattle.std.specs.Prelude.{◌≡◌, ◌<◌, ◌≤◌, map, length, IfOk};
+ghost use Rattle.rc_model.specs.Limits.{most_entries, most_workers};
 ghost use Rattle.rc_play_model.specs.About.{about_of};
 ghost use Rattle.rc_play_model.specs.House.{standings_of};
 ghost use Rattle.rc_plan_model.specs.Limits.{IsWithinLimits};
@@ -34,8 +35,8 @@ pub fn series_by_workers<R: Threads + Wait + Sync, G: Gate>(
 ) -> Result<Series, Memory>
     requires within { IsWithinLimits (plan_seen plan) }
     requires seats { length (plan_seen plan).strategies ≡ checked.players }
-    requires workers { (1 ≤ workers) × (workers ≤ 64) }
-    requires capacity { (1 ≤ capacity) × (capacity ≤ 65536) }
+    requires workers { (1 ≤ workers) × (workers ≤ most_workers) }
+    requires capacity { (1 ≤ capacity) × (capacity ≤ most_entries) }
     ensures matches { IfOk result (λ series. map record_seen series.text.matches.items ≡ matches_of (about_of checked plan.turns) (plan_seen plan)) }
     ensures standings { IfOk result (λ series. map standing_seen series.text.standings.items
         ≡ standings_of (plan_seen plan) (matches_of (about_of checked plan.turns) (plan_seen plan))) }
@@ -76,8 +77,8 @@ fn played<N: Naming + Send + Sync, R: Threads + Wait + Sync, G: Gate>(
 ) -> Result<Series, Memory>
     requires within { IsWithinLimits (plan_seen plan.now.value) }
     requires seats { length plan.now.value.strategies.items ≡ about.now.value.sheet.players }
-    requires some { (1 ≤ workers) × (workers ≤ 64) }
-    requires room { (1 ≤ capacity) × (capacity ≤ 65536) }
+    requires some { (1 ≤ workers) × (workers ≤ most_workers) }
+    requires room { (1 ≤ capacity) × (capacity ≤ most_entries) }
     requires name { (about.now.value ≡ N.about) × (capacity ≡ N.capacity) × (workers ≡ N.lanes) }
     requires names { (fresh.looks.name ≡ N.looks) × (fresh.hits.name ≡ N.hits) × (fresh.keeps.name ≡ N.keeps) }
     requires parts { (fresh.looks.parts ≡ N.lanes) × (fresh.hits.parts ≡ N.lanes) × (fresh.keeps.parts ≡ N.lanes) }

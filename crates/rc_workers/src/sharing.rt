@@ -1,5 +1,6 @@
 //! Matches by several workers over one book.
 ghost use Rattle.std.specs.Prelude.{◌≡◌, ◌≤◌, length, map, All, IfOk};
+ghost use Rattle.rc_model.specs.Limits.{most_matches, most_workers};
 ghost use Rattle.rc_rules.specs.Plan.{plan_seen};
 ghost use Rattle.rc_rules.specs.Record.{record_seen};
 ghost use Rattle.rc_cache.specs.Memos.{shared_counts};
@@ -28,9 +29,9 @@ pub fn play_shared<'a, N: Naming + Send + Sync, R: Threads + Wait + Sync, G: Gat
     gate: &G,
 ) -> Result<(Vec<MatchRecord>, Vec<Lane<N>>), Memory>
     requires about { N.about ≡ about.now.value }
-    requires matches { (1 ≤ length plan.now.value.matches.items) × (length plan.now.value.matches.items ≤ 4096) }
+    requires matches { (1 ≤ length plan.now.value.matches.items) × (length plan.now.value.matches.items ≤ most_matches) }
     requires seats { length plan.now.value.strategies.items ≡ about.now.value.sheet.players }
-    requires memos { (1 ≤ length memos.items) × (length memos.items ≤ 64) }
+    requires memos { (1 ≤ length memos.items) × (length memos.items ≤ most_workers) }
     ensures records { IfOk result (λ r. map record_seen r.0.items ≡ matches_of about.now.value (plan_seen plan.now.value)) }
     ensures count { IfOk result (λ r. length r.0.items ≡ length plan.now.value.matches.items) }
     ensures each { IfOk result (λ r. All (λ played. length played.scores.items ≡ about.now.value.sheet.players) r.0.items) }
