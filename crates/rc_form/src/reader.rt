@@ -1,6 +1,7 @@
 //! Takes tokens one by one, and keeps the lists that are complete and those that are still open.
 ghost use Rattle.std.specs.Prelude.{◌≡◌, ◌<◌, ◌≤◌, List, [], ◌∷◌, ◌+◌, length, slice_index, IsTrue, OnOk, IfOk, IfErr};
 ghost use Rattle.rc_model.specs.Token.{Token, opening, closing, is_part};
+ghost use Rattle.rc_model.specs.Limits.{longest_text};
 
 use crate::fault::{FormFail, FormKind};
 use crate::form::{Form, Span, atom_form, list_form};
@@ -71,14 +72,12 @@ impl Reader {
     }
 
     /// Puts a form into the innermost open list, or where none is open behind the complete lists.
+    #[inline(always)]
     fn put(&mut self, form: Form) -> Result<(), AllocError>
         ensures { (ts : List Token) → OnOk result (reads_with self.old (tree_of form) ts ≡ reads self.new ts) }
     {
-        match self.open_lists.pop() {
-            Some(mut inner) => {
-                inner.items.push(form)?;
-                self.open_lists.push(inner)?;
-            }
+        match self.open_lists.last_mut() {
+            Some(inner) => inner.items.push(form)?,
             None => self.list.push(form)?,
         }
         Ok(())
@@ -87,7 +86,7 @@ impl Reader {
     /// Takes a `)`, and returns the offset behind it.
     fn close(&mut self, at: u32) -> Result<usize, FormFail>
         requires reading { IsTrue (is_reading self.old) }
-        requires small { at < 8388608 }
+        requires small { at < longest_text }
         ensures behind { IfOk result (λ to. to ≡ at + 1) }
         ensures took { (ts : List Token) → OnOk result (reads self.old (closing at ∷ ts) ≡ reads self.new ts) }
         ensures fault { (ts : List Token) → IfErr result (FaultIs (reads self.old (closing at ∷ ts))) }
@@ -95,8 +94,10 @@ impl Reader {
         let Some(mut inner) = self.open_lists.pop() else {
             return Err(FormFail::at(FormKind::Stray, at));
         };
-        // Most lists are short, and a text may have very many of them.
-        inner.items.shrink_to_fit();
+        // Most lists are short, and a text may have very many of them. Room for one more part costs less than giving it back.
+        if inner.items.capacity() - inner.items.len() > 1 {
+            inner.items.shrink_to_fit();
+        }
         let span = Span {
             from: inner.from,
             to: at + 1,
@@ -110,7 +111,7 @@ impl Reader {
     /// Takes the atom that begins at this offset, and returns the offset behind it.
     fn atom(&mut self, text: &[u8], from: usize) -> Result<usize, FormFail>
         requires reading { IsTrue (is_reading self.old) }
-        requires small { length text.now ≤ 8388608 }
+        requires small { length text.now ≤ longest_text }
         requires inside { from < length text.now }
         requires part { IsTrue (is_part (slice_index text.now from)) }
         ensures forward { IfOk result (λ to. (from < to) × (to ≤ length text.now)) }
@@ -138,7 +139,7 @@ impl Reader {
     /// Takes the token that begins at this offset, and returns the offset behind it.
     pub fn take(&mut self, text: &[u8], at: usize) -> Result<usize, FormFail>
         requires reading { IsTrue (is_reading self.old) }
-        requires small { length text.now ≤ 8388608 }
+        requires small { length text.now ≤ longest_text }
         requires inside { at < length text.now }
         requires begins { IsTrue (begins_token (slice_index text.now at)) }
         ensures forward { IfOk result (λ to. (at < to) × (to ≤ length text.now)) }
