@@ -7,6 +7,7 @@ use crate::fault::SheetKind;
 use crate::grammar::Place;
 use crate::keyword::Keyword;
 use rc_form::integer;
+use rc_names::is_same;
 use rc_names::limits::LARGEST_NUMBER;
 
 /// What is wrong with an atom at a place.
@@ -41,10 +42,11 @@ pub fn atom_kind(place: Place, word: &[u8]) -> Option<SheetKind>
 }
 
 /// Whether the word is this keyword.
+#[inline(always)]
 pub fn is_word(keyword: Keyword, word: &[u8]) -> bool
     ensures { result ≡ spec.is_word keyword word.now }
 {
-    word == keyword.text()
+    is_same(word, keyword.text())
 }
 
 /// Whether the word begins with `'`.

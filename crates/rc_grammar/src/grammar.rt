@@ -332,6 +332,7 @@ impl Place {
 
 impl Rule {
     /// The places of the first parts.
+    #[inline(always)]
     pub fn front(self) -> &'static [Place]
         ensures { result.now ≡ front_of self }
     {
