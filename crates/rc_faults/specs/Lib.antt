@@ -10,4 +10,5 @@ pub mod Seen
 pub mod Views
 pub mod Checks
 pub mod Entered
+pub mod Giving
 pub mod SecondExamples

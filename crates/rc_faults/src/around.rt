@@ -10,7 +10,7 @@ use crate::fault::SheetFail;
 use crate::parts::{part_at, word_in};
 use rc_form::Form;
 use rc_grammar::{Keyword, Place, Rule, is_word, rule_of};
-use rc_names::Sort;
+use rc_names::{Sort, is_same};
 use std::alloc::Global;
 use std::marker::Model;
 
@@ -228,7 +228,7 @@ fn sort_among(scope: &[Variable<'_>], word: &[u8]) -> Option<Sort>
         ≡ option_map (λ variable. variable.sort) (faults.variable_in (map variable_seen scope.now) word.now) }
 {
     for variable in scope {
-        if word == variable.word {
+        if is_same(word, variable.word) {
             return Some(variable.sort);
         }
     }

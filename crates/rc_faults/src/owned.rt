@@ -14,7 +14,7 @@ use crate::role::Role;
 use crate::whole::Whole;
 use rc_form::Form;
 use rc_grammar::{Keyword, Place, Rule, is_word, rule_of};
-use rc_names::Class;
+use rc_names::{Class, is_same};
 use std::alloc::Global;
 use std::marker::Model;
 
@@ -144,7 +144,7 @@ fn first_among<'a>(mentions: &[Mention<'a>], name: &[u8]) -> Option<Mention<'a>>
     ensures { option_map mention_seen result ≡ names.first_mention name.now (map mention_seen mentions.now) }
 {
     for mention in mentions {
-        if name == mention.name {
+        if is_same(name, mention.name) {
             return Some(*mention);
         }
     }

@@ -2,6 +2,7 @@
 ghost use Rattle.std.specs.Prelude.{◌≡◌, ℕ, Err, IfOk, OnOk, OnErr};
 ghost use Rattle.rc_model.specs.Tree.{list};
 ghost use Rattle.rc_form.specs.Form.{tree_of, trees_of, packed};
+ghost use Rattle.rc_faults.specs.Giving as giving;
 ghost use Rattle.rc_faults.specs.SecondParts as parts_spec;
 ghost use Rattle.rc_faults.specs.SecondParts.{Standing};
 ghost use Rattle.rc_faults.specs.Summary as spec;
@@ -113,6 +114,10 @@ impl<'a> Whole<'a> {
             ≡ spec.know_all self.old (parts_spec.parts_at (Some at) (list (packed (trees_of parts.now)) from to))) }
         ensures memory { OnErr result (result ≡ Err SheetFail.Memory) }
     {
+        // Most of a sheet stands behind its setup.
+        if gives_nothing(place) && !is_given(role) {
+            return Ok(());
+        }
         let Some(rule) = rule_of(place, parts) else {
             return Ok(());
         };
@@ -172,5 +177,35 @@ impl<'a> Whole<'a> {
             Rule::PutPoints => self.maps.insert(word_in(2, parts)),
             _ => Ok(()),
         }
+    }
+}
+
+/// Whether neither a form at this place gives anything, nor one that stands in it.
+fn gives_nothing(place: Place) -> bool
+    ensures { result ≡ giving.gives_nothing place }
+{
+    match place {
+        Place::Sheet
+        | Place::Setup
+        | Place::Line
+        | Place::Team
+        | Place::Deck
+        | Place::Group
+        | Place::Branches
+        | Place::Branch
+        | Place::Entries
+        | Place::Entry
+        | Place::Values => false,
+        _ => true,
+    }
+}
+
+/// Whether an atom of this role is a value that the setup gives.
+fn is_given(role: Role) -> bool
+    ensures { result ≡ giving.is_given role }
+{
+    match role {
+        Role::GivenValue => true,
+        _ => false,
     }
 }

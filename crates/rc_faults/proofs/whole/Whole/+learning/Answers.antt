@@ -3,6 +3,9 @@ use Rattle.rc_form.specs.Form.{tree_of, trees_of, packed}
 use Rattle.rc_faults.specs.SecondParts.{parts_at, role_in}
 use Rattle.rc_faults.specs.Summary.{know_all}
 use Rattle.rc_faults.proofs.GroupLemmas.{list_seen}
+use Rattle.rc_model.specs.Tree.{list}
+use Rattle.rc_faults.specs.Giving.{gives_nothing, is_given}
+use Rattle.rc_faults.proofs.Giving.{nothing_at}
 use Rattle.rc_faults.proofs.Learned.{nowhere, standing_at, standing_by, learnt}
 use Rattle.rc_faults.proofs.whole.Whole.+learning.Goals as goal
 use Rattle.rc_faults.proofs.whole.Whole.+learning.Goals.{learn_parts-in-Some+in_ok-learn, learn_parts-in_default}
@@ -38,3 +41,10 @@ learn_parts-loop-index-preserved t c = λ at role.
           (standing_by at rule forms index c.place_at.result None c.place_at.ensures w.in_default.is) ∙ nowhere (tree_of part))))
           ∙ c.loop-index.invariant at role
     ]
+
+pub learn_list-returns-then-not-is_given-clause-known : goal.learn_list-returns-then-not-is_given-clause-known
+learn_list-returns-then-not-is_given-clause-known t c = λ at from to place role.
+    sym
+    (nothing_at (list (packed (trees_of c.args.parts.now)) from to) c.args.self.now at
+    (ap gives_nothing place ∙ sym c.gives_nothing.ensures ∙ c.if-gives_nothing.true)
+    (ap is_given role ∙ sym c.is_given.ensures ∙ c.if-not-is_given.true))
