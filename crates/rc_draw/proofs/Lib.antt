@@ -1,1 +1,2 @@
 mod ShuffleSteps
+mod RowLemmas

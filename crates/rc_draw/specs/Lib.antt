@@ -1,1 +1,2 @@
 pub mod Purposes
+pub mod Rows

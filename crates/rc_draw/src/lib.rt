@@ -4,11 +4,14 @@
 #![tactic(auto)]
 
 mod purpose;
+mod rounds;
+mod word;
 
 ghost use Rattle.std.specs.Prelude.{◌≡◌, ◌<◌, ◌≤◌, length};
 ghost use Rattle.std.specs.List.Sorted.{IsPermutation};
 ghost use Rattle.rc_play_model.specs.Draws as draws;
 
+use crate::word::first_word;
 pub use purpose::Purpose;
 use rand_chacha::ChaCha8Rng;
 use rand_core::SeedableRng;
@@ -46,8 +49,7 @@ pub fn pick_by(key: &[u8; 32], n: u32) -> u32
         keys_pick_and_permute();
         return 0;
     }
-    let mut rng = ChaCha8Rng::from_seed(*key);
-    scaled(rng.next_word(), n)
+    scaled(first_word(key), n)
 }
 
 /// Puts a list of at most 512 items into the order of a key. From the last place down to the second, each takes what stands at
