@@ -12,13 +12,12 @@ ghost use Rattle.rc_redraw.specs.Counts.{Serves, kept_once};
 ghost use Rattle.rc_redraw.specs.Need.{need_seen, IsAtDecision, IsNeed};
 ghost use Rattle.rc_rollout.specs.Alone.{IsOffhand, keys_of};
 
-use crate::offhand::{made_by, picked, scripted};
 use crate::totals::tally;
 use rc_code::Code;
 use rc_deck::Memory;
 use rc_play_model::tallies_are_bounded;
 use rc_redraw::{Ask, Key, Memo, Need, Reply};
-use rc_rules::Strategy;
+use rc_rules::{Strategy, made_by, picked, scripted};
 use rc_steps::Steps;
 use std::alloc::Global;
 use std::sync::Arc;
