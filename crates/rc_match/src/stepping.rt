@@ -11,7 +11,7 @@ ghost use Rattle.rc_rules.specs.Plan.{plan_seen};
 ghost use Rattle.rc_rules.specs.Record.{pick_seen, ending_seen, record_seen};
 ghost use Rattle.rc_rules.specs.Machine.{StandsAtDecision, StandsWhereItStops, menu_here};
 ghost use Rattle.rc_redraw.specs.Need.{need_seen};
-ghost use Rattle.rc_match.specs.Lane.{ready, over, lane_of, phase_seen, pick_here, noted, next_stop, need_at, completed, notes_at, phase_at, stepped};
+ghost use Rattle.rc_match.specs.Lane.{ready, over, lane_of, phase_seen, pick_here, noted, next_stop, need_at, stopped_at, lane_at, completed, notes_at, phase_at, stepped};
 ghost use Rattle.rc_match.specs.Way.{IsOnWay, HaveSameHead};
 
 use crate::ending::complete;
@@ -52,11 +52,43 @@ pub(crate) fn go_on<M: Machine>(
     ensures fresh { OnOk result (M.spent machine.new ≡ false) }
     ensures head { HaveSameHead (record_seen notes.old) (record_seen notes.new) }
 {
+    let stop = go_to_stop(job, pick, machine, dealer, notes)?;
+    arrive(alloc, job, stop, machine, dealer, notes)
+}
+
+/// Applies the pick, if there is one, and goes on to the next stop.
+pub(crate) fn go_to_stop<M: Machine>(
+    job: &Job,
+    pick: Option<u16>,
+    machine: &mut M,
+    dealer: &mut MatchDealer,
+    notes: &mut MatchRecord,
+) -> Result<Stop, Memory>
+    requires about { M.about machine.old ≡ job.now.about.value }
+    requires deal { dealing_of dealer.old.deal ≡ dealing_of (deal_at (plan_seen job.now.plan.value) job.now.number).deal }
+    requires fresh { M.spent machine.old ≡ false }
+    requires way { IsOnWay job.now.about.value (plan_seen job.now.plan.value) job.now.number
+        (lane_of (M.config machine.old) dealer.old notes.old (ready pick)) }
+    ensures is { IfOk result (λ stop.
+        stepped job.now.about.value (plan_seen job.now.plan.value) job.now.number
+        (lane_of (M.config machine.old) dealer.old notes.old (ready pick))
+        ≡ Some (lane_at job.now.about.value (plan_seen job.now.plan.value) job.now.number (record_seen notes.new)
+        (stopped_at (stop_seen stop) (M.config machine.new) dealer.new))) }
+    ensures way { IfOk result (λ stop. IsOnWay job.now.about.value (plan_seen job.now.plan.value) job.now.number
+        (lane_at job.now.about.value (plan_seen job.now.plan.value) job.now.number (record_seen notes.new)
+        (stopped_at (stop_seen stop) (M.config machine.new) dealer.new))) }
+    ensures stands { IfOk result (λ stop. StandsWhereItStops job.now.about.value (stop_seen stop) (M.config machine.new)) }
+    ensures plays { OnOk result (mover job.now.about.value.sheet (M.config machine.new).control.frames < job.now.about.value.sheet.players) }
+    ensures about { M.about machine.new ≡ job.now.about.value }
+    ensures deal { dealing_of dealer.new.deal ≡ dealing_of (deal_at (plan_seen job.now.plan.value) job.now.number).deal }
+    ensures fresh { OnOk result (M.spent machine.new ≡ false) }
+    ensures head { HaveSameHead (record_seen notes.old) (record_seen notes.new) }
+{
     // what an about keeps
     let _sheet = job.about.sheet();
     take_any(&job.about, pick, machine, dealer, notes)?;
     let stop = machine.advance(dealer)?;
-    arrive(alloc, job, stop, machine, dealer, notes)
+    Ok(stop)
 }
 
 // Notes the pick and does its effects, if there is one.
@@ -156,8 +188,13 @@ fn arrive<M: Machine>(
     }
 }
 
-// What the strategy of the seat that decides is to choose by.
-fn need_of<M: Machine>(alloc: Global, job: &Job, seat: u8, machine: &M) -> Result<Need, Memory>
+/// What the strategy of the seat that decides is to choose by.
+pub(crate) fn need_of<M: Machine>(
+    alloc: Global,
+    job: &Job,
+    seat: u8,
+    machine: &M,
+) -> Result<Need, Memory>
     requires number { job.now.number < length job.now.plan.value.matches.items }
     requires seats { length job.now.plan.value.strategies.items ≡ job.now.about.value.sheet.players }
     requires about { M.about machine.now ≡ job.now.about.value }

@@ -1,0 +1,131 @@
+//! What is picked at a stop of a match that is played at once.
+ghost use Rattle.std.specs.Prelude.{◌≡◌, ◌<◌, false, length, Some, IfSome, IfOk, OnOk, OnErr};
+ghost use Rattle.rc_play_model.specs.About.{About as PureAbout};
+ghost use Rattle.rc_play_model.specs.Owners.{mover};
+ghost use Rattle.rc_redraw.specs.Choosing.{AsksAll, AsksSome, asked_for};
+ghost use Rattle.rc_redraw.specs.Need.{IsNeed};
+ghost use Rattle.rc_rules.specs.Control.{stop_seen};
+ghost use Rattle.rc_rules.specs.Machine.{StandsAtDecision, StandsWhereItStops};
+ghost use Rattle.rc_rules.specs.Plan.{plan_seen};
+ghost use Rattle.rc_rules.specs.Record.{record_seen};
+ghost use Rattle.rc_match.specs.Chosen.{Chosen, IsChoice, IsOffhand, asked_at};
+ghost use Rattle.rc_match.specs.Lane.{asks, need_at, notes_at, phase_at};
+
+use crate::ending::complete;
+use crate::job::{Job, deal_of, strategy_of};
+use crate::stepping::need_of;
+use rc_deck::Memory;
+use rc_redraw::Chooser;
+use rc_rules::{Ended, Machine, MatchDealer, MatchRecord, Stop, offhand_of};
+use rc_steps::Steps;
+use std::alloc::Global;
+use std::sync::ledger::Ledger;
+
+/// The item that is picked at a decision, and nothing at an end, where the record is completed.
+pub(crate) fn picked_at<M: Machine, C: Chooser, L: Ledger>(
+    alloc: Global,
+    job: &Job,
+    stop: Stop,
+    machine: &M,
+    dealer: &MatchDealer,
+    notes: &mut MatchRecord,
+    chooser: &mut C,
+    steps: &mut Steps<L>,
+) -> Result<Option<u16>, Memory>
+    requires number { job.now.number < length job.now.plan.value.matches.items }
+    requires seats { length job.now.plan.value.strategies.items ≡ job.now.about.value.sheet.players }
+    requires about { M.about machine.now ≡ job.now.about.value }
+    requires fresh { M.spent machine.now ≡ false }
+    requires stands { StandsWhereItStops job.now.about.value (stop_seen stop) (M.config machine.now) }
+    requires plays { mover job.now.about.value.sheet (M.config machine.now).control.frames < job.now.about.value.sheet.players }
+    requires asks { IsChoice (C.serves chooser.old)
+        (phase_at job.now.about.value (plan_seen job.now.plan.value) job.now.number (stop_seen stop) (M.config machine.now)) }
+    ensures is { IfOk result (λ pick. Chosen
+        (phase_at job.now.about.value (plan_seen job.now.plan.value) job.now.number (stop_seen stop) (M.config machine.now)) pick) }
+    ensures notes { OnOk result (record_seen notes.new
+        ≡ notes_at job.now.about.value (record_seen notes.old) (stop_seen stop) (M.config machine.now) dealer.now.count) }
+    ensures asked { OnOk result (AsksAll
+        (asked_at (phase_at job.now.about.value (plan_seen job.now.plan.value) job.now.number (stop_seen stop) (M.config machine.now)))
+        (C.counts chooser.old) (C.counts chooser.new) steps.old steps.new) }
+    ensures lacking { OnErr result (AsksSome
+        (asked_at (phase_at job.now.about.value (plan_seen job.now.plan.value) job.now.number (stop_seen stop) (M.config machine.now)))
+        (C.counts chooser.old) (C.counts chooser.new) steps.old steps.new) }
+    ensures same { (about : PureAbout) → C.serves chooser.old about → C.serves chooser.new about }
+{
+    match stop {
+        Stop::Decide { seat, .. } => {
+            match item_of(alloc, job, seat, machine, chooser, steps) {
+                Ok(item) => Ok(Some(item)),
+                Err(Memory) => Err(Memory),
+            }
+        }
+        Stop::Done => {
+            complete(alloc, &job.about, machine, dealer, Ended::Done, notes)?;
+            Ok(None)
+        }
+        Stop::Limit => {
+            complete(alloc, &job.about, machine, dealer, Ended::Limit, notes)?;
+            Ok(None)
+        }
+    }
+}
+
+// The item that the strategy of the seat that decides chooses. The chooser is asked where the strategy is a rollout. What others pick
+// is taken at once, since for them no view has to be made.
+fn item_of<M: Machine, C: Chooser, L: Ledger>(
+    alloc: Global,
+    job: &Job,
+    seat: u8,
+    machine: &M,
+    chooser: &mut C,
+    steps: &mut Steps<L>,
+) -> Result<u16, Memory>
+    requires number { job.now.number < length job.now.plan.value.matches.items }
+    requires seats { length job.now.plan.value.strategies.items ≡ job.now.about.value.sheet.players }
+    requires about { M.about machine.now ≡ job.now.about.value }
+    requires fresh { M.spent machine.now ≡ false }
+    requires decides { StandsAtDecision job.now.about.value (M.config machine.now) }
+    requires plays { seat < job.now.about.value.sheet.players }
+    requires served { C.serves chooser.old job.now.about.value }
+    requires need { IsNeed (need_at job.now.about.value (plan_seen job.now.plan.value) job.now.number seat (M.config machine.now)) }
+    ensures is { IfOk result (λ item. Chosen (asks
+        (need_at job.now.about.value (plan_seen job.now.plan.value) job.now.number seat (M.config machine.now))) (Some item)) }
+    ensures asked { OnOk result (AsksAll
+        (asked_for (need_at job.now.about.value (plan_seen job.now.plan.value) job.now.number seat (M.config machine.now)))
+        (C.counts chooser.old) (C.counts chooser.new) steps.old steps.new) }
+    ensures lacking { OnErr result (AsksSome
+        (asked_for (need_at job.now.about.value (plan_seen job.now.plan.value) job.now.number seat (M.config machine.now)))
+        (C.counts chooser.old) (C.counts chooser.new) steps.old steps.new) }
+    ensures same { (about : PureAbout) → C.serves chooser.old about → C.serves chooser.new about }
+{
+    match offhand_at(job, seat, machine) {
+        Some(item) => Ok(item),
+        None => {
+            let need = need_of(alloc, job, seat, machine)?;
+            chooser.choose(alloc, &need, steps)
+        }
+    }
+}
+
+// The item where the strategy asks nothing of playouts, and nothing where it does.
+fn offhand_at<M: Machine>(job: &Job, seat: u8, machine: &M) -> Option<u16>
+    requires number { job.now.number < length job.now.plan.value.matches.items }
+    requires seats { length job.now.plan.value.strategies.items ≡ job.now.about.value.sheet.players }
+    requires about { M.about machine.now ≡ job.now.about.value }
+    requires fresh { M.spent machine.now ≡ false }
+    requires decides { StandsAtDecision job.now.about.value (M.config machine.now) }
+    requires plays { seat < job.now.about.value.sheet.players }
+    requires need { IsNeed (need_at job.now.about.value (plan_seen job.now.plan.value) job.now.number seat (M.config machine.now)) }
+    ensures { IfSome result (IsOffhand
+        (need_at job.now.about.value (plan_seen job.now.plan.value) job.now.number seat (M.config machine.now))) }
+{
+    // what an about keeps
+    let _sheet = job.about.sheet();
+    offhand_of(
+        strategy_of(&job.plan, job.number, seat),
+        deal_of(&job.plan, job.number).seats,
+        seat,
+        machine.control(),
+        machine.menu_size() as u16,
+    )
+}
