@@ -1,5 +1,5 @@
 //! The text of a match, and of a whole house text.
-ghost use Rattle.std.specs.Prelude.{◌≡◌, ◌++◌, string_bytes, map, flat_map, IfOk, OnOk};
+ghost use Rattle.std.specs.Prelude.{◌≡◌, ◌++◌, map, flat_map, IfOk, OnOk};
 ghost use Rattle.rc_model.specs.Transcript.{record_text};
 ghost use Rattle.rc_rules.specs.Record.{record_seen};
 ghost use Rattle.rc_text.specs.House.{text_of};
@@ -28,9 +28,9 @@ pub struct HouseText {
 pub fn write_record(alloc: Global, item: &MatchRecord) -> Result<Vec<u8>, Memory>
     ensures { IfOk result (λ bytes. bytes.items ≡ record_text (record_seen item.now)) }
 {
-    let mut out = String::new(alloc);
+    let mut out = Vec::new(alloc);
     add_record(&mut out, item)?;
-    Ok(out.into_bytes())
+    Ok(out)
 }
 
 /// The bytes of a house text: its format's line, the matches in order, and the standings.
@@ -41,15 +41,17 @@ pub fn write_record(alloc: Global, item: &MatchRecord) -> Result<Vec<u8>, Memory
 pub fn write_house(alloc: Global, text: &HouseText) -> Result<Vec<u8>, Memory>
     ensures { IfOk result (λ bytes. bytes.items ≡ text_of text.now) }
 {
-    let mut out = String::new(alloc);
-    out.push_str("house 1\n")?;
+    let mut out = Vec::new(alloc);
+    out.extend_from_slice(b"house 1\n")?;
     add_records(&mut out, &text.matches)?;
-    write_standings(&mut out, &text.standings)?;
-    Ok(out.into_bytes())
+    let mut standings = String::new(alloc);
+    write_standings(&mut standings, &text.standings)?;
+    out.extend_from_slice(standings.as_bytes())?;
+    Ok(out)
 }
 
-fn add_records(out: &mut String, matches: &[MatchRecord]) -> Result<(), AllocError>
-    ensures { OnOk result (string_bytes out.new ≡ string_bytes out.old ++ flat_map record_text (map record_seen matches.now)) }
+fn add_records(out: &mut Vec<u8>, matches: &[MatchRecord]) -> Result<(), AllocError>
+    ensures { OnOk result (out.new.items ≡ out.old.items ++ flat_map record_text (map record_seen matches.now)) }
 {
     for played in matches {
         add_record(out, played)?;
@@ -57,8 +59,8 @@ fn add_records(out: &mut String, matches: &[MatchRecord]) -> Result<(), AllocErr
     Ok(())
 }
 
-fn add_record(out: &mut String, played: &MatchRecord) -> Result<(), AllocError>
-    ensures { OnOk result (string_bytes out.new ≡ string_bytes out.old ++ record_text (record_seen played.now)) }
+fn add_record(out: &mut Vec<u8>, played: &MatchRecord) -> Result<(), AllocError>
+    ensures { OnOk result (out.new.items ≡ out.old.items ++ record_text (record_seen played.now)) }
 {
     write_match_line(out, played)?;
     write_picks(out, &played.picks)?;

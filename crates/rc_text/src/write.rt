@@ -1,5 +1,6 @@
 //! The lines of a house text. Every line ends with LF.
-ghost use Rattle.std.specs.Prelude.{◌≡◌, ◌++◌, string_bytes, map, flat_map, OnOk};
+ghost use Rattle.std.specs.Prelude.{◌≡◌, ◌++◌, codes, decimal, string_bytes, map, flat_map, OnOk};
+ghost use Rattle.std.specs.Fmt.{signed_decimal};
 ghost use Rattle.rc_model.specs.Transcript.{match_line, choose_line, shuffles_line, end_line, score_line, standing_line};
 ghost use Rattle.rc_rules.specs.Record.{pick_seen, ending_seen, score_seen, record_seen, standing_seen};
 
@@ -8,21 +9,22 @@ use std::alloc::AllocError;
 use std::fmt::Write;
 
 /// Adds the line that a match begins with.
-pub fn write_match_line(out: &mut String, played: &MatchRecord) -> Result<(), AllocError>
-    ensures { OnOk result (string_bytes out.new ≡ string_bytes out.old ++ match_line (record_seen played.now)) }
+pub(crate) fn write_match_line(out: &mut Vec<u8>, played: &MatchRecord) -> Result<(), AllocError>
+    ensures { OnOk result (out.new.items ≡ out.old.items ++ match_line (record_seen played.now)) }
 {
-    let MatchRecord {
-        number,
-        deal,
-        seats,
-        ..
-    } = played;
-    writeln!(out, "match {number} deal {deal} seats {seats}")
+    out.extend_from_slice(b"match ")?;
+    write_number(out, u64::from(played.number))?;
+    out.extend_from_slice(b" deal ")?;
+    write_number(out, played.deal)?;
+    out.extend_from_slice(b" seats ")?;
+    write_number(out, played.seats)?;
+    out.push(b'\n')?;
+    Ok(())
 }
 
 /// Adds a line for each choice.
-pub fn write_picks(out: &mut String, picks: &[Pick]) -> Result<(), AllocError>
-    ensures { OnOk result (string_bytes out.new ≡ string_bytes out.old ++ flat_map choose_line (map pick_seen picks.now)) }
+pub(crate) fn write_picks(out: &mut Vec<u8>, picks: &[Pick]) -> Result<(), AllocError>
+    ensures { OnOk result (out.new.items ≡ out.old.items ++ flat_map choose_line (map pick_seen picks.now)) }
 {
     for pick in picks {
         write_pick(out, *pick)?;
@@ -30,41 +32,47 @@ pub fn write_picks(out: &mut String, picks: &[Pick]) -> Result<(), AllocError>
     Ok(())
 }
 
-fn write_pick(out: &mut String, pick: Pick) -> Result<(), AllocError>
-    ensures { OnOk result (string_bytes out.new ≡ string_bytes out.old ++ choose_line (pick_seen pick)) }
+fn write_pick(out: &mut Vec<u8>, pick: Pick) -> Result<(), AllocError>
+    ensures { OnOk result (out.new.items ≡ out.old.items ++ choose_line (pick_seen pick)) }
 {
-    let Pick {
-        seat,
-        site,
-        item,
-        size,
-    } = pick;
-    writeln!(out, "choose {seat} {site} {item} {size}")
+    out.extend_from_slice(b"choose ")?;
+    write_number(out, u64::from(pick.seat))?;
+    write_next(out, u64::from(pick.site))?;
+    write_next(out, u64::from(pick.item))?;
+    write_next(out, u64::from(pick.size))?;
+    out.push(b'\n')?;
+    Ok(())
 }
 
 /// Adds a line for the shuffles, where there were any.
-pub fn write_shuffles(out: &mut String, shuffles: u32) -> Result<(), AllocError>
-    ensures { OnOk result (string_bytes out.new ≡ string_bytes out.old ++ shuffles_line shuffles) }
+pub(crate) fn write_shuffles(out: &mut Vec<u8>, shuffles: u32) -> Result<(), AllocError>
+    ensures { OnOk result (out.new.items ≡ out.old.items ++ shuffles_line shuffles) }
 {
-    if shuffles != 0 {
-        writeln!(out, "shuffles {shuffles}")?;
+    if shuffles == 0 {
+        return Ok(());
     }
+    out.extend_from_slice(b"shuffles ")?;
+    write_number(out, u64::from(shuffles))?;
+    out.push(b'\n')?;
     Ok(())
 }
 
 /// Adds the line that tells how a match ended, and in which turn.
-pub fn write_end(out: &mut String, stop: Ended, turn: u32) -> Result<(), AllocError>
-    ensures { OnOk result (string_bytes out.new ≡ string_bytes out.old ++ end_line (ending_seen stop) turn) }
+pub(crate) fn write_end(out: &mut Vec<u8>, stop: Ended, turn: u32) -> Result<(), AllocError>
+    ensures { OnOk result (out.new.items ≡ out.old.items ++ end_line (ending_seen stop) turn) }
 {
     match stop {
-        Ended::Done => writeln!(out, "end done {turn}"),
-        Ended::Limit => writeln!(out, "end limit {turn}"),
+        Ended::Done => out.extend_from_slice(b"end done ")?,
+        Ended::Limit => out.extend_from_slice(b"end limit ")?,
     }
+    write_number(out, u64::from(turn))?;
+    out.push(b'\n')?;
+    Ok(())
 }
 
 /// Adds a line for each player's score.
-pub fn write_scores(out: &mut String, scores: &[Score]) -> Result<(), AllocError>
-    ensures { OnOk result (string_bytes out.new ≡ string_bytes out.old ++ flat_map score_line (map score_seen scores.now)) }
+pub(crate) fn write_scores(out: &mut Vec<u8>, scores: &[Score]) -> Result<(), AllocError>
+    ensures { OnOk result (out.new.items ≡ out.old.items ++ flat_map score_line (map score_seen scores.now)) }
 {
     for score in scores {
         write_score(out, *score)?;
@@ -72,15 +80,44 @@ pub fn write_scores(out: &mut String, scores: &[Score]) -> Result<(), AllocError
     Ok(())
 }
 
-fn write_score(out: &mut String, score: Score) -> Result<(), AllocError>
-    ensures { OnOk result (string_bytes out.new ≡ string_bytes out.old ++ score_line (score_seen score)) }
+fn write_score(out: &mut Vec<u8>, score: Score) -> Result<(), AllocError>
+    ensures { OnOk result (out.new.items ≡ out.old.items ++ score_line (score_seen score)) }
 {
-    let Score {
-        player,
-        score,
-        points,
-    } = score;
-    writeln!(out, "score {player} {score} {points}")
+    out.extend_from_slice(b"score ")?;
+    write_number(out, u64::from(score.player))?;
+    out.push(b' ')?;
+    write_integer(out, score.score)?;
+    write_next(out, u64::from(score.points))?;
+    out.push(b'\n')?;
+    Ok(())
+}
+
+// Adds a space and a number.
+fn write_next(out: &mut Vec<u8>, number: u64) -> Result<(), AllocError>
+    ensures { OnOk result (out.new.items ≡ out.old.items ++ codes " " ++ decimal number) }
+{
+    out.push(b' ')?;
+    write_number(out, number)
+}
+
+// Adds a number in decimal digits. Most have one.
+fn write_number(out: &mut Vec<u8>, number: u64) -> Result<(), AllocError>
+    ensures { OnOk result (out.new.items ≡ out.old.items ++ decimal number) }
+{
+    if number < 10 {
+        out.push(b'0' + number as u8)?;
+        return Ok(());
+    }
+    let mut digits = itoa::Buffer::new();
+    out.extend_from_slice(digits.format(number).as_bytes())
+}
+
+// Adds a number in decimal digits, with `-` before it where it is below 0.
+fn write_integer(out: &mut Vec<u8>, number: i64) -> Result<(), AllocError>
+    ensures { OnOk result (out.new.items ≡ out.old.items ++ signed_decimal number) }
+{
+    let mut digits = itoa::Buffer::new();
+    out.extend_from_slice(digits.format(number).as_bytes())
 }
 
 /// Adds a line for each strategy.
