@@ -6,6 +6,7 @@ ghost use Rattle.rc_reads.specs.Reads.{reads_who, reads_card, reads_coll, reads_
 
 use rc_ast::{CardExpr, CollExpr, Domain, IntExpr, Test, Who};
 
+#[inline(always)]
 fn owner_reads(who: Who, place: usize) -> bool
     ensures { result ≡ reads_who place (who_seen who) }
 {
@@ -33,8 +34,22 @@ pub fn card_reads(expr: &CardExpr, place: usize) -> bool
     }
 }
 
+// Most collections are those of a variable or of a location: these take no call.
 #[cycle(reading)]
+#[inline(always)]
 fn cards_read(expr: &CollExpr, place: usize) -> bool
+    ensures { result ≡ reads_coll place (coll_seen expr.now) }
+{
+    match expr {
+        CollExpr::Var(var) => *var as usize == place,
+        CollExpr::Loc(loc) => owner_reads(loc.who, place),
+        _ => gathered_read(expr, place),
+    }
+}
+
+#[cycle(reading)]
+#[inline(never)]
+fn gathered_read(expr: &CollExpr, place: usize) -> bool
     ensures { result ≡ reads_coll place (coll_seen expr.now) }
 {
     match expr {
@@ -46,6 +61,7 @@ fn cards_read(expr: &CollExpr, place: usize) -> bool
 }
 
 #[cycle(reading)]
+#[inline(never)]
 fn some_part_reads(parts: &Vec<CollExpr>, place: usize) -> bool
     ensures { result ≡ reads_colls place (colls_seen parts.now.items) }
 {
@@ -58,7 +74,21 @@ fn some_part_reads(parts: &Vec<CollExpr>, place: usize) -> bool
 }
 
 #[cycle(reading)]
+#[inline(always)]
 fn number_reads(expr: &IntExpr, place: usize) -> bool
+    ensures { result ≡ reads_int place (int_seen expr.now) }
+{
+    match expr {
+        IntExpr::Lit(_) => false,
+        IntExpr::Num(num) => owner_reads(num.who, place),
+        IntExpr::Size(cards) => cards_read(cards, place),
+        _ => calculated_reads(expr, place),
+    }
+}
+
+#[cycle(reading)]
+#[inline(never)]
+fn calculated_reads(expr: &IntExpr, place: usize) -> bool
     ensures { result ≡ reads_int place (int_seen expr.now) }
 {
     match expr {
@@ -98,6 +128,7 @@ pub fn test_reads(expr: &Test, place: usize) -> bool
 }
 
 #[cycle(reading)]
+#[inline(never)]
 fn some_test_reads(tests: &Vec<Test>, place: usize) -> bool
     ensures { result ≡ reads_tests place (tests_seen tests.now.items) }
 {
@@ -110,6 +141,7 @@ fn some_test_reads(tests: &Vec<Test>, place: usize) -> bool
 }
 
 #[cycle(reading)]
+#[inline(never)]
 fn domain_reads(domain: &Domain, place: usize) -> bool
     ensures { result ≡ reads_domain place (domain_seen domain.now) }
 {

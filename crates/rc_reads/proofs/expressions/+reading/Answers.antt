@@ -4,8 +4,8 @@ use Rattle.rc_ast.proofs.ViewLemmas.{union_seen, and_seen, or_seen}
 use Rattle.rc_reads.specs.Reads.{reads_coll, reads_test}
 use Rattle.rc_reads.proofs.expressions.+reading.Goals as goal
 
-pub cards_read-returns-in-Union : goal.cards_read-returns-in-Union
-cards_read-returns-in-Union t c =
+pub gathered_read-returns-in-Union : goal.gathered_read-returns-in-Union
+gathered_read-returns-in-Union t c =
     c.some_part_reads.ensures ∙ ap (reads_coll c.args.place) (sym (ap coll_seen c.in-Union.is ∙ union_seen c.in-Union.parts))
 
 pub test_reads-returns-in-And : goal.test_reads-returns-in-And
