@@ -6,6 +6,5 @@ pub mod FaceNumbers
 pub mod PutBack
 pub mod RowLemmas
 pub mod OnePlace
-pub mod Overwritten
 pub mod WhereaboutLemmas
 pub mod WhereaboutEdits

@@ -1,10 +1,10 @@
 //! What changes a table. None of it takes memory.
-ghost use Rattle.std.specs.Prelude.{◌≡◌, ◌<◌, ◌≤◌, length, take};
+ghost use Rattle.std.specs.Prelude.{◌≡◌, ◌<◌, ◌≤◌, true, length, take};
 ghost use Rattle.std.specs.List.Sorted.{IsPermutation};
 ghost use Rattle.rc_model.specs.Clamp.{IsWithinClamp};
 ghost use Rattle.rc_model.specs.Numbers.{below};
 ghost use Rattle.rc_play_model.specs.Bound.{HoldsCards, HoldsReferences};
-ghost use Rattle.rc_play_model.specs.Table.{list_at, put_top, put_bottom, remember_top, remember_bottom, forget_in, set_number, taken, reorder};
+ghost use Rattle.rc_play_model.specs.Table.{list_at, put_top, put_bottom, remember_top, remember_bottom, has_room, forget_in, set_number, taken, reorder};
 ghost use Rattle.rc_table.specs.Laid.{relaid};
 
 use crate::table::{LONGEST_LIST, Table};
@@ -48,9 +48,22 @@ impl Table {
         // what is known of a sound table
         let _shape = self.shape();
         if self.has_room(loc) {
-            let top = self.list(loc).len() as u16;
-            self.put_reference(id, loc, top);
+            self.note_top(id, loc);
         }
+    }
+
+    /// The same where it is known that there is room.
+    pub fn note_top(&mut self, id: u16, loc: u16)
+        requires card { id < length self.old.shape.faces }
+        requires loc { HoldsReferences self.old.shape loc }
+        requires room { has_room self.old.shape loc self.old.table ≡ true }
+        ensures { self.new ≡ relaid self.old (remember_top self.old.shape id loc self.old.table) }
+    {
+        edits_keep_tables_sound();
+        // what is known of a sound table
+        let _shape = self.shape();
+        let top = self.list(loc).len() as u16;
+        self.put_reference(id, loc, top);
     }
 
     /// Puts a reference at the bottom of a `mem`; nothing changes where that `mem` holds 512, or all of them 1,024.
@@ -63,8 +76,21 @@ impl Table {
         // what is known of a sound table
         let _shape = self.shape();
         if self.has_room(loc) {
-            self.put_reference(id, loc, 0);
+            self.note_bottom(id, loc);
         }
+    }
+
+    /// The same where it is known that there is room.
+    pub fn note_bottom(&mut self, id: u16, loc: u16)
+        requires card { id < length self.old.shape.faces }
+        requires loc { HoldsReferences self.old.shape loc }
+        requires room { has_room self.old.shape loc self.old.table ≡ true }
+        ensures { self.new ≡ relaid self.old (remember_bottom self.old.shape id loc self.old.table) }
+    {
+        edits_keep_tables_sound();
+        // what is known of a sound table
+        let _shape = self.shape();
+        self.put_reference(id, loc, 0);
     }
 
     /// Takes the topmost reference with the card's face out of a `mem`, if there is one.

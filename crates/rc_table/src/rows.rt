@@ -38,6 +38,35 @@ fn row_of(alloc: Global, list: &[u16], room: u16) -> Result<Vec<u16>, Memory>
     Ok(row)
 }
 
+// Takes an id out of a row. Where it is the last one, none has to move.
+#[inline(always)]
+fn remove_at(row: &mut Vec<u16>, place: usize)
+    requires { place < length row.old.items }
+    ensures items { row.new.items ≡ remove row.old.items place }
+    ensures capacity { vec_capacity row.new ≡ vec_capacity row.old }
+{
+    if place + 1 == row.len() {
+        let _last = row.pop();
+    } else {
+        row.remove(place);
+    }
+}
+
+// Puts an id into a row that has room. Where it becomes the last one, none has to move.
+#[inline(always)]
+fn insert_at(row: &mut Vec<u16>, place: usize, id: u16)
+    requires place { place ≤ length row.old.items }
+    requires room { length row.old.items < vec_capacity row.old }
+    ensures items { row.new.items ≡ insert row.old.items place id }
+    ensures capacity { vec_capacity row.old ≤ vec_capacity row.new }
+{
+    if place == row.len() {
+        row.push_reserved(id);
+    } else {
+        row.insert(place, id).unwrap();
+    }
+}
+
 impl Rows {
     /// So many empty lists, with room for so many ids in each.
     pub(crate) fn new(alloc: Global, lists: u16, room: u16) -> Result<Rows, Memory>
@@ -82,6 +111,7 @@ impl Rows {
     }
 
     /// Takes an id out of a list.
+    #[inline(always)]
     pub(crate) fn take_out(&mut self, at: u16, place: usize)
         requires list { at < length self.old.all }
         requires place { place < length (slice_index_or self.old.all at []) }
@@ -90,10 +120,11 @@ impl Rows {
           room = self.old.room;
         } }
     {
-        self.rows[at as usize].remove(place);
+        remove_at(&mut self.rows[at as usize], place);
     }
 
     /// Puts an id into a list.
+    #[inline(always)]
     pub(crate) fn put_in(&mut self, at: u16, place: usize, id: u16)
         requires list { at < length self.old.all }
         requires place { place ≤ length (slice_index_or self.old.all at []) }
@@ -103,7 +134,7 @@ impl Rows {
           room = self.old.room;
         } }
     {
-        self.rows[at as usize].insert(place, id).unwrap();
+        insert_at(&mut self.rows[at as usize], place, id);
     }
 
     /// Writes another list of the same length.

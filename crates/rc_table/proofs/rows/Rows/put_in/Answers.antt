@@ -1,4 +1,4 @@
-use Rattle.std.proofs.Common.{cond, is_ok, ap, ◌∙◌}
+use Rattle.std.proofs.Common.{ap, ◌∙◌}
 use Rattle.std.specs.List.{insert}
 use Rattle.rc_table.proofs.RowLemmas.{read_row, rows_set}
 use Rattle.rc_table.proofs.rows.Rows.put_in.Goals as goal
@@ -7,7 +7,6 @@ pub returns : goal.returns
 returns c =
     let place = c.args.place in
     let id = c.args.id in
-    let row = c.index_mut.result.now.items in
     rows_set _ _ c.args.at _ _ _ c.self.view_is
-    (c.insert.ensures.items ∙ ap (λ r. cond (is_ok r) (insert row place id) row) c.unwrap.ensures
+    (c.insert_at.ensures.items
     ∙ ap (λ xs. insert xs place id) (read_row _ _ c.args.at _ _ c.self.view_is c.requires.list c.index_mut.ensures.value))
