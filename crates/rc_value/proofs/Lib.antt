@@ -5,9 +5,10 @@ pub mod Passing
 pub mod Faces
 pub mod Best
 pub mod Firsts
-pub mod PointLemmas
 pub mod Offers
 pub mod WantedLemmas
 pub mod AskLemmas
 pub mod RowLemmas
 pub mod RowOffers
+pub mod HoldingLemmas
+pub mod CurrentLemmas

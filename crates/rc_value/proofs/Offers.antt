@@ -122,3 +122,8 @@ same_offers P Q cards h = ap (λ f. from_each f 0 cards) (fun_ext (λ c. ap (λ 
 
 pub extended_none : (item : PureItem) → extended item [] ≡ item
 extended_none item = ap (λ xs. record { alt = item.alt; spots = xs }) (append-nil item.spots)
+
+-- an item that had no position yet
+pub first_extended : (item : PureItem) (alt spot : ℕ) (spots : List ℕ) → spots ≡ [] → item ≡ record { alt = alt; spots = spot ∷ [] } →
+    item ≡ extended (record { alt = alt; spots = spots }) (spot ∷ [])
+first_extended item alt spot spots none is = is ∙ ap (λ xs. record { alt = alt; spots = xs ++ spot ∷ [] }) (sym none)

@@ -5,7 +5,7 @@ use Rattle.std.specs.List.{list_any, list_all}
 use Rattle.std.proofs.lemmas.List.{length-map, take_all}
 use Rattle.rc_model.specs.Numbers.{below}
 use Rattle.rc_model.specs.Deck.{value_at}
-use Rattle.rc_play_model.specs.Ends.{first_of, last_of}
+use Rattle.rc_play_model.specs.Ends.{last_of}
 use Rattle.rc_play_model.specs.Scene.{CardValue, held, id_of, value_in}
 use Rattle.rc_play_model.specs.Shape.{face_at}
 use Rattle.rc_play_model.specs.Value.{attr_of_any, cut, worth, worth_of_any}
@@ -39,18 +39,10 @@ last_found (x ∷ y ∷ xs) =
     let e : length (x ∷ y ∷ xs) - 1 ≡ suc (length (y ∷ xs) - 1) = omega arith in
     ap (slice_get (x ∷ y ∷ xs)) e ∙ last_found (y ∷ xs)
 
-pub first_found : (xs : List ℕ) → slice_get xs 0 ≡ first_of xs
-first_found [] = refl
-first_found (x ∷ xs) = refl
-
 pub last-map : {X Y : Type 0} (f : X → Y) (xs : List X) → last_of (map f xs) ≡ option_map f (last_of xs)
 last-map f [] = refl
 last-map f (x ∷ []) = refl
 last-map f (x ∷ y ∷ xs) = last-map f (y ∷ xs)
-
-pub first-map : {X Y : Type 0} (f : X → Y) (xs : List X) → first_of (map f xs) ≡ option_map f (first_of xs)
-first-map f [] = refl
-first-map f (x ∷ xs) = refl
 
 -- a card's value and worth hang on its id alone
 abbrev some_or : ℕ → Option ℕ → ℕ

@@ -1,19 +1,21 @@
 -- Tests of a card's value, which cards are to have.
-use Rattle.std.proofs.Common.{◌≡◌, ℕ, ◌==◌, not, Bool, true, false, List, [], ◌∷◌, ◌++◌, length, map, filter, slice_get, Option, Some, None, option_map, arith, refl, sym, ap, ap₂, ◌∙◌}
+use Rattle.std.proofs.Common.{◌≡◌, ℕ, ◌==◌, not, Bool, true, false, List, [], ◌∷◌, ◌++◌, length, map, filter, slice_get, Option, Some, None, option_map, arith, refl, sym, ap, ap₂, subst, ◌∙◌}
 use Rattle.std.specs.Prelude.{IfSome}
 use mathlib.Core.Path.{fun_ext}
 use Rattle.std.specs.List.{list_any, list_all}
 use Rattle.std.proofs.lemmas.Bool.Decides.{nat_tests}
-use Rattle.rc_sheet_model.specs.Sheet.{CardExpr, card_var, Test, eq_attr, has_value}
+use Rattle.rc_sheet_model.specs.Sheet.{Loc, LocName, CardExpr, card_var, top_card, CollExpr, cards_in, Test, eq_attr, has_value}
+use Rattle.rc_sheet_model.specs.Naming.{class_of}
+use Rattle.rc_play_model.specs.Owners.{place_among}
 use Rattle.rc_play_model.specs.Scene.{CardValue}
-use Rattle.rc_play_model.specs.Value.{Scene as PureScene, Bind as PureBind, card_bound, player_bound, both, nat_same, card_of, attr_of_any, card_value, test_value}
+use Rattle.rc_play_model.specs.Value.{Scene as PureScene, Bind as PureBind, card_bound, player_bound, both, nat_same, card_of, attr_of_any, cards_there, cut, last_of, card_value, coll_value, test_value}
 use Rattle.rc_reads.specs.Reads.{reads_card}
 use Rattle.rc_reads.proofs.Unread.{unread_card}
 use Rattle.rc_value.specs.declared.wanted.Wanted.{Wanted}
-use Rattle.rc_value.specs.Wanted.{wanted_value, turned, IsWanted}
+use Rattle.rc_value.specs.Wanted.{wanted_value, turned, IsFixed, IsFixedCollection, IsFixedOwner, IsWanted}
 use Rattle.rc_value.proofs.Steps.{all-map, any-map}
 
-at_end : {B : Type 0} (vars : List B) (m : B) → slice_get (vars ++ m ∷ []) (length vars) ≡ Some m
+pub at_end : {B : Type 0} (vars : List B) (m : B) → slice_get (vars ++ m ∷ []) (length vars) ≡ Some m
 at_end [] m = refl
 at_end (b ∷ vars) m = at_end vars m
 
@@ -29,6 +31,16 @@ both_turned (Some a) (Some b) = nat_turned a b
 not_twice : (b : Bool) → not (not b) ≡ b
 not_twice true = refl
 not_twice false = refl
+
+-- what is the same whatever variables stand for
+pub fixed_cards : (loc : Loc) (cards : CollExpr) → cards ≡ cards_in loc → IsFixedOwner loc.who → IsFixedCollection cards
+fixed_cards loc cards is fixed = λ s vars vars'.
+    ap (coll_value s vars) is
+    ∙ ap (λ n. cut (cards_there s (place_among s.known.sheet (class_of loc.who) (map (λ (l : LocName). l.class) s.known.sheet.locs) loc.name n))) (fixed s.known vars vars')
+    ∙ sym (ap (coll_value s vars') is)
+
+pub fixed_top : (cards : CollExpr) (card : CardExpr) → card ≡ top_card cards → IsFixedCollection cards → IsFixed card
+fixed_top cards card is fixed = λ s vars vars'. ap (card_value s vars) is ∙ ap last_of (fixed s vars vars') ∙ sym (ap (card_value s vars') is)
 
 module _ (s : PureScene CardValue) (vars : List (PureBind CardValue)) where
   variable_is : (c : CardValue) (e : CardExpr) → e ≡ card_var (length vars) → card_value s (vars ++ card_bound c ∷ []) e ≡ Some c
@@ -59,6 +71,27 @@ module _ (s : PureScene CardValue) (vars : List (PureBind CardValue)) where
   value_is t a name value is variable = λ c.
       ap (test_value s (vars ++ card_bound c ∷ [])) is
       ∙ ap (λ x. both nat_same (attr_of_any s name x) (Some value)) (variable_is c a variable)
+
+  -- by a card that is the same whatever variables stand for
+  pub wanted_fixed : (t : Test) (a b : CardExpr) (name other : ℕ) (value : Option (Option ℕ)) (w : Option Wanted) → t ≡ eq_attr a name b other →
+      a ≡ card_var (length vars) → IsFixed b → IfSome value (λ v. v ≡ attr_of_any s other (card_value s vars b)) →
+      w ≡ option_map (λ v. record { name = name; value = v; equal = true }) value → IfSome w (IsWanted s vars t)
+  wanted_fixed t a b name other None None is variable fixed h e = h
+  wanted_fixed t a b name other None (Some w) is variable fixed h e = absurd (cc)
+  wanted_fixed t a b name other (Some v) None is variable fixed h e = absurd (cc)
+  wanted_fixed t a b name other (Some v) (Some w) is variable fixed h e = λ c.
+      ap (test_value s (vars ++ card_bound c ∷ [])) is
+      ∙ ap₂ (λ x y. both nat_same (attr_of_any s name x) y) (variable_is c a variable)
+      (ap (attr_of_any s other) (fixed s (vars ++ card_bound c ∷ []) vars) ∙ sym h)
+      ∙ ap (λ o. wanted_value s (some_or w o) c) (sym e) where
+        some_or : Wanted → Option Wanted → Wanted
+        some_or d None = d
+        some_or d (Some x) = x
+
+  -- by a value that the sheet names
+  pub wanted_named : (t : Test) (a : CardExpr) (name value : ℕ) (w : Option Wanted) → t ≡ has_value a name value → a ≡ card_var (length vars) →
+      w ≡ Some (record { name = name; value = Some value; equal = true }) → IfSome w (IsWanted s vars t)
+  wanted_named t a name value w is variable e = subst (λ w. IfSome w (IsWanted s vars t)) (sym e) (value_is t a name value is variable)
 
   turned_is : (w : Wanted) (c : CardValue) (equal : Bool) → w.equal ≡ equal → not (wanted_value s w c) ≡ wanted_value s (turned w) c
   turned_is w c true is = rw is refl

@@ -11,3 +11,4 @@ pub mod AlikeMenus
 pub mod Current
 pub mod Wanted
 pub mod Asks
+pub mod Holding

@@ -4,8 +4,8 @@ use Rattle.rc_sheet_model.specs.Sheet.{CollExpr, group_var, cards_in, filtered, 
 use Rattle.rc_play_model.specs.Value.{Scene, best_of, int_more, worth}
 use Rattle.rc_play_model.specs.Ends.{first_of, last_of}
 use Rattle.rc_play_model.specs.Scene.{CardValue}
-use Rattle.rc_value.specs.declared.loops.Pick.{Pick}
-use Rattle.rc_value.specs.declared.loops.Pick.TheVariants.{Top, Bottom, Max, Min}
+use Rattle.rc_value.specs.declared.loops.Which.{Which}
+use Rattle.rc_value.specs.declared.loops.Which.TheVariants.{Top, Bottom, Max, Min}
 
 -- whether the cards are gathered from others, and not those of one location or variable
 abbrev pub is_gathered : CollExpr → Bool
@@ -14,7 +14,7 @@ is_gathered (cards_in loc) = false
 is_gathered (filtered cards bound t) = true
 is_gathered (union_of parts) = true
 
-abbrev pub picked_of : Scene CardValue → Pick → List CardValue → Option CardValue
+abbrev pub picked_of : Scene CardValue → Which → List CardValue → Option CardValue
 picked_of scene Top cards = last_of cards
 picked_of scene Bottom cards = first_of cards
 picked_of scene (Max points) cards = best_of int_more (worth scene points) cards

@@ -4,8 +4,8 @@ use Rattle.rc_play_model.specs.Value.{Bind as PureBind, player_bound, card_bound
 use Rattle.rc_play_model.specs.Scene.{CardValue, held, noted}
 use Rattle.rc_value.specs.declared.scope.Bind.{Bind}
 use Rattle.rc_value.specs.declared.scope.Bind.TheVariants.{Player, Card as CardBind, Group}
-use Rattle.rc_value.specs.declared.collection.Source.{Source}
-use Rattle.rc_value.specs.declared.collection.Source.TheVariants.{There, Built}
+use Rattle.rc_value.specs.declared.collection.Listing.{Listing}
+use Rattle.rc_value.specs.declared.collection.Listing.TheVariants.{There, Built}
 use Rattle.rc_value.specs.Cards.{value_seen, values_seen}
 
 abbrev pub bind_seen : Bind → PureBind CardValue
@@ -18,6 +18,6 @@ abbrev pub read_in : Option ℕ → ℕ → CardValue
 read_in None id = held id
 read_in (Some loc) id = noted loc id
 
-abbrev pub listed : Source → List CardValue
+abbrev pub listed : Listing → List CardValue
 listed (There ids mem) = map (read_in mem) ids.now
 listed (Built cards) = values_seen cards.now

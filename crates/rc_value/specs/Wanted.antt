@@ -1,7 +1,7 @@
 -- Values that cards are to have.
 use Rattle.std.specs.Prelude.{◌≡◌, ℕ, ◌++◌, ◌∷◌, [], not, Bool, if◌then◌else◌, List, Option}
-use Rattle.rc_sheet_model.specs.Sheet.{Test}
-use Rattle.rc_play_model.specs.Value.{Scene as PureScene, Bind as PureBind, card_bound, attr_of, both, nat_same, test_value}
+use Rattle.rc_sheet_model.specs.Sheet.{Who, CardExpr, CollExpr, Test}
+use Rattle.rc_play_model.specs.Value.{Scene as PureScene, Bind as PureBind, card_bound, attr_of, both, nat_same, who_value, card_value, coll_value, test_value, Known}
 use Rattle.rc_play_model.specs.Scene.{CardValue}
 use Rattle.rc_value.specs.declared.wanted.Wanted.{Wanted}
 
@@ -20,3 +20,13 @@ turned w = record { name = w.name; value = w.value; equal = not w.equal }
 -- whether it is what a test says of the card that the innermost variable stands for
 abbrev pub IsWanted : PureScene CardValue → List (PureBind CardValue) → Test → Wanted → Type 0
 IsWanted s vars t w = (c : CardValue) → test_value s (vars ++ card_bound c ∷ []) t ≡ wanted_value s w c
+
+-- what is the same whatever variables stand for: an owner, a collection, a card
+abbrev pub IsFixedOwner : Who → Type 0
+IsFixedOwner who = (known : Known) (vars vars' : List (PureBind CardValue)) → who_value known vars who ≡ who_value known vars' who
+
+abbrev pub IsFixedCollection : CollExpr → Type 0
+IsFixedCollection cards = (s : PureScene CardValue) (vars vars' : List (PureBind CardValue)) → coll_value s vars cards ≡ coll_value s vars' cards
+
+abbrev pub IsFixed : CardExpr → Type 0
+IsFixed card = (s : PureScene CardValue) (vars vars' : List (PureBind CardValue)) → card_value s vars card ≡ card_value s vars' card

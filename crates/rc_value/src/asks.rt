@@ -12,8 +12,8 @@ ghost use Rattle.rc_value.specs.Scene.{scene_seen};
 use crate::Card;
 use crate::expressions::{test_of, wanted_of};
 use crate::scene::Scene;
-use crate::scope::Scope;
-use crate::wanted::{Wanted, is_as_wanted};
+use crate::scope::Bindings;
+use crate::wanted::{Wanted, is_as_wanted, wanted_at_hand};
 use arrayvec::ArrayVec;
 use rc_ast::Test;
 use rc_reads::test_reads;
@@ -46,7 +46,7 @@ pub(crate) struct Parts {
     pub(crate) any: bool,
 }
 
-fn ask_of<'t>(scene: &Scene, scope: &Scope, inside: &Scope, test: &'t Test) -> Ask<'t>
+fn ask_of<'t>(scene: &Scene, scope: &Bindings, inside: &Bindings, test: &'t Test) -> Ask<'t>
     requires inside { inside.now ≡ scope.now ++ player_bound 0 ∷ [] }
     requires deep { length scope.now + (1 + test_depth (test_seen test.now)) ≤ 5 }
     ensures is { (c : CardValue) → told_of (scene_seen scene.now) scope.now (test_seen test.now) c ≡ ask_value (scene_seen scene.now) scope.now c result }
@@ -60,7 +60,7 @@ fn ask_of<'t>(scene: &Scene, scope: &Scope, inside: &Scope, test: &'t Test) -> A
 
 // The answer for a card.
 #[inline(always)]
-fn answer(scene: &Scene, scope: &Scope, inside: &Scope, ask: &Ask, card: Card) -> bool
+fn answer(scene: &Scene, scope: &Bindings, inside: &Bindings, ask: &Ask, card: Card) -> bool
     requires inside { inside.now ≡ scope.now ++ card_bound (value_seen card) ∷ [] }
     requires fits { length scope.now + ask_depth ask.now ≤ 5 }
     ensures { result ≡ ask_value (scene_seen scene.now) scope.now (value_seen card) ask.now }
@@ -75,8 +75,8 @@ fn answer(scene: &Scene, scope: &Scope, inside: &Scope, ask: &Ask, card: Card) -
 #[inline(always)]
 pub(crate) fn joined_answer(
     scene: &Scene,
-    scope: &Scope,
-    inside: &Scope,
+    scope: &Bindings,
+    inside: &Bindings,
     asks: &[Ask],
     any: bool,
     card: Card,
@@ -97,8 +97,32 @@ pub(crate) fn joined_answer(
 // then it may settle all.
 fn settles<'t>(
     scene: &Scene,
-    scope: &Scope,
-    inside: &Scope,
+    scope: &Bindings,
+    inside: &Bindings,
+    test: &'t Test,
+    any: bool,
+    asks: &mut Asks<'t>,
+) -> bool
+    requires inside { inside.now ≡ scope.now ++ player_bound 0 ∷ [] }
+    requires deep { length scope.now + (1 + test_depth (test_seen test.now)) ≤ 5 }
+    requires room { length asks.old.items < 8 }
+    requires fit { AllFit scope.now asks.old.items }
+    ensures is { IsJoined (scene_seen scene.now) scope.now (test_seen test.now) any result asks.old.items asks.new.items }
+    ensures count { length asks.new.items ≤ length asks.old.items + 1 }
+    ensures fit { AllFit scope.now asks.new.items }
+{
+    if let Some(wanted) = wanted_at_hand(scene, scope, test) {
+        asks.push(Ask::Value(wanted));
+        return false;
+    }
+    settles_whole(scene, scope, inside, test, any, asks)
+}
+
+// The same with a test of which it isn't at hand which value the cards are to have.
+fn settles_whole<'t>(
+    scene: &Scene,
+    scope: &Bindings,
+    inside: &Bindings,
     test: &'t Test,
     any: bool,
     asks: &mut Asks<'t>,
@@ -121,8 +145,8 @@ fn settles<'t>(
 // The same with all tests of a list.
 fn all_settle<'t>(
     scene: &Scene,
-    scope: &Scope,
-    inside: &Scope,
+    scope: &Bindings,
+    inside: &Bindings,
     tests: &'t Vec<Test>,
     any: bool,
     asks: &mut Asks<'t>,
@@ -146,8 +170,8 @@ fn all_settle<'t>(
 // A guard that is no list of tests, or a long one.
 fn single_part<'t>(
     scene: &Scene,
-    scope: &Scope,
-    inside: &Scope,
+    scope: &Bindings,
+    inside: &Bindings,
     guard: &'t Test,
     asks: &mut Asks<'t>,
 ) -> Parts
@@ -166,8 +190,8 @@ fn single_part<'t>(
 // The outer parts of a guard.
 fn outer_parts<'t>(
     scene: &Scene,
-    scope: &Scope,
-    inside: &Scope,
+    scope: &Bindings,
+    inside: &Bindings,
     guard: &'t Test,
     asks: &mut Asks<'t>,
 ) -> Parts
@@ -241,8 +265,8 @@ fn listed<'t>(test: &'t Test) -> Option<&'t Test>
 /// A guard in parts, of which those that read the variable are written into an empty list.
 pub(crate) fn parts_of<'t>(
     scene: &Scene,
-    scope: &Scope,
-    inside: &Scope,
+    scope: &Bindings,
+    inside: &Bindings,
     guard: &'t Test,
     asks: &mut Asks<'t>,
 ) -> Parts

@@ -6,7 +6,7 @@ use std::marker::Model;
 
 /// Where the cards of a collection stand: in a location, whose number says that it holds references, or in a list of its own.
 #[derive(Clone, Copy)]
-pub enum Source<'s> {
+pub enum Listing<'s> {
     There { ids: &'s [u16], mem: Option<u16> },
     Built(&'s [Card]),
 }
@@ -14,7 +14,7 @@ pub enum Source<'s> {
 /// A collection of at most 512 cards.
 #[derive(Drop)]
 pub struct Collection<'s> {
-    source: Source<'s>,
+    source: Listing<'s>,
 }
 
 impl<'s> Model for Collection<'s> {
@@ -43,7 +43,7 @@ impl<'s> Collection<'s> {
     {
         let count = ids.len().min(512);
         Collection {
-            source: Source::There {
+            source: Listing::There {
                 ids: &ids[..count],
                 mem,
             },
@@ -56,7 +56,7 @@ impl<'s> Collection<'s> {
         ensures { result ≡ values_seen cards.now }
     {
         Collection {
-            source: Source::Built(cards),
+            source: Listing::Built(cards),
         }
     }
 
@@ -66,7 +66,7 @@ impl<'s> Collection<'s> {
     {
         let count = cards.len().min(512);
         Collection {
-            source: Source::Built(&cards[..count]),
+            source: Listing::Built(&cards[..count]),
         }
     }
 
@@ -77,8 +77,8 @@ impl<'s> Collection<'s> {
         ensures few { IfSome result (λ ids. length ids.now ≤ 512) }
     {
         match &self.source {
-            Source::There { ids, mem: _ } => Some(*ids),
-            Source::Built(_) => None,
+            Listing::There { ids, mem: _ } => Some(*ids),
+            Listing::Built(_) => None,
         }
     }
 
@@ -89,8 +89,8 @@ impl<'s> Collection<'s> {
         ensures few { result ≤ 512 }
     {
         match &self.source {
-            Source::There { ids, mem: _ } => ids.len(),
-            Source::Built(cards) => cards.len(),
+            Listing::There { ids, mem: _ } => ids.len(),
+            Listing::Built(cards) => cards.len(),
         }
     }
 
@@ -101,14 +101,14 @@ impl<'s> Collection<'s> {
         ensures { value_seen result ≡ slice_index_or self.now place (value_seen result) }
     {
         match &self.source {
-            Source::There { ids, mem } => match *mem {
+            Listing::There { ids, mem } => match *mem {
                 None => Card::Held(ids[place]),
                 Some(loc) => Card::Noted {
                     loc,
                     id: ids[place],
                 },
             },
-            Source::Built(cards) => cards[place],
+            Listing::Built(cards) => cards[place],
         }
     }
 

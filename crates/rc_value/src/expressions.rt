@@ -16,22 +16,24 @@ ghost use Rattle.rc_value.specs.Wanted.{IsWanted};
 use crate::arithmetic::{clamped_difference, clamped_product, clamped_sum};
 use crate::cards::id_or_none;
 use crate::collection::Collection;
-use crate::leaves::{are_same, attr_of_id, cards_of, number_of, worth_of};
-use crate::loops::{Pick, append, card_at, fill, keep, pick_from, sum};
+use crate::hand::{number_at_hand, test_at_hand, value_at_hand};
+use crate::leaves::{are_same, attr_of_id, cards_of, number_of, worth_of_id};
+use crate::loops::{Which, append, card_at, fill, keep, pick_from, sum};
 use crate::places::who_of;
+use crate::players::{all_hold, any_hold, holding_of};
 use crate::rows::{bottom_card, bottom_id, ids_of, top_card, top_id};
 use crate::scene::Scene;
-use crate::scope::{Bind, Scope};
+use crate::scope::{Bind, Bindings};
 use crate::wanted::{
     Wanted, all_as_wanted, count_as_wanted, is_against, is_variable, keep_as_wanted,
-    some_as_wanted, unwanted,
+    some_as_wanted, unwanted, wanted_at_hand,
 };
 use crate::{Card, Cards};
 use rc_ast::{CardExpr, CollExpr, Domain, IntExpr, Test};
 
 /// The cards of a location or of a variable, which need no list of their own. None for another expression.
 #[inline(always)]
-pub fn bare<'a>(scene: &'a Scene, scope: &'a Scope, expr: &CollExpr) -> Option<Collection<'a>>
+pub fn bare<'a>(scene: &'a Scene, scope: &'a Bindings, expr: &CollExpr) -> Option<Collection<'a>>
     ensures { MatchOption result (is_gathered (coll_seen expr.now) ≡ true) (λ cards. cards ≡ coll_value (scene_seen scene.now) scope.now (coll_seen expr.now)) }
 {
     match expr {
@@ -44,7 +46,7 @@ pub fn bare<'a>(scene: &'a Scene, scope: &'a Scope, expr: &CollExpr) -> Option<C
 
 /// The cards of a collection, written into an empty list.
 #[cycle(values)]
-pub fn coll_of(scene: &Scene, scope: &Scope, expr: &CollExpr, out: &mut Cards)
+pub fn coll_of(scene: &Scene, scope: &Bindings, expr: &CollExpr, out: &mut Cards)
     requires empty { out.old.items ≡ [] }
     requires fits { length scope.now + coll_depth (coll_seen expr.now) ≤ 5 }
     ensures { values_seen out.new.items ≡ coll_value (scene_seen scene.now) scope.now (coll_seen expr.now) }
@@ -62,7 +64,7 @@ pub fn coll_of(scene: &Scene, scope: &Scope, expr: &CollExpr, out: &mut Cards)
 
 // Keeps those that pass.
 #[cycle(values)]
-fn pass(scene: &Scene, scope: &Scope, test: &Test, out: &mut Cards)
+fn pass(scene: &Scene, scope: &Bindings, test: &Test, out: &mut Cards)
     requires fits { length scope.now + (1 + test_depth (test_seen test.now)) ≤ 5 }
     ensures { values_seen out.new.items ≡ filter (λ c. test_value (scene_seen scene.now) (scope.now ++ card_bound c ∷ []) (test_seen test.now)) (values_seen out.old.items) }
 {
@@ -75,7 +77,7 @@ fn pass(scene: &Scene, scope: &Scope, test: &Test, out: &mut Cards)
 
 // The same, each card asked by itself.
 #[cycle(values)]
-fn pass_asked(scene: &Scene, scope: &Scope, inside: &mut Scope, test: &Test, out: &mut Cards)
+fn pass_asked(scene: &Scene, scope: &Bindings, inside: &mut Bindings, test: &Test, out: &mut Cards)
     requires inside { inside.old ≡ scope.now ++ player_bound 0 ∷ [] }
     requires fits { length scope.now + (1 + test_depth (test_seen test.now)) ≤ 5 }
     ensures { values_seen out.new.items ≡ filter (λ c. test_value (scene_seen scene.now) (scope.now ++ card_bound c ∷ []) (test_seen test.now)) (values_seen out.old.items) }
@@ -92,7 +94,7 @@ fn pass_asked(scene: &Scene, scope: &Scope, inside: &mut Scope, test: &Test, out
 
 #[cycle(values)]
 #[tactic(auto, using(crate::proofs::Steps::colls_here))]
-fn join(scene: &Scene, scope: &Scope, parts: &Vec<CollExpr>, out: &mut Cards)
+fn join(scene: &Scene, scope: &Bindings, parts: &Vec<CollExpr>, out: &mut Cards)
     requires empty { out.old.items ≡ [] }
     requires fits { length scope.now + colls_depth (colls_seen parts.now.items) ≤ 5 }
     ensures { values_seen out.new.items ≡ cut (colls_value (scene_seen scene.now) scope.now (colls_seen parts.now.items)) }
@@ -104,7 +106,7 @@ fn join(scene: &Scene, scope: &Scope, parts: &Vec<CollExpr>, out: &mut Cards)
 
 // Puts the cards of a collection behind others, as long as there is room.
 #[cycle(values)]
-fn add(scene: &Scene, scope: &Scope, expr: &CollExpr, out: &mut Cards)
+fn add(scene: &Scene, scope: &Bindings, expr: &CollExpr, out: &mut Cards)
     requires fits { length scope.now + coll_depth (coll_seen expr.now) ≤ 5 }
     ensures is { values_seen out.new.items ≡ cut (values_seen out.old.items ++ coll_value (scene_seen scene.now) scope.now (coll_seen expr.now)) }
     ensures few { length out.new.items ≤ 512 }
@@ -117,7 +119,7 @@ fn add(scene: &Scene, scope: &Scope, expr: &CollExpr, out: &mut Cards)
 
 #[cycle(values)]
 #[inline(never)]
-fn add_built(scene: &Scene, scope: &Scope, expr: &CollExpr, out: &mut Cards)
+fn add_built(scene: &Scene, scope: &Bindings, expr: &CollExpr, out: &mut Cards)
     requires fits { length scope.now + coll_depth (coll_seen expr.now) ≤ 5 }
     ensures is { values_seen out.new.items ≡ cut (values_seen out.old.items ++ coll_value (scene_seen scene.now) scope.now (coll_seen expr.now)) }
     ensures few { length out.new.items ≤ 512 }
@@ -129,7 +131,7 @@ fn add_built(scene: &Scene, scope: &Scope, expr: &CollExpr, out: &mut Cards)
 
 /// The card that an expression stands for.
 #[cycle(values)]
-pub fn card_of(scene: &Scene, scope: &Scope, expr: &CardExpr) -> Option<Card>
+pub fn card_of(scene: &Scene, scope: &Bindings, expr: &CardExpr) -> Option<Card>
     requires fits { length scope.now + card_depth (card_seen expr.now) ≤ 5 }
     ensures { option_map value_seen result ≡ card_value (scene_seen scene.now) scope.now (card_seen expr.now) }
 {
@@ -137,39 +139,39 @@ pub fn card_of(scene: &Scene, scope: &Scope, expr: &CardExpr) -> Option<Card>
         CardExpr::Var(var) => scope.card(*var),
         CardExpr::Top(cards) => top_of(scene, scope, cards),
         CardExpr::Bottom(cards) => bottom_of(scene, scope, cards),
-        CardExpr::Max(cards, map) => picked(scene, scope, cards, Pick::Max(*map)),
-        CardExpr::Min(cards, map) => picked(scene, scope, cards, Pick::Min(*map)),
+        CardExpr::Max(cards, map) => picked(scene, scope, cards, Which::Max(*map)),
+        CardExpr::Min(cards, map) => picked(scene, scope, cards, Which::Min(*map)),
     }
 }
 
 // The card at the top of a collection.
 #[cycle(values)]
-fn top_of(scene: &Scene, scope: &Scope, expr: &CollExpr) -> Option<Card>
+fn top_of(scene: &Scene, scope: &Bindings, expr: &CollExpr) -> Option<Card>
     requires fits { length scope.now + coll_depth (coll_seen expr.now) ≤ 5 }
     ensures { option_map value_seen result ≡ last_of (coll_value (scene_seen scene.now) scope.now (coll_seen expr.now)) }
 {
     match expr {
         CollExpr::Loc(loc) => top_card(scene, scope, loc),
-        _ => picked(scene, scope, expr, Pick::Top),
+        _ => picked(scene, scope, expr, Which::Top),
     }
 }
 
 // The card at the bottom of a collection.
 #[cycle(values)]
-fn bottom_of(scene: &Scene, scope: &Scope, expr: &CollExpr) -> Option<Card>
+fn bottom_of(scene: &Scene, scope: &Bindings, expr: &CollExpr) -> Option<Card>
     requires fits { length scope.now + coll_depth (coll_seen expr.now) ≤ 5 }
     ensures { option_map value_seen result ≡ first_of (coll_value (scene_seen scene.now) scope.now (coll_seen expr.now)) }
 {
     match expr {
         CollExpr::Loc(loc) => bottom_card(scene, scope, loc),
-        _ => picked(scene, scope, expr, Pick::Bottom),
+        _ => picked(scene, scope, expr, Which::Bottom),
     }
 }
 
 // The id of the card that an expression stands for: no more of a card is read by its value or its worth.
 #[cycle(values)]
 #[inline(always)]
-fn id_now(scene: &Scene, scope: &Scope, expr: &CardExpr) -> Option<u16>
+fn id_now(scene: &Scene, scope: &Bindings, expr: &CardExpr) -> Option<u16>
     requires fits { length scope.now + card_depth (card_seen expr.now) ≤ 5 }
     ensures { result ≡ option_map id_of (card_value (scene_seen scene.now) scope.now (card_seen expr.now)) }
 {
@@ -183,31 +185,44 @@ fn id_now(scene: &Scene, scope: &Scope, expr: &CardExpr) -> Option<u16>
 
 #[cycle(values)]
 #[inline(always)]
-fn id_at_top(scene: &Scene, scope: &Scope, expr: &CollExpr) -> Option<u16>
+fn id_at_top(scene: &Scene, scope: &Bindings, expr: &CollExpr) -> Option<u16>
     requires fits { length scope.now + coll_depth (coll_seen expr.now) ≤ 5 }
     ensures { result ≡ option_map id_of (last_of (coll_value (scene_seen scene.now) scope.now (coll_seen expr.now))) }
 {
     match expr {
         CollExpr::Loc(loc) => top_id(scene, scope, loc),
-        _ => id_or_none(picked(scene, scope, expr, Pick::Top)),
+        _ => id_or_none(picked(scene, scope, expr, Which::Top)),
     }
 }
 
 #[cycle(values)]
 #[inline(always)]
-fn id_at_bottom(scene: &Scene, scope: &Scope, expr: &CollExpr) -> Option<u16>
+fn id_at_bottom(scene: &Scene, scope: &Bindings, expr: &CollExpr) -> Option<u16>
     requires fits { length scope.now + coll_depth (coll_seen expr.now) ≤ 5 }
     ensures { result ≡ option_map id_of (first_of (coll_value (scene_seen scene.now) scope.now (coll_seen expr.now))) }
 {
     match expr {
         CollExpr::Loc(loc) => bottom_id(scene, scope, loc),
-        _ => id_or_none(picked(scene, scope, expr, Pick::Bottom)),
+        _ => id_or_none(picked(scene, scope, expr, Which::Bottom)),
     }
 }
 
 // The value of the card that an expression stands for.
 #[cycle(values)]
-fn value_of(scene: &Scene, scope: &Scope, expr: &CardExpr, name: u16) -> Option<u16>
+fn value_of(scene: &Scene, scope: &Bindings, expr: &CardExpr, name: u16) -> Option<u16>
+    requires fits { length scope.now + card_depth (card_seen expr.now) ≤ 5 }
+    ensures { result ≡ attr_of_any (scene_seen scene.now) name (card_value (scene_seen scene.now) scope.now (card_seen expr.now)) }
+{
+    match value_at_hand(&*scene, &*scope, expr, name) {
+        Some(value) => value,
+        None => value_asked(scene, scope, expr, name),
+    }
+}
+
+// The same, whatever it takes.
+#[cycle(values)]
+#[inline(never)]
+fn value_asked(scene: &Scene, scope: &Bindings, expr: &CardExpr, name: u16) -> Option<u16>
     requires fits { length scope.now + card_depth (card_seen expr.now) ≤ 5 }
     ensures { result ≡ attr_of_any (scene_seen scene.now) name (card_value (scene_seen scene.now) scope.now (card_seen expr.now)) }
 {
@@ -216,18 +231,15 @@ fn value_of(scene: &Scene, scope: &Scope, expr: &CardExpr, name: u16) -> Option<
 
 // What the card that an expression stands for is worth.
 #[cycle(values)]
-fn points_of(scene: &Scene, scope: &Scope, expr: &CardExpr, map: u16) -> i64
+fn points_of(scene: &Scene, scope: &Bindings, expr: &CardExpr, map: u16) -> i64
     requires fits { length scope.now + card_depth (card_seen expr.now) ≤ 5 }
     ensures { result ≡ worth_of_any (scene_seen scene.now) map (card_value (scene_seen scene.now) scope.now (card_seen expr.now)) }
 {
-    match id_now(scene, scope, expr) {
-        Some(id) => worth_of(scene, Card::Held(id), map),
-        None => 0,
-    }
+    worth_of_id(scene, id_now(scene, scope, expr), map)
 }
 
 #[cycle(values)]
-fn picked(scene: &Scene, scope: &Scope, expr: &CollExpr, pick: Pick) -> Option<Card>
+fn picked(scene: &Scene, scope: &Bindings, expr: &CollExpr, pick: Which) -> Option<Card>
     requires fits { length scope.now + coll_depth (coll_seen expr.now) ≤ 5 }
     ensures { option_map value_seen result ≡ picked_of (scene_seen scene.now) pick (coll_value (scene_seen scene.now) scope.now (coll_seen expr.now)) }
 {
@@ -239,7 +251,7 @@ fn picked(scene: &Scene, scope: &Scope, expr: &CollExpr, pick: Pick) -> Option<C
 
 #[cycle(values)]
 #[inline(never)]
-fn picked_built(scene: &Scene, scope: &Scope, expr: &CollExpr, pick: Pick) -> Option<Card>
+fn picked_built(scene: &Scene, scope: &Bindings, expr: &CollExpr, pick: Which) -> Option<Card>
     requires fits { length scope.now + coll_depth (coll_seen expr.now) ≤ 5 }
     ensures { option_map value_seen result ≡ picked_of (scene_seen scene.now) pick (coll_value (scene_seen scene.now) scope.now (coll_seen expr.now)) }
 {
@@ -250,7 +262,20 @@ fn picked_built(scene: &Scene, scope: &Scope, expr: &CollExpr, pick: Pick) -> Op
 
 /// The number that an expression stands for.
 #[cycle(values)]
-pub fn int_of(scene: &Scene, scope: &Scope, expr: &IntExpr) -> i64
+pub fn int_of(scene: &Scene, scope: &Bindings, expr: &IntExpr) -> i64
+    requires fits { length scope.now + int_depth (int_seen expr.now) ≤ 5 }
+    ensures { result ≡ int_value (scene_seen scene.now) scope.now (int_seen expr.now) }
+{
+    match number_at_hand(&*scene, &*scope, expr) {
+        Some(number) => number,
+        None => int_asked(scene, scope, expr),
+    }
+}
+
+// The same, whatever it takes.
+#[cycle(values)]
+#[inline(never)]
+fn int_asked(scene: &Scene, scope: &Bindings, expr: &IntExpr) -> i64
     requires fits { length scope.now + int_depth (int_seen expr.now) ≤ 5 }
     ensures { result ≡ int_value (scene_seen scene.now) scope.now (int_seen expr.now) }
 {
@@ -269,7 +294,7 @@ pub fn int_of(scene: &Scene, scope: &Scope, expr: &IntExpr) -> i64
 // A number that is made of two others. In a function of its own, so that the others are found with nothing to be kept meanwhile.
 #[cycle(values)]
 #[inline(never)]
-fn calculated(scene: &Scene, scope: &Scope, expr: &IntExpr) -> i64
+fn calculated(scene: &Scene, scope: &Bindings, expr: &IntExpr) -> i64
     requires made { is_calculated (int_seen expr.now) ≡ true }
     requires fits { length scope.now + int_depth (int_seen expr.now) ≤ 5 }
     ensures { result ≡ int_value (scene_seen scene.now) scope.now (int_seen expr.now) }
@@ -284,7 +309,7 @@ fn calculated(scene: &Scene, scope: &Scope, expr: &IntExpr) -> i64
 
 // How many cards a collection has. Those of several parts are counted where they stand.
 #[cycle(values)]
-fn count_of(scene: &Scene, scope: &Scope, expr: &CollExpr) -> usize
+fn count_of(scene: &Scene, scope: &Bindings, expr: &CollExpr) -> usize
     requires fits { length scope.now + coll_depth (coll_seen expr.now) ≤ 5 }
     ensures is { result ≡ length (coll_value (scene_seen scene.now) scope.now (coll_seen expr.now)) }
     ensures few { result ≤ 512 }
@@ -300,7 +325,7 @@ fn count_of(scene: &Scene, scope: &Scope, expr: &CollExpr) -> usize
 // The same, of cards that stand in a list and are to have one value, with no list of those that pass.
 #[cycle(values)]
 #[inline(never)]
-fn count_filtered(scene: &Scene, scope: &Scope, expr: &CollExpr) -> usize
+fn count_filtered(scene: &Scene, scope: &Bindings, expr: &CollExpr) -> usize
     requires fits { length scope.now + coll_depth (coll_seen expr.now) ≤ 5 }
     ensures is { result ≡ length (coll_value (scene_seen scene.now) scope.now (coll_seen expr.now)) }
     ensures few { result ≤ 512 }
@@ -322,7 +347,7 @@ fn count_filtered(scene: &Scene, scope: &Scope, expr: &CollExpr) -> usize
 
 #[cycle(values)]
 #[inline(never)]
-fn count_built(scene: &Scene, scope: &Scope, expr: &CollExpr) -> usize
+fn count_built(scene: &Scene, scope: &Bindings, expr: &CollExpr) -> usize
     requires fits { length scope.now + coll_depth (coll_seen expr.now) ≤ 5 }
     ensures is { result ≡ length (coll_value (scene_seen scene.now) scope.now (coll_seen expr.now)) }
     ensures few { result ≤ 512 }
@@ -334,7 +359,7 @@ fn count_built(scene: &Scene, scope: &Scope, expr: &CollExpr) -> usize
 
 #[cycle(values)]
 #[tactic(auto, using(crate::proofs::Steps::colls_here))]
-fn count_parts(scene: &Scene, scope: &Scope, parts: &Vec<CollExpr>) -> usize
+fn count_parts(scene: &Scene, scope: &Bindings, parts: &Vec<CollExpr>) -> usize
     requires fits { length scope.now + colls_depth (colls_seen parts.now.items) ≤ 5 }
     ensures is { result ≡ length (cut (colls_value (scene_seen scene.now) scope.now (colls_seen parts.now.items))) }
     ensures few { result ≤ 512 }
@@ -349,7 +374,7 @@ fn count_parts(scene: &Scene, scope: &Scope, parts: &Vec<CollExpr>) -> usize
 
 // The sum of what the cards of a collection are worth.
 #[cycle(values)]
-fn sum_of(scene: &Scene, scope: &Scope, expr: &CollExpr, map: u16) -> i64
+fn sum_of(scene: &Scene, scope: &Bindings, expr: &CollExpr, map: u16) -> i64
     requires fits { length scope.now + coll_depth (coll_seen expr.now) ≤ 5 }
     ensures { result ≡ sum_worth (scene_seen scene.now) map (coll_value (scene_seen scene.now) scope.now (coll_seen expr.now)) }
 {
@@ -361,7 +386,7 @@ fn sum_of(scene: &Scene, scope: &Scope, expr: &CollExpr, map: u16) -> i64
 
 #[cycle(values)]
 #[inline(never)]
-fn sum_built(scene: &Scene, scope: &Scope, expr: &CollExpr, map: u16) -> i64
+fn sum_built(scene: &Scene, scope: &Bindings, expr: &CollExpr, map: u16) -> i64
     requires fits { length scope.now + coll_depth (coll_seen expr.now) ≤ 5 }
     ensures { result ≡ sum_worth (scene_seen scene.now) map (coll_value (scene_seen scene.now) scope.now (coll_seen expr.now)) }
 {
@@ -372,7 +397,20 @@ fn sum_built(scene: &Scene, scope: &Scope, expr: &CollExpr, map: u16) -> i64
 
 /// Whether a test holds.
 #[cycle(values)]
-pub fn test_of(scene: &Scene, scope: &Scope, expr: &Test) -> bool
+pub fn test_of(scene: &Scene, scope: &Bindings, expr: &Test) -> bool
+    requires fits { length scope.now + test_depth (test_seen expr.now) ≤ 5 }
+    ensures { result ≡ test_value (scene_seen scene.now) scope.now (test_seen expr.now) }
+{
+    match test_at_hand(&*scene, &*scope, expr) {
+        Some(holds) => holds,
+        None => test_asked(scene, scope, expr),
+    }
+}
+
+// The same, whatever it takes.
+#[cycle(values)]
+#[inline(never)]
+fn test_asked(scene: &Scene, scope: &Bindings, expr: &Test) -> bool
     requires fits { length scope.now + test_depth (test_seen expr.now) ≤ 5 }
     ensures { result ≡ test_value (scene_seen scene.now) scope.now (test_seen expr.now) }
 {
@@ -408,7 +446,7 @@ pub fn test_of(scene: &Scene, scope: &Scope, expr: &Test) -> bool
 // A test that runs over cards.
 #[cycle(values)]
 #[inline(never)]
-fn over_cards(scene: &Scene, scope: &Scope, expr: &Test) -> bool
+fn over_cards(scene: &Scene, scope: &Bindings, expr: &Test) -> bool
     requires over { runs_over_cards (test_seen expr.now) ≡ true }
     requires fits { length scope.now + test_depth (test_seen expr.now) ≤ 5 }
     ensures { result ≡ test_value (scene_seen scene.now) scope.now (test_seen expr.now) }
@@ -439,7 +477,53 @@ fn over_cards(scene: &Scene, scope: &Scope, expr: &Test) -> bool
 // A test of the innermost variable's card as a value that the card is to have, if it is one. What the card's value is compared with
 // doesn't read the variable: so it is taken once for all cards.
 #[cycle(values)]
-pub(crate) fn wanted_of(scene: &Scene, scope: &Scope, inside: &Scope, test: &Test) -> Option<Wanted>
+pub(crate) fn wanted_of(
+    scene: &Scene,
+    scope: &Bindings,
+    inside: &Bindings,
+    test: &Test,
+) -> Option<Wanted>
+    requires inside { inside.now ≡ scope.now ++ player_bound 0 ∷ [] }
+    requires fits { length scope.now + (1 + test_depth (test_seen test.now)) ≤ 5 }
+    ensures { IfSome result (IsWanted (scene_seen scene.now) scope.now (test_seen test.now)) }
+{
+    match test {
+        Test::EqAttr(_, _, _, _) => wanted_against(scene, scope, inside, test),
+        Test::Is(card, name, value) => {
+            if is_variable(card, scope.len()) {
+                return Some(Wanted {
+                    name: *name,
+                    value: Some(*value),
+                    equal: true,
+                });
+            }
+            None
+        }
+        Test::Ne(_) => wanted_not(scene, scope, inside, test),
+        Test::Not(_) => wanted_not(scene, scope, inside, test),
+        _ => None,
+    }
+}
+
+// The same of an opposite.
+#[cycle(values)]
+#[inline(never)]
+fn wanted_not(scene: &Scene, scope: &Bindings, inside: &Bindings, test: &Test) -> Option<Wanted>
+    requires inside { inside.now ≡ scope.now ++ player_bound 0 ∷ [] }
+    requires fits { length scope.now + (1 + test_depth (test_seen test.now)) ≤ 5 }
+    ensures { IfSome result (IsWanted (scene_seen scene.now) scope.now (test_seen test.now)) }
+{
+    match test {
+        Test::Ne(inner) => unwanted(wanted_of(scene, scope, inside, inner)),
+        Test::Not(inner) => unwanted(wanted_of(scene, scope, inside, inner)),
+        _ => None,
+    }
+}
+
+// Two values, of which one is the innermost variable's card's.
+#[cycle(values)]
+#[inline(never)]
+fn wanted_against(scene: &Scene, scope: &Bindings, inside: &Bindings, test: &Test) -> Option<Wanted>
     requires inside { inside.now ≡ scope.now ++ player_bound 0 ∷ [] }
     requires fits { length scope.now + (1 + test_depth (test_seen test.now)) ≤ 5 }
     ensures { IfSome result (IsWanted (scene_seen scene.now) scope.now (test_seen test.now)) }
@@ -462,18 +546,6 @@ pub(crate) fn wanted_of(scene: &Scene, scope: &Scope, inside: &Scope, test: &Tes
             }
             None
         }
-        Test::Is(card, name, value) => {
-            if is_variable(card, scope.len()) {
-                return Some(Wanted {
-                    name: *name,
-                    value: Some(*value),
-                    equal: true,
-                });
-            }
-            None
-        }
-        Test::Ne(inner) => unwanted(wanted_of(scene, scope, inside, inner)),
-        Test::Not(inner) => unwanted(wanted_of(scene, scope, inside, inner)),
         _ => None,
     }
 }
@@ -482,8 +554,8 @@ pub(crate) fn wanted_of(scene: &Scene, scope: &Scope, inside: &Scope, test: &Tes
 #[cycle(values)]
 fn value_once(
     scene: &Scene,
-    scope: &Scope,
-    inside: &Scope,
+    scope: &Bindings,
+    inside: &Bindings,
     card: &CardExpr,
     name: u16,
 ) -> Option<u16>
@@ -497,7 +569,7 @@ fn value_once(
 // A test that runs over cards which stand in no list.
 #[cycle(values)]
 #[inline(never)]
-fn over_built(scene: &Scene, scope: &Scope, expr: &Test) -> bool
+fn over_built(scene: &Scene, scope: &Bindings, expr: &Test) -> bool
     requires over { runs_over_cards (test_seen expr.now) ≡ true }
     requires fits { length scope.now + test_depth (test_seen expr.now) ≤ 5 }
     ensures { result ≡ test_value (scene_seen scene.now) scope.now (test_seen expr.now) }
@@ -525,8 +597,9 @@ fn over_built(scene: &Scene, scope: &Scope, expr: &Test) -> bool
 }
 
 #[cycle(values)]
+#[inline(never)]
 #[tactic(auto, using(crate::proofs::Steps::tests_here))]
-fn all_tests(scene: &Scene, scope: &Scope, tests: &Vec<Test>) -> bool
+fn all_tests(scene: &Scene, scope: &Bindings, tests: &Vec<Test>) -> bool
     requires fits { length scope.now + tests_depth (tests_seen tests.now.items) ≤ 5 }
     ensures { result ≡ list_all (λ b. b) (tests_value (scene_seen scene.now) scope.now (tests_seen tests.now.items)) }
 {
@@ -539,8 +612,9 @@ fn all_tests(scene: &Scene, scope: &Scope, tests: &Vec<Test>) -> bool
 }
 
 #[cycle(values)]
+#[inline(never)]
 #[tactic(auto, using(crate::proofs::Steps::tests_here))]
-fn any_test(scene: &Scene, scope: &Scope, tests: &Vec<Test>) -> bool
+fn any_test(scene: &Scene, scope: &Bindings, tests: &Vec<Test>) -> bool
     requires fits { length scope.now + tests_depth (tests_seen tests.now.items) ≤ 5 }
     ensures { result ≡ list_any (λ b. b) (tests_value (scene_seen scene.now) scope.now (tests_seen tests.now.items)) }
 {
@@ -553,7 +627,21 @@ fn any_test(scene: &Scene, scope: &Scope, tests: &Vec<Test>) -> bool
 }
 
 #[cycle(values)]
-fn all_players(scene: &Scene, scope: &Scope, test: &Test) -> bool
+#[inline(never)]
+fn all_players(scene: &Scene, scope: &Bindings, test: &Test) -> bool
+    requires fits { length scope.now + (1 + test_depth (test_seen test.now)) ≤ 5 }
+    ensures { result ≡ list_all (λ m. test_value (scene_seen scene.now) (scope.now ++ m ∷ []) (test_seen test.now)) (map (λ n. player_bound n) (below (scene_seen scene.now).known.sheet.players)) }
+{
+    match holding_of(test, scope.len()) {
+        Some(holding) => all_hold(scene, holding),
+        None => all_players_asked(scene, scope, test),
+    }
+}
+
+// The same, each player asked by himself.
+#[cycle(values)]
+#[inline(never)]
+fn all_players_asked(scene: &Scene, scope: &Bindings, test: &Test) -> bool
     requires fits { length scope.now + (1 + test_depth (test_seen test.now)) ≤ 5 }
     ensures { result ≡ list_all (λ m. test_value (scene_seen scene.now) (scope.now ++ m ∷ []) (test_seen test.now)) (map (λ n. player_bound n) (below (scene_seen scene.now).known.sheet.players)) }
 {
@@ -568,7 +656,21 @@ fn all_players(scene: &Scene, scope: &Scope, test: &Test) -> bool
 }
 
 #[cycle(values)]
-fn any_player(scene: &Scene, scope: &Scope, test: &Test) -> bool
+#[inline(never)]
+fn any_player(scene: &Scene, scope: &Bindings, test: &Test) -> bool
+    requires fits { length scope.now + (1 + test_depth (test_seen test.now)) ≤ 5 }
+    ensures { result ≡ list_any (λ m. test_value (scene_seen scene.now) (scope.now ++ m ∷ []) (test_seen test.now)) (map (λ n. player_bound n) (below (scene_seen scene.now).known.sheet.players)) }
+{
+    match holding_of(test, scope.len()) {
+        Some(holding) => any_hold(scene, holding),
+        None => any_player_asked(scene, scope, test),
+    }
+}
+
+// The same, each player asked by himself.
+#[cycle(values)]
+#[inline(never)]
+fn any_player_asked(scene: &Scene, scope: &Bindings, test: &Test) -> bool
     requires fits { length scope.now + (1 + test_depth (test_seen test.now)) ≤ 5 }
     ensures { result ≡ list_any (λ m. test_value (scene_seen scene.now) (scope.now ++ m ∷ []) (test_seen test.now)) (map (λ n. player_bound n) (below (scene_seen scene.now).known.sheet.players)) }
 {
@@ -583,7 +685,20 @@ fn any_player(scene: &Scene, scope: &Scope, test: &Test) -> bool
 }
 
 #[cycle(values)]
-fn all_cards(scene: &Scene, scope: &Scope, cards: &Collection, test: &Test) -> bool
+fn all_cards(scene: &Scene, scope: &Bindings, cards: &Collection, test: &Test) -> bool
+    requires fits { length scope.now + (1 + test_depth (test_seen test.now)) ≤ 5 }
+    ensures { result ≡ list_all (λ m. test_value (scene_seen scene.now) (scope.now ++ m ∷ []) (test_seen test.now)) (map (λ c. card_bound c) cards.now) }
+{
+    match wanted_at_hand(&*scene, &*scope, test) {
+        Some(wanted) => all_as_wanted(scene, wanted, cards),
+        None => all_cards_wanted(scene, scope, cards, test),
+    }
+}
+
+// The same, where it isn't at hand which value the cards are to have.
+#[cycle(values)]
+#[inline(never)]
+fn all_cards_wanted(scene: &Scene, scope: &Bindings, cards: &Collection, test: &Test) -> bool
     requires fits { length scope.now + (1 + test_depth (test_seen test.now)) ≤ 5 }
     ensures { result ≡ list_all (λ m. test_value (scene_seen scene.now) (scope.now ++ m ∷ []) (test_seen test.now)) (map (λ c. card_bound c) cards.now) }
 {
@@ -598,8 +713,8 @@ fn all_cards(scene: &Scene, scope: &Scope, cards: &Collection, test: &Test) -> b
 #[cycle(values)]
 fn all_cards_asked(
     scene: &Scene,
-    scope: &Scope,
-    inside: &mut Scope,
+    scope: &Bindings,
+    inside: &mut Bindings,
     cards: &Collection,
     test: &Test,
 ) -> bool
@@ -617,7 +732,20 @@ fn all_cards_asked(
 }
 
 #[cycle(values)]
-fn any_card(scene: &Scene, scope: &Scope, cards: &Collection, test: &Test) -> bool
+fn any_card(scene: &Scene, scope: &Bindings, cards: &Collection, test: &Test) -> bool
+    requires fits { length scope.now + (1 + test_depth (test_seen test.now)) ≤ 5 }
+    ensures { result ≡ list_any (λ m. test_value (scene_seen scene.now) (scope.now ++ m ∷ []) (test_seen test.now)) (map (λ c. card_bound c) cards.now) }
+{
+    match wanted_at_hand(&*scene, &*scope, test) {
+        Some(wanted) => some_as_wanted(scene, wanted, cards),
+        None => any_card_wanted(scene, scope, cards, test),
+    }
+}
+
+// The same, where it isn't at hand which value the cards are to have.
+#[cycle(values)]
+#[inline(never)]
+fn any_card_wanted(scene: &Scene, scope: &Bindings, cards: &Collection, test: &Test) -> bool
     requires fits { length scope.now + (1 + test_depth (test_seen test.now)) ≤ 5 }
     ensures { result ≡ list_any (λ m. test_value (scene_seen scene.now) (scope.now ++ m ∷ []) (test_seen test.now)) (map (λ c. card_bound c) cards.now) }
 {
@@ -632,8 +760,8 @@ fn any_card(scene: &Scene, scope: &Scope, cards: &Collection, test: &Test) -> bo
 #[cycle(values)]
 fn any_card_asked(
     scene: &Scene,
-    scope: &Scope,
-    inside: &mut Scope,
+    scope: &Bindings,
+    inside: &mut Bindings,
     cards: &Collection,
     test: &Test,
 ) -> bool

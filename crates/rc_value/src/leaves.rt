@@ -4,7 +4,7 @@ ghost use Rattle.rc_model.specs.Clamp.{IsWithinClamp};
 ghost use Rattle.rc_model.specs.Deck.{value_at as value_at_of};
 ghost use Rattle.rc_play_model.specs.Shape.{face_at, face_eq, holds_references};
 ghost use Rattle.rc_play_model.specs.Scene.{CardValue, id_of};
-ghost use Rattle.rc_play_model.specs.Value.{worth, attr_of_any, both, loc_place, num_place, number_there, cards_there, cut};
+ghost use Rattle.rc_play_model.specs.Value.{worth, worth_of_any, attr_of_any, both, loc_place, num_place, number_there, cards_there, cut};
 ghost use Rattle.rc_ast.specs.Names.{loc_seen, num_seen};
 ghost use Rattle.rc_value.specs.Cards.{value_seen};
 ghost use Rattle.rc_value.specs.Scene.{scene_seen};
@@ -13,7 +13,7 @@ use crate::Card;
 use crate::collection::Collection;
 use crate::places::{loc_at, num_at};
 use crate::scene::Scene;
-use crate::scope::Scope;
+use crate::scope::Bindings;
 use rc_ast::{Loc, Num};
 use rc_deck::attr;
 use rc_table::{Shape, have_same_face};
@@ -38,6 +38,17 @@ fn worth_in(row: &[i64], id: u16) -> i64
 {
     match row.get(id as usize) {
         Some(worth) => *worth,
+        None => 0,
+    }
+}
+
+/// What the card with an id is worth by a point map; no card is worth nothing.
+#[inline(always)]
+pub fn worth_of_id(scene: &Scene, id: Option<u16>, map: u16) -> i64
+    ensures { (card : Option CardValue) → id ≡ option_map id_of card → result ≡ worth_of_any (scene_seen scene.now) map card }
+{
+    match id {
+        Some(id) => worth_of(scene, Card::Held(id), map),
         None => 0,
     }
 }
@@ -115,7 +126,7 @@ pub fn are_same(scene: &Scene, a: Option<Card>, b: Option<Card>) -> bool
 /// The value of a number that the game keeps, and 0 where there is no such number.
 #[tactic(auto, unfolding(crate::specs::Scene::scene_seen))]
 #[inline(always)]
-pub fn number_of(scene: &Scene, scope: &Scope, num: &Num) -> i64
+pub fn number_of(scene: &Scene, scope: &Bindings, num: &Num) -> i64
     ensures { result ≡ number_there (scene_seen scene.now).known.numbers (num_place (scene_seen scene.now).known scope.now (num_seen num.now)) }
 {
     match num_at(scene, scope, num) {
@@ -139,7 +150,7 @@ fn mem_at(shape: &Shape, loc: u16) -> Option<u16>
 /// The cards of a location, and none where there is no such location.
 #[tactic(auto, unfolding(crate::specs::Scene::scene_seen))]
 #[inline(always)]
-pub fn cards_of<'a>(scene: &'a Scene, scope: &Scope, loc: &Loc) -> Collection<'a>
+pub fn cards_of<'a>(scene: &'a Scene, scope: &Bindings, loc: &Loc) -> Collection<'a>
     ensures { result ≡ cut (cards_there (scene_seen scene.now) (loc_place (scene_seen scene.now).known scope.now (loc_seen loc.now))) }
 {
     match loc_at(scene, scope, loc) {

@@ -15,7 +15,7 @@ use rc_names::limits::LARGEST_NUMBER;
 
 /// Which card of a collection.
 #[derive(Clone, Copy)]
-pub enum Pick {
+pub enum Which {
     Top,
     Bottom,
     Max(u16),
@@ -23,14 +23,14 @@ pub enum Pick {
 }
 
 /// The card of a collection.
-pub fn pick_from(scene: &Scene, cards: &Collection, pick: Pick) -> Option<Card>
+pub fn pick_from(scene: &Scene, cards: &Collection, pick: Which) -> Option<Card>
     ensures { option_map value_seen result ≡ picked_of (scene_seen scene.now) pick cards.now }
 {
     match pick {
-        Pick::Top => cards.last(),
-        Pick::Bottom => cards.first(),
-        Pick::Max(map) => best(scene, cards, map, true),
-        Pick::Min(map) => best(scene, cards, map, false),
+        Which::Top => cards.last(),
+        Which::Bottom => cards.first(),
+        Which::Max(map) => best(scene, cards, map, true),
+        Which::Min(map) => best(scene, cards, map, false),
     }
 }
 

@@ -20,12 +20,13 @@ use crate::groups::{Values, note_values, regroup, value_at};
 use crate::leaves::cards_of;
 use crate::offering::{offer_every, offer_guarded, with_spot};
 use crate::scene::Scene;
-use crate::scope::{Bind, Scope};
+use crate::scope::{Bind, Bindings};
 use rc_ast::{Alt, CollExpr, Domain};
 use rc_play_model::alike_states_have_equal_menus;
 use rc_rules::{Item, Menu, Spots};
 
 // Puts an item behind the others, where there is room.
+#[inline(never)]
 fn put(menu: &mut Menu, item: &Item)
     ensures { menu_seen menu.new.items ≡ take 256 (menu_seen menu.old.items ++ extended (item_seen item.now) [] ∷ []) }
 {
@@ -35,6 +36,7 @@ fn put(menu: &mut Menu, item: &Item)
 }
 
 // The same where it passes.
+#[inline(never)]
 fn put_if(menu: &mut Menu, item: &Item, passes: bool)
     ensures { menu_seen menu.new.items ≡ take 256 (menu_seen menu.old.items ++ (if passes then extended (item_seen item.now) [] ∷ [] else [])) }
 {
@@ -46,7 +48,7 @@ fn put_if(menu: &mut Menu, item: &Item, passes: bool)
 
 // The items that an alternative offers behind the positions that are bound so far.
 #[cycle(menu)]
-fn offer(scene: &Scene, scope: &Scope, alt: &Alt, item: &Item, menu: &mut Menu)
+fn offer(scene: &Scene, scope: &Bindings, alt: &Alt, item: &Item, menu: &mut Menu)
     requires fits { length scope.now + alt_depth (alt_seen alt.now) ≤ 5 }
     requires room { length item.now.spots.items + domains_in (alt_seen alt.now) ≤ 4 }
     ensures { menu_seen menu.new.items ≡ take 256 (menu_seen menu.old.items
@@ -69,7 +71,7 @@ fn offer(scene: &Scene, scope: &Scope, alt: &Alt, item: &Item, menu: &mut Menu)
 #[cycle(menu)]
 fn offer_over(
     scene: &Scene,
-    scope: &Scope,
+    scope: &Bindings,
     inner: &Alt,
     cards: &CollExpr,
     item: &Item,
@@ -100,9 +102,10 @@ fn offer_over(
 
 // The same with cards that need a list of their own.
 #[cycle(menu)]
+#[inline(never)]
 fn offer_built(
     scene: &Scene,
-    scope: &Scope,
+    scope: &Bindings,
     inner: &Alt,
     cards: &CollExpr,
     item: &Item,
@@ -130,7 +133,7 @@ fn offer_built(
 #[cycle(menu)]
 fn offer_cards(
     scene: &Scene,
-    scope: &Scope,
+    scope: &Bindings,
     cards: &Collection,
     inner: &Alt,
     item: &Item,
@@ -151,9 +154,10 @@ fn offer_cards(
 
 // The same, one card after the other.
 #[cycle(menu)]
+#[inline(never)]
 fn offer_each(
     scene: &Scene,
-    scope: &Scope,
+    scope: &Bindings,
     cards: &Collection,
     inner: &Alt,
     item: &Item,
@@ -181,7 +185,8 @@ fn offer_each(
 }
 
 #[cycle(menu)]
-fn offer_players(scene: &Scene, scope: &Scope, inner: &Alt, item: &Item, menu: &mut Menu)
+#[inline(never)]
+fn offer_players(scene: &Scene, scope: &Bindings, inner: &Alt, item: &Item, menu: &mut Menu)
     requires fits { length scope.now + (1 + alt_depth (alt_seen inner.now)) ≤ 5 }
     requires room { length item.now.spots.items + (1 + domains_in (alt_seen inner.now)) ≤ 4 }
     ensures { menu_seen menu.new.items ≡ take 256 (menu_seen menu.old.items
@@ -205,9 +210,10 @@ fn offer_players(scene: &Scene, scope: &Scope, inner: &Alt, item: &Item, menu: &
 
 // The same with the groups of the cards.
 #[cycle(menu)]
+#[inline(never)]
 fn offer_parts(
     scene: &Scene,
-    scope: &Scope,
+    scope: &Bindings,
     inner: &Alt,
     cards: &CollExpr,
     name: u16,
@@ -248,7 +254,7 @@ fn offer_parts(
 #[cycle(menu)]
 fn offer_group(
     scene: &Scene,
-    scope: &Scope,
+    scope: &Bindings,
     inner: &Alt,
     group: &Cards,
     item: &Item,
@@ -298,7 +304,7 @@ fn offer_all(scene: &Scene, alts: &[Alt], menu: &mut Menu)
     requires empty { menu.old.items ≡ [] }
     ensures { menu_seen menu.new.items ≡ pure_menu_from (scene_seen scene.now) (alts_seen alts.now) }
 {
-    let scope = Scope::empty();
+    let scope = Bindings::empty();
     for number in 0..alts.len() {
         offer(scene, &scope, &alts[number], &first_item(number), menu);
     }

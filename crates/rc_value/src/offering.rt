@@ -1,5 +1,5 @@
 //! Menus that grow by the cards of an innermost domain.
-ghost use Rattle.std.specs.Prelude.{◌≡◌, ◌<◌, ◌+◌, ◌≤◌, ◌++◌, ◌∷◌, [], length, map, take, slice_index_or, None, if◌then◌else◌};
+ghost use Rattle.std.specs.Prelude.{◌≡◌, ◌<◌, ◌+◌, ◌≤◌, ◌++◌, ◌∷◌, [], true, length, map, take, slice_index_or, None, if◌then◌else◌};
 ghost use Rattle.rc_play_model.specs.Value.{player_bound};
 ghost use Rattle.rc_play_model.specs.Menu.{from_each};
 ghost use Rattle.rc_ast.specs.Expressions.{test_seen};
@@ -13,10 +13,10 @@ ghost use Rattle.rc_value.specs.Wanted.{meets};
 use crate::asks::{Ask, Asks, joined_answer, parts_of, sole_wanted};
 use crate::collection::Collection;
 use crate::scene::Scene;
-use crate::scope::{Bind, Scope};
+use crate::scope::{Bind, Bindings};
 use crate::wanted::{Wanted, is_met_in};
 use rc_ast::Test;
-use rc_rules::{Item, Menu};
+use rc_rules::{Item, Menu, Spots};
 
 /// The item with one more position.
 #[inline(always)]
@@ -24,9 +24,30 @@ pub(crate) fn with_spot(item: &Item, spot: u16) -> Item
     requires { length item.now.spots.items < 4 }
     ensures { item_seen result ≡ extended (item_seen item.now) (spot ∷ []) }
 {
+    if is_bare(item) {
+        return first_spot(item.alt, spot);
+    }
     let mut next = item.copy();
     next.spots.push(spot);
     next
+}
+
+// Whether it has no position yet.
+#[inline(always)]
+fn is_bare(item: &Item) -> bool
+    ensures { result ≡ true → item.now.spots.items ≡ [] }
+{
+    item.spots.is_empty()
+}
+
+// An item with one position: most have no more, and nothing is to be copied.
+#[inline(always)]
+fn first_spot(alt: usize, spot: u16) -> Item
+    ensures { item_seen result ≡ record { alt = alt; spots = spot ∷ [] } }
+{
+    let mut spots = Spots::new();
+    spots.push(spot);
+    Item { alt, spots }
 }
 
 // Puts the item with one more position behind the others, where there is room.
@@ -67,8 +88,8 @@ pub(crate) fn offer_every(cards: &Collection, item: &Item, menu: &mut Menu)
 // Offers those of the cards for which the answers say so.
 fn offer_asked(
     scene: &Scene,
-    scope: &Scope,
-    inside: &mut Scope,
+    scope: &Bindings,
+    inside: &mut Bindings,
     cards: &Collection,
     asks: &[Ask],
     any: bool,
@@ -93,8 +114,8 @@ fn offer_asked(
 // The same by the row of the one attribute that is asked for, if there is no more to it.
 fn offer_some(
     scene: &Scene,
-    scope: &Scope,
-    inside: &mut Scope,
+    scope: &Bindings,
+    inside: &mut Bindings,
     cards: &Collection,
     asks: &Asks,
     any: bool,
@@ -143,7 +164,7 @@ fn offer_met_in(row: &[Option<u16>], wanted: Wanted, ids: &[u16], item: &Item, m
 /// Offers those of the cards for which a guard holds.
 pub(crate) fn offer_guarded(
     scene: &Scene,
-    scope: &Scope,
+    scope: &Bindings,
     cards: &Collection,
     guard: &Test,
     item: &Item,

@@ -6,13 +6,13 @@ ghost use Rattle.rc_ast.specs.Names.{who_seen, loc_seen, num_seen};
 ghost use Rattle.rc_value.specs.Scene.{scene_seen};
 
 use crate::scene::Scene;
-use crate::scope::Scope;
+use crate::scope::Bindings;
 use rc_ast::{Class, Loc, Num, Who};
 
 /// The number of an owner: a player's or a team's, and 0 for the game.
 #[tactic(auto, unfolding(crate::specs::Scene::scene_seen))]
 #[inline(always)]
-pub fn who_of(scene: &Scene, scope: &Scope, who: &Who) -> u8
+pub fn who_of(scene: &Scene, scope: &Bindings, who: &Who) -> u8
     ensures { result ≡ who_value (scene_seen scene.now).known scope.now (who_seen who.now) }
 {
     match who {
@@ -42,7 +42,7 @@ fn class_of(who: &Who) -> Class
 
 /// The number of a location, if there is one.
 #[inline(always)]
-pub fn loc_at(scene: &Scene, scope: &Scope, loc: &Loc) -> Option<u16>
+pub fn loc_at(scene: &Scene, scope: &Bindings, loc: &Loc) -> Option<u16>
     ensures { result ≡ loc_place (scene_seen scene.now).known scope.now (loc_seen loc.now) }
 {
     let owner = who_of(scene, scope, &loc.who);
@@ -51,7 +51,7 @@ pub fn loc_at(scene: &Scene, scope: &Scope, loc: &Loc) -> Option<u16>
 
 /// The number of a number that the game keeps, if there is one.
 #[inline(always)]
-pub fn num_at(scene: &Scene, scope: &Scope, num: &Num) -> Option<u16>
+pub fn num_at(scene: &Scene, scope: &Bindings, num: &Num) -> Option<u16>
     ensures { result ≡ num_place (scene_seen scene.now).known scope.now (num_seen num.now) }
 {
     let owner = who_of(scene, scope, &num.who);

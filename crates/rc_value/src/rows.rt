@@ -11,14 +11,14 @@ ghost use Rattle.rc_value.specs.Scene.{scene_seen};
 use crate::Card;
 use crate::places::loc_at;
 use crate::scene::Scene;
-use crate::scope::Scope;
+use crate::scope::Bindings;
 use rc_ast::Loc;
 use rc_table::Shape;
 
 /// The ids of the cards of a location, from bottom to top.
 #[tactic(auto, unfolding(crate::specs::Scene::scene_seen))]
 #[inline(always)]
-pub fn ids_of<'a>(scene: &'a Scene, scope: &Scope, loc: &Loc) -> &'a [u16]
+pub fn ids_of<'a>(scene: &'a Scene, scope: &Bindings, loc: &Loc) -> &'a [u16]
     ensures is { result.now ≡ map id_of (cut (cards_there (scene_seen scene.now) (loc_place (scene_seen scene.now).known scope.now (loc_seen loc.now)))) }
     ensures few { length result.now ≤ 512 }
 {
@@ -44,7 +44,7 @@ fn first(ids: &[u16]) -> Option<u16>
 
 /// The id of the card at the top of a location, if one is there.
 #[inline(always)]
-pub fn top_id(scene: &Scene, scope: &Scope, loc: &Loc) -> Option<u16>
+pub fn top_id(scene: &Scene, scope: &Bindings, loc: &Loc) -> Option<u16>
     ensures { result ≡ option_map id_of (last_of (cut (cards_there (scene_seen scene.now) (loc_place (scene_seen scene.now).known scope.now (loc_seen loc.now))))) }
 {
     last(ids_of(scene, scope, loc))
@@ -52,7 +52,7 @@ pub fn top_id(scene: &Scene, scope: &Scope, loc: &Loc) -> Option<u16>
 
 /// The id of the card at the bottom of a location, if one is there.
 #[inline(always)]
-pub fn bottom_id(scene: &Scene, scope: &Scope, loc: &Loc) -> Option<u16>
+pub fn bottom_id(scene: &Scene, scope: &Bindings, loc: &Loc) -> Option<u16>
     ensures { result ≡ option_map id_of (first_of (cut (cards_there (scene_seen scene.now) (loc_place (scene_seen scene.now).known scope.now (loc_seen loc.now))))) }
 {
     first(ids_of(scene, scope, loc))
@@ -77,7 +77,7 @@ fn card_in(shape: &Shape, loc: u16, id: Option<u16>) -> Option<Card>
 
 /// The card at the top of a location, if one is there.
 #[tactic(auto, unfolding(crate::specs::Scene::scene_seen))]
-pub fn top_card(scene: &Scene, scope: &Scope, loc: &Loc) -> Option<Card>
+pub fn top_card(scene: &Scene, scope: &Bindings, loc: &Loc) -> Option<Card>
     ensures { option_map value_seen result ≡ last_of (cut (cards_there (scene_seen scene.now) (loc_place (scene_seen scene.now).known scope.now (loc_seen loc.now)))) }
 {
     match loc_at(scene, scope, loc) {
@@ -88,7 +88,7 @@ pub fn top_card(scene: &Scene, scope: &Scope, loc: &Loc) -> Option<Card>
 
 /// The card at the bottom of a location, if one is there.
 #[tactic(auto, unfolding(crate::specs::Scene::scene_seen))]
-pub fn bottom_card(scene: &Scene, scope: &Scope, loc: &Loc) -> Option<Card>
+pub fn bottom_card(scene: &Scene, scope: &Bindings, loc: &Loc) -> Option<Card>
     ensures { option_map value_seen result ≡ first_of (cut (cards_there (scene_seen scene.now) (loc_place (scene_seen scene.now).known scope.now (loc_seen loc.now)))) }
 {
     match loc_at(scene, scope, loc) {

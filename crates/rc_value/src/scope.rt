@@ -15,12 +15,12 @@ pub enum Bind<'g> {
 
 /// The variables in scope, from outside to inside.
 #[derive(Drop)]
-pub struct Scope<'g> {
+pub struct Bindings<'g> {
     binds: [Bind<'g>; 5],
     count: usize,
 }
 
-impl<'g> Model for Scope<'g> {
+impl<'g> Model for Bindings<'g> {
     ghost use Rattle.std.specs.Prelude.{List, ◌≡◌, ◌≤◌, length, map, take};
     ghost use Rattle.rc_play_model.specs.Value.{Bind as PureBind};
     ghost use Rattle.rc_play_model.specs.Scene.{CardValue};
@@ -34,7 +34,7 @@ impl<'g> Model for Scope<'g> {
     ghost invariant = { λ s. (s.count ≤ 5) × (length s.binds ≡ 5) };
 }
 
-impl<'g> Scope<'g> {
+impl<'g> Bindings<'g> {
     ghost use Rattle.std.specs.Prelude.{List};
     ghost use Rattle.rc_play_model.specs.Value.{Bind as PureBind, player_of, card_of, group_of, cut};
     ghost use Rattle.rc_play_model.specs.Scene.{CardValue, id_of};
@@ -42,10 +42,10 @@ impl<'g> Scope<'g> {
     ghost use Rattle.rc_value.specs.Cards.{value_seen};
 
     /// No variable.
-    pub fn empty() -> Scope<'g>
+    pub fn empty() -> Bindings<'g>
         ensures { result ≡ [] }
     {
-        Scope {
+        Bindings {
             binds: [Bind::Player(0); 5],
             count: 0,
         }
@@ -53,13 +53,13 @@ impl<'g> Scope<'g> {
 
     /// These variables and one more inside them.
     #[inline(always)]
-    pub fn with(&self, bind: Bind<'g>) -> Scope<'g>
+    pub fn with(&self, bind: Bind<'g>) -> Bindings<'g>
         requires { length self.now < 5 }
         ensures { result ≡ self.now ++ bind_seen bind.entry ∷ [] }
     {
         let mut binds = self.binds;
         binds[self.count] = bind;
-        Scope {
+        Bindings {
             binds,
             count: self.count + 1,
         }

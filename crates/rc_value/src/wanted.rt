@@ -1,19 +1,22 @@
 //! Values that cards are to have.
-ghost use Rattle.std.specs.Prelude.{◌≡◌, ◌+◌, ◌<◌, ◌≤◌, true, false, length, filter, option_map, slice_index_or, None, if◌then◌else◌};
+ghost use Rattle.std.specs.Prelude.{◌≡◌, ◌+◌, ◌<◌, ◌≤◌, true, false, length, filter, option_map, slice_index_or, None, IfSome, if◌then◌else◌};
 ghost use Rattle.std.specs.List.{list_any, list_all};
 ghost use Rattle.rc_sheet_model.specs.Sheet.{card_var};
-ghost use Rattle.rc_ast.specs.Expressions.{card_seen};
+ghost use Rattle.rc_ast.specs.Names.{who_seen};
+ghost use Rattle.rc_ast.specs.Expressions.{card_seen, coll_seen, test_seen};
 ghost use Rattle.rc_reads.specs.Reads.{reads_card};
 ghost use Rattle.rc_value.specs.Cards.{value_seen, values_seen};
 ghost use Rattle.rc_value.specs.Scene.{scene_seen};
-ghost use Rattle.rc_value.specs.Wanted.{meets, wanted_value, turned};
+ghost use Rattle.rc_value.specs.Wanted.{meets, wanted_value, turned, IsFixed, IsFixedCollection, IsFixedOwner, IsWanted};
 
 use crate::collection::Collection;
+use crate::hand::value_at_hand;
 use crate::leaves::{attr_of, value_in};
 use crate::loops::{card_at, keep};
 use crate::scene::Scene;
+use crate::scope::Bindings;
 use crate::{Card, Cards};
-use rc_ast::CardExpr;
+use rc_ast::{CardExpr, CollExpr, Test, Who};
 use rc_reads::card_reads;
 
 /// A value for an attribute that a card is to have, or not to have.
@@ -142,6 +145,7 @@ fn counted(count: usize, passes: bool) -> usize
 }
 
 /// Whether an expression for a card is this variable.
+#[inline(always)]
 pub(crate) fn is_variable(expr: &CardExpr, place: usize) -> bool
     ensures { result ≡ true → card_seen expr.now ≡ card_var place }
 {
@@ -160,6 +164,7 @@ pub(crate) fn is_against(expr: &CardExpr, other: &CardExpr, place: usize) -> boo
 }
 
 /// The opposite of what is wanted.
+#[inline(always)]
 pub(crate) fn unwanted(wanted: Option<Wanted>) -> Option<Wanted>
     ensures { result ≡ option_map turned wanted }
 {
@@ -184,4 +189,98 @@ pub(crate) fn keep_as_wanted(scene: &Scene, wanted: Wanted, cards: &mut Cards)
         kept = keep(cards, kept, card, passes);
     }
     cards.truncate(kept);
+}
+
+// Whether an owner is the same whatever variables stand for.
+#[inline(always)]
+fn is_fixed_owner(who: Who) -> bool
+    ensures { result ≡ true → IsFixedOwner (who_seen who) }
+{
+    match who {
+        Who::Game => true,
+        Who::CurrentPlayer => true,
+        Who::CurrentTeam => true,
+        Who::TeamOfCurrent => true,
+        _ => false,
+    }
+}
+
+#[inline(always)]
+fn is_fixed_collection(expr: &CollExpr) -> bool
+    ensures { result ≡ true → IsFixedCollection (coll_seen expr.now) }
+{
+    match expr {
+        CollExpr::Loc(loc) => is_fixed_owner(loc.who),
+        _ => false,
+    }
+}
+
+// Whether a card is the top of a location that no variable owns: it is the same whatever variables stand for.
+#[inline(always)]
+fn is_fixed(expr: &CardExpr) -> bool
+    ensures { result ≡ true → IsFixed (card_seen expr.now) }
+{
+    match expr {
+        CardExpr::Top(cards) => is_fixed_collection(cards),
+        _ => false,
+    }
+}
+
+// Whether one expression is this variable, and the other is fixed.
+#[inline(always)]
+fn is_against_fixed(expr: &CardExpr, other: &CardExpr, place: usize) -> bool
+    ensures variable { result ≡ true → card_seen expr.now ≡ card_var place }
+    ensures fixed { result ≡ true → IsFixed (card_seen other.now) }
+{
+    is_variable(expr, place) && is_fixed(other)
+}
+
+/// A test of the innermost variable's card as a value that the card is to have, where that is at hand: a value that the sheet names, or
+/// that of the card at the top of a location that no variable owns.
+#[inline(always)]
+pub(crate) fn wanted_at_hand(scene: &Scene, scope: &Bindings, test: &Test) -> Option<Wanted>
+    ensures { IfSome result (IsWanted (scene_seen scene.now) scope.now (test_seen test.now)) }
+{
+    match test {
+        Test::Ne(inner) => unwanted(equal_at_hand(scene, scope, inner)),
+        Test::Not(inner) => unwanted(equal_at_hand(scene, scope, inner)),
+        _ => equal_at_hand(scene, scope, test),
+    }
+}
+
+// The same, but for opposites.
+#[inline(always)]
+fn equal_at_hand(scene: &Scene, scope: &Bindings, test: &Test) -> Option<Wanted>
+    ensures { IfSome result (IsWanted (scene_seen scene.now) scope.now (test_seen test.now)) }
+{
+    match test {
+        Test::EqAttr(a, name, b, other) => {
+            if is_against_fixed(a, b, scope.len()) {
+                return equal_to(*name, value_at_hand(scene, scope, b, *other));
+            }
+            None
+        }
+        Test::Is(card, name, value) => {
+            if is_variable(card, scope.len()) {
+                return equal_to(*name, Some(Some(*value)));
+            }
+            None
+        }
+        _ => None,
+    }
+}
+
+// The value that an attribute is to have, if it is known.
+#[inline(always)]
+fn equal_to(name: u16, value: Option<Option<u16>>) -> Option<Wanted>
+    ensures { result ≡ option_map (λ v. record { name = name; value = v; equal = true }) value }
+{
+    match value {
+        Some(value) => Some(Wanted {
+            name,
+            value,
+            equal: true,
+        }),
+        None => None,
+    }
 }

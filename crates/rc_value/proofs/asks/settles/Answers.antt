@@ -1,22 +1,17 @@
-use Rattle.std.proofs.Common.{refl, ap, sym, subst, ◌∙◌}
+use Rattle.std.proofs.Common.{arith, sym, subst}
 use Rattle.rc_ast.specs.Expressions.{test_seen}
-use Rattle.rc_reads.specs.Reads.{reads_test}
 use Rattle.rc_value.specs.Asks.{AllFit}
+use Rattle.rc_value.specs.declared.asks.Ask.TheVariants.{Value}
 use Rattle.rc_value.specs.Scene.{scene_seen}
-use Rattle.rc_value.proofs.AskLemmas.{all_fit_more, joined_asked, joined_once}
+use Rattle.rc_value.proofs.AskLemmas.{all_fit_more, joined_asked}
 use Rattle.rc_value.proofs.asks.settles.Goals as goal
 
-pub returns-then-test_reads-clause-is : goal.returns-then-test_reads-clause-is
-returns-then-test_reads-clause-is c =
-    joined_asked (scene_seen c.args.scene.now) c.args.scope.now (test_seen c.args.test.now) c.args.any c.args.asks.now.items c.push.new.self.items c.ask_of.result
-    c.push.ensures.items c.ask_of.ensures.is
+pub returns-in-Some-clause-is : goal.returns-in-Some-clause-is
+returns-in-Some-clause-is c =
+    joined_asked (scene_seen c.args.scene.now) c.args.scope.now (test_seen c.args.test.now) c.args.any c.args.asks.now.items c.push.new.self.items (Value c.in-Some.wanted)
+    c.push.ensures.items c.in-Some.ensures
 
-pub returns-clause-is : goal.returns-clause-is
-returns-clause-is c =
-    joined_once (scene_seen c.args.scene.now) c.args.scope.now (test_seen c.args.test.now) c.args.any c.test_of.result _ c.args.asks.now.items c.args.inside.now c.requires.inside
-    (ap (λ k. reads_test k (test_seen c.args.test.now)) (sym c.len.ensures) ∙ sym c.test_reads.ensures ∙ c.if-test_reads.false) c.test_of.ensures refl
-
-pub returns-then-test_reads-clause-fit : goal.returns-then-test_reads-clause-fit
-returns-then-test_reads-clause-fit c =
+pub returns-in-Some-clause-fit : goal.returns-in-Some-clause-fit
+returns-in-Some-clause-fit c =
     subst (AllFit c.args.scope.now) (sym c.push.ensures.items)
-    (all_fit_more (scene_seen c.args.scene.now) c.args.scope.now c.args.asks.now.items c.ask_of.result c.requires.fit c.ask_of.ensures.fits)
+    (all_fit_more (scene_seen c.args.scene.now) c.args.scope.now c.args.asks.now.items (Value c.in-Some.wanted) c.requires.fit (omega (arith, c.requires.deep)))

@@ -10,7 +10,7 @@ use Rattle.rc_value.specs.Cards.{value_seen, values_seen}
 use Rattle.rc_value.specs.Scene.{scene_seen}
 use Rattle.rc_sheet_model.specs.Sheet.{all_of, any_of, each_card, card_var, cards_in, filtered, group_var}
 use Rattle.rc_value.proofs.Passing.{pass_step, pass_end}
-use Rattle.rc_value.proofs.RowLemmas.{worth_by_id, worth_of_none}
+use Rattle.rc_value.proofs.HoldingLemmas.{all_held, any_held}
 use Rattle.rc_rules.proofs.Elements.{below_length}
 use Rattle.rc_value.proofs.Steps.{players_are, all_stop, all_on, all_end, any_stop, any_on, any_end, player_here, union_on, union_end, colls_here, tests_here, and_here, or_here, union_here, and_depth, or_depth, union_depth, inner_is, tests_on, tests_off, count_on, count_end}
 use Rattle.rc_ast.specs.declared.expressions.CardExpr.TheFolds
@@ -18,12 +18,12 @@ use Rattle.rc_value.proofs.WantedLemmas.{all_wanted, any_wanted, keep_wanted, ag
 use Rattle.rc_reads.specs.Reads.{reads_card}
 use Rattle.rc_value.proofs.expressions.+values.Goals as goal
 
-pub test_of-returns-in-And : goal.test_of-returns-in-And
-test_of-returns-in-And t c =
+pub test_asked-returns-in-And : goal.test_asked-returns-in-And
+test_asked-returns-in-And t c =
     let e = and_here c.args.expr.now c.in-And.tests c.in-And.is in grind (arith, common_steps, e)
 
-pub test_of-returns-in-Or : goal.test_of-returns-in-Or
-test_of-returns-in-Or t c =
+pub test_asked-returns-in-Or : goal.test_asked-returns-in-Or
+test_asked-returns-in-Or t c =
     let e = or_here c.args.expr.now c.in-Or.tests c.in-Or.is in grind (arith, common_steps, e)
 
 pub coll_of-returns-in-Union : goal.coll_of-returns-in-Union
@@ -90,8 +90,8 @@ all_cards_asked-returns t c =
     all_end (λ m. test_value (scene_seen c.args.scene.now) (c.args.scope.now ++ m ∷ []) (test_seen c.args.test.now)) (λ x. card_bound x)
     c.args.cards.now c.loop-place.place (omega (arith, c.len-place-end.ensures.is)) c.loop-place.invariant.told
 
-pub all_players-loop-player-preserved : goal.all_players-loop-player-preserved
-all_players-loop-player-preserved t c =
+pub all_players_asked-loop-player-preserved : goal.all_players_asked-loop-player-preserved
+all_players_asked-loop-player-preserved t c =
     let n = below_length c.args.scene.now.sheet.now.players in
     record {
       told =
@@ -101,16 +101,16 @@ all_players-loop-player-preserved t c =
       inside = (player_bound c.loop-player.player, (c.rebind.ensures c.args.scope.now c.loop-player.invariant.inside.0 c.loop-player.invariant.inside.1));
     }
 
-pub all_players-returns-then-not-test_of : goal.all_players-returns-then-not-test_of
-all_players-returns-then-not-test_of t c =
+pub all_players_asked-returns-then-not-test_of : goal.all_players_asked-returns-then-not-test_of
+all_players_asked-returns-then-not-test_of t c =
     let n = below_length c.args.scene.now.sheet.now.players in
     all_stop (λ m. test_value (scene_seen c.args.scene.now) (c.args.scope.now ++ m ∷ []) (test_seen c.args.test.now)) (λ x. player_bound x)
     (below c.args.scene.now.sheet.now.players) c.loop-player.player c.loop-player.player (omega arith) (player_here c.args.scene.now.sheet.now.players c.loop-player.player c.loop-player-test.true)
     (inner_is (scene_seen c.args.scene.now) c.args.scope.now c.rebind.new.self (player_bound c.loop-player.player) c.args.test.now c.test_of.result (c.rebind.ensures c.args.scope.now c.loop-player.invariant.inside.0 c.loop-player.invariant.inside.1) c.test_of.ensures ∙ c.if-not-test_of.true) c.loop-player.invariant.told
     ∙ ap (λ k. list_all (λ m. test_value (scene_seen c.args.scene.now) (c.args.scope.now ++ m ∷ []) (test_seen c.args.test.now)) (map (λ x. player_bound x) (below k))) (sym (players_are c.args.scene.now))
 
-pub all_players-returns : goal.all_players-returns
-all_players-returns t c =
+pub all_players_asked-returns : goal.all_players_asked-returns
+all_players_asked-returns t c =
     let n = below_length c.args.scene.now.sheet.now.players in
     all_end (λ m. test_value (scene_seen c.args.scene.now) (c.args.scope.now ++ m ∷ []) (test_seen c.args.test.now)) (λ x. player_bound x)
     (below c.args.scene.now.sheet.now.players) c.loop-player.player (omega arith) c.loop-player.invariant.told
@@ -137,8 +137,8 @@ any_card_asked-returns t c =
     any_end (λ m. test_value (scene_seen c.args.scene.now) (c.args.scope.now ++ m ∷ []) (test_seen c.args.test.now)) (λ x. card_bound x)
     c.args.cards.now c.loop-place.place (omega (arith, c.len-place-end.ensures.is)) c.loop-place.invariant.told
 
-pub any_player-loop-player-preserved : goal.any_player-loop-player-preserved
-any_player-loop-player-preserved t c =
+pub any_player_asked-loop-player-preserved : goal.any_player_asked-loop-player-preserved
+any_player_asked-loop-player-preserved t c =
     let n = below_length c.args.scene.now.sheet.now.players in
     record {
       told =
@@ -148,27 +148,27 @@ any_player-loop-player-preserved t c =
       inside = (player_bound c.loop-player.player, (c.rebind.ensures c.args.scope.now c.loop-player.invariant.inside.0 c.loop-player.invariant.inside.1));
     }
 
-pub any_player-returns-then-test_of : goal.any_player-returns-then-test_of
-any_player-returns-then-test_of t c =
+pub any_player_asked-returns-then-test_of : goal.any_player_asked-returns-then-test_of
+any_player_asked-returns-then-test_of t c =
     let n = below_length c.args.scene.now.sheet.now.players in
     any_stop (λ m. test_value (scene_seen c.args.scene.now) (c.args.scope.now ++ m ∷ []) (test_seen c.args.test.now)) (λ x. player_bound x)
     (below c.args.scene.now.sheet.now.players) c.loop-player.player c.loop-player.player (omega arith) (player_here c.args.scene.now.sheet.now.players c.loop-player.player c.loop-player-test.true)
     (inner_is (scene_seen c.args.scene.now) c.args.scope.now c.rebind.new.self (player_bound c.loop-player.player) c.args.test.now c.test_of.result (c.rebind.ensures c.args.scope.now c.loop-player.invariant.inside.0 c.loop-player.invariant.inside.1) c.test_of.ensures ∙ c.if-test_of.true) c.loop-player.invariant.told
     ∙ ap (λ k. list_any (λ m. test_value (scene_seen c.args.scene.now) (c.args.scope.now ++ m ∷ []) (test_seen c.args.test.now)) (map (λ x. player_bound x) (below k))) (sym (players_are c.args.scene.now))
 
-pub any_player-returns : goal.any_player-returns
-any_player-returns t c =
+pub any_player_asked-returns : goal.any_player_asked-returns
+any_player_asked-returns t c =
     let n = below_length c.args.scene.now.sheet.now.players in
     any_end (λ m. test_value (scene_seen c.args.scene.now) (c.args.scope.now ++ m ∷ []) (test_seen c.args.test.now)) (λ x. player_bound x)
     (below c.args.scene.now.sheet.now.players) c.loop-player.player (omega arith) c.loop-player.invariant.told
     ∙ ap (λ k. list_any (λ m. test_value (scene_seen c.args.scene.now) (c.args.scope.now ++ m ∷ []) (test_seen c.args.test.now)) (map (λ x. player_bound x) (below k))) (sym (players_are c.args.scene.now))
 
-pub test_of-all_tests-requires : goal.test_of-all_tests-requires
-test_of-all_tests-requires t c =
+pub test_asked-all_tests-requires : goal.test_asked-all_tests-requires
+test_asked-all_tests-requires t c =
     let e = and_depth c.args.expr.now c.in-And.tests c.in-And.is in (search (rules, TheFolds.the_lemmas), omega arith)
 
-pub test_of-any_test-requires : goal.test_of-any_test-requires
-test_of-any_test-requires t c =
+pub test_asked-any_test-requires : goal.test_asked-any_test-requires
+test_asked-any_test-requires t c =
     let e = or_depth c.args.expr.now c.in-Or.tests c.in-Or.is in (search (rules, TheFolds.the_lemmas), omega arith)
 
 pub coll_of-join-requires : goal.coll_of-join-requires
@@ -203,6 +203,14 @@ pub all_cards-returns-in-Some : goal.all_cards-returns-in-Some
 all_cards-returns-in-Some t c =
     c.all_as_wanted.ensures ∙ all_wanted (scene_seen c.args.scene.now) c.args.scope.now (test_seen c.args.test.now) c.in-Some.wanted c.args.cards.now c.in-Some.ensures
 
+pub all_cards_wanted-returns-in-Some : goal.all_cards_wanted-returns-in-Some
+all_cards_wanted-returns-in-Some t c =
+    c.all_as_wanted.ensures ∙ all_wanted (scene_seen c.args.scene.now) c.args.scope.now (test_seen c.args.test.now) c.in-Some.wanted c.args.cards.now c.in-Some.ensures
+
+pub any_card_wanted-returns-in-Some : goal.any_card_wanted-returns-in-Some
+any_card_wanted-returns-in-Some t c =
+    c.some_as_wanted.ensures ∙ any_wanted (scene_seen c.args.scene.now) c.args.scope.now (test_seen c.args.test.now) c.in-Some.wanted c.args.cards.now c.in-Some.ensures
+
 pub any_card-returns-in-Some : goal.any_card-returns-in-Some
 any_card-returns-in-Some t c =
     c.some_as_wanted.ensures ∙ any_wanted (scene_seen c.args.scene.now) c.args.scope.now (test_seen c.args.test.now) c.in-Some.wanted c.args.cards.now c.in-Some.ensures
@@ -211,16 +219,16 @@ pub pass-returns-in-Some : goal.pass-returns-in-Some
 pass-returns-in-Some t c =
     c.keep_as_wanted.ensures ∙ keep_wanted (scene_seen c.args.scene.now) c.args.scope.now (test_seen c.args.test.now) c.in-Some.wanted (values_seen c.args.out.now.items) c.in-Some.ensures
 
-pub wanted_of-returns-then-is_against : goal.wanted_of-returns-then-is_against
-wanted_of-returns-then-is_against t c =
+pub wanted_against-returns-then-is_against : goal.wanted_against-returns-then-is_against
+wanted_against-returns-then-is_against t c =
     against_is (scene_seen c.args.scene.now) c.args.scope.now (test_seen c.args.test.now) (card_seen c.in-EqAttr.a.value) (card_seen c.in-EqAttr.b.value) c.in-EqAttr.name c.in-EqAttr.other c.value_once.result
     (ap test_seen c.in-EqAttr.is)
     (sym (ap card_seen c.deref.ensures) ∙ c.is_against.ensures.variable c.if-is_against.true ∙ ap card_var c.len.ensures)
     (ap₂ (λ k e. reads_card k (card_seen e)) (sym c.len.ensures) (sym c.deref-in-EqAttr.ensures) ∙ c.is_against.ensures.unread c.if-is_against.true)
     (c.value_once.ensures ∙ ap (λ e. attr_of_any (scene_seen c.args.scene.now) c.in-EqAttr.other (card_value (scene_seen c.args.scene.now) (c.args.scope.now ++ player_bound 0 ∷ []) (card_seen e))) c.deref-then-is_against.ensures)
 
-pub wanted_of-returns-then-is_against-2 : goal.wanted_of-returns-then-is_against-2
-wanted_of-returns-then-is_against-2 t c =
+pub wanted_against-returns-then-is_against-2 : goal.wanted_against-returns-then-is_against-2
+wanted_against-returns-then-is_against-2 t c =
     against_turned (scene_seen c.args.scene.now) c.args.scope.now (test_seen c.args.test.now) (card_seen c.in-EqAttr.a.value) (card_seen c.in-EqAttr.b.value) c.in-EqAttr.name c.in-EqAttr.other c.value_once-then-is_against-2.result
     (ap test_seen c.in-EqAttr.is)
     (sym (ap card_seen c.deref-in-EqAttr-2.ensures) ∙ c.is_against-in-EqAttr.ensures.variable c.if-is_against-2.true ∙ ap card_var c.len-in-EqAttr.ensures)
@@ -231,21 +239,23 @@ pub wanted_of-returns-then-is_variable : goal.wanted_of-returns-then-is_variable
 wanted_of-returns-then-is_variable t c =
     value_is (scene_seen c.args.scene.now) c.args.scope.now (test_seen c.args.test.now) (card_seen c.in-Is.card.value) c.in-Is.name c.in-Is.value
     (ap test_seen c.in-Is.is)
-    (sym (ap card_seen c.deref-in-Is.ensures) ∙ c.is_variable.ensures c.if-is_variable.true ∙ ap card_var c.len-in-Is.ensures)
+    (sym (ap card_seen c.deref.ensures) ∙ c.is_variable.ensures c.if-is_variable.true ∙ ap card_var c.len.ensures)
 
-pub value_of-returns : goal.value_of-returns
-value_of-returns t c = c.attr_of_id.ensures _ c.id_now.ensures
+pub value_asked-returns : goal.value_asked-returns
+value_asked-returns t c = c.attr_of_id.ensures _ c.id_now.ensures
 
-pub points_of-returns-in-Some : goal.points_of-returns-in-Some
-points_of-returns-in-Some t c =
-    let e =
-    worth_by_id c.args.scene.now c.args.map c.in-Some.id c.worth_of.result
-    (card_value (scene_seen c.args.scene.now) c.args.scope.now (card_seen c.args.expr.now)) c.in-Some.ensures c.worth_of.ensures.is in
-    grind (arith, common_steps, e)
+pub points_of-returns : goal.points_of-returns
+points_of-returns t c = let e = c.worth_of_id.ensures _ c.id_now.ensures in grind (arith, common_steps, e)
 
-pub points_of-returns-in-None : goal.points_of-returns-in-None
-points_of-returns-in-None t c =
-    worth_of_none c.args.scene.now c.args.map (card_value (scene_seen c.args.scene.now) c.args.scope.now (card_seen c.args.expr.now)) c.in-None.ensures
+pub all_players-returns-in-Some : goal.all_players-returns-in-Some
+all_players-returns-in-Some t c =
+    c.all_hold.ensures
+    ∙ all_held (scene_seen c.args.scene.now) c.args.scope.now (test_seen c.args.test.now) c.in-Some.holding (below (scene_seen c.args.scene.now).known.sheet.players) c.len.result c.len.ensures c.in-Some.ensures
+
+pub any_player-returns-in-Some : goal.any_player-returns-in-Some
+any_player-returns-in-Some t c =
+    c.any_hold.ensures
+    ∙ any_held (scene_seen c.args.scene.now) c.args.scope.now (test_seen c.args.test.now) c.in-Some.holding (below (scene_seen c.args.scene.now).known.sheet.players) c.len.result c.len.ensures c.in-Some.ensures
 
 pub over_built-returns-in-Coll : goal.over_built-returns-in-Coll
 over_built-returns-in-Coll t c =

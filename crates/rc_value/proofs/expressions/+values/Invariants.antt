@@ -39,15 +39,15 @@ invariant-any_test-loop-test l = record {
       ≡ list_any (λ b. b) (tests_value (scene_seen l.scene) l.scope (tests_seen l.test-items));
 }
 
-abbrev pub invariant-all_players-loop-player : goal.invariant-all_players-loop-player
-invariant-all_players-loop-player l = record {
+abbrev pub invariant-all_players_asked-loop-player : goal.invariant-all_players_asked-loop-player
+invariant-all_players_asked-loop-player l = record {
   told : list_all (λ n. test_value (scene_seen l.scene) (l.scope ++ player_bound n ∷ []) (test_seen l.test)) (drop l.player (below l.scene.sheet.now.players))
       ≡ list_all (λ n. test_value (scene_seen l.scene) (l.scope ++ player_bound n ∷ []) (test_seen l.test)) (below l.scene.sheet.now.players);
   inside : (m : PureBind CardValue) × (l.inside ≡ l.scope ++ m ∷ []);
 }
 
-abbrev pub invariant-any_player-loop-player : goal.invariant-any_player-loop-player
-invariant-any_player-loop-player l = record {
+abbrev pub invariant-any_player_asked-loop-player : goal.invariant-any_player_asked-loop-player
+invariant-any_player_asked-loop-player l = record {
   told : list_any (λ n. test_value (scene_seen l.scene) (l.scope ++ player_bound n ∷ []) (test_seen l.test)) (drop l.player (below l.scene.sheet.now.players))
       ≡ list_any (λ n. test_value (scene_seen l.scene) (l.scope ++ player_bound n ∷ []) (test_seen l.test)) (below l.scene.sheet.now.players);
   inside : (m : PureBind CardValue) × (l.inside ≡ l.scope ++ m ∷ []);

@@ -2,7 +2,7 @@ use Rattle.std.proofs.Common.{◌≡◌, ◌-◌, ◌<◌, map, take, length, ar
 use Rattle.std.proofs.lemmas.List.{length-map, length-take}
 use Rattle.rc_value.specs.Seen.{bind_seen}
 use Rattle.rc_value.proofs.Lists.{rebound}
-use Rattle.rc_value.proofs.scope.Scope.rebind.Goals as goal
+use Rattle.rc_value.proofs.scope.Bindings.rebind.Goals as goal
 
 pub returns : goal.returns
 returns c = λ vars m e.

@@ -1,0 +1,28 @@
+use Rattle.std.proofs.Common.{arith, ap, sym, ◌∙◌}
+use Rattle.std.specs.List.{list_all}
+use Rattle.rc_model.specs.Numbers.{below}
+use Rattle.rc_rules.proofs.Elements.{below_length}
+use Rattle.rc_value.specs.Holding.{holds}
+use Rattle.rc_value.specs.Scene.{scene_seen}
+use Rattle.rc_value.proofs.Steps.{players_are, player_here}
+use Rattle.rc_value.proofs.HoldingLemmas.{all_here_on, all_here_stop, all_here_end}
+use Rattle.rc_value.proofs.players.all_hold.Goals as goal
+
+pub loop-player-preserved : goal.loop-player-preserved
+loop-player-preserved c =
+    let n = below_length c.args.scene.now.sheet.now.players in
+    all_here_on (holds (scene_seen c.args.scene.now) c.args.holding) (below c.args.scene.now.sheet.now.players) c.loop-player.player c.loop-player.player c.does_hold.result (omega arith)
+    (player_here c.args.scene.now.sheet.now.players c.loop-player.player c.loop-player-test.true) c.does_hold.ensures c.if-not-does_hold.false c.loop-player.invariant
+
+pub returns-then-not-does_hold : goal.returns-then-not-does_hold
+returns-then-not-does_hold c =
+    let n = below_length c.args.scene.now.sheet.now.players in
+    all_here_stop (holds (scene_seen c.args.scene.now) c.args.holding) (below c.args.scene.now.sheet.now.players) c.loop-player.player c.loop-player.player c.does_hold.result (omega arith)
+    (player_here c.args.scene.now.sheet.now.players c.loop-player.player c.loop-player-test.true) c.does_hold.ensures c.if-not-does_hold.true c.loop-player.invariant
+    ∙ ap (λ k. list_all (holds (scene_seen c.args.scene.now) c.args.holding) (below k)) (sym (players_are c.args.scene.now))
+
+pub returns : goal.returns
+returns c =
+    let n = below_length c.args.scene.now.sheet.now.players in
+    all_here_end (holds (scene_seen c.args.scene.now) c.args.holding) (below c.args.scene.now.sheet.now.players) c.loop-player.player (omega arith) c.loop-player.invariant
+    ∙ ap (λ k. list_all (holds (scene_seen c.args.scene.now) c.args.holding) (below k)) (sym (players_are c.args.scene.now))

@@ -1,0 +1,11 @@
+use Rattle.std.proofs.Common.{◌≡◌, drop}
+use Rattle.std.specs.List.{list_any}
+use Rattle.rc_model.specs.Numbers.{below}
+use Rattle.rc_value.specs.Holding.{holds}
+use Rattle.rc_value.specs.Scene.{scene_seen}
+use Rattle.rc_value.proofs.players.any_hold.Given as goal
+
+abbrev pub invariant-loop-player : goal.invariant-loop-player
+invariant-loop-player l =
+    list_any (holds (scene_seen l.scene) l.holding) (drop l.player (below l.scene.sheet.now.players))
+    ≡ list_any (holds (scene_seen l.scene) l.holding) (below l.scene.sheet.now.players)
