@@ -8,14 +8,14 @@ ghost use Rattle.rc_state.specs.Context.{scene_in};
 
 use rc_rules::{About, Frames};
 use rc_table::Table;
-use rc_value::{Current, Scene, Scope};
+use rc_value::{Bindings, Current, Scene};
 
 /// By what effects are done: what the match is played by, what variables stand for, and who is current. No effect changes any
 /// of them.
 #[derive(Drop)]
 pub struct Context<'c> {
     pub about: &'c About,
-    pub scope: &'c Scope<'c>,
+    pub scope: &'c Bindings<'c>,
     pub current: Current,
 }
 

@@ -21,7 +21,7 @@ pub use change::{Change, changed};
 pub use context::{Context, scene_now};
 pub use counting::{count_decision, member_count, new_control};
 pub use cycling::{name_next, turn_round};
-pub use few::{FewCards, few_cards_now};
+pub use few::{FewCards, few_cards_now, sole_card_now};
 pub use frames::{close_frame, open_frame, pass_frame};
 pub use members::{Member, bare_bind_at, bind_of, member_at};
 pub use menus::{copy_menu, fill_menu_at, fill_menu_by};

@@ -10,7 +10,7 @@ ghost use Rattle.rc_rules.specs.Control.{frames_seen, control_seen};
 use rc_ast::Test;
 use rc_rules::{About, Control, Scores};
 use rc_table::Table;
-use rc_value::{Bind, Scene, Scope, expressions_bind_few, int_of, test_of};
+use rc_value::{Bind, Bindings, Scene, expressions_bind_few, int_of, test_of};
 
 /// Whether the end test of a stage holds.
 pub fn has_ended(about: &About, table: &Table, control: &Control, end: &Test) -> bool
@@ -25,7 +25,7 @@ pub fn has_ended(about: &About, table: &Table, control: &Control, end: &Test) ->
         table,
         control.frames.as_slice(),
     );
-    test_of(&scene, &Scope::empty(), end)
+    test_of(&scene, &Bindings::empty(), end)
 }
 
 /// Each player's score.
@@ -48,6 +48,6 @@ fn score_now(about: &About, table: &Table, control: &Control, player: u8) -> i64
     expressions_bind_few();
     let sheet = about.sheet();
     let scene = Scene::new(sheet, about.lookup(), table, control.frames.as_slice());
-    let empty = Scope::empty();
+    let empty = Bindings::empty();
     int_of(&scene, &empty.with(Bind::Player(player)), &sheet.score)
 }
