@@ -22,12 +22,12 @@ use rc_names::limits::MOST_TIMES;
 use rc_rules::{About, Dealer, Frames};
 use rc_state::{Change, Context, cards_now, int_now, name_next, test_now, turn_round};
 use rc_table::Table;
-use rc_value::{Bind, Cards, Scope, current_of};
+use rc_value::{Bind, Bindings, Cards, current_of};
 
 /// Does effects, one after the other, under the variables of a scope. It takes no memory.
 pub fn do_effects<D: Dealer>(
     about: &About,
-    scope: &Scope,
+    scope: &Bindings,
     effects: &Vec<Effect>,
     table: &mut Table,
     frames: &mut Frames,

@@ -19,7 +19,7 @@ use rc_ast::{Alt, Domain};
 use rc_rules::{About, Dealer, Frames, Item};
 use rc_state::{Context, bind_of, member_at};
 use rc_table::Table;
-use rc_value::{Cards, Scope, current_of};
+use rc_value::{Bindings, Cards, current_of};
 
 /// Does the effects of an item of a menu, with its variables bound. It takes no memory.
 ///
@@ -44,7 +44,7 @@ pub fn do_item<D: Dealer>(
     let Some(alt) = alts.get(item.alt as usize) else {
         return;
     };
-    let scope = Scope::empty();
+    let scope = Bindings::empty();
     let current = current_of(about.sheet(), about.lookup(), frames.as_slice());
     let context = Context {
         about,

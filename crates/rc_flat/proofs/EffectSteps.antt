@@ -1,29 +1,19 @@
 -- Effects seen as what they are, and one player after the other.
-use Rattle.std.proofs.Common.{◌≡◌, ℕ, zero, suc, ◌+◌, ◌-◌, ◌<◌, ◌≤◌, get_or, List, [], ◌∷◌, length, drop, map, refl, sym, ap, ◌∙◌, arith}
+use Rattle.std.proofs.Common.{◌≡◌, ℕ, zero, suc, ◌+◌, ◌-◌, ◌<◌, ◌≤◌, List, [], ◌∷◌, length, drop, map, refl, sym, ap, ◌∙◌, arith}
 use Rattle.std.specs.Prelude.{fold}
 use Rattle.std.specs.List.{range_with_len}
 use Rattle.std.proofs.lemmas.List.FromFn.{length-range_with_len}
 use Rattle.rc_model.specs.Numbers.{below}
-use Rattle.rc_sheet_model.specs.Sheet.{Effect as PureEffect}
-use Rattle.rc_play_model.specs.About.{About}
-use Rattle.rc_play_model.specs.Scene.{CardValue, Vars}
-use Rattle.rc_play_model.specs.Value.{Bind, player_bound, card_bound}
-use Rattle.rc_play_model.specs.Effects.{Dealing, Point, again, does_one, does}
+use Rattle.rc_play_model.specs.Scene.{CardValue}
+use Rattle.rc_play_model.specs.Value.{Bind, player_bound}
+use Rattle.rc_play_model.specs.Effects.{Dealing, again, does_one}
 use Rattle.rc_ast.specs.declared.effects.Effect.{Effect}
 use Rattle.rc_ast.specs.Effects.{effect_seen}
-use Rattle.std.proofs.lemmas.List.{drop_more}
-use Rattle.rc_value.specs.declared.cards.Card.{Card}
-use Rattle.rc_value.specs.Cards.{value_seen, values_seen}
 use Rattle.rc_table.specs.Laid.{Laid}
 use Rattle.rc_rules.specs.declared.control.Frame.{Frame}
 use Rattle.rc_state.specs.declared.context.Context.{Context}
 use Rattle.rc_state.specs.Point.{point_of}
 use Rattle.rc_state.specs.Leads.{LeadsTo}
-
--- the same effect
-pub same_effect : (about : About) (dealing : Dealing ℕ) (vars : Vars) (e f : PureEffect) (now then' : Point ℕ) → e ≡ f →
-    does_one about dealing vars f now ≡ then' → does_one about dealing vars e now ≡ then'
-same_effect about dealing vars e f now then' is does = ap (λ e. does_one about dealing vars e now) is ∙ does
 
 -- an effect that shuffles nothing
 pub led : (context : Context) (dealing : Dealing ℕ) (state : ℕ) (e f : Effect) (before after : Laid) (frames frames' : List Frame) → e ≡ f →
@@ -60,16 +50,6 @@ module _ {A : Type 0} (f : A → Bind CardValue → A) where
   -- no player is left
   pub no_player : (n k : ℕ) (now : A) → n ≤ k → fold f now (map (λ n. player_bound n) (drop k (below n))) ≡ now
   no_player n k now le = ap (λ ns. fold f now (map (λ n. player_bound n) ns)) (none_left (below n) k (omega (arith, le, length-range_with_len 0 n)))
-
--- one card more
-pub one_card : {A : Type 0} (f : A → Bind CardValue → A) (items : List Card) (k : ℕ) (card : Card) (now mid last : A) → k < length items →
-    card ≡ get_or items k card → f now (card_bound (value_seen card)) ≡ mid →
-    fold f now (map (λ c. card_bound c) (values_seen (drop k items))) ≡ last → fold f mid (map (λ c. card_bound c) (values_seen (drop (k + 1) items))) ≡ last
-one_card f items k card now mid last lt is one rest =
-    let here = drop_more items k card lt ∙ ap (λ (c : Card). c ∷ drop (k + 1) items) (sym is) in
-    ap (λ a. fold f a (map (λ c. card_bound c) (values_seen (drop (k + 1) items)))) (sym one)
-    ∙ ap (λ cards. fold f now (map (λ c. card_bound c) (values_seen cards))) (sym here)
-    ∙ rest
 
 -- once more
 pub once_more : {A : Type 0} (f : A → A) (n k : ℕ) (now mid last : A) → k < n → f now ≡ mid → again (n - k) f now ≡ last → again (n - (k + 1)) f mid ≡ last

@@ -1,13 +1,13 @@
 -- What a board keeps, after edits and where it goes home.
-use Rattle.std.proofs.Common.{◌≡◌, ◌≢◌, ℕ, zero, suc, nat_lt, Bool, true, false, true≢false, List, [], ◌∷◌, length, set, get_or, replicate, refl, sym, ap, ◌∙◌, subst, arith}
-use Rattle.std.specs.Prelude.{if◌then◌else◌, slice_index, insert, remove, IsSome}
+use Rattle.std.proofs.Common.{◌≡◌, ◌≢◌, ℕ, ℤ, zero, suc, nat_lt, Bool, true, false, true≢false, List, [], ◌∷◌, length, set, get_or, replicate, refl, sym, ap, ◌∙◌, subst, arith}
+use Rattle.std.specs.Prelude.{if◌then◌else◌, slice_index, insert, remove}
 use Rattle.std.proofs.lemmas.List.{get_or-set_other, length-set, length-replicate}
 use Rattle.rc_play_model.specs.Shape.{Shape}
 use Rattle.rc_play_model.specs.Table.{Table, IsSound, list_at, with_list}
 use Rattle.rc_table.specs.Laid.{Laid, relaid}
 use Rattle.rc_table.specs.Restored.{taken_at, moved_between}
-use Rattle.rc_flat.specs.Undo.{Edit, moved, changed, ordered, noted, forgotten, undone, before_of, IsEditOf, CanUndo, Kept, edited, gone_home, home_at, GoesBack}
-use Rattle.rc_flat.specs.Past.{Past, none_kept, edits_kept, home_kept, touched_by, noted_in, untouched, moved_to, edits_of, home_of, home_table, TookLast, IsFromHome, HasShape, IsPast, kept_of}
+use Rattle.rc_flat.specs.Undo.{Edit, moved, changed, ordered, noted, forgotten, undone, before_of, IsEditOf, CanUndo, Kept, edited, gone_home, GoesBack}
+use Rattle.rc_flat.specs.Past.{Past, none_kept, edits_kept, home_kept, touched_by, noted_in, untouched, edits_of, notes_of, home_of, home_table, TookLast, IsFromHome, IsPast, kept_of}
 use Rattle.rc_flat.proofs.UndoLemmas.{noted_can, so_many}
 
 -- FLAGS
@@ -94,6 +94,12 @@ noted_edit e past past' old new t more laid back is sound kept =
     subst (λ (p : Past). AreNoted p new (edited (kept_of past old) t)) (sym more)
     (subst (λ (l : Laid). AreNoted (noted_in e past) l (edited (kept_of past old) t)) (sym laid) (one_noted e past old t back is sound kept))
 
+-- where edits aren't noted, nothing is noted of a number
+pub unnoted : (num : ℕ) (value : ℤ) (past : Past) → notes_of past ≡ false → past ≡ noted_in (changed num value) past
+unnoted num value none_kept off = refl
+unnoted num value (edits_kept edits) off = absurd (true≢false off)
+unnoted num value (home_kept base touched) off = refl
+
 -- THE LAST EDIT
 
 -- what there is to be taken back
@@ -122,20 +128,10 @@ took_last e old past past' took kept =
     (subst (λ (p : Past). LeadsBack e old (edits_kept (e ∷ took.0)) p) (sym took.2)
     (last_of e took.0 old (subst (IsPast old) took.1 kept)))
 
-pub goes_to : (e : Edit) (old new : Laid) (past past' : Past) → new ≡ relaid old (undone e old.table) → LeadsBack e old past past' →
-    IsPast new past' × GoesBack (kept_of past old) (kept_of past' new) (old.table ∷ [])
-goes_to e old new past past' is back =
-    subst (λ (l : Laid). IsPast l past' × GoesBack (kept_of past old) (kept_of past' l) (old.table ∷ [])) (sym is) (back.kept, back.goes)
-
 -- HOME
 
 at_base : (base : Laid) (n : ℕ) → n ≡ length base.shape.places → IsFromHome base (replicate n false) base
 at_base base n each = record { shape = refl; each = length-replicate n false ∙ each; same = λ loc is. refl }
-
-pub at_home_there : (laid : Laid) (past : Past) → past ≡ home_kept laid (replicate (length laid.shape.places) false) →
-    AreNoted past laid (home_at laid)
-at_home_there laid past is =
-    subst (λ (p : Past). AreNoted p laid (home_at laid)) (sym is) (at_base laid (length laid.shape.places) refl, refl)
 
 home_again : (past : Past) (old : Laid) → IsPast old past →
     AreNoted (untouched past) (relaid old (home_table past old.table)) (gone_home (kept_of past old))
@@ -151,25 +147,3 @@ pub went_home : (past past' : Past) (old new : Laid) → past' ≡ untouched pas
 went_home past past' old new is laid kept =
     subst (λ (p : Past). AreNoted p new (gone_home (kept_of past old))) (sym is)
     (subst (λ (l : Laid). AreNoted (untouched past) l (gone_home (kept_of past old))) (sym laid) (home_again past old kept))
-
-pub home_shape : (past : Past) (old laid : Laid) → old.shape ≡ laid.shape → IsPast old past → HasShape laid.shape past
-home_shape none_kept old laid is kept = tt
-home_shape (edits_kept edits) old laid is kept = tt
-home_shape (home_kept base touched) old laid is from = sym from.shape ∙ is
-
-home_there : (past : Past) (old laid : Laid) → old.shape ≡ laid.shape → IsSome (home_of past) → IsPast old past →
-    AreNoted (moved_to laid past) laid (home_at laid)
-home_there none_kept old laid is some kept = absurd cc
-home_there (edits_kept edits) old laid is some kept = absurd cc
-home_there (home_kept base touched) old laid is some from =
-    (at_base laid (length touched) (from.each ∙ ap (λ (shape : Shape). length shape.places) is), refl)
-
-pub moved_home : (past past' : Past) (old new laid : Laid) → past' ≡ moved_to laid past → new ≡ laid → old.shape ≡ laid.shape → IsSome (home_of past) →
-    IsPast old past → AreNoted past' new (home_at laid)
-moved_home past past' old new laid is there shape some kept =
-    subst (λ (p : Past). AreNoted p new (home_at laid)) (sym is)
-    (subst (λ (l : Laid). AreNoted (moved_to laid past) l (home_at laid)) (sym there) (home_there past old laid shape some kept))
-
--- what a call that was refused memory leaves
-pub as_before : (past past' : Past) (laid : Laid) → past' ≡ past → IsPast laid past → AreNoted past' laid (kept_of past laid)
-as_before past past' laid is kept = subst (λ (p : Past). AreNoted p laid (kept_of past laid)) (sym is) (kept, refl)

@@ -11,12 +11,12 @@ use Rattle.rc_play_model.specs.About.{scene_at}
 use Rattle.rc_play_model.specs.Value.{test_value}
 use Rattle.rc_play_model.specs.Menu.{Item, menu_from}
 use Rattle.rc_play_model.specs.Effects.{Dealing, Point, does}
-use Rattle.rc_play_model.specs.Step.{Stage, Part, todo, round, turn, todos, Next, goes, stops, is_limit, is_done, decide, with_site, with_frames, at_menu, first_step, step, behind, opened, closed, passed, one_turn_more, at_round}
+use Rattle.rc_play_model.specs.Step.{Stage, Part, todo, round, turn, todos, Next, goes, stops, is_limit, decide, with_site, with_frames, at_menu, first_step, step, behind, opened, closed, passed, one_turn_more, at_round}
 use Rattle.rc_play_model.specs.Decision.{chosen_point, choose_first, choose, with_choice}
 use Rattle.rc_play_model.specs.Path.{Path}
 use Rattle.rc_code.specs.Instruction.{Block, do_all, begin_stage, offer}
 use Rattle.rc_code.specs.Meaning.{effects_in, items_in, items_from, stage_at, behind_at, left_behind, left_in}
-use Rattle.rc_code.proofs.LeftLemmas.{left_do, left_choice, left_stage, left_opened, left_done, left_turn, left_round, left_from, left_body, stage_there, behind_there}
+use Rattle.rc_code.proofs.LeftLemmas.{left_do, left_choice, left_stage, left_opened, left_turn, left_round, left_from, left_body, stage_there, behind_there}
 use Rattle.rc_flat.specs.Places.{went_to, at_round_of, opened_at, closed_to, but_last}
 use Rattle.rc_flat.specs.Flat.{Flat, config_of}
 
@@ -118,12 +118,6 @@ module _ (m : Flat) (dealing : Dealing ℕ) (k : ℕ) where
       ap from (left_turn m.code m.place outer place within here end)
       ∙ ap (λ fs. left_with (round (stage_at m.code place) ∷ todos (behind_at m.code place) ++ left_behind m.code (reverse outer)) m.table (with_frames m.control fs)) passes
       ∙ ap (λ left. left_with left m.table (with_frames m.control frames)) (sym (left_round m.code (at_round_of m.place) outer place within refl))
-
-  pub end_leads : m.place.outer ≡ [] → m.place.at_round ≡ false → items_from (drop m.place.next m.code) ≡ [] →
-      step m.about dealing k (config_of m) ≡ stops is_done (config_of m)
-  end_leads none here end =
-      let nothing = left_done m.code m.place here none end in
-      ap from nothing ∙ ap (λ left. stops is_done (record { left = left; table = m.table; control = m.control })) (sym nothing)
 
   -- AT A CHOICE
 

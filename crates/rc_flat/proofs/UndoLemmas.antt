@@ -1,8 +1,8 @@
 -- Edits that are taken back leave the table that was there.
-use Rattle.std.proofs.Common.{◌≡◌, ◌≢◌, ℕ, zero, suc, ◌-◌, ◌<◌, ◌≤◌, ◌==◌, nat_lt, true, false, List, [], ◌∷◌, ◌++◌, length, map, reverse, inl, inr, refl, sym, ap, ◌∙◌, subst, arith}
+use Rattle.std.proofs.Common.{◌≡◌, ◌≢◌, ℕ, zero, suc, ◌-◌, ◌<◌, ◌≤◌, ◌==◌, nat_lt, true, List, [], ◌∷◌, ◌++◌, length, map, reverse, inl, inr, refl, sym, ap, ◌∙◌, subst, arith}
 use Rattle.std.specs.Prelude.{slice_index, remove, ℤ}
 use Rattle.std.specs.List.{insert}
-use Rattle.std.proofs.lemmas.Bool.{cond-true, cond-false, lt-ltb, eq-eqb, cases_lt}
+use Rattle.std.proofs.lemmas.Bool.{cond-true, lt-ltb, eq-eqb, cases_lt}
 use Rattle.std.proofs.lemmas.List.Edits.{length-remove}
 use Rattle.std.proofs.lemmas.List.{set-set, set-get_or, get_or-set_same, get_or-set_other, get_or_past, length-set, length-map, map-append, reverse-append}
 use Rattle.rc_play_model.specs.Shape.{Shape}
@@ -108,11 +108,6 @@ noted_can shape before after e t t' more back is sound can =
     subst (λ edits. CanUndo shape edits t') (sym more)
     (is, subst (IsSound shape) (sym back) sound, subst (CanUndo shape before) (sym back) can)
 
-pub noted_before : (before after : List Edit) (e : Edit) (t t' : Table) → after ≡ e ∷ before → undone e t' ≡ t →
-    before_of after t' ≡ t ∷ before_of before t
-noted_before before after e t t' more back =
-    ap (λ edits. before_of edits t') more ∙ ap (λ t. t ∷ before_of before t) back
-
 -- where a card is, by what is known of a sound table
 pub where_it_is : (shape : Shape) (t : Table) (id : ℕ) → IsSound shape t → id < length shape.faces →
     let at = place_of shape t id in
@@ -122,9 +117,6 @@ where_it_is shape t id sound card =
     let f = found id shape.places t.lists (omega (arith, one)) in
     let i = index_found id (list_at t (loc_of shape t id)) f.5 in
     (f.2, f.1, i.0, i.1)
-
-abbrev edit_from : (at : ℕ × ℕ) → ℕ → ℕ → Edit
-edit_from at loc n = moved at.0 at.1 loc n
 
 pub top_back : (shape : Shape) (t : Table) (id loc : ℕ) → IsSound shape t → id < length shape.faces → HoldsCards shape loc →
     (at : ℕ × ℕ) (n : ℕ) → at ≡ place_of shape t id → n ≡ length (list_at (taken_at at.0 at.1 t) loc) →
@@ -237,13 +229,6 @@ pub remembered_bottom_back : (shape : Shape) (t : Table) (id loc : ℕ) → IsSo
 remembered_bottom_back shape t id loc sound holds room =
     ap (undone (noted loc 0)) (cond-true (has_room shape loc t) (under id loc t) t room)
     ∙ under_back t id loc (mem_there shape t loc sound holds)
-
--- nothing changes where there is no room
-pub no_room_top : (shape : Shape) (t : Table) (id loc : ℕ) → has_room shape loc t ≡ false → remember_top shape id loc t ≡ t
-no_room_top shape t id loc room = cond-false (has_room shape loc t) (onto id loc t) t room
-
-pub no_room_bottom : (shape : Shape) (t : Table) (id loc : ℕ) → has_room shape loc t ≡ false → remember_bottom shape id loc t ≡ t
-no_room_bottom shape t id loc room = cond-false (has_room shape loc t) (under id loc t) t room
 
 -- one that was taken away comes back
 pub forgotten_back : (shape : Shape) (t : Table) (id loc place : ℕ) → IsSound shape t → HoldsReferences shape loc → place < length (list_at t loc) →

@@ -1,5 +1,5 @@
 //! Blocks of code: effects, one after the other.
-ghost use Rattle.std.specs.Prelude.{◌≡◌, ◌+◌, ◌<◌, ◌≤◌, [], ◌∷◌, ◌++◌, length, take, drop, map, fold, All, OnOk};
+ghost use Rattle.std.specs.Prelude.{◌≡◌, ◌+◌, ◌<◌, ◌≤◌, [], ◌∷◌, ◌++◌, length, take, drop, map, fold, All, OnOk, IfOk};
 ghost use Rattle.rc_model.specs.Numbers.{below};
 ghost use Rattle.rc_sheet_model.specs.Sheet.{when, repeat as repeat_of, for_each as for_each_of};
 ghost use Rattle.rc_sheet_model.specs.WellFormed.{Around, AreEffects};
@@ -27,7 +27,7 @@ use rc_deck::Memory;
 use rc_names::limits::MOST_TIMES;
 use rc_rules::{About, Dealer, Frames};
 use rc_state::{Context, FewCards, cards_now, few_cards_now, int_now, test_now};
-use rc_value::{Bind, Card, Cards, Scope, current_of};
+use rc_value::{Bind, Bindings, Card, Cards, current_of};
 
 /// The first instructions, so many of them.
 #[tactic(auto, using(crate::proofs::ListLemmas::front_seen, crate::proofs::ListLemmas::all_seen, crate::proofs::ListLemmas::front_simple))]
@@ -57,23 +57,6 @@ pub fn past(code: &[Instruction], count: usize) -> &[Instruction]
     &[]
 }
 
-// How many instructions are passed with this one where effects are done.
-#[inline(always)]
-fn passed_with(first: &Instruction) -> usize
-    ensures { result ≡ passed_over (instruction_seen first.now) }
-{
-    match first {
-        Instruction::If(_, inside) => *inside,
-        Instruction::Repeat(_, inside) => *inside,
-        Instruction::Each(_, _, inside) => *inside,
-        Instruction::Simple(_) => 0,
-        Instruction::Do(_) => 0,
-        Instruction::Stage { .. } => 0,
-        Instruction::Choice { .. } => 0,
-        Instruction::End => 0,
-    }
-}
-
 /// Does the effects of a block.
 #[tactic(auto, using(crate::proofs::ShuffleLemmas::not_shuffled))]
 #[cycle(blocks)]
@@ -97,69 +80,82 @@ pub fn do_block<D: Dealer>(
     let mut rest = code;
     while let Some((first, behind)) = rest.split_first() {
         match do_first(context, first, behind, board, frames, dealer) {
-            Ok(()) => {}
+            Ok(left) => rest = left,
             Err(Memory) => return Err(Memory),
         }
-        rest = past(behind, passed_with(first));
     }
     Ok(())
 }
 
-// Does the effects of an instruction, with those inside it.
+// Does the effects of an instruction, with those inside it, and tells what is behind them.
 #[tactic(auto, using(crate::proofs::ShuffleLemmas::not_shuffled))]
 #[cycle(blocks)]
-fn do_first<D: Dealer>(
+#[inline(always)]
+fn do_first<'c, D: Dealer>(
     context: &Context,
     first: &Instruction,
-    behind: &[Instruction],
+    behind: &'c [Instruction],
     board: &mut Board,
     frames: &mut Frames,
     dealer: &mut D,
-) -> Result<(), Memory>
+) -> Result<&'c [Instruction], Memory>
     requires stands { Stands context.now board.old.laid frames.old.items }
     requires well { AreEffectsUnder context.now.about.now.sheet context.now.scope.now (first_effects (instruction_seen first.now) (list_seen behind.now)) }
     requires simple { IsSimple (instruction_seen first.now) }
     requires inside { AreSimple (list_seen behind.now) }
     ensures does { OnOk result (does context.now.about.now (D.dealing dealer.old) context.now.scope.now (first_effects (instruction_seen first.now) (list_seen behind.now))
         (point_of board.old.laid frames.old.items (D.state dealer.old)) ≡ point_of board.new.laid frames.new.items (D.state dealer.new)) }
+    ensures left { IfOk result (λ left. list_seen left.now ≡ drop (passed_over (instruction_seen first.now)) (list_seen behind.now)) }
+    ensures simple { IfOk result (λ left. AreSimple (list_seen left.now)) }
+    ensures shorter { IfOk result (λ left. length left.now ≤ length behind.now) }
     ensures stands { OnOk result (Stands context.now board.new.laid frames.new.items) }
     ensures keeps { Keeps board.old board.new }
     ensures shuffled { HasShuffled (D.dealing dealer.old) (D.state dealer.old) (D.state dealer.new) }
     ensures dealing { D.dealing dealer.new ≡ D.dealing dealer.old }
 {
     match first {
-        Instruction::Simple(effect) => do_simple(context, effect, board, frames, dealer),
+        Instruction::Simple(effect) => {
+            match do_simple(context, effect, board, frames, dealer) {
+                Ok(()) => Ok(behind),
+                Err(Memory) => Err(Memory),
+            }
+        }
         Instruction::If(test, inside) => {
-            do_if(context, test, front(behind, *inside), board, frames, dealer)
+            match do_if(context, test, front(behind, *inside), board, frames, dealer) {
+                Ok(()) => Ok(past(behind, *inside)),
+                Err(Memory) => Err(Memory),
+            }
         }
         Instruction::Repeat(count, inside) => {
-            repeat(
+            match repeat(
                 context,
                 count,
                 front(behind, *inside),
                 board,
                 frames,
                 dealer,
-            )
+            ) {
+                Ok(()) => Ok(past(behind, *inside)),
+                Err(Memory) => Err(Memory),
+            }
         }
-        Instruction::Each(domain, bound, inside) => for_each(
-            context,
-            domain,
-            *bound,
-            front(behind, *inside),
-            board,
-            frames,
-            dealer,
-        ),
-        Instruction::Do(_) => Ok(()),
-        Instruction::Stage { .. } => Ok(()),
-        Instruction::Choice { .. } => Ok(()),
-        Instruction::End => Ok(()),
+        Instruction::Each(domain, bound, inside) => {
+            let effects = front(behind, *inside);
+            match for_each(context, domain, *bound, effects, board, frames, dealer) {
+                Ok(()) => Ok(past(behind, *inside)),
+                Err(Memory) => Err(Memory),
+            }
+        }
+        Instruction::Do(_) => Ok(behind),
+        Instruction::Stage { .. } => Ok(behind),
+        Instruction::Choice { .. } => Ok(behind),
+        Instruction::End => Ok(behind),
     }
 }
 
 #[tactic(auto, using(crate::proofs::ShuffleLemmas::not_shuffled))]
 #[cycle(blocks)]
+#[inline(always)]
 fn do_if<D: Dealer>(
     context: &Context,
     test: &Test,
@@ -186,6 +182,7 @@ fn do_if<D: Dealer>(
 
 #[tactic(auto, using(crate::proofs::ShuffleLemmas::not_shuffled))]
 #[cycle(blocks)]
+#[inline(never)]
 fn repeat<D: Dealer>(
     context: &Context,
     count: &IntExpr,
@@ -224,6 +221,7 @@ fn times_of(count: i64) -> u16
 
 #[tactic(auto, using(crate::proofs::ShuffleLemmas::not_shuffled))]
 #[cycle(blocks)]
+#[inline(never)]
 fn for_each<D: Dealer>(
     context: &Context,
     domain: &Domain,
@@ -252,6 +250,7 @@ fn for_each<D: Dealer>(
 
 #[tactic(auto, using(crate::proofs::ShuffleLemmas::not_shuffled))]
 #[cycle(blocks)]
+#[inline(always)]
 fn for_players<D: Dealer>(
     context: &Context,
     inside: &[Instruction],
@@ -285,6 +284,7 @@ fn for_players<D: Dealer>(
 // Which cards they are is read before the first one's effects are done.
 #[tactic(auto, using(crate::proofs::ShuffleLemmas::not_shuffled))]
 #[cycle(blocks)]
+#[inline(never)]
 fn for_cards<D: Dealer>(
     context: &Context,
     cards: &CollExpr,
@@ -354,9 +354,10 @@ fn for_these<D: Dealer>(
 // Does effects with this for the innermost variable of the scope. The context's variables are those outside it.
 #[tactic(auto, using(crate::proofs::ShuffleLemmas::not_shuffled))]
 #[cycle(blocks)]
+#[inline(always)]
 fn do_for<'g, D: Dealer>(
     context: &Context,
-    scope: &mut Scope<'g>,
+    scope: &mut Bindings<'g>,
     bind: Bind<'g>,
     inside: &[Instruction],
     board: &mut Board,
@@ -382,7 +383,34 @@ fn do_for<'g, D: Dealer>(
         scope: &*scope,
         current: context.current,
     };
-    do_block(&inner, inside, board, frames, dealer)
+    do_inside(&inner, inside, board, frames, dealer)
+}
+
+// Does the effects of a block. A single effect takes no loop.
+#[tactic(auto, using(crate::proofs::ShuffleLemmas::not_shuffled))]
+#[cycle(blocks)]
+#[inline(always)]
+fn do_inside<D: Dealer>(
+    context: &Context,
+    code: &[Instruction],
+    board: &mut Board,
+    frames: &mut Frames,
+    dealer: &mut D,
+) -> Result<(), Memory>
+    requires stands { Stands context.now board.old.laid frames.old.items }
+    requires well { AreEffectsUnder context.now.about.now.sheet context.now.scope.now (effects_in (list_seen code.now)) }
+    requires simple { AreSimple (list_seen code.now) }
+    ensures does { OnOk result (does context.now.about.now (D.dealing dealer.old) context.now.scope.now (effects_in (list_seen code.now))
+        (point_of board.old.laid frames.old.items (D.state dealer.old)) ≡ point_of board.new.laid frames.new.items (D.state dealer.new)) }
+    ensures stands { OnOk result (Stands context.now board.new.laid frames.new.items) }
+    ensures keeps { Keeps board.old board.new }
+    ensures shuffled { HasShuffled (D.dealing dealer.old) (D.state dealer.old) (D.state dealer.new) }
+    ensures dealing { D.dealing dealer.new ≡ D.dealing dealer.old }
+{
+    match code {
+        [Instruction::Simple(effect)] => do_simple(context, effect, board, frames, dealer),
+        _ => do_block(context, code, board, frames, dealer),
+    }
 }
 
 /// Where the code behind so many instructions begins, that stand from a place on.
@@ -412,7 +440,7 @@ pub fn do_outside<D: Dealer>(
     ensures shuffled { HasShuffled (D.dealing dealer.old) (D.state dealer.old) (D.state dealer.new) }
     ensures dealing { D.dealing dealer.new ≡ D.dealing dealer.old }
 {
-    let scope = Scope::empty();
+    let scope = Bindings::empty();
     let current = current_of(about.sheet(), about.lookup(), frames.as_slice());
     let context = Context {
         about,

@@ -201,8 +201,26 @@ impl Board {
     }
 
     /// Sets a number. Nothing changes where there is no such number.
-    #[tactic(auto, using(crate::proofs::KeepsLemmas::keeps_all))]
+    #[inline(always)]
     pub fn set_number(&mut self, num: u16, value: i64) -> Result<(), Memory>
+        requires clamped { IsWithinClamp value }
+        ensures leads { OnOk result (self.new ≡ edited self.old (set_number num value self.old.laid.table)) }
+        ensures keeps { Keeps self.old self.new }
+    {
+        // what is known of a sound table and of a number
+        let _sound = self.table.shape();
+        let _old = self.table.number(num);
+        if self.past.notes() {
+            return self.note_and_set(num, value);
+        }
+        self.table.set_number(num, value);
+        Ok(())
+    }
+
+    // The same with an entry of what the number was.
+    #[tactic(auto, using(crate::proofs::KeepsLemmas::keeps_all))]
+    #[inline(never)]
+    fn note_and_set(&mut self, num: u16, value: i64) -> Result<(), Memory>
         requires clamped { IsWithinClamp value }
         ensures leads { OnOk result (self.new ≡ edited self.old (set_number num value self.old.laid.table)) }
         ensures keeps { Keeps self.old self.new }

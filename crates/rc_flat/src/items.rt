@@ -29,7 +29,7 @@ use rc_code::Instruction;
 use rc_deck::Memory;
 use rc_rules::{About, Dealer, Frames, Item};
 use rc_state::{Context, bare_bind_at, bind_of, member_at};
-use rc_value::{Bind, Cards, Current, Scope};
+use rc_value::{Bind, Bindings, Cards, Current};
 
 /// Does the effects of an item of a menu, with its variables bound, where it is known who is current. Their code is a block.
 ///
@@ -61,13 +61,13 @@ pub fn do_item<D: Dealer>(
     let Some(alt) = alts.get(item.alt as usize) else {
         return Ok(());
     };
-    let scope = Scope::empty();
+    let scope = Bindings::empty();
     let context = Context {
         about,
         scope: &scope,
         current,
     };
-    do_alt(
+    do_here(
         &context,
         alt,
         block,
@@ -81,7 +81,8 @@ pub fn do_item<D: Dealer>(
 // Does the effects of an alternative whose variables these positions bind. Where none is left, nothing more is bound.
 #[tactic(auto, using(crate::proofs::ShuffleLemmas::not_shuffled))]
 #[cycle(alternatives)]
-fn do_alt<D: Dealer>(
+#[inline(always)]
+fn do_here<D: Dealer>(
     context: &Context,
     alt: &Alt,
     block: &[Instruction],
@@ -110,9 +111,68 @@ fn do_alt<D: Dealer>(
     }
 }
 
+// The same by a call.
+#[tactic(auto, using(crate::proofs::ShuffleLemmas::not_shuffled))]
+#[cycle(alternatives)]
+#[inline(never)]
+fn do_alt<D: Dealer>(
+    context: &Context,
+    alt: &Alt,
+    block: &[Instruction],
+    spots: &[u16],
+    board: &mut Board,
+    frames: &mut Frames,
+    dealer: &mut D,
+) -> Result<(), Memory>
+    requires stands { Stands context.now board.old.laid frames.old.items }
+    requires well { IsAltUnder context.now.about.now.sheet context.now.scope.now (alt_seen alt.now) }
+    requires block { effects_in (list_seen block.now) ≡ effects_of (alt_seen alt.now) }
+    requires simple { AreSimple (list_seen block.now) }
+    ensures does { OnOk result (does context.now.about.now (D.dealing dealer.old)
+        (bindings_of (scene_in context.now board.old.laid frames.old.items) context.now.scope.now (alt_seen alt.now) spots.now) (effects_of (alt_seen alt.now))
+        (point_of board.old.laid frames.old.items (D.state dealer.old)) ≡ point_of board.new.laid frames.new.items (D.state dealer.new)) }
+    ensures keeps { Keeps board.old board.new }
+    ensures shuffled { HasShuffled (D.dealing dealer.old) (D.state dealer.old) (D.state dealer.new) }
+    ensures dealing { D.dealing dealer.new ≡ D.dealing dealer.old }
+{
+    do_here(context, alt, block, spots, board, frames, dealer)
+}
+
+// The same, with a call only where another variable is bound.
+#[tactic(auto, using(crate::proofs::ShuffleLemmas::not_shuffled))]
+#[cycle(alternatives)]
+#[inline(always)]
+fn do_inner<D: Dealer>(
+    context: &Context,
+    alt: &Alt,
+    block: &[Instruction],
+    spots: &[u16],
+    board: &mut Board,
+    frames: &mut Frames,
+    dealer: &mut D,
+) -> Result<(), Memory>
+    requires stands { Stands context.now board.old.laid frames.old.items }
+    requires well { IsAltUnder context.now.about.now.sheet context.now.scope.now (alt_seen alt.now) }
+    requires block { effects_in (list_seen block.now) ≡ effects_of (alt_seen alt.now) }
+    requires simple { AreSimple (list_seen block.now) }
+    ensures does { OnOk result (does context.now.about.now (D.dealing dealer.old)
+        (bindings_of (scene_in context.now board.old.laid frames.old.items) context.now.scope.now (alt_seen alt.now) spots.now) (effects_of (alt_seen alt.now))
+        (point_of board.old.laid frames.old.items (D.state dealer.old)) ≡ point_of board.new.laid frames.new.items (D.state dealer.new)) }
+    ensures keeps { Keeps board.old board.new }
+    ensures shuffled { HasShuffled (D.dealing dealer.old) (D.state dealer.old) (D.state dealer.new) }
+    ensures dealing { D.dealing dealer.new ≡ D.dealing dealer.old }
+{
+    match alt {
+        Alt::Do(_) => do_block(context, block, board, frames, dealer),
+        Alt::If(_, _) => do_block(context, block, board, frames, dealer),
+        Alt::Any(_, _, _) => do_alt(context, alt, block, spots, board, frames, dealer),
+    }
+}
+
 // The same with the alternative inside a domain.
 #[tactic(auto, using(crate::proofs::ShuffleLemmas::not_shuffled))]
 #[cycle(alternatives)]
+#[inline(always)]
 fn do_any<D: Dealer>(
     context: &Context,
     inner: &Alt,
@@ -142,19 +202,52 @@ fn do_any<D: Dealer>(
         None => do_alt(context, inner, block, spots, board, frames, dealer),
         Some((spot, rest)) => match bare_bind_at(context, domain, *spot, board.table(), &*frames) {
             Some(bind) => do_bound(context, inner, bind, block, rest, board, frames, dealer),
-            None => {
-                let mut room = Cards::new();
-                let member = member_at(context, domain, *spot, board.table(), &*frames, &mut room);
-                let bind = bind_of(member, &room);
-                do_bound(context, inner, bind, block, rest, board, frames, dealer)
-            }
+            None => do_member(
+                context, inner, domain, *spot, block, rest, board, frames, dealer,
+            ),
         },
     }
+}
+
+// The same where the member has to be found among cards or groups that are listed for it.
+#[tactic(auto, using(crate::proofs::ShuffleLemmas::not_shuffled))]
+#[cycle(alternatives)]
+#[inline(never)]
+fn do_member<D: Dealer>(
+    context: &Context,
+    inner: &Alt,
+    domain: &Domain,
+    spot: u16,
+    block: &[Instruction],
+    rest: &[u16],
+    board: &mut Board,
+    frames: &mut Frames,
+    dealer: &mut D,
+) -> Result<(), Memory>
+    requires stands { Stands context.now board.old.laid frames.old.items }
+    requires domain { IsDomainUnder context.now.about.now.sheet context.now.scope.now (domain_seen domain.now) }
+    requires room { length context.now.scope.now < 5 }
+    requires well { (member : PureBind CardValue) → IsAltUnder context.now.about.now.sheet (context.now.scope.now ++ member ∷ []) (alt_seen inner.now) }
+    requires block { effects_in (list_seen block.now) ≡ effects_of (alt_seen inner.now) }
+    requires simple { AreSimple (list_seen block.now) }
+    ensures does { OnOk result (does context.now.about.now (D.dealing dealer.old)
+        (bindings_of (scene_in context.now board.old.laid frames.old.items) context.now.scope.now (any_alt (domain_seen domain.now) 0 (alt_seen inner.now)) (spot ∷ rest.now))
+        (effects_of (alt_seen inner.now))
+        (point_of board.old.laid frames.old.items (D.state dealer.old)) ≡ point_of board.new.laid frames.new.items (D.state dealer.new)) }
+    ensures keeps { Keeps board.old board.new }
+    ensures shuffled { HasShuffled (D.dealing dealer.old) (D.state dealer.old) (D.state dealer.new) }
+    ensures dealing { D.dealing dealer.new ≡ D.dealing dealer.old }
+{
+    let mut room = Cards::new();
+    let member = member_at(context, domain, spot, board.table(), &*frames, &mut room);
+    let bind = bind_of(member, &room);
+    do_bound(context, inner, bind, block, rest, board, frames, dealer)
 }
 
 // Does the effects of an alternative with one variable more.
 #[tactic(auto, using(crate::proofs::ShuffleLemmas::not_shuffled))]
 #[cycle(alternatives)]
+#[inline(always)]
 fn do_bound<D: Dealer>(
     context: &Context,
     alt: &Alt,
@@ -185,5 +278,5 @@ fn do_bound<D: Dealer>(
         scope: &scope,
         current: context.current,
     };
-    do_alt(&within, alt, block, spots, board, frames, dealer)
+    do_inner(&within, alt, block, spots, board, frames, dealer)
 }

@@ -1,6 +1,6 @@
 //! The machine.
 
-use crate::place::Place;
+use crate::place::Position;
 use crate::state::State;
 use rc_code::Code;
 use rc_rules::{About, Control};
@@ -38,6 +38,6 @@ impl Model for FlatMachine {
 #[derive(Drop)]
 pub struct Mark {
     pub(crate) control: Control,
-    pub(crate) place: Place,
+    pub(crate) place: Position,
     pub(crate) edits: usize,
 }

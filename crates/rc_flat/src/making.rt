@@ -13,7 +13,7 @@ ghost use Rattle.rc_flat.specs.Moments.{IsInMatch};
 
 use crate::board::Board;
 use crate::machine::FlatMachine;
-use crate::place::Place;
+use crate::place::Position;
 use crate::site::{place_of, site_of};
 use crate::state::State;
 use rc_code::{Code, sites_are_placed, standing_code_serves};
@@ -108,7 +108,7 @@ impl FlatMachine {
             state: State {
                 board,
                 control,
-                place: Place::start(),
+                place: Position::start(),
                 menu: Menu::new(),
             },
             spent: false,
@@ -170,7 +170,7 @@ impl FlatMachine {
         about: About,
         board: Board,
         control: Control,
-        place: Place,
+        place: Position,
     ) -> FlatMachine
         requires stands { StandsFor about.sheet (code_seen code.value) }
         requires laid { board.laid.shape ≡ about.shape }

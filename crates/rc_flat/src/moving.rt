@@ -18,7 +18,7 @@ use crate::board::Board;
 use rc_ast::{CardExpr, CollExpr, End, Loc};
 use rc_deck::Memory;
 use rc_rules::Frames;
-use rc_state::{Context, FewCards, card_now, cards_now, few_cards_now, loc_now};
+use rc_state::{Context, FewCards, card_now, cards_now, few_cards_now, loc_now, sole_card_now};
 use rc_value::{Card, Cards};
 
 /// Moves a card to an end of a location.
@@ -61,6 +61,29 @@ pub fn move_all(
     let Some(at) = loc_now(context, loc, board.table(), frames) else {
         return Ok(());
     };
+    match sole_card_now(context, cards, board.table(), frames) {
+        Some(card) => put(board, card, end, at),
+        None => put_some(context, cards, end, at, board, frames),
+    }
+}
+
+// Puts all cards of a collection there. Few cards are kept in a small list.
+#[inline(never)]
+fn put_some(
+    context: &Context,
+    cards: &CollExpr,
+    end: End,
+    at: u16,
+    board: &mut Board,
+    frames: &Frames,
+) -> Result<(), Memory>
+    requires stands { Stands context.now board.old.laid frames.now.items }
+    requires well { IsCollUnder context.now.about.now.sheet context.now.scope.now (coll_seen cards.now) }
+    requires holds { HoldsCards board.old.laid.shape at }
+    ensures leads { OnOk result (board.new.laid ≡ relaid board.old.laid (fold (move_card board.old.laid.shape (end_seen end) at) board.old.laid.table
+        (coll_value (scene_in context.now board.old.laid frames.now.items) context.now.scope.now (coll_seen cards.now)))) }
+    ensures keeps { Keeps board.old board.new }
+{
     let mut few = FewCards::new();
     if few_cards_now(context, cards, board.table(), frames, &mut few) {
         return put_all(board, few.as_slice(), end, at);
@@ -68,7 +91,8 @@ pub fn move_all(
     put_many(context, cards, end, at, board, frames)
 }
 
-// Puts all cards of a collection there, however many they are.
+// The same, however many they are.
+#[inline(never)]
 fn put_many(
     context: &Context,
     cards: &CollExpr,

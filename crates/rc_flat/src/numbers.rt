@@ -7,6 +7,7 @@ ghost use Rattle.rc_ast.specs.Expressions.{int_seen};
 ghost use Rattle.rc_table.specs.Laid.{relaid};
 ghost use Rattle.rc_state.specs.Context.{Stands};
 ghost use Rattle.rc_state.specs.Under.{IsEffectUnder};
+ghost use Rattle.rc_state.specs.declared.change.Change.TheVariants.{Set};
 ghost use Rattle.rc_state.specs.Leads.{LeadsTo, effect_by, new_by};
 ghost use Rattle.rc_flat.specs.Undo.{Keeps};
 
@@ -17,7 +18,46 @@ use rc_rules::Frames;
 use rc_state::{Change, Context, changed, int_now, num_now};
 
 /// Changes a number by the value of an expression.
+#[inline(never)]
 pub fn change_number(
+    context: &Context,
+    how: Change,
+    num: &Num,
+    value: &IntExpr,
+    board: &mut Board,
+    frames: &Frames,
+) -> Result<(), Memory>
+    requires stands { Stands context.now board.old.laid frames.now.items }
+    requires well { IsEffectUnder context.now.about.now.sheet context.now.scope.now (effect_by how (num_seen num.now) (int_seen value.now)) }
+    ensures leads { OnOk result (LeadsTo context.now (effect_by how (num_seen num.now) (int_seen value.now)) board.old.laid frames.now.items board.new.laid frames.now.items) }
+    ensures keeps { Keeps board.old board.new }
+{
+    change(context, how, num, value, board, frames)
+}
+
+/// Sets a number to the value of an expression. Where that is a literal, nothing has to be read.
+#[inline(never)]
+pub fn set_number(
+    context: &Context,
+    num: &Num,
+    value: &IntExpr,
+    board: &mut Board,
+    frames: &Frames,
+) -> Result<(), Memory>
+    requires stands { Stands context.now board.old.laid frames.now.items }
+    requires well { IsEffectUnder context.now.about.now.sheet context.now.scope.now (effect_by Set (num_seen num.now) (int_seen value.now)) }
+    ensures leads { OnOk result (LeadsTo context.now (effect_by Set (num_seen num.now) (int_seen value.now)) board.old.laid frames.now.items board.new.laid frames.now.items) }
+    ensures keeps { Keeps board.old board.new }
+{
+    match value {
+        IntExpr::Lit(_) => change(context, Change::Set, num, value, board, frames),
+        _ => change_number(context, Change::Set, num, value, board, frames),
+    }
+}
+
+// The same where it is read.
+#[inline(always)]
+fn change(
     context: &Context,
     how: Change,
     num: &Num,
@@ -41,6 +81,7 @@ pub fn change_number(
     }
 }
 
+#[inline(always)]
 fn change_at(board: &mut Board, at: u16, how: Change, value: i64) -> Result<(), Memory>
     requires clamped { IsWithinClamp value }
     ensures leads { OnOk result (board.new.laid ≡ relaid board.old.laid (effects.change (new_by how) value at board.old.laid.table)) }

@@ -3,7 +3,7 @@ ghost use Rattle.std.specs.Prelude.{◌≡◌, ◌∷◌, [], true, false, lengt
 ghost use Rattle.rc_table.specs.Laid.{relaid};
 ghost use Rattle.rc_flat.specs.Undo.{ordered};
 ghost use Rattle.rc_flat.specs.Entry.{entry_seen, log_seen};
-ghost use Rattle.rc_flat.specs.Past.{home_kept, edits_of, home_table, noted_in, touched_by, untouched, moved_to, IsFromHome, IsPast, HasShape, TookLast};
+ghost use Rattle.rc_flat.specs.Past.{home_kept, edits_of, notes_of, home_table, noted_in, touched_by, untouched, moved_to, IsFromHome, IsPast, HasShape, TookLast};
 ghost use Rattle.rc_flat.specs.PastSeen.{past_seen};
 
 use crate::entry::Entry;
@@ -46,6 +46,18 @@ impl Past {
             Past::Edits(log) => log.len(),
             Past::Nothing => 0,
             Past::Home(_) => 0,
+        }
+    }
+
+    /// Whether edits are noted.
+    #[inline(always)]
+    pub fn notes(&self) -> bool
+        ensures { result ≡ notes_of (past_seen self.now) }
+    {
+        match self {
+            Past::Edits(_) => true,
+            Past::Nothing => false,
+            Past::Home(_) => false,
         }
     }
 

@@ -11,13 +11,13 @@ pub type Outer = ArrayVec<usize, 64>;
 /// The places of the stages whose bodies run, from outside to inside, the instruction that is next, and whether the innermost of
 /// those stages is at a round instead.
 #[derive(Debug, Drop)]
-pub struct Place {
+pub struct Position {
     outer: Outer,
     next: usize,
     at_round: bool,
 }
 
-impl Model for Place {
+impl Model for Position {
     ghost use Rattle.std.specs.Coded.{codes};
     ghost use Rattle.rc_play_model.specs.Path.{Path};
 
@@ -28,12 +28,12 @@ impl Model for Place {
     ghost view = { λ p. record { outer = p.outer.items; next = p.next; at_round = p.at_round } };
 }
 
-impl Place {
+impl Position {
     /// This instruction, within the stages at these places.
-    pub fn to(outer: Outer, next: usize) -> Place
+    pub fn to(outer: Outer, next: usize) -> Position
         ensures { result ≡ record { outer = outer.items; next = next; at_round = false } }
     {
-        Place {
+        Position {
             outer,
             next,
             at_round: false,
@@ -41,23 +41,32 @@ impl Place {
     }
 
     /// The first instruction.
-    pub fn start() -> Place
+    pub fn start() -> Position
         ensures { result ≡ record { outer = []; next = 0; at_round = false } }
     {
-        Place::to(ArrayVec::new(), 0)
+        Position::to(ArrayVec::new(), 0)
     }
 
     /// The same place once more.
-    pub fn copy(&self) -> Place
+    pub fn copy(&self) -> Position
         ensures { result ≡ self.now }
     {
         let mut outer = ArrayVec::new();
         let _fits = outer.try_extend_from_slice(self.outer.as_slice());
-        Place {
+        Position {
             outer,
             next: self.next,
             at_round: self.at_round,
         }
+    }
+
+    /// Stands at another place.
+    pub fn set_to(&mut self, other: &Position)
+        ensures { self.new ≡ other.now }
+    {
+        write_list(&other.outer, &mut self.outer);
+        self.next = other.next;
+        self.at_round = other.at_round;
     }
 
     /// The instruction that is next.
@@ -123,4 +132,15 @@ fn drop_last(outer: &mut Outer)
         Some(_) => {}
         None => {}
     }
+}
+
+/// Writes a list over another one.
+pub fn write_list<T: Copy + Default + Drop, const CAP: usize>(
+    from: &ArrayVec<T, CAP>,
+    to: &mut ArrayVec<T, CAP>,
+)
+    ensures { to.new.items ≡ from.now.items }
+{
+    to.clear();
+    let _fits = to.try_extend_from_slice(from.as_slice());
 }

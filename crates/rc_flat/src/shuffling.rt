@@ -19,6 +19,7 @@ use rc_state::{Context, loc_now, places};
 
 /// Shuffles a location.
 #[tactic(auto, using(crate::proofs::ShuffleLemmas::not_shuffled))]
+#[inline(never)]
 pub fn shuffle<D: Dealer>(
     context: &Context,
     loc: &Loc,

@@ -11,7 +11,7 @@ ghost use Rattle.rc_rules.specs.Dealer.{HasShuffled};
 
 use crate::board::Board;
 use crate::moving::{move_all, move_one};
-use crate::numbers::change_number;
+use crate::numbers::{change_number, set_number};
 use crate::references::{forget, remember};
 use crate::shuffling::shuffle;
 use rc_ast::Effect;
@@ -21,6 +21,7 @@ use rc_state::{Change, Context, name_next, turn_round};
 
 /// Does an effect that holds no others.
 #[tactic(auto, using(crate::proofs::ShuffleLemmas::not_shuffled))]
+#[inline(always)]
 pub fn do_simple<D: Dealer>(
     context: &Context,
     effect: &Effect,
@@ -44,9 +45,7 @@ pub fn do_simple<D: Dealer>(
         Effect::Remember(card, end, loc) => { remember(context, card, *end, loc, board, &*frames) }
         Effect::Forget(card) => forget(context, card, board, &*frames),
         Effect::Shuffle(loc) => shuffle(context, loc, board, &*frames, dealer),
-        Effect::Set(num, value) => {
-            change_number(context, Change::Set, num, value, board, &*frames)
-        }
+        Effect::Set(num, value) => set_number(context, num, value, board, &*frames),
         Effect::Inc(num, value) => {
             change_number(context, Change::Increase, num, value, board, &*frames)
         }

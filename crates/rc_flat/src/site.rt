@@ -4,7 +4,7 @@ ghost use Rattle.rc_code.specs.Instruction.{SitePlace as PurePlace};
 ghost use Rattle.rc_code.specs.Seen.{code_seen, place_seen};
 ghost use Rattle.rc_code.specs.Serves.{path_to};
 
-use crate::place::Place;
+use crate::place::Position;
 use arrayvec::ArrayVec;
 use rc_code::{Code, SitePlace};
 use rc_rules::Control;
@@ -21,7 +21,7 @@ pub fn site_of(control: &Control) -> u8
 }
 
 /// The place of the choice with this site.
-pub fn place_of(code: &Code, site: u8) -> Place
+pub fn place_of(code: &Code, site: u8) -> Position
     requires { (at : PurePlace) × (slice_get (code_seen code.now).sites site ≡ Some at) × (length at.outer ≤ 63) }
     ensures { (at : PurePlace) × (slice_get (code_seen code.now).sites site ≡ Some at) × (result ≡ path_to at) }
 {
@@ -31,11 +31,11 @@ pub fn place_of(code: &Code, site: u8) -> Place
     }
 }
 
-fn place_to(at: &SitePlace) -> Place
+fn place_to(at: &SitePlace) -> Position
     requires { length at.now.outer.items ≤ 63 }
     ensures { result ≡ path_to (place_seen at.now) }
 {
     let mut outer = ArrayVec::new();
     let _fits = outer.try_extend_from_slice(at.outer.as_slice());
-    Place::to(outer, at.place)
+    Position::to(outer, at.place)
 }

@@ -8,7 +8,7 @@ ghost use Rattle.rc_flat.specs.Undo.{gone_home, home_at};
 ghost use Rattle.rc_flat.specs.Flat.{flat_from};
 ghost use Rattle.rc_flat.specs.State.{flat_of};
 
-use crate::place::Place;
+use crate::place::{Position, write_list};
 use crate::state::State;
 use rc_rules::{Control, Menu};
 use rc_table::Table;
@@ -17,7 +17,7 @@ use rc_table::Table;
 #[derive(Drop)]
 pub struct Stand {
     pub control: Control,
-    pub place: Place,
+    pub place: Position,
     pub menu: Menu,
 }
 
@@ -30,8 +30,8 @@ impl State {
         ensures menu { menu_seen self.new.menu.items ≡ menu_seen stand.now.menu.items }
     {
         self.board.go_home();
-        self.control = stand.control.copy();
-        self.place = stand.place.copy();
+        write_control(&stand.control, &mut self.control);
+        self.place.set_to(&stand.place);
         write_menu(&stand.menu, &mut self.menu);
     }
 
@@ -47,6 +47,16 @@ impl State {
         self.control = stand.control.copy();
         self.place = stand.place.copy();
     }
+}
+
+// Writes a control over another one. What isn't in its lists isn't copied.
+fn write_control(from: &Control, to: &mut Control)
+    ensures { control_seen to.new ≡ control_seen from.now }
+{
+    to.site = from.site;
+    write_list(&from.frames, &mut to.frames);
+    to.turn = from.turn;
+    write_list(&from.made, &mut to.made);
 }
 
 /// Writes a menu over another one.

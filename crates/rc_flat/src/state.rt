@@ -8,7 +8,7 @@ ghost use Rattle.rc_ast.specs.Expressions.{test_seen};
 ghost use Rattle.rc_rules.specs.Control.{frames_seen, control_seen};
 
 use crate::board::Board;
-use crate::place::Place;
+use crate::place::Position;
 use rc_ast::Test;
 use rc_rules::{About, Control, Menu, Scores};
 use rc_state::{has_ended, scores_now};
@@ -19,7 +19,7 @@ use rc_state::{has_ended, scores_now};
 pub struct State {
     pub board: Board,
     pub control: Control,
-    pub place: Place,
+    pub place: Position,
     pub menu: Menu,
 }
 

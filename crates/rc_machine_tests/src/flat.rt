@@ -30,7 +30,7 @@ const PICKS: [u16; 65] = [
 
 /// Where a match stands: its table, its control, and what is offered at a decision.
 #[derive(Drop)]
-struct Place {
+struct Moment {
     table: Table,
     control: Control,
     menu: Menu,
@@ -63,12 +63,12 @@ fn item_of<M: Machine>(machine: &M, number: u16) -> u16
 }
 
 /// Where a match stands at a decision.
-fn decision_of<M: Machine>(alloc: Global, machine: &M) -> Result<Place, Fail>
+fn decision_of<M: Machine>(alloc: Global, machine: &M) -> Result<Moment, Fail>
     requires fresh { M.spent machine.now ≡ false }
     requires decision { StandsAtDecision (M.about machine.now) (M.config machine.now) }
 {
     let table = machine.table().copy(alloc)?;
-    Ok(Place {
+    Ok(Moment {
         table,
         control: machine.control().copy(),
         menu: machine.menu(),
@@ -76,11 +76,11 @@ fn decision_of<M: Machine>(alloc: Global, machine: &M) -> Result<Place, Fail>
 }
 
 /// Where a match stands at its end or at the turn limit.
-fn end_of<M: Machine>(alloc: Global, machine: &M) -> Result<Place, Fail>
+fn end_of<M: Machine>(alloc: Global, machine: &M) -> Result<Moment, Fail>
     requires { M.spent machine.now ≡ false }
 {
     let table = machine.table().copy(alloc)?;
-    Ok(Place {
+    Ok(Moment {
         table,
         control: machine.control().copy(),
         menu: Menu::new(),
@@ -93,7 +93,7 @@ fn turn_of<M: Machine>(
     machine: &mut M,
     dealer: &mut MatchDealer,
     number: u16,
-) -> Result<(Stop, Place), Fail> {
+) -> Result<(Stop, Moment), Fail> {
     let stop = machine.advance(dealer)?;
     match stop {
         Stop::Decide { .. } => {
@@ -110,7 +110,7 @@ fn turn_of<M: Machine>(
 }
 
 /// Fails unless two matches stand at the same place.
-fn expect_place(rt: &impl Abort, found: &Place, expected: &Place) {
+fn expect_moment(rt: &impl Abort, found: &Moment, expected: &Moment) {
     assert!(rt; are_same_tables(&found.table, &expected.table));
     assert!(rt; are_same_controls(&found.control, &expected.control));
     assert!(rt; are_same_menus(&found.menu, &expected.menu));
@@ -130,7 +130,7 @@ fn expect_same_match(
         let (found, there) = turn_of(rt.alloc(), flat, &mut other, number)?;
         expect_same(rt, found, stop);
         expect_same(rt, other.count(), dealer.count());
-        expect_place(rt, &there, &place);
+        expect_moment(rt, &there, &place);
         if matches!(stop, Stop::Done | Stop::Limit) {
             return Ok(());
         }
@@ -210,7 +210,7 @@ fn expect_back(rt: &(impl AllocGlobal + Abort), machine: &mut FlatMachine) -> Re
     for item in 0..machine.menu_size() as u16 {
         play_and_go_back(machine, item, u64::from(item))?;
         let there = decision_of(rt.alloc(), machine)?;
-        expect_place(rt, &there, &place);
+        expect_moment(rt, &there, &place);
     }
     Ok(())
 }

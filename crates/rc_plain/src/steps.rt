@@ -17,7 +17,7 @@ use rc_effects::do_effects;
 use rc_play_model::{sites_fix_choices, stops_stay};
 use rc_rules::{About, Dealer, Stop};
 use rc_state::{close_frame, fill_menu_at, has_ended, member_count, open_frame, pass_frame};
-use rc_value::{Scope, current_of};
+use rc_value::{Bindings, current_of};
 
 impl State {
     /// Does the effects that are next.
@@ -33,7 +33,7 @@ impl State {
         let _sheet = about.sheet();
         do_effects(
             about,
-            &Scope::empty(),
+            &Bindings::empty(),
             effects,
             &mut self.table,
             &mut self.control.frames,

@@ -52,11 +52,10 @@ do_block-loop-first-preserved g t c =
     let dealing = g.D.Dealer.dealing c.args.dealer.now in
     let now = point_of loop.board.laid loop.frames.items (g.D.Dealer.state loop.dealer) in
     let then' = point_of c.do_first.new.board.laid c.do_first.new.frames.items (g.D.Dealer.state c.do_first.new.dealer) in
-    let left = c.past-rest.ensures.is ∙ ap (λ n. drop n behind) c.passed_with.ensures in
+    let left = c.in-Ok.ensures.left in
     let one = ap (λ d. does about d vars (first_effects first behind) now) (sym loop.invariant.dealing) ∙ c.in-Ok.ensures.does in
-    let simples = subst (λ code. AreSimple (list_seen code)) rest loop.invariant.simple in
     let long = ap length rest in
-    let short = c.past-rest.ensures.shorter in
+    let short = c.in-Ok.ensures.shorter in
     let shorter = loop.invariant.shorter in
     record {
       shorter = omega (arith, long, short, shorter);
@@ -65,7 +64,7 @@ do_block-loop-first-preserved g t c =
       dealing = c.in-Ok.ensures.dealing ∙ loop.invariant.dealing;
       shuffled = shuffled_then _ _ _ _ _ loop.invariant.dealing loop.invariant.shuffled c.in-Ok.ensures.shuffled;
       well = (are.0, are.1, are.2, subst (λ code. AreEffects about.sheet are.0 (effects_in code)) (sym left) (are_first about.sheet are.0 first behind are.3).1);
-      simple = c.past-rest.ensures.simple simples.1;
+      simple = c.in-Ok.ensures.simple;
       does = ap (λ code. does about dealing vars (effects_in code) then') left
           ∙ ap (λ p. does about dealing vars (effects_in (drop (passed_over first) behind)) p) (sym one)
           ∙ sym (does_first about dealing vars first behind now)

@@ -43,6 +43,9 @@ decreases-for_these g l = 7 * length l.inside.now + 3
 abbrev pub decreases-do_for : goal.decreases-do_for
 decreases-do_for g l = 7 * length l.inside.now + 2
 
+abbrev pub decreases-do_inside : goal.decreases-do_inside
+decreases-do_inside g l = 7 * length l.code.now + 1
+
 -- what is left to do, from here, leads to what all leads to
 abbrev pub invariant-do_block-loop-first : goal.invariant-do_block-loop-first
 invariant-do_block-loop-first g l =

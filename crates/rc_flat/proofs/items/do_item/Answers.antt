@@ -2,8 +2,8 @@ use Rattle.std.proofs.Common.{◌≡◌, ◌<◌, rules, length, slice_index_or}
 use Rattle.rc_state.proofs.Rows.{alt_under}
 use Rattle.rc_flat.proofs.items.do_item.Goals as goal
 
-pub do_alt-requires-clause-well : goal.do_alt-requires-clause-well
-do_alt-requires-clause-well g c =
+pub do_here-requires-clause-well : goal.do_here-requires-clause-well
+do_here-requires-clause-well g c =
     let a = c.in-Some.ensures.lookup in
     let alts = c.args.alts.now in
     let lt : c.args.item.now.alt < length alts = search rules in

@@ -15,15 +15,15 @@ returns-in-Move-clause-does g c =
 
 pub returns-in-Set-clause-does : goal.returns-in-Set-clause-does
 returns-in-Set-clause-does g c =
-    on_ok _ _ c.change_number.result c.change_number.ensures.leads (λ leads.
+    on_ok _ _ c.set_number.result c.set_number.ensures.leads (λ leads.
     led c.args.context.now (g.D.Dealer.dealing c.args.dealer.now) (g.D.Dealer.state c.args.dealer.now) c.args.effect.now _ c.args.board.now.laid
-    c.change_number.new.board.laid c.args.frames.now.items c.args.frames.now.items c.in-Set.is leads)
+    c.set_number.new.board.laid c.args.frames.now.items c.args.frames.now.items c.in-Set.is leads)
 
 pub returns-in-Inc-clause-does : goal.returns-in-Inc-clause-does
 returns-in-Inc-clause-does g c =
-    on_ok _ _ c.change_number-in-Inc.result c.change_number-in-Inc.ensures.leads (λ leads.
+    on_ok _ _ c.change_number.result c.change_number.ensures.leads (λ leads.
     led c.args.context.now (g.D.Dealer.dealing c.args.dealer.now) (g.D.Dealer.state c.args.dealer.now) c.args.effect.now _ c.args.board.now.laid
-    c.change_number-in-Inc.new.board.laid c.args.frames.now.items c.args.frames.now.items c.in-Inc.is leads)
+    c.change_number.new.board.laid c.args.frames.now.items c.args.frames.now.items c.in-Inc.is leads)
 
 pub returns-in-Dec-clause-does : goal.returns-in-Dec-clause-does
 returns-in-Dec-clause-does g c =

@@ -9,7 +9,7 @@ use Rattle.rc_table.specs.Laid.{Laid}
 use Rattle.rc_state.specs.Point.{point_of}
 use Rattle.rc_state.specs.Context.{scene_in}
 use Rattle.rc_flat.proofs.NumberLemmas.{number_leads}
-use Rattle.rc_flat.proofs.numbers.change_number.Goals as goal
+use Rattle.rc_flat.proofs.numbers.change.Goals as goal
 
 pub returns-in-Ok-clause-leads : goal.returns-in-Ok-clause-leads
 returns-in-Ok-clause-leads c =
