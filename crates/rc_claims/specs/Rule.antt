@@ -25,7 +25,7 @@ beyond count numbers = count_by (λ n. leb count n) numbers
 abbrev pub IsIdle : PassView → Type 0
 IsIdle v = v.holders ≡ [] → v.numbers ≡ []
 
--- at most as many of its numbers aren't below the count as it has holders
+-- At most as many of its numbers aren't below the count as it has holders: who has drawn one claims no more.
 abbrev pub HasFew : ℕ → PassView → Type 0
 HasFew count v = beyond count v.numbers ≤ length v.holders
 
@@ -37,6 +37,7 @@ pub record IsClaimedOnce (limits : Limits) (word : ℕ) (views : List PassView) 
   pub idle : AllByRecursion IsIdle views
   pub few : AllByRecursion (HasFew limits.count) views
 
+-- of a table with this one word
 abbrev pub IsKept : Limits → State (Unit {0}) PassView → Type 0
 IsKept limits s = (word : ℕ) × (s.words ≡ word ∷ []) × IsClaimedOnce limits word s.views
 

@@ -1,4 +1,4 @@
--- The first fault of a form that isn't accepted as a sheet.
+-- The first fault of a form that isn't accepted as a sheet. Which forms are, Accepted.antt of rc_sheet_laws says.
 use Rattle.std.specs.Prelude.{Some, ◌≡◌, ℕ, ◌⊎◌}
 use Rattle.rc_model.specs.Tree.{Tree}
 use Rattle.rc_grammar.specs.declared.fault.SheetFault.{SheetFault}

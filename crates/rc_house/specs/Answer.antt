@@ -42,8 +42,9 @@ pub data Answer : Type 0 where
   text : (bytes note : List ℕ) (playouts : ℕ) → Answer
   refused : (refusal : Refusal) → Answer
 
--- The house text of a plan: the plays of all matches in order, and the standings. It is the same whoever plays, and whatever the book
--- has; the note tells how many looks there were, and how many of them hit.
+-- The house text of a plan: the plays of all matches in order, and the standings. It is keyed_house of rc_play_model, a definition that
+-- knows of no book and no worker, so it is the same whoever plays, and whatever the book has. Options have a part in the note and in the
+-- playouts alone: the note tells how many looks there were, and how many of them hit.
 abbrev pub house_played : Options → About → Plan → ℕ → Answer
 house_played options about plan found =
     text (keyed_house about plan) (looks_line (length (looks_of about plan)) found) (counted_playouts options (looks_of about plan))
@@ -109,7 +110,7 @@ AreAlike (refused refusal) (refused refusal') = refusal ≡ refusal'
 AreAlike (text bytes note playouts) (refused refusal) = ⊥
 AreAlike (refused refusal) (text bytes note playouts) = ⊥
 
--- a command that one worker runs
+-- a command that one worker runs, and so of one answer to a source
 abbrev pub IsAlone : Task → Type 0
 IsAlone (Play options) = options.workers ≤ 1
 IsAlone Check = Unit {0}

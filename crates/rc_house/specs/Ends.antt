@@ -1,4 +1,5 @@
--- How words end: those of a command, and all others.
+-- How words end: those of a command, and all others. Ends is what `run` and `run_alone` promise, all of it: of the words, the ports,
+-- the steps and the status. For `run`, `many` is Runs and the steps are some number that fits, since it is handed no counter.
 use Rattle.std.specs.Prelude.{◌≡◌, ◌<◌, ℕ, Bool, true, false, List}
 use Rattle.rc_command.specs.Command.{IsCommand, workers_of}
 use Rattle.rc_command.specs.declared.command.Command.{Command}
@@ -16,7 +17,7 @@ pub record Performs (task : Task) (before after : Ports) (steps steps' : ℕ) (s
   pub outcome : Outcome task before after steps steps' status
   pub succeeds : Succeeds task before after status
 
--- The command was run.
+-- The command was run: Outcome.antt and Bench.antt say what it then did.
 abbrev pub Runs : Command → Ports → Ports → ℕ → ℕ → Status → Type 0
 Runs (Play options) before after steps steps' status = Performs (task.Play options) before after steps steps' status
 Runs Check before after steps steps' status = Performs task.Check before after steps steps' status

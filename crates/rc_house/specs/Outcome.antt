@@ -1,4 +1,5 @@
--- How a command that reads a source may end, and what its ports have received then.
+-- How a command that reads a source may end, and what its ports have received then. Of the bytes of a port that doesn't tell them
+-- nothing is said: Answers, Supplied and Received are then true of anything.
 use Rattle.std.specs.Prelude.{◌≡◌, ℕ, ◌+◌, ◌<◌, ◌≤◌, ◌⊎◌, List, [], length, Some, IfSome}
 use Rattle.rc_house.specs.declared.task.Task.{Task}
 use Rattle.rc_house.specs.declared.refusal.Refusal.{Refusal}

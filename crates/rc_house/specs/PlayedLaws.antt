@@ -31,7 +31,8 @@ PlayedIsAnsweredLegal =
     (source : List ℕ) (read : Reading source (wanted Check)) → IsAcceptedWith (IsPlayedBehind source read.rest) read.lists →
     HasAnswer Check source (verdict None)
 
--- What `play` writes for a source, by whatever options, `check` answers to be legal where it stands behind that source and an LF.
+-- What `play` writes for a source, by whatever options, `check` answers to be legal where it stands behind that source and an LF. It is
+-- said of answers, and so whatever the lengths are: how much `check` takes is a part of how it ends.
 abbrev pub PlayedIsChecked : Type 0
 PlayedIsChecked =
     (options : Options) (source bytes note : List ℕ) (playouts : ℕ) → HasAnswer (Play options) source (text bytes note playouts) →

@@ -11,7 +11,7 @@ pub record AreWithin (options : Options) : Type 0 where
   pub some_cache : 1 ≤ options.cache
   pub cache : options.cache ≤ 65536
 
--- So many workers can play: one always can, and any number where several can play at one time.
+-- So many workers can play: one always can, and any number where several can play at one time, as `many` says.
 abbrev pub CanPlay : (many : Bool) → ℕ → Type 0
 CanPlay true workers = Unit {0}
 CanPlay false workers = workers ≡ 1

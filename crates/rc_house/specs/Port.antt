@@ -15,7 +15,7 @@ pub record Port : Type 0 where
 abbrev pub port : Option (List ℕ) → ℕ → Port
 port told faults = record { told = told; faults = faults }
 
--- a read or a write failed
+-- a read or a write failed: the count of faults rose, or stands at its largest value, from which none rises
 abbrev pub HasFailed : Port → Port → Type 0
 HasFailed before after = Rose before.faults after.faults
 

@@ -1,4 +1,5 @@
--- What the parts of a command do.
+-- What the private parts of `run` and `run_alone` do, from the source to the ports. No contract of another crate cites it: Ends.antt
+-- says what comes of it.
 use Rattle.std.specs.Prelude.{◌≡◌, ◌≤◌, ◌⊎◌, ℕ, ◌+◌, Bool, List, Result, Ok, Err, length, map}
 use Rattle.rc_play_model.specs.About.{About, about_of}
 use Rattle.rc_play_model.specs.House.{standings_of}

@@ -187,8 +187,8 @@ fn command_for(alloc: Global, words: &[String], several: bool) -> Result<Command
 /// Runs a command with one worker; where its words name more, they are none of a command's. It waits for nobody and always
 /// returns. Each playout is a step. The other clauses hand on laws and refuse no body. `alike`: in what is played, two decisions of
 /// one seat with one strategy and one seed of the seats, at states that are alike to that seat, have the same item, in whatever
-/// matches they stand. `same`: what is written to a source is the same whoever plays. `legal`: what `play` writes for a source,
-/// `check` answers to be legal behind that source.
+/// matches of that sheet and turn limit they stand. `same`: what is written to a source is the same whoever plays. `legal`: what
+/// `play` writes for a source, `check` answers to be legal behind that source.
 pub fn run_alone<S: Source, O: Sink, N: Sink, L: Ledger>(
     alloc: Global,
     words: &[String],

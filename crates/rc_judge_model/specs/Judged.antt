@@ -64,5 +64,6 @@ module _ (about : About) (dealing : ℕ → Dealing ℕ) (plan : Plan) where
   first_from n front [] = at_line n (end_of plan front) None
   first_from n front (l ∷ lines) = at_line n (row_of front l) (first_from (n + 1) (front ++ l ∷ []) lines)
 
+  -- The first illegal line of a text. There is none exactly where the text is legal, by the law LegalExactly of Laws.antt.
   abbrev pub first_illegal : HouseText → Option Illegal
   first_illegal t = first_from 1 [] (lines_of t)

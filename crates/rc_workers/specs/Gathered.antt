@@ -1,4 +1,4 @@
--- What workers did, together.
+-- What workers did, together: what is known of all their turns while these are put together, one by one.
 use Rattle.std.specs.Prelude.{◌≡◌, ℕ, ◌+◌, ◌<◌, ◌≤◌, List, [], ◌∷◌, ◌++◌, map, flat_map, length, Result, Ok, Err}
 use Rattle.std.specs.List.{AllByRecursion, sum_by}
 use Rattle.rc_deck.specs.declared.memory.Memory.{Memory}
@@ -51,7 +51,7 @@ pub record IsGathered {M : Type 0} (counts : M → Counts) (about : About) (plan
   pub are : AllByRecursion (IsRecordIn about plan) records
   pub rise : RiseTogether (asked_by_all about plan (map number_of records)) (map (λ w. counts w.memo) workers) (map counts memos)
 
--- Some workers were gathered, and these results are those of the others.
+-- The first workers were gathered, and these results are those of the others: what holds between two turns.
 abbrev pub Gathers : {M : Type 0} → (M → Counts) → About → Plan → List (Worker M) → List (Result (Turn M) Memory) → Gathered M → Type 0
 Gathers {M} counts about plan workers rest gathered =
     (done left : List (Worker M)) × (workers ≡ done ++ left) × AreTurns counts about plan left rest

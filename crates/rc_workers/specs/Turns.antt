@@ -1,4 +1,5 @@
--- What a worker does in its turn.
+-- What a worker does in its turn. A record is that of the match with its number, whoever claimed it and whatever the memo had, so the
+-- order in which workers claim and ask has no part in any of this.
 use Rattle.std.specs.Prelude.{◌≡◌, ℕ, ◌+◌, ◌<◌, ◌≤◌, ltb, List, map, length, filter, Some}
 use Rattle.std.specs.List.{AllByRecursion, sum_by}
 use Rattle.rc_play_model.specs.About.{About}
@@ -29,7 +30,7 @@ pub record Rise (looks : ℕ) (before after : Counts) : Type 0 where
   pub hit : before.hits ≤ after.hits
   pub kept : after.keeps + after.hits ≡ before.keeps + before.hits + looks
 
--- those of the numbers that are below the count
+-- those of the numbers that are below the count, and so are matches': the last one that a pass draws isn't
 abbrev pub counted : ℕ → List ℕ → List ℕ
 counted count numbers = filter (λ n. ltb n count) numbers
 

@@ -13,7 +13,8 @@ pub fn picks_are_choices()
     ensures { MatchPicksAreTaken }
 {}
 
-/// Decisions of one seat, strategy and seed at alike states have the same item, in whatever matches they stand.
+/// Decisions of one seat, strategy and seed at alike states have the same item, in whatever matches of one sheet and turn limit they
+/// stand.
 pub fn alike_decisions_have_one_item()
     ensures { AlikeSamePicks }
 {}
