@@ -61,24 +61,6 @@ all_few count (v ∷ views) all =
     let holders = length-append v.holders (holders_in views) in
     omega (arith, all.0, rest, numbers, holders)
 
--- and fewer where one has a holder and none of them
-fewer : (count : ℕ) (views : List PassView) (id : ℕ) (v : PassView) → get_elem? views id ≡ some v → AllByRecursion (HasFew count) views →
-    0 < length v.holders → beyond count v.numbers ≡ 0 → beyond count (numbers_in views) < length (holders_in views)
-fewer count [] id v at all some' none' = absurd (some-ne-none v (sym at))
-fewer count (x ∷ views) zero v at all some' none' =
-    let rest = all_few count views all.1 in
-    let numbers = sum_by-append (λ k. cond (leb count k) 1 0) x.numbers (numbers_in views) in
-    let holders = length-append x.holders (holders_in views) in
-    let same = some-injective x v at in
-    let none_here = ap (λ u. beyond count u.numbers) same in
-    let some_here = ap (λ u. length u.holders) same in
-    omega (arith, rest, numbers, holders, none', some', none_here, some_here)
-fewer count (x ∷ views) (suc id) v at all some' none' =
-    let rest = fewer count views id v at all.1 some' none' in
-    let numbers = sum_by-append (λ k. cond (leb count k) 1 0) x.numbers (numbers_in views) in
-    let holders = length-append x.holders (holders_in views) in
-    omega (arith, all.0, rest, numbers, holders)
-
 -- a view has no more numbers than all have
 no_more : (views : List PassView) (id : ℕ) (v : PassView) → get_elem? views id ≡ some v → length v.numbers ≤ length (numbers_in views)
 no_more [] id v at = absurd (some-ne-none v (sym at))
@@ -273,13 +255,3 @@ closed_with limits id v word words slots all end there =
     let same : kept.0 ≡ word = some-injective kept.0 word (sym (ap (λ l. get_elem? l 0) (sym end.2 ∙ kept.1)) ∙ there) in
     subst (λ n. IsPermutation (below n) v.numbers × (n ≤ limits.count + limits.passes)) same
     (all_numbers limits kept.0 s.views kept.2 id v end.1.1 all, word_small limits kept.0 s.views kept.2)
-
--- and at the start
-pub opened : (limits : Limits) → IsClaimedOnce limits 0 (pass_view (below limits.passes) [] ∷ [])
-opened limits =
-    record {
-      numbers = IsPermutation-refl [];
-      holders = subst (IsPermutation (below limits.passes)) (sym (append-nil (below limits.passes))) (IsPermutation-refl (below limits.passes));
-      idle = ((λ none_left. refl), tt);
-      few = (omega arith, tt);
-    }

@@ -132,9 +132,6 @@ joined-none : (es : Effects) → joined es no_effect ≡ es
 joined-none no_effect = refl
 joined-none (effect e es) = ap (effect e) (joined-none es)
 
-nothing_in : effects_in [] ≡ no_effect
-nothing_in = refl
-
 mutual
   -- an instruction that holds others, and what is behind it
   says_one : (e : Effect) (code rest : List Instruction) → EffectStands e code → effects_in (code ++ rest) ≡ effect e (effects_in rest)

@@ -1,11 +1,8 @@
 -- Lists of instructions, with one of them written anew.
-use Rattle.std.proofs.Common.{◌≡◌, ℕ, zero, suc, ◌+◌, ◌-◌, ◌<◌, ◌≤◌, List, [], ◌∷◌, ◌++◌, length, slice_set, get_or, drop, refl, sym, ap, ◌∙◌, arith, append_assoc, append-nil}
-use Rattle.std.proofs.lemmas.List.{length-map, length-append, drop_all, drop_more}
-use Rattle.rc_ast.specs.declared.effects.Effect.{Effect}
-use Rattle.rc_ast.specs.Effects.{effect_seen, effects_seen}
+use Rattle.std.proofs.Common.{◌≡◌, ℕ, zero, suc, ◌-◌, List, [], ◌∷◌, ◌++◌, length, slice_set, refl, sym, ap, ◌∙◌, arith}
+use Rattle.std.proofs.lemmas.List.{length-map, length-append}
 use Rattle.rc_code.specs.Instruction.{Instruction as PureInstruction}
 use Rattle.rc_code.specs.declared.code.Instruction.{Instruction}
-use Rattle.rc_code.specs.Compiled.{effect_code, effects_code}
 use Rattle.rc_code.specs.Seen.{instruction_seen, list_seen}
 
 pub seen_set : (list : List Instruction) (at : ℕ) (one : Instruction) → list_seen (slice_set list at one) ≡ slice_set (list_seen list) at (instruction_seen one)
@@ -34,19 +31,3 @@ module _ (old pushed more : List Instruction) (code : List PureInstruction) (hel
       set ∙ ap (λ list. slice_set list at one) (inside ∙ ap (λ list. list ++ code) push)
       ∙ ap (λ n. slice_set ((list_seen old ++ held ∷ []) ++ code) n one) (here ∙ sym (length-map old instruction_seen))
       ∙ written (list_seen old) code held one ∙ ap (λ i. list_seen old ++ i ∷ code) is
-
--- one more of the effects
-pub one_more : (now next first : List PureInstruction) (effects : List Effect) (n : ℕ) (e : Effect) → n < length effects → get_or effects n e ≡ e →
-    now ++ effects_code (effects_seen (drop n effects)) ≡ first ++ effects_code (effects_seen effects) → next ≡ now ++ effect_code (effect_seen e) →
-    next ++ effects_code (effects_seen (drop (n + 1) effects)) ≡ first ++ effects_code (effects_seen effects)
-one_more now next first effects n e within here kept pushed =
-    ap (λ list. list ++ effects_code (effects_seen (drop (n + 1) effects))) pushed
-    ∙ append_assoc now (effect_code (effect_seen e)) (effects_code (effects_seen (drop (n + 1) effects)))
-    ∙ ap (λ one. now ++ effects_code (effects_seen (one ∷ drop (n + 1) effects))) (sym here)
-    ∙ ap (λ es. now ++ effects_code (effects_seen es)) (sym (drop_more effects n e within)) ∙ kept
-
--- none more
-pub no_more : (now first : List PureInstruction) (effects : List Effect) (n : ℕ) → length effects ≤ n →
-    now ++ effects_code (effects_seen (drop n effects)) ≡ first ++ effects_code (effects_seen effects) → now ≡ first ++ effects_code (effects_seen effects)
-no_more now first effects n past kept =
-    sym (append-nil now) ∙ ap (λ es. now ++ effects_code (effects_seen es)) (sym (drop_all n effects past)) ∙ kept

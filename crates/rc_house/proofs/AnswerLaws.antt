@@ -113,12 +113,6 @@ sheet_answer source lists rest sheet (Text bytes note) spelled is printed =
     accepted_answer PrintsSheet source lists rest sheet (seen (Text bytes note) 0) spelled is (λ form others first. same)
 sheet_answer source lists rest sheet (Refused refusal) spelled is printed = absurd printed
 
-pub sheet_answers : (source : List ℕ) (lists : List Tree) (rest : ℕ) (sheet : Sheet) {E : Type 0} (result : Result Stored E)
-    → Spelled source 1 lists rest → IsAcceptedWith (λ other _. other ≡ sheet) lists → IfOk result (IsSheetText sheet)
-    → IfOk result (IsAnswerTo PrintsSheet source)
-sheet_answers source lists rest sheet (Err error) spelled is printed = tt
-sheet_answers source lists rest sheet (Ok answer) spelled is printed = sheet_answer source lists rest sheet answer spelled is printed
-
 -- a transcript that is judged
 judged_so : (source : List ℕ) (lists : List Tree) (rest : ℕ) (sheet : Sheet) (plan : Plan) (answer : Stored)
     → Spelled source (wanted Check) lists rest → IsAcceptedWith (λ other _. other ≡ sheet) lists → IsBehind sheet.players lists plan

@@ -10,7 +10,6 @@ pub mod OutcomeLemmas
 pub mod PlanLaws
 pub mod PlayedLaws
 pub mod PlayedLemmas
-pub mod PlayerLemmas
 pub mod PlayingLemmas
 pub mod PrintedTwice
 pub mod SomeAnswer

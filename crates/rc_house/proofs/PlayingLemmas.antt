@@ -1,5 +1,5 @@
 -- How the answers of commands that have matches played come about.
-use Rattle.std.proofs.Common.{◌≡◌, ◌≤◌, ◌+◌, inr, ℕ, List, map, Option, Some, None, Result, Ok, Err, Vec, inl, refl, sym, subst, ap, ◌∙◌, arith}
+use Rattle.std.proofs.Common.{◌≡◌, ◌≤◌, ◌+◌, inr, ℕ, List, map, Option, Some, None, Result, Ok, Err, Vec, refl, sym, subst, ap, ◌∙◌, arith}
 use Rattle.std.specs.Global.{Global}
 use Rattle.rc_model.specs.Transcript.{house_text}
 use Rattle.rc_sheet_model.specs.Sheet.{Sheet}
@@ -27,14 +27,14 @@ use Rattle.rc_house.specs.declared.status.Status.{Status}
 use Rattle.rc_house.specs.declared.status.Status.TheVariants.{Memory}
 use Rattle.rc_house.specs.declared.task.Task.{Task}
 use Rattle.rc_house.specs.declared.task.Task.TheVariants.{Play, Check, Sheet as PrintsSheet}
-use Rattle.rc_house.specs.Answer.{Answer, text, house_played, playouts_of, seen, IsGame}
+use Rattle.rc_house.specs.Answer.{Answer, text, house_played, playouts_of, seen}
 use Rattle.rc_house.specs.Bench.{BenchOutcome, IsBenchAnswer, summary, no_memory as bench_no_memory}
 use Rattle.rc_house.specs.Ends.{Runs}
 use Rattle.rc_house.specs.Note.{looks_line, note_line}
 use Rattle.rc_house.specs.Outcome.{Answers, CountedFew}
 use Rattle.rc_house.specs.Players.{counted_playouts}
 use Rattle.rc_house.specs.Port.{Port, Ports, port}
-use Rattle.rc_house.specs.Running.{ReadsAnswer, ReadsGame, IsSeriesOf, TellsOf, PreparesCommand, PreparesNone, AnswersBench, AnswersSource, AnswersCommand, Concludes}
+use Rattle.rc_house.specs.Running.{ReadsAnswer, ReadsGame, IsSeriesOf, TellsOf, PreparesCommand, AnswersBench, AnswersSource, AnswersCommand, Concludes}
 use Rattle.rc_house.proofs.AnswerLaws.{counted_few}
 use Rattle.rc_house.proofs.BenchLaws.{summary_is, few_steps}
 use Rattle.rc_house.proofs.OutcomeLemmas.{concluded, performed}
@@ -100,14 +100,6 @@ module _ (before after : Port) where
   answered command.Sheet steps answer is = unplayed PrintsSheet steps answer is
   answered (command.Bench number options) steps answer is = absurd is.1
 
-  -- why it answers nothing, where nothing was prepared
-  pub unprepared : (called : Command) (steps : ℕ) (status : Status) → PreparesNone called before after status
-      → AnswersCommand called before after steps steps (Err status)
-  unprepared (command.Play options) steps status none = inl (none, refl)
-  unprepared command.Check steps status none = inl (none, refl)
-  unprepared command.Sheet steps status none = inl (none, refl)
-  unprepared (command.Bench number options) steps status none = (none.0, (none.1, λ answer is. omega arith))
-
   -- what it tells of the matches that were played for it
   pub told : (called : Command) (game : Game) (steps steps' : ℕ) (series : Series) (answer : Stored)
       → PreparesCommand called before after (Playing game)
@@ -139,13 +131,6 @@ module _ (before after : Port) where
       → status ≡ Memory → AnswersCommand called before after steps steps' (Err status)
   lacking_text called game steps steps' series status prepared is lacks =
       let counted = is.counted in lacking called game steps steps' status prepared (omega (arith, counted)) lacks
-
-  -- the game that a command has played
-  pub game_of : (called : Command) (game : Game) → PreparesCommand called before after (Playing game) → IsGame game.checked (plan_seen game.plan)
-  game_of (command.Play options) game prepared = prepared.0
-  game_of command.Check game prepared = prepared.0
-  game_of command.Sheet game prepared = prepared.0
-  game_of (command.Bench number options) game prepared = let made = prepared.1 in made.0
 
 -- what was done with the answer of the bench
 bench_concluded : (options : Options) (number : ℕ) (before after : Ports) (steps steps' : ℕ) (answered : Result Stored Status) (status : Status)

@@ -2,14 +2,10 @@
 use Rattle.std.proofs.Common.{◌≡◌, ℕ, ◌+◌, ◌≤◌, ◌<◌, List, [], ◌∷◌, ◌++◌, length, map, drop, get_or, Option, Some, None, refl, sym, ap, ◌∙◌}
 use Rattle.std.specs.Prelude.{option_map}
 use Rattle.std.proofs.lemmas.List.{at_drop_more, drop_all}
-use Rattle.std.proofs.lemmas.Iterator.Adapters.{option_map_id}
 use Rattle.rc_model.specs.Tree.{Tree, Trees, nil, cons}
 use Rattle.rc_form.specs.Form.{tree_of, trees_of, packed}
 use Rattle.rc_form.specs.declared.form.Form.{Form}
 use Rattle.rc_reading.specs.ReadNames.{◌>>=◌, both}
-use Rattle.rc_reading.specs.Gives.{Fails}
-use Rattle.rc_reading.specs.declared.fail.Unread.{Unread}
-use Rattle.rc_reading.specs.declared.fail.Unread.TheVariants.{Meaningless, Memory}
 
 -- the views of a list, each put before what is later
 abbrev pub before : {X A L : Type 0} → (X → A) → (A → L → L) → List X → L → L
@@ -55,11 +51,6 @@ regroup : {X A L : Type 0} (seen : X → A) (more : A → L → L) (front : List
 regroup seen more front x (Some later) = ap Some (sym (before-push seen more front x later))
 regroup seen more front x None = refl
 
--- nothing was read before
-pub begins : {X A L : Type 0} (seen : X → A) (more : A → L → L) (all : Trees → Option L) (forms : List Form)
-    → so_far seen more all [] forms 0 ≡ all (packed (trees_of forms))
-begins seen more all forms = option_map_id (all (packed (trees_of forms)))
-
 -- one more part is read
 pub goes_on : {X A L : Type 0} (seen : X → A) (more : A → L → L) (one : Tree → Option A) (all : Trees → Option L)
     → InTurn more one all → (front : List X) (forms : List Form) (i : ℕ) (part : Form) (x : X) (total : Option L)
@@ -71,19 +62,6 @@ goes_on seen more one all in_turn front forms i part x total lt is read so =
     let put = option_map (before seen more front) in
     let first = ap (λ found. put (option_map (λ p. more p.0 p.1) (both found (all later)))) read in
     sym (opened ∙ first ∙ regroup seen more front x (all later)) ∙ so
-
--- the next part says nothing
-pub ends : {X A L : Type 0} (seen : X → A) (more : A → L → L) (one : Tree → Option A) (all : Trees → Option L)
-    → InTurn more one all → (fail : Unread) (front : List X) (forms : List Form) (i : ℕ) (part : Form) (total : Option L)
-    → i < length forms → part ≡ get_or forms i part → Fails fail (one (tree_of part))
-    → so_far seen more all front forms i ≡ total → Fails fail total
-ends seen more one all in_turn Memory front forms i part total lt is read so = tt
-ends seen more one all in_turn Meaningless front forms i part total lt is read so =
-    let later : Trees = packed (trees_of (drop (i + 1) forms)) in
-    let opened = ap (option_map (before seen more front)) (part_at all forms i part lt is ∙ in_turn (tree_of part) later) in
-    let put = option_map (before seen more front) in
-    let first = ap (λ found. put (option_map (λ p. more p.0 p.1) (both found (all later)))) read in
-    sym so ∙ opened ∙ first
 
 -- no part is left
 pub is_done : {X A L : Type 0} (seen : X → A) (more : A → L → L) (listed : List A → L) (all : Trees → Option L)
@@ -120,11 +98,6 @@ regroup_from : {S X A L : Type 0} (seen : X → A) (more : A → L → L) (front
 regroup_from seen more front x (Some later) = ap (λ all. Some (all, later.1)) (sym (before-push seen more front x later.0))
 regroup_from seen more front x None = refl
 
--- nothing was read before
-pub begins_from : {S X A L : Type 0} (seen : X → A) (more : A → L → L) (all : S → Trees → Option (L × S))
-    (s : S) (forms : List Form) → so_far_from seen more all s [] forms 0 ≡ all s (packed (trees_of forms))
-begins_from seen more all s forms = option_map_id (all s (packed (trees_of forms)))
-
 -- one more part is read
 pub goes_on_from : {S X A L : Type 0} (seen : X → A) (more : A → L → L) (one : S → Tree → Option (A × S))
     (all : S → Trees → Option (L × S)) → Threaded more one all
@@ -137,20 +110,6 @@ goes_on_from seen more one all threaded s after front forms i part x total lt is
     let opened = ap put (part_at (all s) forms i part lt is ∙ threaded s (tree_of part) later) in
     let first = ap (λ found. put (found >>= λ first. option_map (changed (more first.0)) (all first.1 later))) read in
     sym (opened ∙ first ∙ regroup_from seen more front x (all after later)) ∙ so
-
--- the next part says nothing
-pub ends_from : {S X A L : Type 0} (seen : X → A) (more : A → L → L) (one : S → Tree → Option (A × S))
-    (all : S → Trees → Option (L × S)) → Threaded more one all
-    → (fail : Unread) (s : S) (front : List X) (forms : List Form) (i : ℕ) (part : Form) (total : Option (L × S))
-    → i < length forms → part ≡ get_or forms i part → Fails fail (one s (tree_of part))
-    → so_far_from seen more all s front forms i ≡ total → Fails fail total
-ends_from seen more one all threaded Memory s front forms i part total lt is read so = tt
-ends_from seen more one all threaded Meaningless s front forms i part total lt is read so =
-    let later : Trees = packed (trees_of (drop (i + 1) forms)) in
-    let put = option_map (changed (before seen more front)) in
-    let opened = ap put (part_at (all s) forms i part lt is ∙ threaded s (tree_of part) later) in
-    let first = ap (λ found. put (found >>= λ first. option_map (changed (more first.0)) (all first.1 later))) read in
-    sym so ∙ opened ∙ first
 
 -- no part is left
 pub is_done_from : {S X A L : Type 0} (seen : X → A) (more : A → L → L) (listed : List A → L) (all : S → Trees → Option (L × S))

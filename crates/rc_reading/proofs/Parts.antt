@@ -12,11 +12,6 @@ rest k parts = packed (trees_of (take (length parts - k) (drop k parts)))
 rest_is : (k : ℕ) (parts : List Form) → packed (trees_of (drop k parts)) ≡ rest k parts
 rest_is k parts = ap (λ left. packed (trees_of left)) (sym (take_rest parts k))
 
-pub behind_one : (parts : List Form) (any : Form) → 0 < length parts
-    → packed (trees_of parts) ≡ cons (tree_of (get_or parts 0 any)) (rest 1 parts)
-behind_one [] any few = absurd (omega arith)
-behind_one (first ∷ parts) any few = ap (cons (tree_of first)) (rest_is 1 (first ∷ parts))
-
 pub behind_two : (parts : List Form) (second : Form) → 1 < length parts → second ≡ get_or parts 1 second
     → packed (trees_of parts) ≡ cons (tree_of (get_or parts 0 second)) (cons (tree_of second) (rest 2 parts))
 behind_two [] second few is = absurd (omega arith)

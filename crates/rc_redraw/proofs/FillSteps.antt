@@ -1,5 +1,5 @@
 -- One location more is filled.
-use Rattle.std.proofs.Common.{◌≡◌, ℕ, zero, suc, ◌+◌, ◌<◌, nat_lt, if◌then◌else◌, Bool, false, List, [], ◌∷◌, ◌++◌, length, map, drop, get_or, slice_get, Result, Ok, Err, IfOk, refl, sym, ap, ap₂, ◌∙◌, arith}
+use Rattle.std.proofs.Common.{◌≡◌, ℕ, zero, suc, ◌+◌, ◌<◌, nat_lt, if◌then◌else◌, Bool, false, List, [], ◌∷◌, ◌++◌, length, map, drop, get_or, slice_get, refl, sym, ap, ap₂, ◌∙◌, arith}
 use Rattle.std.proofs.lemmas.List.{drop_more, drop-drop, length-append, length-map}
 use Rattle.std.proofs.Math.ListN.{get_or-map}
 use Rattle.rc_sheet_model.specs.WellFormed.{is_mem}
@@ -10,11 +10,6 @@ use Rattle.rc_play_model.specs.RedrawLaws.{IsViewOfSound}
 use Rattle.rc_view.specs.Seen.{sight_seen}
 use Rattle.rc_redraw.specs.Hiding.{hiding_from}
 use Rattle.rc_view.specs.declared.sight.Sight.{Sight}
-
--- what is known of a value, where there is one, says something else of it
-pub in_ok : {X Y : Type 0} (r : Result X Y) (P Q : X → Type 0) → ((x : X) → P x → Q x) → IfOk r P → IfOk r Q
-in_ok (Ok x) P Q each known = each x known
-in_ok (Err y) P Q each known = tt
 
 -- what is seen has a part for each location
 sights_count : (shape : Shape) (seat : ℕ) (places : List Place) (lists : List (List ℕ)) → length (sights_of shape seat places lists) ≡ length lists

@@ -1,6 +1,5 @@
 -- The place of an owner, in places of names that stand one behind the other.
-use Rattle.std.proofs.Common.{◌≡◌, ℕ, zero, suc, ◌+◌, ◌<◌, ◌≤◌, Bool, true, false, cond, List, [], ◌∷◌, ◌++◌, length, get_or, drop, Option, Some, None, slice_get, option_map, arith, refl, sym, ap, ◌∙◌, append_assoc, append-nil}
-use Rattle.std.proofs.lemmas.List.{drop_all}
+use Rattle.std.proofs.Common.{◌≡◌, ℕ, zero, suc, ◌+◌, ◌<◌, Bool, true, false, cond, List, [], ◌∷◌, ◌++◌, length, get_or, drop, Option, Some, None, slice_get, option_map, arith, refl, sym, ap, ◌∙◌, append_assoc}
 use Rattle.rc_sheet_model.specs.Sheet.{Class, Sheet}
 use Rattle.rc_sheet_model.specs.WellFormed.{owner_count}
 use Rattle.rc_play_model.specs.Owners.{place_among}
@@ -54,19 +53,3 @@ ranges_more sheet done done' whole classes i first count class lt is counted gro
     ap (λ n. done' ++ ranges_from sheet (first + n) (drop (i + 1) classes)) counted
     ∙ range_more sheet done done' whole classes i first class lt is
     (grown ∙ ap (λ n. done ++ record { class = class; first = first; count = n } ∷ []) counted) told
-
-pub ranges_all : (sheet : Sheet) (done whole : List Places) (classes : List Class) (i first : ℕ) →
-    length classes ≤ i → done ++ ranges_from sheet first (drop i classes) ≡ whole → done ≡ whole
-ranges_all sheet done whole classes i first le told =
-    sym (append-nil done) ∙ ap (λ cs. done ++ ranges_from sheet first cs) (sym (drop_all i classes le)) ∙ told
-
--- one stage more
-pub stages_more : (classes whole : List Class) (class : Class) →
-    ((n : ℕ) → n < length classes → slice_get classes n ≡ slice_get whole n) → Some class ≡ slice_get whole (length classes) →
-    (n : ℕ) → n < length (classes ++ class ∷ []) → slice_get (classes ++ class ∷ []) n ≡ slice_get whole n
-stages_more [] whole class told here zero lt = here
-stages_more [] whole class told here (suc n) lt = absurd (omega arith)
-stages_more (c ∷ classes) whole class told here zero lt = told zero (omega arith)
-stages_more (c ∷ classes) [] class told here (suc n) lt = let e = told zero (omega arith) in absurd (cc)
-stages_more (c ∷ classes) (w ∷ whole) class told here (suc n) lt =
-    stages_more classes whole class (λ k less. told (suc k) (omega (arith, less))) here n (omega (arith, lt))

@@ -1,7 +1,7 @@
 -- Rows of what cards have.
-use Rattle.std.proofs.Common.{◌≡◌, ℕ, zero, suc, ◌+◌, ◌<◌, ◌≤◌, List, [], ◌∷◌, ◌++◌, length, get_or, take, map, Some, None, slice_get, arith, refl, sym, ap, ◌∙◌, ℤ, pos, ◌+ℤ◌, cond}
+use Rattle.std.proofs.Common.{◌≡◌, ℕ, zero, suc, ◌+◌, ◌<◌, List, [], ◌∷◌, ◌++◌, length, get_or, take, map, Some, None, slice_get, arith, refl, sym, ap, ◌∙◌, ℤ, pos, ◌+ℤ◌, cond}
 use Rattle.std.specs.List.{fold, range_with_len}
-use Rattle.std.proofs.lemmas.List.{take_more, take_all, map-append}
+use Rattle.std.proofs.lemmas.List.{take_more, map-append}
 use Rattle.std.proofs.lemmas.Int.{ints, clamps}
 use Rattle.rc_model.specs.Numbers.{below}
 use Rattle.rc_model.specs.Clamp.{clamped, IsWithinClamp}
@@ -13,9 +13,6 @@ pub row_more : {A B : Type 0} (f : A → B) (d : A) (xs : List A) (done done' : 
 row_more f d xs done done' i b lt is grown told =
     grown ∙ ap (λ ys. ys ++ b ∷ []) told ∙ ap (λ y. map f (take i xs) ++ y ∷ []) is
     ∙ sym (ap (map f) (take_more xs i d lt) ∙ map-append f (take i xs) (get_or xs i d ∷ []))
-
-pub row_all : {A B : Type 0} (f : A → B) (xs : List A) (done : List B) (i : ℕ) → length xs ≤ i → done ≡ map f (take i xs) → done ≡ map f xs
-row_all f xs done i le told = told ∙ ap (map f) (take_all i xs le)
 
 -- what stands in a row
 pub in_row : {A B : Type 0} (f : A → B) (d : A) (e : B) → e ≡ f d → (xs : List A) (i : ℕ) → get_or (map f xs) i e ≡ f (get_or xs i d)

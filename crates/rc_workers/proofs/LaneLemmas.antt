@@ -1,7 +1,7 @@
 -- What lanes have together.
 use Rattle.std.proofs.Common.{◌≡◌, ℕ, zero, suc, ◌+◌, ◌<◌, List, [], ◌∷◌, ◌++◌, length, length-append, map, All, refl, sym, ap, ◌∙◌, arith}
 use Rattle.std.specs.List.{AllByRecursion, sum_by}
-use Rattle.std.proofs.lemmas.List.{length-map, map-append}
+use Rattle.std.proofs.lemmas.List.{map-append}
 use Rattle.std.proofs.lemmas.List.Elements.{All-from_recursion}
 use Rattle.std.proofs.lemmas.List.Sums.{sum_by-cons, sum_by_push}
 use Rattle.rc_model.specs.Numbers.{below}
@@ -49,9 +49,6 @@ idle_count (suc n) =
 module _ (looks workers : ℕ) (lanes : List Lane) (rise : RiseTogether looks (map shared_counts (idle_lanes workers)) (map shared_counts lanes)) where
   counted : (h : Counts → ℕ) → ((k : ℕ) → h (shared_counts (idle k)) ≡ 0) → sum_by h (map shared_counts (idle_lanes workers)) ≡ 0
   counted h none = sum_map shared_counts h (idle_lanes workers) ∙ idle_sum (λ l. h (shared_counts l)) none workers
-
-  pub as_many : length lanes ≡ workers
-  as_many = sym (length-map lanes shared_counts) ∙ rise.each ∙ length-map (idle_lanes workers) shared_counts ∙ idle_count workers
 
   pub all_looked : lane.looks_in lanes ≡ looks
   all_looked =

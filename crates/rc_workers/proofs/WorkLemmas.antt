@@ -1,8 +1,7 @@
 -- A worker's matches, one after the other.
-use Rattle.std.proofs.Common.{◌≡◌, ℕ, ◌<◌, ◌≤◌, List, [], ◌∷◌, ◌++◌, length, length-append, map, All, Option, Some, None, option_map, unwrap_or, Result, Ok, Err, IfOk, OnOk, refl, sym, ap, ◌∙◌, arith}
+use Rattle.std.proofs.Common.{◌≡◌, ℕ, ◌<◌, ◌≤◌, List, [], ◌∷◌, length, length-append, map, All, Option, Some, None, option_map, unwrap_or, Result, Ok, Err, IfOk, OnOk, refl, sym, ap, ◌∙◌, arith}
 use Rattle.std.specs.List.{AllByRecursion}
-use Rattle.std.proofs.lemmas.List.{map-append, length-map}
-use Rattle.std.proofs.lemmas.List.Sums.{sum_by_push}
+use Rattle.std.proofs.lemmas.List.{length-map}
 use Rattle.rc_play_model.specs.About.{About}
 use Rattle.rc_deck.specs.declared.memory.Memory.{Memory}
 use Rattle.rc_model.specs.Transcript.{Record}
@@ -15,7 +14,6 @@ use Rattle.rc_rules.specs.declared.record.MatchRecord.{MatchRecord}
 use Rattle.rc_redraw.specs.Asking.{Key}
 use Rattle.rc_redraw.specs.Counts.{Counts}
 use Rattle.rc_redraw.specs.Choosing.{AsksAll}
-use Rattle.rc_match.specs.Asks.{asks_of}
 use Rattle.rc_match.proofs.AskLemmas.{looks_rise, keeps_rise}
 use Rattle.rc_claims.specs.Claims.{Pass, with_number}
 use Rattle.rc_workers.specs.Turns.{IsRecordIn, number_of, asked_by_all, Rise, IsWork}
@@ -26,24 +24,6 @@ pub keys_rise : (keys : List Key) (before after : Counts) (steps steps' : ℕ) �
 keys_rise keys before after steps steps' asked =
     let keeps = keeps_rise keys before after steps steps' asked in
     record { looked = looks_rise keys before after steps steps' asked; hit = keeps.0; kept = keeps.1 }
-
--- nothing is asked
-pub none_rise : (counts : Counts) → Rise 0 counts counts
-none_rise counts = record { looked = omega arith; hit = omega arith; kept = omega arith }
-
--- one match more
-pub match_rises : (about : About) (plan : Plan) (records : List MatchRecord) (r : MatchRecord) (n : ℕ) (before between after : Counts) → r.number ≡ n →
-    Rise (asked_by_all about plan (map number_of records)) before between → Rise (length (asks_of about plan n)) between after →
-    Rise (asked_by_all about plan (map number_of (records ++ r ∷ []))) before after
-match_rises about plan records r n before between after is so_far more =
-    let sum =
-    ap (asked_by_all about plan) (map-append number_of records (r ∷ []) ∙ ap (λ k. map number_of records ++ k ∷ []) is)
-    ∙ sum_by_push (λ k. length (asks_of about plan k)) (map number_of records) n in
-    record {
-      looked = omega (arith, sum, so_far.looked, more.looked);
-      hit = omega (arith, so_far.hit, more.hit);
-      kept = omega (arith, sum, so_far.kept, more.kept);
-    }
 
 -- a claim behind which nothing is left
 pub worked : (about : About) (plan : Plan) (before pass after : Pass) (asked asked' : Counts) (records : List MatchRecord) (last : ℕ) →
