@@ -39,6 +39,7 @@ impl Rule {
     }
 
     /// The place of a part, where the form has so many.
+    #[inline(always)]
     pub fn place_at(self, count: usize, index: usize) -> Option<Place>
         requires { index < count }
         ensures { result ≡ spec.place_at self count index }
@@ -139,6 +140,7 @@ fn plain_rule(place: Place, head: &Form) -> Option<Rule>
 }
 
 /// Whether a list of this form may begin with this part.
+#[inline(always)]
 fn begins(head: &Form, rule: Rule) -> bool
     ensures { result ≡ spec.begins (tree_of head.now) rule }
 {
@@ -150,6 +152,7 @@ fn begins(head: &Form, rule: Rule) -> bool
 
 /// Whether a list may begin with this part, where this is the place of its first part. Fixed words and holders alone tell a
 /// form; any other part is looked at with those behind it.
+#[inline(always)]
 fn may_begin(place: Place, head: &Form) -> bool
     ensures { result ≡ spec.may_begin place (tree_of head.now) }
 {
@@ -161,6 +164,7 @@ fn may_begin(place: Place, head: &Form) -> bool
 }
 
 /// Whether the form is this word.
+#[inline(always)]
 pub fn is_form_word(keyword: Keyword, form: &Form) -> bool
     ensures { result ≡ spec.is_form_word keyword (tree_of form.now) }
 {

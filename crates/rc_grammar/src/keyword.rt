@@ -69,6 +69,7 @@ pub enum Keyword {
 
 impl Keyword {
     /// The bytes of the word.
+    #[inline(always)]
     pub fn text(self) -> &'static [u8]
         ensures { result.now ≡ text_of self }
     {

@@ -96,6 +96,7 @@ impl Known {
     }
 
     /// Adds a mention of a location, where there is one.
+    #[inline(always)]
     fn add_location(&mut self, found: Option<(Word, Located)>) -> Result<(), AllocError>
         ensures { OnOk result (self.new ≡ with_all self.old (locs_alone (option_to_list (option_map loc_seen found)))) }
     {
@@ -106,6 +107,7 @@ impl Known {
     }
 
     /// Adds a mention of a stored number, where there is one.
+    #[inline(always)]
     fn add_number(&mut self, found: Option<(Word, Class)>) -> Result<(), AllocError>
         ensures { OnOk result (self.new ≡ with_all self.old (nums_alone (option_to_list (option_map num_seen found)))) }
     {
@@ -117,6 +119,7 @@ impl Known {
 }
 
 /// Adds a word, unless it is known.
+#[inline(always)]
 fn add_word(words: &mut IndexSet<Word>, word: Option<Word>) -> Result<(), AllocError>
     ensures { OnOk result (words.new.keys ≡ with_words words.old.keys (option_to_list word)) }
 {
