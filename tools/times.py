@@ -43,7 +43,7 @@ def lines_in(files: Iterable[Path]) -> int:
 
 def is_test(crate: str, file: Path) -> bool:
     """Whether a file of code holds tests alone."""
-    return crate.endswith(("_tests", "_hostile")) or "tests" in (file.stem, file.parent.name)
+    return crate.endswith("_tests") or "tests" in (file.stem, file.parent.name)
 
 
 def size_of(root: Path, crate: str) -> Size:
