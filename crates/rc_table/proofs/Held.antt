@@ -89,6 +89,13 @@ cards_fit_here n false le = omega arith
 pub cards_fit : (shape : Shape) → IsShape shape → length shape.faces ≤ longest shape
 cards_fit shape limits = cards_fit_here (length shape.faces) (nat_lt 0 (count_by holds_notes shape.places)) limits.cards
 
+few_here : (n : ℕ) (b : Bool) → n ≤ 512 → (if b then 512 else n) ≤ 512
+few_here n true le = omega arith
+few_here n false le = le
+
+pub longest_few : (shape : Shape) → IsShape shape → longest shape ≤ 512
+longest_few shape limits = few_here (length shape.faces) (nat_lt 0 (count_by holds_notes shape.places)) limits.cards
+
 mem_counts : (places : List Place) (k : ℕ) (p : Place) → slice_get places k ≡ Some p → is_mem p.kind ≡ true → 0 < count_by holds_notes places
 mem_counts places k p is mem =
     let within = slice_get_within places k p is in

@@ -8,3 +8,4 @@ pub mod RowLemmas
 pub mod OnePlace
 pub mod WhereaboutLemmas
 pub mod WhereaboutEdits
+pub mod TopLemmas

@@ -19,7 +19,7 @@ abbrev pub nowhere : ℕ × ℕ
 nowhere = (0, 0)
 
 -- which kind a location is
-no_references : (shape : Shape) (l : ℕ) → HoldsCards shape l → holds_references (slice_get shape.places l) ≡ false
+pub no_references : (shape : Shape) (l : ℕ) → HoldsCards shape l → holds_references (slice_get shape.places l) ≡ false
 no_references shape l h = ap holds_references h.1 ∙ h.2
 
 are_cards : (shape : Shape) (l : ℕ) → l < length shape.places → holds_references (slice_get shape.places l) ≡ false → HoldsCards shape l

@@ -4,10 +4,11 @@ ghost use Rattle.std.specs.List.Sorted.{IsPermutation};
 ghost use Rattle.rc_model.specs.Clamp.{IsWithinClamp};
 ghost use Rattle.rc_model.specs.Numbers.{below};
 ghost use Rattle.rc_play_model.specs.Bound.{HoldsCards, HoldsReferences};
-ghost use Rattle.rc_play_model.specs.Table.{list_at, put_top, put_bottom, remember_top, remember_bottom, has_room, forget_in, set_number, taken, reorder};
+ghost use Rattle.rc_play_model.specs.Table.{list_at, put_top, put_bottom, remember_top, remember_bottom, has_room, forget_in, place_of, set_number, taken, reorder};
 ghost use Rattle.rc_table.specs.Laid.{relaid};
 
 use crate::table::{LONGEST_LIST, Table};
+use crate::whereabouts::note_top;
 use rc_play_model::edits_keep_tables_sound;
 
 impl Table {
@@ -17,12 +18,33 @@ impl Table {
         requires loc { HoldsCards self.old.shape loc }
         ensures { self.new ≡ relaid self.old (put_top self.old.shape id loc self.old.table) }
     {
+        let (from, place) = self.place_of(id);
+        self.put_top_from(id, from, place, loc);
+    }
+
+    /// The same where the card's place is known.
+    #[inline(always)]
+    pub fn put_top_from(&mut self, id: u16, from: u16, place: u16, loc: u16)
+        requires card { id < length self.old.shape.faces }
+        requires loc { HoldsCards self.old.shape loc }
+        requires place { (from, place) ≡ place_of self.old.shape self.old.table id }
+        ensures { self.new ≡ relaid self.old (put_top self.old.shape id loc self.old.table) }
+    {
         edits_keep_tables_sound();
         // what is known of a sound table
         let _shape = self.shape();
-        let top = self.list(loc).len() as u16;
-        let (from, place) = self.place_of(id);
-        self.move_between(from, place, loc, top);
+        self.lists.take_out(from, place as usize);
+        let top = self.lists.put_on(loc, id);
+        note_top(
+            &mut self.whereabouts,
+            &self.shape,
+            &self.lists,
+            from,
+            place as usize,
+            loc,
+            top,
+            id,
+        );
     }
 
     /// Takes a card out of its place and puts it at the bottom of a location of cards.

@@ -1,5 +1,5 @@
 //! A list of ids for each location.
-ghost use Rattle.std.specs.Prelude.{◌≡◌, ◌<◌, ◌≤◌, [], length, map, replicate, slice_index_or, slice_set, vec_capacity, All, IfOk};
+ghost use Rattle.std.specs.Prelude.{◌≡◌, ◌<◌, ◌≤◌, [], ◌∷◌, ◌++◌, length, map, replicate, slice_index_or, slice_set, vec_capacity, All, IfOk};
 ghost use Rattle.std.specs.List.{remove, insert};
 ghost use Rattle.rc_table.specs.Refilled.{CanRefill, lists_refilled};
 ghost use Rattle.rc_table.specs.Restored.{AreUntouched};
@@ -135,6 +135,23 @@ impl Rows {
         } }
     {
         insert_at(&mut self.rows[at as usize], place, id);
+    }
+
+    /// Puts an id on top of a list, and tells its place.
+    #[inline(always)]
+    pub(crate) fn put_on(&mut self, at: u16, id: u16) -> usize
+        requires list { at < length self.old.all }
+        requires room { length (slice_index_or self.old.all at []) < self.old.room }
+        ensures place { result ≡ length (slice_index_or self.old.all at []) }
+        ensures lists { self.new ≡ record {
+          all = slice_set self.old.all at (slice_index_or self.old.all at [] ++ id ∷ []);
+          room = self.old.room;
+        } }
+    {
+        let row = &mut self.rows[at as usize];
+        let place = row.len();
+        row.push_reserved(id);
+        place
     }
 
     /// Writes another list of the same length.

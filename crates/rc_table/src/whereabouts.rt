@@ -1,5 +1,6 @@
 //! Where each card stands.
-ghost use Rattle.std.specs.Prelude.{◌≡◌, ◌<◌, ◌≤◌, [], length, drop, slice_index_or, All, IfOk};
+ghost use Rattle.std.specs.Prelude.{◌≡◌, ◌<◌, ◌≤◌, [], ◌∷◌, length, drop, slice_index_or, All, IfOk};
+ghost use Rattle.rc_play_model.specs.Bound.{HoldsCards};
 ghost use Rattle.rc_table.specs.Shape.{IsShape};
 ghost use Rattle.rc_table.specs.Whereabouts.{AreSound, laid_out, whereabouts, noted, noted_in};
 
@@ -54,6 +55,43 @@ pub(crate) fn note_move(
 {
     note_cards(stand, shape, lists, from, at);
     note_cards(stand, shape, lists, to, place);
+}
+
+/// The same for one location, where most often nothing is left to note.
+#[inline(always)]
+fn note_left(stand: &mut [(u16, u16)], shape: &Shape, lists: &Rows, loc: u16, from: usize)
+    requires ids { All (λ id. id < length stand.old) (slice_index_or lists.now.all loc []) }
+    requires few { length (slice_index_or lists.now.all loc []) ≤ 512 }
+    ensures { stand.new ≡ noted_in shape.now lists.now.all loc from stand.old }
+{
+    if from < lists.list(loc).len() {
+        note_cards(stand, shape, lists, loc, from);
+    }
+}
+
+/// The same for two locations, of which the other one holds cards, this id as the last one. Most often nothing is left to note in
+/// the first one.
+#[inline(always)]
+pub(crate) fn note_top(
+    stand: &mut [(u16, u16)],
+    shape: &Shape,
+    lists: &Rows,
+    from: u16,
+    at: usize,
+    to: u16,
+    place: usize,
+    id: u16,
+)
+    requires ids { All (λ id. id < length stand.old) (slice_index_or lists.now.all from []) }
+    requires few { length (slice_index_or lists.now.all from []) ≤ 512 }
+    requires id { id < length stand.old }
+    requires cards { HoldsCards shape.now to }
+    requires place { place < 512 }
+    requires last { drop place (slice_index_or lists.now.all to []) ≡ id ∷ [] }
+    ensures { stand.new ≡ noted_in shape.now lists.now.all to place (noted_in shape.now lists.now.all from at stand.old) }
+{
+    note_left(stand, shape, lists, from, at);
+    stand[id as usize] = (to, place as u16);
 }
 
 /// Notes where each card stands, of lists of a sound table.
