@@ -1,5 +1,5 @@
 //! The values of expressions.
-ghost use Rattle.std.specs.Prelude.{◌≡◌, ◌+◌, ◌<◌, ◌≤◌, ◌++◌, ◌∷◌, [], map, filter, length, option_map, MatchOption, IfSome, true};
+ghost use Rattle.std.specs.Prelude.{◌≡◌, ◌+◌, ◌<◌, ◌≤◌, ◌++◌, ◌∷◌, [], map, filter, length, option_map, IfSome, true, not};
 ghost use Rattle.std.specs.List.{list_all, list_any};
 ghost use Rattle.rc_model.specs.Numbers.{below};
 ghost use Rattle.rc_play_model.specs.Ends.{first_of, last_of};
@@ -8,15 +8,15 @@ ghost use Rattle.rc_play_model.specs.Value.{card_value, coll_value, colls_value,
 ghost use Rattle.rc_ast.specs.Expressions.{coll_seen, colls_seen, int_seen, test_seen, tests_seen};
 ghost use Rattle.rc_ast.specs.Expressions.{card_seen};
 ghost use Rattle.rc_value.specs.Cards.{value_seen, values_seen};
-ghost use Rattle.rc_value.specs.Depth.{card_depth, coll_depth, colls_depth, int_depth, test_depth, tests_depth, is_calculated, runs_over_cards};
-ghost use Rattle.rc_value.specs.Picks.{is_gathered, picked_of};
+ghost use Rattle.rc_value.specs.Depth.{card_depth, coll_depth, colls_depth, int_depth, test_depth, tests_depth, is_calculated, is_single, runs_over_cards};
+ghost use Rattle.rc_value.specs.Picks.{picked_of};
 ghost use Rattle.rc_value.specs.Scene.{scene_seen};
 ghost use Rattle.rc_value.specs.Wanted.{IsWanted};
 
 use crate::arithmetic::{clamped_difference, clamped_product, clamped_sum};
 use crate::cards::id_or_none;
 use crate::collection::Collection;
-use crate::hand::{number_at_hand, test_at_hand, value_at_hand};
+use crate::hand::{bare, number_at_hand, test_at_hand, value_at_hand};
 use crate::leaves::{are_same, attr_of_id, cards_of, number_of, worth_of_id};
 use crate::loops::{Which, append, card_at, fill, keep, pick_from, sum};
 use crate::places::who_of;
@@ -30,19 +30,6 @@ use crate::wanted::{
 };
 use crate::{Card, Cards};
 use rc_ast::{CardExpr, CollExpr, Domain, IntExpr, Test};
-
-/// The cards of a location or of a variable, which need no list of their own. None for another expression.
-#[inline(always)]
-pub fn bare<'a>(scene: &'a Scene, scope: &'a Bindings, expr: &CollExpr) -> Option<Collection<'a>>
-    ensures { MatchOption result (is_gathered (coll_seen expr.now) ≡ true) (λ cards. cards ≡ coll_value (scene_seen scene.now) scope.now (coll_seen expr.now)) }
-{
-    match expr {
-        CollExpr::Var(var) => Some(scope.group(*var)),
-        CollExpr::Loc(loc) => Some(cards_of(scene, scope, loc)),
-        CollExpr::Filter(_, _, _) => None,
-        CollExpr::Union(_) => None,
-    }
-}
 
 /// The cards of a collection, written into an empty list.
 #[cycle(values)]
@@ -401,35 +388,11 @@ pub fn test_of(scene: &Scene, scope: &Bindings, expr: &Test) -> bool
     requires fits { length scope.now + test_depth (test_seen expr.now) ≤ 5 }
     ensures { result ≡ test_value (scene_seen scene.now) scope.now (test_seen expr.now) }
 {
-    match test_at_hand(&*scene, &*scope, expr) {
-        Some(holds) => holds,
-        None => test_asked(scene, scope, expr),
-    }
-}
-
-// The same, whatever it takes.
-#[cycle(values)]
-#[inline(never)]
-fn test_asked(scene: &Scene, scope: &Bindings, expr: &Test) -> bool
-    requires fits { length scope.now + test_depth (test_seen expr.now) ≤ 5 }
-    ensures { result ≡ test_value (scene_seen scene.now) scope.now (test_seen expr.now) }
-{
     match expr {
-        Test::EqInt(a, b) => int_of(scene, scope, a) == int_of(scene, scope, b),
-        Test::EqCard(a, b) => are_same(scene, card_of(scene, scope, a), card_of(scene, scope, b)),
-        Test::EqAttr(a, name, b, other) => {
-            value_of(scene, scope, a, *name) == value_of(scene, scope, b, *other)
-        }
-        Test::EqWho(a, b) => who_of(scene, scope, a) == who_of(scene, scope, b),
-        Test::Ne(inner) => !test_of(scene, scope, inner),
-        Test::Less(a, b) => int_of(scene, scope, a) < int_of(scene, scope, b),
-        Test::LessEq(a, b) => int_of(scene, scope, a) <= int_of(scene, scope, b),
-        Test::More(a, b) => int_of(scene, scope, a) > int_of(scene, scope, b),
-        Test::MoreEq(a, b) => int_of(scene, scope, a) >= int_of(scene, scope, b),
-        Test::Is(card, name, value) => value_of(scene, scope, card, *name) == Some(*value),
         Test::And(tests) => all_tests(scene, scope, tests),
         Test::Or(tests) => any_test(scene, scope, tests),
-        Test::Not(inner) => !test_of(scene, scope, inner),
+        Test::Ne(inner) => fails(scene, scope, inner),
+        Test::Not(inner) => fails(scene, scope, inner),
         Test::All(domain, _, inner) => match domain {
             Domain::Players => all_players(scene, scope, inner),
             Domain::Coll(_) => over_cards(scene, scope, expr),
@@ -440,6 +403,54 @@ fn test_asked(scene: &Scene, scope: &Bindings, expr: &Test) -> bool
             Domain::Coll(_) => over_cards(scene, scope, expr),
             Domain::Parts(_, _) => unreachable!(),
         },
+        _ => single_test(scene, scope, expr),
+    }
+}
+
+#[cycle(values)]
+#[inline(never)]
+fn fails(scene: &Scene, scope: &Bindings, test: &Test) -> bool
+    requires fits { length scope.now + test_depth (test_seen test.now) ≤ 5 }
+    ensures { result ≡ not (test_value (scene_seen scene.now) scope.now (test_seen test.now)) }
+{
+    !test_of(scene, scope, test)
+}
+
+// A test with no other test inside it.
+#[cycle(values)]
+#[inline(always)]
+fn single_test(scene: &Scene, scope: &Bindings, expr: &Test) -> bool
+    requires single { is_single (test_seen expr.now) ≡ true }
+    requires fits { length scope.now + test_depth (test_seen expr.now) ≤ 5 }
+    ensures { result ≡ test_value (scene_seen scene.now) scope.now (test_seen expr.now) }
+{
+    match test_at_hand(&*scene, &*scope, expr) {
+        Some(holds) => holds,
+        None => single_asked(scene, scope, expr),
+    }
+}
+
+// The same, whatever it takes.
+#[cycle(values)]
+#[inline(never)]
+fn single_asked(scene: &Scene, scope: &Bindings, expr: &Test) -> bool
+    requires single { is_single (test_seen expr.now) ≡ true }
+    requires fits { length scope.now + test_depth (test_seen expr.now) ≤ 5 }
+    ensures { result ≡ test_value (scene_seen scene.now) scope.now (test_seen expr.now) }
+{
+    match expr {
+        Test::EqInt(a, b) => int_of(scene, scope, a) == int_of(scene, scope, b),
+        Test::EqCard(a, b) => are_same(scene, card_of(scene, scope, a), card_of(scene, scope, b)),
+        Test::EqAttr(a, name, b, other) => {
+            value_of(scene, scope, a, *name) == value_of(scene, scope, b, *other)
+        }
+        Test::EqWho(a, b) => who_of(scene, scope, a) == who_of(scene, scope, b),
+        Test::Less(a, b) => int_of(scene, scope, a) < int_of(scene, scope, b),
+        Test::LessEq(a, b) => int_of(scene, scope, a) <= int_of(scene, scope, b),
+        Test::More(a, b) => int_of(scene, scope, a) > int_of(scene, scope, b),
+        Test::MoreEq(a, b) => int_of(scene, scope, a) >= int_of(scene, scope, b),
+        Test::Is(card, name, value) => value_of(scene, scope, card, *name) == Some(*value),
+        _ => unreachable!(),
     }
 }
 

@@ -1,18 +1,33 @@
 //! What is at hand: numbers, values and tests that are read off the table with no list, and with no other test inside them. Most of
 //! what a game asks is so. These functions stand in line where they are called, and what isn't at hand is left to others.
-ghost use Rattle.std.specs.Prelude.{◌≡◌, IfSome, int_lt, int_le, option_map, length, pos, Some};
+ghost use Rattle.std.specs.Prelude.{◌≡◌, true, MatchOption, IfSome, int_lt, int_le, option_map, length, pos, Some};
 ghost use Rattle.std.specs.Ordering.{int_eq};
 ghost use Rattle.rc_play_model.specs.Ends.{last_of};
 ghost use Rattle.rc_play_model.specs.Scene.{id_of};
 ghost use Rattle.rc_play_model.specs.Value.{attr_of_any, both, nat_same, worth_of_any, card_value, coll_value, int_value, test_value};
 ghost use Rattle.rc_ast.specs.Expressions.{card_seen, coll_seen, int_seen, test_seen};
+ghost use Rattle.rc_value.specs.Picks.{is_gathered};
 ghost use Rattle.rc_value.specs.Scene.{scene_seen};
 
-use crate::leaves::{attr_of_id, number_of, worth_of_id};
+use crate::collection::Collection;
+use crate::leaves::{attr_of_id, cards_of, number_of, worth_of_id};
 use crate::rows::{ids_of, top_id};
 use crate::scene::Scene;
 use crate::scope::Bindings;
 use rc_ast::{CardExpr, CollExpr, IntExpr, Test};
+
+/// The cards of a location or of a variable, which need no list of their own. None for another expression.
+#[inline(always)]
+pub fn bare<'a>(scene: &'a Scene, scope: &'a Bindings, expr: &CollExpr) -> Option<Collection<'a>>
+    ensures { MatchOption result (is_gathered (coll_seen expr.now) ≡ true) (λ cards. cards ≡ coll_value (scene_seen scene.now) scope.now (coll_seen expr.now)) }
+{
+    match expr {
+        CollExpr::Var(var) => Some(scope.group(*var)),
+        CollExpr::Loc(loc) => Some(cards_of(scene, scope, loc)),
+        CollExpr::Filter(_, _, _) => None,
+        CollExpr::Union(_) => None,
+    }
+}
 
 /// The number that an expression stands for, if it is at hand.
 #[inline(always)]

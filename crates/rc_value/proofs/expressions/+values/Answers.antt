@@ -18,12 +18,12 @@ use Rattle.rc_value.proofs.WantedLemmas.{all_wanted, any_wanted, keep_wanted, ag
 use Rattle.rc_reads.specs.Reads.{reads_card}
 use Rattle.rc_value.proofs.expressions.+values.Goals as goal
 
-pub test_asked-returns-in-And : goal.test_asked-returns-in-And
-test_asked-returns-in-And t c =
+pub test_of-returns-in-And : goal.test_of-returns-in-And
+test_of-returns-in-And t c =
     let e = and_here c.args.expr.now c.in-And.tests c.in-And.is in grind (arith, common_steps, e)
 
-pub test_asked-returns-in-Or : goal.test_asked-returns-in-Or
-test_asked-returns-in-Or t c =
+pub test_of-returns-in-Or : goal.test_of-returns-in-Or
+test_of-returns-in-Or t c =
     let e = or_here c.args.expr.now c.in-Or.tests c.in-Or.is in grind (arith, common_steps, e)
 
 pub coll_of-returns-in-Union : goal.coll_of-returns-in-Union
@@ -163,12 +163,12 @@ any_player_asked-returns t c =
     (below c.args.scene.now.sheet.now.players) c.loop-player.player (omega arith) c.loop-player.invariant.told
     ∙ ap (λ k. list_any (λ m. test_value (scene_seen c.args.scene.now) (c.args.scope.now ++ m ∷ []) (test_seen c.args.test.now)) (map (λ x. player_bound x) (below k))) (sym (players_are c.args.scene.now))
 
-pub test_asked-all_tests-requires : goal.test_asked-all_tests-requires
-test_asked-all_tests-requires t c =
+pub test_of-all_tests-requires : goal.test_of-all_tests-requires
+test_of-all_tests-requires t c =
     let e = and_depth c.args.expr.now c.in-And.tests c.in-And.is in (search (rules, TheFolds.the_lemmas), omega arith)
 
-pub test_asked-any_test-requires : goal.test_asked-any_test-requires
-test_asked-any_test-requires t c =
+pub test_of-any_test-requires : goal.test_of-any_test-requires
+test_of-any_test-requires t c =
     let e = or_depth c.args.expr.now c.in-Or.tests c.in-Or.is in (search (rules, TheFolds.the_lemmas), omega arith)
 
 pub coll_of-join-requires : goal.coll_of-join-requires
