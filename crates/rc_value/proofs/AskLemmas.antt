@@ -1,20 +1,22 @@
 -- Answers that are joined.
 use Rattle.std.proofs.Common.{◌≡◌, ℕ, zero, suc, ◌+◌, ◌<◌, ◌≤◌, ◌&&◌, ◌||◌, not, cond, Bool, true, false, List, [], ◌∷◌, ◌++◌, length, map, take, drop, get_or, arith, refl, sym, ap, subst, ◌∙◌, append_assoc, append-nil}
 use mathlib.Core.Bool.{beq}
-use Rattle.std.proofs.lemmas.List.{drop_all, map-append}
+use Rattle.std.proofs.lemmas.List.{drop_all, length-append, map-append}
 use Rattle.std.proofs.lemmas.List.Elements.{All-append, All-cons, All-nil}
 use Rattle.rc_sheet_model.specs.Sheet.{Test as PureTest}
-use Rattle.rc_play_model.specs.Scene.{CardValue}
+use Rattle.rc_play_model.specs.Scene.{CardValue, id_of}
 use Rattle.rc_play_model.specs.Value.{Scene as PureScene, Bind as PureBind, card_bound, player_bound, test_value, tests_value}
 use Rattle.rc_play_model.specs.Menu.{Item as PureItem}
 use Rattle.rc_reads.specs.Reads.{reads_test}
 use Rattle.rc_reads.proofs.Unread.{unread_test}
 use Rattle.rc_rules.proofs.Elements.{drop_here}
 use Rattle.rc_value.specs.declared.asks.Ask.{Ask}
+use Rattle.rc_value.specs.declared.asks.Ask.TheVariants.{Value, Wish, Whole}
 use Rattle.rc_ast.specs.declared.expressions.Test.{Test}
 use Rattle.rc_ast.specs.Expressions.{test_seen, tests_seen}
 use Rattle.rc_value.proofs.Steps.{values_here}
-use Rattle.rc_value.specs.Asks.{ask_value, ask_depth, AllFit, joined, told_of, IsJoined}
+use Rattle.rc_value.specs.Asks.{ask_value, asks_value, met_value, ask_depth, AllFit, joined, told_of, IsJoined}
+use Rattle.rc_value.specs.Known.{IsKnownAt}
 use Rattle.rc_value.specs.Menu.{extended}
 
 or_yes : (x : Bool) → (x || true) ≡ true
@@ -85,15 +87,24 @@ module _ (s : PureScene CardValue) (vars : List (PureBind CardValue)) where
       ∙ ap (λ bs. joined any (bs ++ more)) (sym (map-append (ask_value s vars c) old (ask ∷ [])))
       ∙ ap (λ xs. joined any (map (ask_value s vars c) xs ++ more)) (sym grown)
 
+  -- one that is the same for all cards
+  joined_same : (t : PureTest) (any b settled : Bool) (old : List Ask) → ((c : CardValue) → told_of s vars t c ≡ b) → settled ≡ beq b any →
+      IsJoined s vars t any settled old old
+  joined_same t any b settled old same so = λ c more.
+      ap (λ x. joined any (map (ask_value s vars c) old ++ x ∷ more)) (same c)
+      ∙ joined_with any b (map (ask_value s vars c) old) more
+      ∙ ap (λ x. cond x any (joined any (map (ask_value s vars c) old ++ more))) (sym so)
+
+  pub joined_known : (t : PureTest) (any b settled : Bool) (old : List Ask) (count : ℕ) → count ≡ length vars + 1 → IsKnownAt s count t b →
+      settled ≡ beq b any → IsJoined s vars t any settled old old
+  joined_known t any b settled old count is known so =
+      joined_same t any b settled old (λ c. known (vars ++ card_bound c ∷ []) (length-append vars (card_bound c ∷ []) ∙ sym is)) so
+
   -- one that doesn't read the variable
   pub joined_once : (t : PureTest) (any b settled : Bool) (old : List Ask) (inside : List (PureBind CardValue)) → inside ≡ vars ++ player_bound 0 ∷ [] →
       reads_test (length vars) t ≡ false → b ≡ test_value s inside t → settled ≡ beq b any → IsJoined s vars t any settled old old
-  joined_once t any b settled old inside in' unread is so = λ c more.
-      let e : told_of s vars t c ≡ b =
-      unread_test s vars (card_bound c) (player_bound 0) [] t unread ∙ ap (λ v. test_value s v t) (sym in') ∙ sym is in
-      ap (λ x. joined any (map (ask_value s vars c) old ++ x ∷ more)) e
-      ∙ joined_with any b (map (ask_value s vars c) old) more
-      ∙ ap (λ x. cond x any (joined any (map (ask_value s vars c) old ++ more))) (sym so)
+  joined_once t any b settled old inside in' unread is so =
+      joined_same t any b settled old (λ c. unread_test s vars (card_bound c) (player_bound 0) [] t unread ∙ ap (λ v. test_value s v t) (sym in') ∙ sym is) so
 
   -- a single one
   pub joined_single : (t : PureTest) (settled : Bool) (old new : List Ask) → old ≡ [] → IsJoined s vars t true settled old new →
@@ -161,3 +172,15 @@ told_settled told false any rest is e = absurd (cc)
 pub told_asked : (told settled any rest : Bool) → not settled ≡ true → told ≡ cond settled any rest → told ≡ rest
 told_asked told true any rest is e = absurd (cc)
 told_asked told false any rest is e = e
+
+-- by the row of all cards' values
+module _ (s : PureScene CardValue) (vars : List (PureBind CardValue)) where
+  pub met_here : (c : CardValue) (ask : Ask) → asks_value ask ≡ true → met_value (id_of c) ask ≡ ask_value s vars c ask
+  met_here c (Value sought) by_row = refl
+  met_here c (Wish rowed) by_row = refl
+  met_here c (Whole t) by_row = absurd (cc)
+
+  pub met_depth : (ask : Ask) → asks_value ask ≡ true → ask_depth ask ≡ 0
+  met_depth (Value sought) by_row = refl
+  met_depth (Wish rowed) by_row = refl
+  met_depth (Whole t) by_row = absurd (cc)

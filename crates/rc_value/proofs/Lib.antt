@@ -11,4 +11,5 @@ pub mod AskLemmas
 pub mod RowLemmas
 pub mod RowOffers
 pub mod HoldingLemmas
+pub mod KnownLemmas
 pub mod CurrentLemmas

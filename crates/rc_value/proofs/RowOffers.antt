@@ -1,27 +1,27 @@
 -- What is offered of the cards of a row.
-use Rattle.std.proofs.Common.{◌≡◌, ℕ, Bool, cond, List, [], ◌∷◌, map, slice_get, slice_index_or, Option, Some, None, sym, ap, ◌∙◌}
+use Rattle.std.proofs.Common.{◌≡◌, ℕ, Bool, true, cond, List, [], ◌∷◌, map, refl, sym, ap, ◌∙◌}
+use Rattle.std.specs.List.{list_all}
 use Rattle.rc_play_model.specs.Menu.{from_each}
 use Rattle.rc_play_model.specs.Scene.{CardValue, id_of}
-use Rattle.rc_play_model.specs.Value.{Bind as PureBind}
-use Rattle.rc_rules.specs.Lookup.{rows_seen}
+use Rattle.rc_play_model.specs.Value.{Scene as PureScene, Bind as PureBind}
 use Rattle.rc_value.specs.declared.asks.Ask.{Ask}
-use Rattle.rc_value.specs.declared.asks.Ask.TheVariants.{Value}
-use Rattle.rc_value.specs.declared.scene.Scene.{Scene}
-use Rattle.rc_value.specs.declared.wanted.Wanted.{Wanted}
-use Rattle.rc_value.specs.Asks.{ask_value, joined}
-use Rattle.rc_value.specs.Scene.{scene_seen}
-use Rattle.rc_value.specs.Wanted.{meets, wanted_value}
-use Rattle.rc_value.proofs.AskLemmas.{joined_one}
+use Rattle.rc_value.specs.declared.asks.Ask.TheVariants.{Value, Wish, Whole}
+use Rattle.rc_value.specs.Asks.{ask_value, asks_value, met_value, joined}
 use Rattle.rc_value.proofs.Offers.{each_mapped, same_offers}
-use Rattle.rc_value.proofs.RowLemmas.{met_in_row}
 
-pub row_offers : (s : Scene) (vars : List (PureBind CardValue)) (w : Wanted) (row : List (Option ℕ)) (ids : List ℕ) (cards : List CardValue) (any : Bool) (asks : List Ask) →
-    Some row ≡ slice_get (rows_seen s.lookup.now.values.items) w.name → ids ≡ map id_of cards → asks ≡ Value w ∷ [] →
-    from_each (λ id. cond (meets w (slice_index_or row id None)) ([] ∷ []) []) 0 ids
-    ≡ from_each (λ c. cond (joined any (map (ask_value (scene_seen s) vars c) asks)) ([] ∷ []) []) 0 cards
-row_offers s vars w row ids cards any asks here are sole =
-    ap (from_each (λ id. cond (meets w (slice_index_or row id None)) ([] ∷ []) []) 0) are
-    ∙ each_mapped (λ id. cond (meets w (slice_index_or row id None)) ([] ∷ []) []) id_of 0 cards
-    ∙ same_offers (λ c. meets w (slice_index_or row (id_of c) None)) (λ c. joined any (map (ask_value (scene_seen s) vars c) asks)) cards
-    (λ c. met_in_row s w c row here ∙ sym (joined_one any (wanted_value (scene_seen s) w c))
-    ∙ ap (λ xs. joined any (map (ask_value (scene_seen s) vars c) xs)) (sym sole))
+-- where values are all that is asked, a card's id tells all
+module _ (s : PureScene CardValue) (vars : List (PureBind CardValue)) where
+  met_all : (c : CardValue) (asks : List Ask) → list_all asks_value asks ≡ true → map (met_value (id_of c)) asks ≡ map (ask_value s vars c) asks
+  met_all c [] sought = refl
+  met_all c (Value one ∷ asks) sought = ap (λ bs. met_value (id_of c) (Value one) ∷ bs) (met_all c asks sought)
+  met_all c (Wish one ∷ asks) sought = ap (λ bs. met_value (id_of c) (Wish one) ∷ bs) (met_all c asks sought)
+  met_all c (Whole t ∷ asks) sought = absurd (cc)
+
+  pub row_offers : (asks : List Ask) (any sought : Bool) (ids : List ℕ) (cards : List CardValue) → sought ≡ list_all asks_value asks → sought ≡ true → ids ≡ map id_of cards →
+      from_each (λ id. cond (joined any (map (met_value id) asks)) ([] ∷ []) []) 0 ids
+      ≡ from_each (λ c. cond (joined any (map (ask_value s vars c) asks)) ([] ∷ []) []) 0 cards
+  row_offers asks any sought ids cards is so are =
+      ap (from_each (λ id. cond (joined any (map (met_value id) asks)) ([] ∷ []) []) 0) are
+      ∙ each_mapped (λ id. cond (joined any (map (met_value id) asks)) ([] ∷ []) []) id_of 0 cards
+      ∙ same_offers (λ c. joined any (map (met_value (id_of c)) asks)) (λ c. joined any (map (ask_value s vars c) asks)) cards
+      (λ c. ap (joined any) (met_all c asks (sym is ∙ so)))

@@ -1,5 +1,5 @@
 -- Tests of a card's value, which cards are to have.
-use Rattle.std.proofs.Common.{◌≡◌, ℕ, ◌==◌, not, Bool, true, false, List, [], ◌∷◌, ◌++◌, length, map, filter, slice_get, Option, Some, None, option_map, arith, refl, sym, ap, ap₂, subst, ◌∙◌}
+use Rattle.std.proofs.Common.{◌≡◌, ℕ, ◌==◌, true, false, List, [], ◌∷◌, ◌++◌, length, map, filter, slice_get, Option, Some, None, option_map, arith, refl, sym, ap, ap₂, subst, ◌∙◌}
 use Rattle.std.specs.Prelude.{IfSome}
 use mathlib.Core.Path.{fun_ext}
 use Rattle.std.specs.List.{list_any, list_all}
@@ -12,7 +12,7 @@ use Rattle.rc_play_model.specs.Value.{Scene as PureScene, Bind as PureBind, card
 use Rattle.rc_reads.specs.Reads.{reads_card}
 use Rattle.rc_reads.proofs.Unread.{unread_card}
 use Rattle.rc_value.specs.declared.wanted.Wanted.{Wanted}
-use Rattle.rc_value.specs.Wanted.{wanted_value, turned, IsFixed, IsFixedCollection, IsFixedOwner, IsWanted}
+use Rattle.rc_value.specs.Wanted.{wanted_value, IsFixed, IsFixedCollection, IsFixedOwner, IsWanted, IsWantedAt}
 use Rattle.rc_value.proofs.Steps.{all-map, any-map}
 
 pub at_end : {B : Type 0} (vars : List B) (m : B) → slice_get (vars ++ m ∷ []) (length vars) ≡ Some m
@@ -27,10 +27,6 @@ both_turned None None = refl
 both_turned None (Some b) = refl
 both_turned (Some a) None = refl
 both_turned (Some a) (Some b) = nat_turned a b
-
-not_twice : (b : Bool) → not (not b) ≡ b
-not_twice true = refl
-not_twice false = refl
 
 -- what is the same whatever variables stand for
 pub fixed_cards : (loc : Loc) (cards : CollExpr) → cards ≡ cards_in loc → IsFixedOwner loc.who → IsFixedCollection cards
@@ -72,44 +68,6 @@ module _ (s : PureScene CardValue) (vars : List (PureBind CardValue)) where
       ap (test_value s (vars ++ card_bound c ∷ [])) is
       ∙ ap (λ x. both nat_same (attr_of_any s name x) (Some value)) (variable_is c a variable)
 
-  -- by a card that is the same whatever variables stand for
-  pub wanted_fixed : (t : Test) (a b : CardExpr) (name other : ℕ) (value : Option (Option ℕ)) (w : Option Wanted) → t ≡ eq_attr a name b other →
-      a ≡ card_var (length vars) → IsFixed b → IfSome value (λ v. v ≡ attr_of_any s other (card_value s vars b)) →
-      w ≡ option_map (λ v. record { name = name; value = v; equal = true }) value → IfSome w (IsWanted s vars t)
-  wanted_fixed t a b name other None None is variable fixed h e = h
-  wanted_fixed t a b name other None (Some w) is variable fixed h e = absurd (cc)
-  wanted_fixed t a b name other (Some v) None is variable fixed h e = absurd (cc)
-  wanted_fixed t a b name other (Some v) (Some w) is variable fixed h e = λ c.
-      ap (test_value s (vars ++ card_bound c ∷ [])) is
-      ∙ ap₂ (λ x y. both nat_same (attr_of_any s name x) y) (variable_is c a variable)
-      (ap (attr_of_any s other) (fixed s (vars ++ card_bound c ∷ []) vars) ∙ sym h)
-      ∙ ap (λ o. wanted_value s (some_or w o) c) (sym e) where
-        some_or : Wanted → Option Wanted → Wanted
-        some_or d None = d
-        some_or d (Some x) = x
-
-  -- by a value that the sheet names
-  pub wanted_named : (t : Test) (a : CardExpr) (name value : ℕ) (w : Option Wanted) → t ≡ has_value a name value → a ≡ card_var (length vars) →
-      w ≡ Some (record { name = name; value = Some value; equal = true }) → IfSome w (IsWanted s vars t)
-  wanted_named t a name value w is variable e = subst (λ w. IfSome w (IsWanted s vars t)) (sym e) (value_is t a name value is variable)
-
-  turned_is : (w : Wanted) (c : CardValue) (equal : Bool) → w.equal ≡ equal → not (wanted_value s w c) ≡ wanted_value s (turned w) c
-  turned_is w c true is = rw is refl
-  turned_is w c false is = rw is (not_twice _)
-
-  -- the opposite of a test
-  pub opposite_is : (t t' : Test) (w w' : Option Wanted) → ((vs : List (PureBind CardValue)) → test_value s vs t' ≡ not (test_value s vs t)) → w' ≡ option_map turned w →
-      IfSome w (IsWanted s vars t) → IfSome w' (IsWanted s vars t')
-  opposite_is t t' None None opposite is h = h
-  opposite_is t t' None (Some v) opposite is h = absurd (cc)
-  opposite_is t t' (Some w) None opposite is h = absurd (cc)
-  opposite_is t t' (Some w) (Some w') opposite is h = λ c.
-      opposite (vars ++ card_bound c ∷ []) ∙ ap not (h c) ∙ turned_is w c w.equal refl
-      ∙ ap (λ o. wanted_value s (some_or w o) c) (sym is) where
-        some_or : Wanted → Option Wanted → Wanted
-        some_or d None = d
-        some_or d (Some x) = x
-
   pub all_wanted : (t : Test) (w : Wanted) (cards : List CardValue) → IsWanted s vars t w →
       list_all (wanted_value s w) cards ≡ list_all (λ m. test_value s (vars ++ m ∷ []) t) (map (λ c. card_bound c) cards)
   all_wanted t w cards h =
@@ -125,3 +83,33 @@ module _ (s : PureScene CardValue) (vars : List (PureBind CardValue)) where
   pub keep_wanted : (t : Test) (w : Wanted) (cards : List CardValue) → IsWanted s vars t w →
       filter (wanted_value s w) cards ≡ filter (λ c. test_value s (vars ++ card_bound c ∷ []) t) cards
   keep_wanted t w cards h = ap (λ f. filter f cards) (fun_ext (λ c. sym (h c)))
+
+-- the same in all scopes of so many variables
+module _ (s : PureScene CardValue) (place : ℕ) where
+  abbrev some_or : Wanted → Option Wanted → Wanted
+  some_or d None = d
+  some_or d (Some x) = x
+
+  -- by a card that is the same whatever variables stand for
+  pub wanted_fixed : (here : List (PureBind CardValue)) (t : Test) (a b : CardExpr) (name other : ℕ) (value : Option (Option ℕ)) (w : Option Wanted) → t ≡ eq_attr a name b other →
+      a ≡ card_var place → IsFixed b → IfSome value (λ v. v ≡ attr_of_any s other (card_value s here b)) →
+      w ≡ option_map (λ v. record { name = name; value = v; equal = true }) value → IfSome w (IsWantedAt s place t)
+  wanted_fixed here t a b name other None None is variable fixed h e = h
+  wanted_fixed here t a b name other None (Some w) is variable fixed h e = absurd (cc)
+  wanted_fixed here t a b name other (Some v) None is variable fixed h e = absurd (cc)
+  wanted_fixed here t a b name other (Some v) (Some w) is variable fixed h e = λ vars count c.
+      ap (test_value s (vars ++ card_bound c ∷ [])) is
+      ∙ ap₂ (λ x y. both nat_same (attr_of_any s name x) y) (variable_is s vars c a (variable ∙ ap card_var (sym count)))
+      (ap (attr_of_any s other) (fixed s (vars ++ card_bound c ∷ []) here) ∙ sym h)
+      ∙ ap (λ o. wanted_value s (some_or w o) c) (sym e)
+
+  -- by a value that the sheet names
+  pub wanted_named : (t : Test) (a : CardExpr) (name value : ℕ) (w : Option Wanted) → t ≡ has_value a name value → a ≡ card_var place →
+      w ≡ Some (record { name = name; value = Some value; equal = true }) → IfSome w (IsWantedAt s place t)
+  wanted_named t a name value w is variable e =
+      subst (λ w. IfSome w (IsWantedAt s place t)) (sym e) (λ vars count. value_is s vars t a name value is (variable ∙ ap card_var (sym count)))
+
+  -- in one of them
+  pub wanted_here : (vars : List (PureBind CardValue)) (t : Test) (w : Option Wanted) → place ≡ length vars → IfSome w (IsWantedAt s place t) → IfSome w (IsWanted s vars t)
+  wanted_here vars t None count h = h
+  wanted_here vars t (Some w) count h = h vars (sym count)

@@ -12,3 +12,4 @@ pub mod Current
 pub mod Wanted
 pub mod Asks
 pub mod Holding
+pub mod Known

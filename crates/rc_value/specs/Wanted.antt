@@ -1,5 +1,5 @@
 -- Values that cards are to have.
-use Rattle.std.specs.Prelude.{◌≡◌, ℕ, ◌++◌, ◌∷◌, [], not, Bool, if◌then◌else◌, List, Option}
+use Rattle.std.specs.Prelude.{◌≡◌, ℕ, ◌++◌, ◌∷◌, [], not, Bool, if◌then◌else◌, List, length, Option}
 use Rattle.rc_sheet_model.specs.Sheet.{Who, CardExpr, CollExpr, Test}
 use Rattle.rc_play_model.specs.Value.{Scene as PureScene, Bind as PureBind, card_bound, attr_of, both, nat_same, who_value, card_value, coll_value, test_value, Known}
 use Rattle.rc_play_model.specs.Scene.{CardValue}
@@ -20,6 +20,10 @@ turned w = record { name = w.name; value = w.value; equal = not w.equal }
 -- whether it is what a test says of the card that the innermost variable stands for
 abbrev pub IsWanted : PureScene CardValue → List (PureBind CardValue) → Test → Wanted → Type 0
 IsWanted s vars t w = (c : CardValue) → test_value s (vars ++ card_bound c ∷ []) t ≡ wanted_value s w c
+
+-- the same in all scopes of so many variables
+abbrev pub IsWantedAt : PureScene CardValue → ℕ → Test → Wanted → Type 0
+IsWantedAt s place t w = (vars : List (PureBind CardValue)) → length vars ≡ place → IsWanted s vars t w
 
 -- what is the same whatever variables stand for: an owner, a collection, a card
 abbrev pub IsFixedOwner : Who → Type 0

@@ -1,37 +1,52 @@
 //! Guards of one domain, in parts: what doesn't read the variable that runs over it is asked once.
-ghost use Rattle.std.specs.Prelude.{◌≡◌, ◌+◌, ◌<◌, ◌≤◌, ◌++◌, ◌∷◌, [], length, map, if◌then◌else◌, IfSome};
-ghost use Rattle.rc_play_model.specs.Value.{player_bound, card_bound, tests_value};
+ghost use Rattle.std.specs.Prelude.{◌≡◌, ◌+◌, ◌<◌, ◌≤◌, ◌++◌, ◌∷◌, [], length, map, slice_index_or, if◌then◌else◌, IfSome, Some, None, true, ℕ};
+ghost use Rattle.std.specs.List.{list_all};
+ghost use Rattle.rc_play_model.specs.Value.{card_bound, both, nat_same, tests_value};
 ghost use Rattle.rc_play_model.specs.Scene.{CardValue};
 ghost use Rattle.rc_ast.specs.Expressions.{test_seen, tests_seen};
-ghost use Rattle.rc_value.specs.Asks.{ask_value, ask_depth, AllFit, joined, told_of, IsJoined, IsInParts};
-ghost use Rattle.rc_value.specs.declared.asks.Ask.TheVariants.{Value, Whole};
+ghost use Rattle.rc_value.specs.Asks.{ask_value, asks_value, met_value, ask_depth, AllFit, joined, told_of, IsJoined, IsInParts};
+ghost use Rattle.rc_value.specs.declared.asks.Ask.TheVariants.{Whole};
 ghost use Rattle.rc_value.specs.Cards.{value_seen};
 ghost use Rattle.rc_value.specs.Depth.{test_depth, tests_depth};
 ghost use Rattle.rc_value.specs.Scene.{scene_seen};
+ghost use Rattle.rc_value.specs.Wanted.{meets, IsWanted};
 
 use crate::Card;
 use crate::expressions::{test_of, wanted_of};
+use crate::known::known_at;
+use crate::leaves::value_in;
 use crate::scene::Scene;
-use crate::scope::Bindings;
-use crate::wanted::{Wanted, is_as_wanted, wanted_at_hand};
+use crate::scope::{Bind, Bindings};
+use crate::wanted::{Wanted, is_met_in, wanted_at_hand};
 use arrayvec::ArrayVec;
 use rc_ast::Test;
 use rc_reads::test_reads;
 
-/// What is asked of each card that the innermost variable stands for.
+/// A value that a card is to have in the row of all cards' values for an attribute.
+#[derive(Clone, Copy)]
+pub(crate) struct Sought<'s> {
+    pub(crate) row: &'s [Option<u16>],
+    pub(crate) value: u16,
+}
+
+/// How a card's value is wanted, with such a row.
+#[derive(Clone, Copy)]
+pub(crate) struct Rowed<'s> {
+    pub(crate) row: &'s [Option<u16>],
+    pub(crate) wanted: Wanted,
+}
+
+/// What is asked of each card that the innermost variable stands for. Most guards ask for values, which stand apart from other wishes.
 #[derive(Clone, Copy)]
 pub(crate) enum Ask<'t> {
-    Value(Wanted),
+    Value(Sought<'t>),
+    Wish(Rowed<'t>),
     Whole(&'t Test),
 }
 
 impl<'t> Default for Ask<'t> {
     fn default() -> Ask<'t> {
-        Ask::Value(Wanted {
-            name: 0,
-            value: None,
-            equal: true,
-        })
+        Ask::Value(Sought { row: &[], value: 0 })
     }
 }
 
@@ -46,47 +61,86 @@ pub(crate) struct Parts {
     pub(crate) any: bool,
 }
 
-fn ask_of<'t>(scene: &Scene, scope: &Bindings, inside: &Bindings, test: &'t Test) -> Ask<'t>
-    requires inside { inside.now ≡ scope.now ++ player_bound 0 ∷ [] }
+// How a value is wanted, asked by the row of all cards' values.
+#[inline(always)]
+fn ask_in<'t>(row: &'t [Option<u16>], wanted: Wanted) -> Ask<'t>
+    ensures is { (id : ℕ) → met_value id result ≡ meets wanted (slice_index_or row.now id None) }
+    ensures by_row { asks_value result ≡ true }
+{
+    match wanted.value {
+        Some(value) if wanted.equal => Ask::Value(Sought { row, value }),
+        _ => Ask::Wish(Rowed { row, wanted }),
+    }
+}
+
+// A test of which it is known which value the cards are to have. It is asked by the row of their values, and as a test if there is none.
+#[inline(always)]
+fn ask_by<'t>(scene: &'t Scene, scope: &Bindings, wanted: Wanted, test: &'t Test) -> Ask<'t>
+    requires wanted { IsWanted (scene_seen scene.now) scope.now (test_seen test.now) wanted }
     requires deep { length scope.now + (1 + test_depth (test_seen test.now)) ≤ 5 }
     ensures is { (c : CardValue) → told_of (scene_seen scene.now) scope.now (test_seen test.now) c ≡ ask_value (scene_seen scene.now) scope.now c result }
     ensures fits { length scope.now + ask_depth result ≤ 5 }
 {
-    match wanted_of(scene, scope, inside, test) {
-        Some(wanted) => Ask::Value(wanted),
+    match scene.lookup.values(wanted.name) {
+        Some(row) => ask_in(row, wanted),
         None => Ask::Whole(test),
     }
 }
 
+fn ask_of<'t>(scene: &'t Scene, scope: &Bindings, test: &'t Test) -> Ask<'t>
+    requires deep { length scope.now + (1 + test_depth (test_seen test.now)) ≤ 5 }
+    ensures is { (c : CardValue) → told_of (scene_seen scene.now) scope.now (test_seen test.now) c ≡ ask_value (scene_seen scene.now) scope.now c result }
+    ensures fits { length scope.now + ask_depth result ≤ 5 }
+{
+    match wanted_of(scene, scope, &scope.with(Bind::Player(0)), test) {
+        Some(wanted) => ask_by(scene, scope, wanted, test),
+        None => Ask::Whole(test),
+    }
+}
+
+#[inline(always)]
+fn has_value(row: &[Option<u16>], value: u16, id: u16) -> bool
+    ensures { result ≡ both nat_same (slice_index_or row.now id None) (Some value) }
+{
+    value_in(row, id) == Some(value)
+}
+
 // The answer for a card.
 #[inline(always)]
-fn answer(scene: &Scene, scope: &Bindings, inside: &Bindings, ask: &Ask, card: Card) -> bool
-    requires inside { inside.now ≡ scope.now ++ card_bound (value_seen card) ∷ [] }
+fn answer(scene: &Scene, scope: &Bindings, ask: &Ask, card: Card) -> bool
     requires fits { length scope.now + ask_depth ask.now ≤ 5 }
     ensures { result ≡ ask_value (scene_seen scene.now) scope.now (value_seen card) ask.now }
 {
     match ask {
-        Ask::Value(wanted) => is_as_wanted(scene, *wanted, card),
-        Ask::Whole(test) => test_of(scene, inside, *test),
+        Ask::Value(sought) => has_value(sought.row, sought.value, card.id()),
+        Ask::Wish(rowed) => is_met_in(rowed.row, rowed.wanted, card.id()),
+        Ask::Whole(test) => holds_for(scene, scope, *test, card),
     }
 }
 
-/// All the answers for a card in one. Inside the scope, the card is bound.
+// Whether a test holds for a card. It stands apart from the loop over the cards, which mostly asks for values.
+#[inline(never)]
+fn holds_for(scene: &Scene, scope: &Bindings, test: &Test, card: Card) -> bool
+    requires fits { length scope.now + (1 + test_depth (test_seen test.now)) ≤ 5 }
+    ensures { result ≡ told_of (scene_seen scene.now) scope.now (test_seen test.now) (value_seen card) }
+{
+    test_of(scene, &scope.with(Bind::Card(card)), test)
+}
+
+/// All the answers for a card in one.
 #[inline(always)]
 pub(crate) fn joined_answer(
     scene: &Scene,
     scope: &Bindings,
-    inside: &Bindings,
     asks: &[Ask],
     any: bool,
     card: Card,
 ) -> bool
-    requires inside { inside.now ≡ scope.now ++ card_bound (value_seen card) ∷ [] }
     requires fits { AllFit scope.now asks.now }
     ensures { result ≡ joined any (map (ask_value (scene_seen scene.now) scope.now (value_seen card)) asks.now) }
 {
     for place in 0..asks.len() {
-        if answer(scene, scope, inside, &asks[place], card) == any {
+        if answer(scene, scope, &asks[place], card) == any {
             return any;
         }
     }
@@ -95,15 +149,14 @@ pub(crate) fn joined_answer(
 
 // Joins a test to what is asked. Where it doesn't read the variable, it is asked at once, with anything in the variable's place, and
 // then it may settle all.
+#[inline(always)]
 fn settles<'t>(
-    scene: &Scene,
+    scene: &'t Scene,
     scope: &Bindings,
-    inside: &Bindings,
     test: &'t Test,
     any: bool,
     asks: &mut Asks<'t>,
 ) -> bool
-    requires inside { inside.now ≡ scope.now ++ player_bound 0 ∷ [] }
     requires deep { length scope.now + (1 + test_depth (test_seen test.now)) ≤ 5 }
     requires room { length asks.old.items < 8 }
     requires fit { AllFit scope.now asks.old.items }
@@ -112,22 +165,43 @@ fn settles<'t>(
     ensures fit { AllFit scope.now asks.new.items }
 {
     if let Some(wanted) = wanted_at_hand(scene, scope, test) {
-        asks.push(Ask::Value(wanted));
+        asks.push(ask_by(scene, scope, wanted, test));
         return false;
     }
-    settles_whole(scene, scope, inside, test, any, asks)
+    settles_unwanted(scene, scope, test, any, asks)
 }
 
 // The same with a test of which it isn't at hand which value the cards are to have.
-fn settles_whole<'t>(
-    scene: &Scene,
+#[inline(never)]
+fn settles_unwanted<'t>(
+    scene: &'t Scene,
     scope: &Bindings,
-    inside: &Bindings,
     test: &'t Test,
     any: bool,
     asks: &mut Asks<'t>,
 ) -> bool
-    requires inside { inside.now ≡ scope.now ++ player_bound 0 ∷ [] }
+    requires deep { length scope.now + (1 + test_depth (test_seen test.now)) ≤ 5 }
+    requires room { length asks.old.items < 8 }
+    requires fit { AllFit scope.now asks.old.items }
+    ensures is { IsJoined (scene_seen scene.now) scope.now (test_seen test.now) any result asks.old.items asks.new.items }
+    ensures count { length asks.new.items ≤ length asks.old.items + 1 }
+    ensures fit { AllFit scope.now asks.new.items }
+{
+    match known_at(scene, scope, scope.len() + 1, test) {
+        Some(holds) => holds == any,
+        None => settles_whole(scene, scope, test, any, asks),
+    }
+}
+
+// The same with a test of which nothing is at hand.
+#[inline(never)]
+fn settles_whole<'t>(
+    scene: &'t Scene,
+    scope: &Bindings,
+    test: &'t Test,
+    any: bool,
+    asks: &mut Asks<'t>,
+) -> bool
     requires deep { length scope.now + (1 + test_depth (test_seen test.now)) ≤ 5 }
     requires room { length asks.old.items < 8 }
     requires fit { AllFit scope.now asks.old.items }
@@ -136,22 +210,21 @@ fn settles_whole<'t>(
     ensures fit { AllFit scope.now asks.new.items }
 {
     if test_reads(test, scope.len()) {
-        asks.push(ask_of(scene, scope, inside, test));
+        asks.push(ask_of(scene, scope, test));
         return false;
     }
-    test_of(scene, inside, test) == any
+    test_of(scene, &scope.with(Bind::Player(0)), test) == any
 }
 
 // The same with all tests of a list.
+#[inline(never)]
 fn all_settle<'t>(
-    scene: &Scene,
+    scene: &'t Scene,
     scope: &Bindings,
-    inside: &Bindings,
     tests: &'t Vec<Test>,
     any: bool,
     asks: &mut Asks<'t>,
 ) -> bool
-    requires inside { inside.now ≡ scope.now ++ player_bound 0 ∷ [] }
     requires few { length tests.now.items ≤ 8 }
     requires deep { length scope.now + (1 + tests_depth (tests_seen tests.now.items)) ≤ 5 }
     requires empty { asks.old.items ≡ [] }
@@ -160,7 +233,7 @@ fn all_settle<'t>(
     ensures fit { AllFit scope.now asks.new.items }
 {
     for test in tests {
-        if settles(scene, scope, inside, test, any, asks) {
+        if settles(scene, scope, test, any, asks) {
             return true;
         }
     }
@@ -169,33 +242,29 @@ fn all_settle<'t>(
 
 // A guard that is no list of tests, or a long one.
 fn single_part<'t>(
-    scene: &Scene,
+    scene: &'t Scene,
     scope: &Bindings,
-    inside: &Bindings,
     guard: &'t Test,
     asks: &mut Asks<'t>,
 ) -> Parts
-    requires inside { inside.now ≡ scope.now ++ player_bound 0 ∷ [] }
     requires deep { length scope.now + (1 + test_depth (test_seen guard.now)) ≤ 5 }
     requires empty { asks.old.items ≡ [] }
     ensures is { IsInParts (scene_seen scene.now) scope.now (test_seen guard.now) result asks.new.items }
     ensures fit { AllFit scope.now asks.new.items }
 {
     Parts {
-        settled: settles(scene, scope, inside, guard, true, asks),
+        settled: settles(scene, scope, guard, true, asks),
         any: true,
     }
 }
 
 // The outer parts of a guard.
 fn outer_parts<'t>(
-    scene: &Scene,
+    scene: &'t Scene,
     scope: &Bindings,
-    inside: &Bindings,
     guard: &'t Test,
     asks: &mut Asks<'t>,
 ) -> Parts
-    requires inside { inside.now ≡ scope.now ++ player_bound 0 ∷ [] }
     requires deep { length scope.now + (1 + test_depth (test_seen guard.now)) ≤ 5 }
     requires empty { asks.old.items ≡ [] }
     ensures is { IsInParts (scene_seen scene.now) scope.now (test_seen guard.now) result asks.new.items }
@@ -205,36 +274,69 @@ fn outer_parts<'t>(
         Test::Or(tests) => {
             if tests.len() <= 8 {
                 return Parts {
-                    settled: all_settle(scene, scope, inside, tests, true, asks),
+                    settled: all_settle(scene, scope, tests, true, asks),
                     any: true,
                 };
             }
-            single_part(scene, scope, inside, guard, asks)
+            single_part(scene, scope, guard, asks)
         }
         Test::And(tests) => {
             if tests.len() <= 8 {
                 return Parts {
-                    settled: all_settle(scene, scope, inside, tests, false, asks),
+                    settled: all_settle(scene, scope, tests, false, asks),
                     any: false,
                 };
             }
-            single_part(scene, scope, inside, guard, asks)
+            single_part(scene, scope, guard, asks)
         }
-        _ => single_part(scene, scope, inside, guard, asks),
+        _ => single_part(scene, scope, guard, asks),
     }
 }
 
-/// The value that a card is to have, where nothing else is asked.
-#[inline(always)]
-pub(crate) fn sole_wanted(asks: &Asks) -> Option<Wanted>
-    ensures { IfSome result (λ wanted. asks.now.items ≡ Value wanted ∷ []) }
+/// Whether values are all that is asked.
+pub(crate) fn are_sought(asks: &[Ask]) -> bool
+    ensures { result ≡ list_all asks_value asks.now }
 {
-    if asks.len() != 1 {
-        return None;
+    for place in 0..asks.len() {
+        if !is_sought(&asks[place]) {
+            return false;
+        }
     }
-    match asks[0] {
-        Ask::Value(wanted) => Some(wanted),
-        Ask::Whole(_) => None,
+    true
+}
+
+#[inline(always)]
+fn is_sought(ask: &Ask) -> bool
+    ensures { result ≡ asks_value ask.now }
+{
+    match ask {
+        Ask::Value(_) => true,
+        Ask::Wish(_) => true,
+        Ask::Whole(_) => false,
+    }
+}
+
+/// All the answers for the card with an id in one, where values are all that is asked.
+#[inline(always)]
+pub(crate) fn joined_met(asks: &[Ask], any: bool, id: u16) -> bool
+    ensures { result ≡ joined any (map (met_value id) asks.now) }
+{
+    for place in 0..asks.len() {
+        if is_met(&asks[place], id) == any {
+            return any;
+        }
+    }
+    !any
+}
+
+#[inline(always)]
+fn is_met(ask: &Ask, id: u16) -> bool
+    ensures { result ≡ met_value id ask.now }
+{
+    match ask {
+        Ask::Value(sought) => has_value(sought.row, sought.value, id),
+        Ask::Wish(rowed) => is_met_in(rowed.row, rowed.wanted, id),
+        Ask::Whole(_) => false,
     }
 }
 
@@ -247,6 +349,7 @@ fn sole_list<'t>(asks: &Asks<'t>) -> Option<&'t Test>
     }
     match asks[0] {
         Ask::Value(_) => None,
+        Ask::Wish(_) => None,
         Ask::Whole(test) => listed(test),
     }
 }
@@ -264,26 +367,24 @@ fn listed<'t>(test: &'t Test) -> Option<&'t Test>
 
 /// A guard in parts, of which those that read the variable are written into an empty list.
 pub(crate) fn parts_of<'t>(
-    scene: &Scene,
+    scene: &'t Scene,
     scope: &Bindings,
-    inside: &Bindings,
     guard: &'t Test,
     asks: &mut Asks<'t>,
 ) -> Parts
-    requires inside { inside.now ≡ scope.now ++ player_bound 0 ∷ [] }
     requires deep { length scope.now + (1 + test_depth (test_seen guard.now)) ≤ 5 }
     requires empty { asks.old.items ≡ [] }
     ensures is { IsInParts (scene_seen scene.now) scope.now (test_seen guard.now) result asks.new.items }
     ensures fit { AllFit scope.now asks.new.items }
 {
-    let parts = outer_parts(scene, scope, inside, guard, asks);
+    let parts = outer_parts(scene, scope, guard, asks);
     if parts.settled {
         return parts;
     }
     match sole_list(&*asks) {
         Some(inner) => {
             asks.clear();
-            outer_parts(scene, scope, inside, inner, asks)
+            outer_parts(scene, scope, inner, asks)
         }
         None => parts,
     }

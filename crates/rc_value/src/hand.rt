@@ -103,8 +103,14 @@ pub(crate) fn value_at_hand(
     }
 }
 
+/// Whether two numbers are equal, if they are at hand.
 #[inline(always)]
-fn equal_at_hand(scene: &Scene, scope: &Bindings, a: &IntExpr, b: &IntExpr) -> Option<bool>
+pub(crate) fn equal_at_hand(
+    scene: &Scene,
+    scope: &Bindings,
+    a: &IntExpr,
+    b: &IntExpr,
+) -> Option<bool>
     ensures { IfSome result (λ is. is ≡ int_eq (int_value (scene_seen scene.now) scope.now (int_seen a.now)) (int_value (scene_seen scene.now) scope.now (int_seen b.now))) }
 {
     match number_at_hand(scene, scope, a) {
@@ -116,8 +122,14 @@ fn equal_at_hand(scene: &Scene, scope: &Bindings, a: &IntExpr, b: &IntExpr) -> O
     }
 }
 
+/// Whether one is less than the other.
 #[inline(always)]
-fn less_at_hand(scene: &Scene, scope: &Bindings, a: &IntExpr, b: &IntExpr) -> Option<bool>
+pub(crate) fn less_at_hand(
+    scene: &Scene,
+    scope: &Bindings,
+    a: &IntExpr,
+    b: &IntExpr,
+) -> Option<bool>
     ensures { IfSome result (λ is. is ≡ int_lt (int_value (scene_seen scene.now) scope.now (int_seen a.now)) (int_value (scene_seen scene.now) scope.now (int_seen b.now))) }
 {
     match number_at_hand(scene, scope, a) {
@@ -129,8 +141,14 @@ fn less_at_hand(scene: &Scene, scope: &Bindings, a: &IntExpr, b: &IntExpr) -> Op
     }
 }
 
+/// Whether one is at most the other.
 #[inline(always)]
-fn at_most_at_hand(scene: &Scene, scope: &Bindings, a: &IntExpr, b: &IntExpr) -> Option<bool>
+pub(crate) fn at_most_at_hand(
+    scene: &Scene,
+    scope: &Bindings,
+    a: &IntExpr,
+    b: &IntExpr,
+) -> Option<bool>
     ensures { IfSome result (λ is. is ≡ int_le (int_value (scene_seen scene.now) scope.now (int_seen a.now)) (int_value (scene_seen scene.now) scope.now (int_seen b.now))) }
 {
     match number_at_hand(scene, scope, a) {

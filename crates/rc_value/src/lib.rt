@@ -10,6 +10,7 @@ mod current;
 mod expressions;
 mod groups;
 mod hand;
+mod known;
 mod leaves;
 mod loops;
 mod menu;

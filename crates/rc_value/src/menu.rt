@@ -147,7 +147,7 @@ fn offer_cards(
 {
     match inner {
         Alt::Do(_) => offer_every(cards, item, menu),
-        Alt::If(guard, _) => offer_guarded(scene, scope, cards, guard, item, menu),
+        Alt::If(guard, _) => offer_guarded(&*scene, scope, cards, guard, item, menu),
         Alt::Any(_, _, _) => offer_each(scene, scope, cards, inner, item, menu),
     }
 }

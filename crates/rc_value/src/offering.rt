@@ -1,20 +1,17 @@
 //! Menus that grow by the cards of an innermost domain.
-ghost use Rattle.std.specs.Prelude.{◌≡◌, ◌<◌, ◌+◌, ◌≤◌, ◌++◌, ◌∷◌, [], true, length, map, take, slice_index_or, None, if◌then◌else◌};
-ghost use Rattle.rc_play_model.specs.Value.{player_bound};
+ghost use Rattle.std.specs.Prelude.{◌≡◌, ◌<◌, ◌+◌, ◌≤◌, ◌++◌, ◌∷◌, [], true, length, map, take, if◌then◌else◌};
 ghost use Rattle.rc_play_model.specs.Menu.{from_each};
 ghost use Rattle.rc_ast.specs.Expressions.{test_seen};
 ghost use Rattle.rc_rules.specs.Menu.{item_seen, menu_seen};
-ghost use Rattle.rc_value.specs.Asks.{ask_value, AllFit, joined, told_of};
+ghost use Rattle.rc_value.specs.Asks.{ask_value, met_value, AllFit, joined, told_of};
 ghost use Rattle.rc_value.specs.Depth.{test_depth};
 ghost use Rattle.rc_value.specs.Menu.{extended};
 ghost use Rattle.rc_value.specs.Scene.{scene_seen};
-ghost use Rattle.rc_value.specs.Wanted.{meets};
 
-use crate::asks::{Ask, Asks, joined_answer, parts_of, sole_wanted};
+use crate::asks::{Ask, Asks, are_sought, joined_answer, joined_met, parts_of};
 use crate::collection::Collection;
 use crate::scene::Scene;
-use crate::scope::{Bind, Bindings};
-use crate::wanted::{Wanted, is_met_in};
+use crate::scope::Bindings;
 use rc_ast::Test;
 use rc_rules::{Item, Menu, Spots};
 
@@ -86,17 +83,16 @@ pub(crate) fn offer_every(cards: &Collection, item: &Item, menu: &mut Menu)
 }
 
 // Offers those of the cards for which the answers say so.
+#[inline(never)]
 fn offer_asked(
     scene: &Scene,
     scope: &Bindings,
-    inside: &mut Bindings,
     cards: &Collection,
     asks: &[Ask],
     any: bool,
     item: &Item,
     menu: &mut Menu,
 )
-    requires inside { inside.old ≡ scope.now ++ player_bound 0 ∷ [] }
     requires fits { AllFit scope.now asks.now }
     requires room { length item.now.spots.items < 4 }
     ensures { menu_seen menu.new.items ≡ take 256 (menu_seen menu.old.items
@@ -104,69 +100,54 @@ fn offer_asked(
 {
     let _count = menu.len();
     for place in 0..cards.len() {
-        let card = cards.at(place);
-        inside.rebind(Bind::Card(card));
-        let passes = joined_answer(scene, scope, &*inside, asks, any, card);
+        let passes = joined_answer(scene, scope, asks, any, cards.at(place));
         put_at_if(menu, item, place as u16, passes);
     }
 }
 
-// The same by the row of the one attribute that is asked for, if there is no more to it.
+// The same by the ids of the cards, where values are all that is asked of them.
 fn offer_some(
     scene: &Scene,
     scope: &Bindings,
-    inside: &mut Bindings,
     cards: &Collection,
-    asks: &Asks,
+    asks: &[Ask],
     any: bool,
     item: &Item,
     menu: &mut Menu,
 )
-    requires inside { inside.old ≡ scope.now ++ player_bound 0 ∷ [] }
-    requires fits { AllFit scope.now asks.now.items }
+    requires fits { AllFit scope.now asks.now }
     requires room { length item.now.spots.items < 4 }
     ensures { menu_seen menu.new.items ≡ take 256 (menu_seen menu.old.items
-        ++ map (extended (item_seen item.now)) (from_each (λ c. if joined any (map (ask_value (scene_seen scene.now) scope.now c) asks.now.items) then [] ∷ [] else []) 0 cards.now)) }
+        ++ map (extended (item_seen item.now)) (from_each (λ c. if joined any (map (ask_value (scene_seen scene.now) scope.now c) asks.now) then [] ∷ [] else []) 0 cards.now)) }
 {
-    if let Some(wanted) = sole_wanted(asks) {
-        if let Some(ids) = cards.ids() {
-            if let Some(row) = scene.lookup.values(wanted.name) {
-                return offer_met_in(row, wanted, ids, item, menu);
-            }
+    if let Some(ids) = cards.ids() {
+        if are_sought(asks) {
+            return offer_met(asks, any, ids, item, menu);
         }
     }
-    offer_asked(
-        scene,
-        scope,
-        inside,
-        cards,
-        asks.as_slice(),
-        any,
-        item,
-        menu,
-    );
+    offer_asked(scene, scope, cards, asks, any, item, menu);
 }
 
-// Offers those of the cards with these ids that are as wanted, by the row of the attribute's values.
-fn offer_met_in(row: &[Option<u16>], wanted: Wanted, ids: &[u16], item: &Item, menu: &mut Menu)
+// Offers those of the cards with these ids that have the values that are asked for.
+fn offer_met(asks: &[Ask], any: bool, ids: &[u16], item: &Item, menu: &mut Menu)
     requires few { length ids.now ≤ 512 }
     requires room { length item.now.spots.items < 4 }
     ensures { menu_seen menu.new.items ≡ take 256 (menu_seen menu.old.items
-        ++ map (extended (item_seen item.now)) (from_each (λ id. if meets wanted (slice_index_or row.now id None) then [] ∷ [] else []) 0 ids.now)) }
+        ++ map (extended (item_seen item.now)) (from_each (λ id. if joined any (map (met_value id) asks.now) then [] ∷ [] else []) 0 ids.now)) }
 {
     let _count = menu.len();
     for place in 0..ids.len() {
-        let passes = is_met_in(row, wanted, ids[place]);
+        let passes = joined_met(asks, any, ids[place]);
         put_at_if(menu, item, place as u16, passes);
     }
 }
 
 /// Offers those of the cards for which a guard holds.
-pub(crate) fn offer_guarded(
-    scene: &Scene,
+pub(crate) fn offer_guarded<'t>(
+    scene: &'t Scene,
     scope: &Bindings,
     cards: &Collection,
-    guard: &Test,
+    guard: &'t Test,
     item: &Item,
     menu: &mut Menu,
 )
@@ -176,20 +157,10 @@ pub(crate) fn offer_guarded(
         ++ map (extended (item_seen item.now)) (from_each (λ c. if told_of (scene_seen scene.now) scope.now (test_seen guard.now) c then [] ∷ [] else []) 0 cards.now)) }
 {
     let _count = menu.len();
-    let mut inside = scope.with(Bind::Player(0));
     let mut asks = Asks::new();
-    let parts = parts_of(scene, scope, &inside, guard, &mut asks);
+    let parts = parts_of(scene, scope, guard, &mut asks);
     if !parts.settled {
-        offer_some(
-            scene,
-            scope,
-            &mut inside,
-            cards,
-            &asks,
-            parts.any,
-            item,
-            menu,
-        );
+        offer_some(scene, scope, cards, asks.as_slice(), parts.any, item, menu);
     } else if parts.any {
         offer_every(cards, item, menu);
     }

@@ -7,7 +7,7 @@ ghost use Rattle.rc_ast.specs.Expressions.{card_seen, coll_seen, test_seen};
 ghost use Rattle.rc_reads.specs.Reads.{reads_card};
 ghost use Rattle.rc_value.specs.Cards.{value_seen, values_seen};
 ghost use Rattle.rc_value.specs.Scene.{scene_seen};
-ghost use Rattle.rc_value.specs.Wanted.{meets, wanted_value, turned, IsFixed, IsFixedCollection, IsFixedOwner, IsWanted};
+ghost use Rattle.rc_value.specs.Wanted.{meets, wanted_value, turned, IsFixed, IsFixedCollection, IsFixedOwner, IsWanted, IsWantedAt};
 
 use crate::collection::Collection;
 use crate::hand::value_at_hand;
@@ -191,9 +191,9 @@ pub(crate) fn keep_as_wanted(scene: &Scene, wanted: Wanted, cards: &mut Cards)
     cards.truncate(kept);
 }
 
-// Whether an owner is the same whatever variables stand for.
+/// Whether an owner is the same whatever variables stand for.
 #[inline(always)]
-fn is_fixed_owner(who: Who) -> bool
+pub(crate) fn is_fixed_owner(who: Who) -> bool
     ensures { result ≡ true → IsFixedOwner (who_seen who) }
 {
     match who {
@@ -205,8 +205,9 @@ fn is_fixed_owner(who: Who) -> bool
     }
 }
 
+/// Whether a collection is a location that no variable owns.
 #[inline(always)]
-fn is_fixed_collection(expr: &CollExpr) -> bool
+pub(crate) fn is_fixed_collection(expr: &CollExpr) -> bool
     ensures { result ≡ true → IsFixedCollection (coll_seen expr.now) }
 {
     match expr {
@@ -241,27 +242,40 @@ fn is_against_fixed(expr: &CardExpr, other: &CardExpr, place: usize) -> bool
 pub(crate) fn wanted_at_hand(scene: &Scene, scope: &Bindings, test: &Test) -> Option<Wanted>
     ensures { IfSome result (IsWanted (scene_seen scene.now) scope.now (test_seen test.now)) }
 {
+    wanted_at(scene, scope, scope.len(), test)
+}
+
+/// The same of the variable at a place, in any scope that ends before it.
+#[inline(always)]
+pub(crate) fn wanted_at(
+    scene: &Scene,
+    scope: &Bindings,
+    place: usize,
+    test: &Test,
+) -> Option<Wanted>
+    ensures { IfSome result (IsWantedAt (scene_seen scene.now) place (test_seen test.now)) }
+{
     match test {
-        Test::Ne(inner) => unwanted(equal_at_hand(scene, scope, inner)),
-        Test::Not(inner) => unwanted(equal_at_hand(scene, scope, inner)),
-        _ => equal_at_hand(scene, scope, test),
+        Test::Ne(inner) => unwanted(equal_at(scene, scope, place, inner)),
+        Test::Not(inner) => unwanted(equal_at(scene, scope, place, inner)),
+        _ => equal_at(scene, scope, place, test),
     }
 }
 
 // The same, but for opposites.
 #[inline(always)]
-fn equal_at_hand(scene: &Scene, scope: &Bindings, test: &Test) -> Option<Wanted>
-    ensures { IfSome result (IsWanted (scene_seen scene.now) scope.now (test_seen test.now)) }
+fn equal_at(scene: &Scene, scope: &Bindings, place: usize, test: &Test) -> Option<Wanted>
+    ensures { IfSome result (IsWantedAt (scene_seen scene.now) place (test_seen test.now)) }
 {
     match test {
         Test::EqAttr(a, name, b, other) => {
-            if is_against_fixed(a, b, scope.len()) {
+            if is_against_fixed(a, b, place) {
                 return equal_to(*name, value_at_hand(scene, scope, b, *other));
             }
             None
         }
         Test::Is(card, name, value) => {
-            if is_variable(card, scope.len()) {
+            if is_variable(card, place) {
                 return equal_to(*name, Some(Some(*value)));
             }
             None

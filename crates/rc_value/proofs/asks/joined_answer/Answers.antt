@@ -4,8 +4,8 @@ use Rattle.rc_value.specs.Scene.{scene_seen}
 use Rattle.rc_value.proofs.AskLemmas.{joined_on, joined_stop, joined_end, fit_here}
 use Rattle.rc_value.proofs.asks.joined_answer.Goals as goal
 
-pub answer-requires-clause-fits : goal.answer-requires-clause-fits
-answer-requires-clause-fits c = fit_here (scene_seen c.args.scene.now) c.args.scope.now c.args.asks.now c.loop-place.place c.index-asks-place.result c.requires.fits c.loop-place-test.true c.index-asks-place.is
+pub answer-requires : goal.answer-requires
+answer-requires c = record { fits = fit_here (scene_seen c.args.scene.now) c.args.scope.now c.args.asks.now c.loop-place.place c.index-asks-place.result c.requires.fits c.loop-place-test.true c.index-asks-place.is }
 
 pub loop-place-preserved : goal.loop-place-preserved
 loop-place-preserved c =

@@ -13,7 +13,7 @@ returns-then-test_reads-clause-is c =
 
 pub returns-clause-is : goal.returns-clause-is
 returns-clause-is c =
-    joined_once (scene_seen c.args.scene.now) c.args.scope.now (test_seen c.args.test.now) c.args.any c.test_of.result _ c.args.asks.now.items c.args.inside.now c.requires.inside
+    joined_once (scene_seen c.args.scene.now) c.args.scope.now (test_seen c.args.test.now) c.args.any c.test_of.result _ c.args.asks.now.items c.with.result c.with.ensures
     (ap (λ k. reads_test k (test_seen c.args.test.now)) (sym c.len.ensures) ∙ sym c.test_reads.ensures ∙ c.if-test_reads.false) c.test_of.ensures refl
 
 pub returns-then-test_reads-clause-fit : goal.returns-then-test_reads-clause-fit

@@ -1,7 +1,6 @@
 use Rattle.std.proofs.Common.{◌++◌, ◌∷◌, [], cond, map, take, refl, arith}
 use Rattle.std.proofs.lemmas.List.{length-map}
 use Rattle.rc_play_model.specs.Menu.{from_each}
-use Rattle.rc_play_model.specs.Value.{card_bound}
 use Rattle.rc_rules.specs.Menu.{item_seen, menu_seen}
 use Rattle.rc_value.specs.Asks.{ask_value, joined}
 use Rattle.rc_value.specs.Cards.{value_seen}
@@ -16,13 +15,12 @@ loop-place-preserved c =
     let few = cut_few (menu_seen c.put_at_if.new.menu.items) _ c.put_at_if.ensures in
     let count = length-map c.put_at_if.new.menu.items item_seen in
     record {
-      inside = (card_bound (value_seen c.at-card.result), c.rebind.ensures c.args.scope.now c.loop-place.invariant.inside.0 c.loop-place.invariant.inside.1);
       few = omega arith;
       told =
           offered (λ x. cond (joined c.args.any (map (ask_value (scene_seen c.args.scene.now) c.args.scope.now x) c.args.asks.now)) ([] ∷ []) []) (item_seen c.args.item.now) (extended (item_seen c.args.item.now) (c.loop-place.place ∷ [])) (menu_seen c.loop-place.menu.items) (menu_seen c.put_at_if.new.menu.items)
           (take 256 (menu_seen c.args.menu.now.items ++ map (extended (item_seen c.args.item.now)) (from_each (λ x. cond (joined c.args.any (map (ask_value (scene_seen c.args.scene.now) c.args.scope.now x) c.args.asks.now)) ([] ∷ []) []) 0 c.args.cards.now)))
-          c.args.cards.now c.loop-place.place (value_seen c.at-card.result) (omega (arith, c.len-place-end.ensures.is))
-          c.at-card.ensures refl
+          c.args.cards.now c.loop-place.place (value_seen c.at.result) (omega (arith, c.len-place-end.ensures.is))
+          c.at.ensures refl
           (grown_if (menu_seen c.loop-place.menu.items) (menu_seen c.put_at_if.new.menu.items) (extended (item_seen c.args.item.now) (c.loop-place.place ∷ [])) c.joined_answer-passes.result _ c.joined_answer-passes.ensures c.put_at_if.ensures)
           c.loop-place.invariant.told;
     }
