@@ -1,4 +1,4 @@
-ghost use Rattle.std.specs.Prelude.{◌≡◌, ℕ, ◌<◌, ◌≤◌, List, Option, length, take, IfOk, OnErr};
+ghost use Rattle.std.specs.Prelude.{◌≡◌, ℕ, ◌<◌, ◌≤◌, List, Option, length, take, IfOk, OnOk, OnErr};
 ghost use Rattle.rc_outside.specs.Faults.{Rose};
 ghost use Rattle.rc_outside.specs.Sink.{Got};
 
@@ -23,6 +23,7 @@ pub trait Sink {
             (λ count. Got (written self.old) (written self.new) (take count piece.now)) }
 
         ensures cause { OnErr result (Rose (faults self.old) (faults self.new)) }
+        ensures steady { OnOk result (faults self.new ≡ faults self.old) }
         ensures kept { OnErr result (written self.new ≡ written self.old) }
 
         ensures counted { faults self.old ≤ faults self.new };

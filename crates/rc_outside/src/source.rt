@@ -1,4 +1,4 @@
-ghost use Rattle.std.specs.Prelude.{◌≡◌, ℕ, ◌<◌, ◌≤◌, List, [], Option, Some, length, take, IfOk, OnErr};
+ghost use Rattle.std.specs.Prelude.{◌≡◌, ℕ, ◌<◌, ◌≤◌, List, [], Option, Some, length, take, IfOk, OnOk, OnErr};
 ghost use Rattle.rc_outside.specs.Faults.{Rose};
 ghost use Rattle.rc_outside.specs.Source.{Gave, IsAtEnd};
 
@@ -27,6 +27,7 @@ pub trait Source {
         ensures at_end { left self.old ≡ Some [] → IfOk result (λ count. count ≡ 0) }
 
         ensures cause { OnErr result (Rose (faults self.old) (faults self.new)) }
+        ensures steady { OnOk result (faults self.new ≡ faults self.old) }
         ensures kept { OnErr result (left self.new ≡ left self.old) }
 
         ensures counted { faults self.old ≤ faults self.new };

@@ -6,6 +6,6 @@ pub loop-done-preserved : goal.loop-done-preserved
 loop-done-preserved g c = record {
   within = search rules;
   got = Got-take_more _ _ _ _ _ _ c.loop-done.invariant.got c.in-Ok.ensures.appends;
-  counted = search rules;
+  steady = search rules;
   empty = search rules;
 }

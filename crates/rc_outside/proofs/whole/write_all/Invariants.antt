@@ -6,7 +6,7 @@ abbrev pub invariant-loop-done : goal.invariant-loop-done
 invariant-loop-done g l = record {
   within : l.done ≤ length l.piece;
   got : Got (g.O.Sink.written l.fn.sink) (g.O.Sink.written l.sink) (take l.done l.piece);
-  counted : g.O.Sink.faults l.fn.sink ≤ g.O.Sink.faults l.sink;
+  steady : g.O.Sink.faults l.sink ≡ g.O.Sink.faults l.fn.sink;
   empty : l.piece ≡ [] → l.sink ≡ l.fn.sink;
 }
 
