@@ -54,10 +54,8 @@ pub(crate) fn picked_at<M: Machine, C: Chooser, L: Ledger>(
 {
     match stop {
         Stop::Decide { seat, .. } => {
-            match item_of(alloc, job, seat, machine, chooser, steps) {
-                Ok(item) => Ok(Some(item)),
-                Err(Memory) => Err(Memory),
-            }
+            let item = item_of(alloc, job, seat, machine, chooser, steps)?;
+            Ok(Some(item))
         }
         Stop::Done => {
             complete(alloc, &job.about, machine, dealer, Ended::Done, notes)?;
