@@ -74,14 +74,8 @@ impl House {
         ensures is { IfOk result (λ house. house ≡ opened about.value (plan_seen plan.value) capacity) }
         ensures sound { IfOk result (λ house. IsSound house) }
     {
-        let code = match shared_code(alloc, &about) {
-            Ok(code) => code,
-            Err(Memory) => return Err(Memory),
-        };
-        let matches = match matches_of(alloc, &about, &plan, &code) {
-            Ok(matches) => matches,
-            Err(Memory) => return Err(Memory),
-        };
+        let code = shared_code(alloc, &about)?;
+        let matches = matches_of(alloc, &about, &plan, &code)?;
         Ok(House {
             about,
             plan,
@@ -146,10 +140,8 @@ impl House {
         }
         // the sheet is well formed and in sight
         let _sheet = self.about.sheet();
-        match job_of(&self.about, &self.plan, m) {
-            Ok(job) => work(alloc, &job, &self.code, &mut self.matches[m as usize]),
-            Err(Memory) => Err(Memory),
-        }
+        let job = Job::of(&self.about, &self.plan, m)?;
+        work(alloc, &job, &self.code, &mut self.matches[m as usize])
     }
 
     // A match looks up what it asks.
@@ -239,14 +231,8 @@ fn matches_of(
 {
     let mut states = Vec::new(alloc);
     for number in 0..plan.matches.len() as u32 {
-        let state = match started(alloc, about, plan, code, number) {
-            Ok(state) => state,
-            Err(Memory) => return Err(Memory),
-        };
-        match states.push(state) {
-            Ok(()) => {}
-            Err(_) => return Err(Memory),
-        }
+        let state = started(alloc, about, plan, code, number)?;
+        states.push(state)?;
     }
     Ok(states)
 }
@@ -264,32 +250,7 @@ fn started(
     ensures is { IfOk result (λ state. lane_in state ≡ begun about.now.value (plan_seen plan.now.value) number) }
     ensures own { IfOk result (λ state. IsOwn about.now.value (plan_seen plan.now.value) number state) }
 {
-    let machine = match FlatMachine::start_of(alloc, code, about) {
-        Ok(machine) => machine,
-        Err(Memory) => return Err(Memory),
-    };
-    match job_of(about, plan, number) {
-        Ok(job) => begin(alloc, &job, machine),
-        Err(Memory) => Err(Memory),
-    }
-}
-
-// A match of the plan that is to be played.
-fn job_of(about: &Arc<About>, plan: &Arc<Plan>, number: u32) -> Result<Job, Memory>
-    ensures about { IfOk result (λ job. job.about.value ≡ about.now.value) }
-    ensures plan { IfOk result (λ job. job.plan.value ≡ plan.now.value) }
-    ensures number { IfOk result (λ job. job.number ≡ number) }
-{
-    let about = match Arc::try_clone(about) {
-        Ok(about) => about,
-        Err(_) => return Err(Memory),
-    };
-    match Arc::try_clone(plan) {
-        Ok(plan) => Ok(Job {
-            about,
-            plan,
-            number,
-        }),
-        Err(_) => Err(Memory),
-    }
+    let machine = FlatMachine::start_of(alloc, code, about)?;
+    let job = Job::of(about, plan, number)?;
+    begin(alloc, &job, machine)
 }

@@ -80,9 +80,7 @@ pub(crate) fn hand_over(
         Phase::Spent => return Err(Memory),
         _ => return Ok(()),
     };
-    if entries.reserve(1).is_err() {
-        return Err(Memory);
-    }
+    entries.reserve(1)?;
     if let Some(entry) = release(phase, item) {
         keep(entries, entry, capacity);
     }
