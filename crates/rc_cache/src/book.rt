@@ -140,6 +140,13 @@ impl<N: Naming> Book<N> {
         self.journal.as_slice()
     }
 
+    // How many entries there are at most.
+    pub(crate) fn capacity(&self) -> usize
+        ensures { result ≡ N.capacity }
+    {
+        self.cache.cap().get()
+    }
+
     // The sums over all lanes, which are those of the journal, in which each number fits.
     pub(crate) fn sums(self) -> Sums<N>
         ensures looks { result.looks.total ≡ looks_of (calls_of self) }

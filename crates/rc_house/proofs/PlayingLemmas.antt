@@ -59,7 +59,7 @@ few_counted options before after sheet plan steps steps' reads few =
 -- what `play` tells of a series
 house_answers : (options : Options) (before after : Port) (sheet : Sheet) (plan : Plan) (steps steps' : ℕ) (series : Series) (bytes : Vec ℕ Global) (note : Note)
     → ReadsGame (Play options) before after sheet plan → IsSeriesOf options (about_of sheet plan.turns) plan steps steps' series
-    → bytes.items ≡ text_of series.text → note ≡ Looks series.looks series.hits
+    → bytes.items ≡ text_of series.text → note ≡ Looks series.totals.looks series.totals.hits
     → AnswersSource (Play options) before after steps steps' (Ok (Text bytes note))
 house_answers options before after sheet plan steps steps' series bytes note reads is written noted =
     let about = about_of sheet plan.turns in
@@ -68,23 +68,23 @@ house_answers options before after sheet plan steps steps' series bytes note rea
     written
     ∙ ap (λ records. house_text records (map standing_seen series.text.standings.items)) is.matches
     ∙ ap (house_text (matches_of about plan)) is.standings in
-    let told : seen (Text bytes note) playouts ≡ house_played options about plan series.hits =
+    let told : seen (Text bytes note) playouts ≡ house_played options about plan series.totals.hits =
     ap (λ bytes. text bytes (note_line note) playouts) wrote
     ∙ ap (λ note. text (keyed_house about plan) (note_line note) playouts) noted
-    ∙ ap (λ looks. text (keyed_house about plan) (looks_line looks series.hits) playouts) is.looks in
-    (playouts, (reads (seen (Text bytes note) playouts) (series.hits, is.hits, told), (series.looks, series.hits, ap note_line noted)), is.counted)
+    ∙ ap (λ looks. text (keyed_house about plan) (looks_line looks series.totals.hits) playouts) is.looks in
+    (playouts, (reads (seen (Text bytes note) playouts) (series.totals.hits, is.hits, told), (series.totals.looks, series.totals.hits, ap note_line noted)), is.counted)
 
 -- what `bench` tells of it
 bench_answers : (options : Options) (number : ℕ) (sheet : Sheet) (plan : Plan) (steps steps' : ℕ) (series : Series) (bytes : Vec ℕ Global) (note : Note)
     → IsTrickGame sheet → plan ≡ bench_plan number → IsSeriesOf options (about_of sheet plan.turns) plan steps steps' series
     → bytes.items ≡ bench_text number (map record_seen series.text.matches.items) (map standing_seen series.text.standings.items)
-    → note ≡ Looks series.looks series.hits → AnswersBench options number steps steps' (Ok (Text bytes note))
+    → note ≡ Looks series.totals.looks series.totals.hits → AnswersBench options number steps steps' (Ok (Text bytes note))
 bench_answers options number sheet plan steps steps' series bytes note game planned is wrote noted =
     let records = map record_seen series.text.matches.items in
     let standings = map standing_seen series.text.standings.items in
     let playouts = counted_playouts options (looks_of (about_of sheet plan.turns) plan) in
     let benched =
-    summary_is options number sheet plan records standings bytes.items series.looks series.hits planned is.matches is.standings is.looks is.hits wrote in
+    summary_is options number sheet plan records standings bytes.items series.totals.looks series.totals.hits planned is.matches is.standings is.looks is.hits wrote in
     (playouts, subst (λ note. IsBenchAnswer options number (text bytes.items (note_line note) playouts)) (sym noted) (sheet, game, benched), is.counted)
 
 module _ (before after : Port) where

@@ -67,8 +67,9 @@ ReadsNone task before after status =
 pub record IsSeriesOf (options : Options) (about : About) (plan : Plan) (steps steps' : ℕ) (series : Series) : Type 0 where
   pub matches : map record_seen series.text.matches.items ≡ matches_of about plan
   pub standings : map standing_seen series.text.standings.items ≡ standings_of plan (matches_of about plan)
-  pub looks : series.looks ≡ length (looks_of about plan)
-  pub hits : AreHits options (looks_of about plan) series.hits
+  pub book : (series.totals.capacity ≡ options.cache) × (series.totals.lanes ≡ options.workers)
+  pub looks : series.totals.looks ≡ length (looks_of about plan)
+  pub hits : AreHits options (looks_of about plan) series.totals.hits
   pub counted : steps' ≡ steps + counted_playouts options (looks_of about plan)
 
 -- They were, or there was no memory for all of it.
@@ -86,7 +87,7 @@ told_of (command.Bench number options) series =
 
 -- and with it how their looks went
 abbrev pub TellsOf : Command → Series → Stored → Type 0
-TellsOf called series (stored.Text bytes note) = (bytes.items ≡ told_of called series) × (note ≡ Looks series.looks series.hits)
+TellsOf called series (stored.Text bytes note) = (bytes.items ≡ told_of called series) × (note ≡ Looks series.totals.looks series.totals.hits)
 TellsOf called series (stored.Refused refusal) = ⊥
 
 -- This is the command's answer to its source, and as many steps were counted as it takes playouts; or this is why there is none.

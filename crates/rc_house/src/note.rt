@@ -19,11 +19,11 @@ pub enum Note {
 impl Note {
     /// What is noted behind a text that tells of these matches.
     pub(crate) fn of(series: &Series) -> Note
-        ensures { result ≡ Looks series.now.looks series.now.hits }
+        ensures { result ≡ Looks series.now.totals.looks series.now.totals.hits }
     {
         Note::Looks {
-            looks: series.looks,
-            hits: series.hits,
+            looks: series.totals.looks(),
+            hits: series.totals.hits(),
         }
     }
 

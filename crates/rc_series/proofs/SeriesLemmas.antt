@@ -1,5 +1,5 @@
 -- The records of a plan's matches and what they ask, match by match.
-use Rattle.std.proofs.Common.{◌≡◌, ℕ, zero, suc, ◌+◌, ◌-◌, ◌≤◌, List, [], ◌∷◌, ◌++◌, append-nil, append_assoc, map, length, Some, Result, Ok, Err, OnErr, refl, sym, ap, ◌∙◌, subst, arith}
+use Rattle.std.proofs.Common.{◌≡◌, ℕ, zero, suc, ◌+◌, ◌-◌, ◌≤◌, List, [], ◌∷◌, ◌++◌, append-nil, append_assoc, map, length, Some, refl, sym, ap, ◌∙◌, subst, arith}
 use Rattle.std.specs.Prelude.{filter_map, flat_map}
 use Rattle.std.proofs.lemmas.List.{length-map, map-append}
 use Rattle.std.proofs.lemmas.List.Concat.{flat_map-append}
@@ -85,8 +85,3 @@ asked_alike about about' plan plan' m m' same same_plan same_match =
 -- what all matches ask
 pub all_looks : (about : About) (plan : StoredPlan) → looks_below about (plan_seen plan) (length plan.matches.items) ≡ looks_of about (plan_seen plan)
 all_looks about plan = ap (looks_below about (plan_seen plan)) (sym (length-map plan.matches.items deal_seen))
-
--- what holds in any case holds where there is an error
-pub anyway : {A E P : Type 0} (result : Result A E) → P → OnErr result P
-anyway (Ok x) holds = tt
-anyway (Err e) holds = holds

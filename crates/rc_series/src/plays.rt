@@ -16,7 +16,7 @@ ghost use Rattle.rc_cache.specs.Sums.{idle};
 ghost use Rattle.rc_series.specs.Series.{looks_below, looks_of, matches_of, records_below};
 
 use rc_cache::{
-    Book, Fresh, Naming, OwnBook, one_worker_has_the_hits_of_its_looks,
+    Book, Fresh, Naming, OwnBook, Totals, one_worker_has_the_hits_of_its_looks,
     one_worker_lacking_memory_takes_no_more_steps,
 };
 use rc_code::Code;
@@ -34,13 +34,12 @@ use std::marker::Brand;
 use std::sync::Arc;
 use std::sync::ledger::Ledger;
 
-/// The matches of a plan as they were played, with the standings, and how many of their decisions asked for playouts, and how many of
-/// these the book had.
+/// The matches of a plan as they were played, with the standings, and the totals of the book that they were played by: how many of
+/// their decisions asked for playouts, and how many of these it had.
 #[derive(Drop)]
 pub struct Series {
     pub text: HouseText,
-    pub looks: u64,
-    pub hits: u64,
+    pub totals: Totals,
 }
 
 /// Plays the matches of a plan for a checked sheet one after the other, on code that is made of the sheet once. The plan is within the
@@ -59,24 +58,16 @@ pub fn series_of<L: Ledger>(
     ensures matches { IfOk result (λ series. map record_seen series.text.matches.items ≡ matches_of (about_of checked plan.turns) (plan_seen plan)) }
     ensures standings { IfOk result (λ series. map standing_seen series.text.standings.items
         ≡ standings_of (plan_seen plan) (matches_of (about_of checked plan.turns) (plan_seen plan))) }
-    ensures looks { IfOk result (λ series. series.looks ≡ length (looks_of (about_of checked plan.turns) (plan_seen plan))) }
-    ensures hits { IfOk result (λ series. series.hits ≡ hits (looks_of (about_of checked plan.turns) (plan_seen plan)) capacity) }
+    ensures book { IfOk result (λ series. (series.totals.capacity ≡ capacity) × (series.totals.lanes ≡ 1)) }
+    ensures looks { IfOk result (λ series. series.totals.looks ≡ length (looks_of (about_of checked plan.turns) (plan_seen plan))) }
+    ensures hits { IfOk result (λ series. series.totals.hits ≡ hits (looks_of (about_of checked plan.turns) (plan_seen plan)) capacity) }
     ensures counted { OnOk result (steps.new ≡ steps.old + cost (looks_of (about_of checked plan.turns) (plan_seen plan)) capacity) }
     ensures rises { steps.old ≤ steps.new }
     ensures bounded { steps.new ≤ steps.old + cost (looks_of (about_of checked plan.turns) (plan_seen plan)) capacity }
 {
-    let about = match shared_about(alloc, checked, plan.turns) {
-        Ok(about) => about,
-        Err(Memory) => return Err(Memory),
-    };
-    let code = match shared_code(alloc, &about) {
-        Ok(code) => code,
-        Err(Memory) => return Err(Memory),
-    };
-    let plan = match Arc::new(alloc, plan) {
-        Ok(plan) => plan,
-        Err(_) => return Err(Memory),
-    };
+    let about = shared_about(alloc, checked, plan.turns)?;
+    let code = shared_code(alloc, &about)?;
+    let plan = Arc::new(alloc, plan)?;
     played::<Brand, L>(alloc, Fresh::new(1), &about, &plan, &code, capacity, steps)
 }
 
@@ -84,26 +75,11 @@ pub fn series_of<L: Ledger>(
 pub fn shared_about(alloc: Global, checked: Checked, turns: u32) -> Result<Arc<About>, Memory>
     ensures { IfOk result (λ about. about.value ≡ about_of checked turns) }
 {
-    let shape = match shape_of(alloc, checked.sheet()) {
-        Ok(shape) => shape,
-        Err(Memory) => return Err(Memory),
-    };
-    let shape = match Arc::new(alloc, shape) {
-        Ok(shape) => shape,
-        Err(_) => return Err(Memory),
-    };
-    let checked = match Arc::new(alloc, checked) {
-        Ok(checked) => checked,
-        Err(_) => return Err(Memory),
-    };
-    let about = match About::new(alloc, checked, shape, turns) {
-        Ok(about) => about,
-        Err(Memory) => return Err(Memory),
-    };
-    match Arc::new(alloc, about) {
-        Ok(about) => Ok(about),
-        Err(_) => Err(Memory),
-    }
+    let shape = shape_of(alloc, checked.sheet())?;
+    let shape = Arc::new(alloc, shape)?;
+    let checked = Arc::new(alloc, checked)?;
+    let about = About::new(alloc, checked, shape, turns)?;
+    Ok(Arc::new(alloc, about)?)
 }
 
 // The matches of a plan, with a book of so many entries, and the standings.
@@ -126,39 +102,25 @@ fn played<N: Naming, L: Ledger>(
     ensures matches { IfOk result (λ series. map record_seen series.text.matches.items ≡ matches_of about.now.value (plan_seen plan.now.value)) }
     ensures standings { IfOk result (λ series. map standing_seen series.text.standings.items
         ≡ standings_of (plan_seen plan.now.value) (matches_of about.now.value (plan_seen plan.now.value))) }
-    ensures looks { IfOk result (λ series. series.looks ≡ length (looks_of about.now.value (plan_seen plan.now.value))) }
-    ensures hits { IfOk result (λ series. series.hits ≡ hits (looks_of about.now.value (plan_seen plan.now.value)) capacity) }
+    ensures book { IfOk result (λ series. (series.totals.capacity ≡ capacity) × (series.totals.lanes ≡ 1)) }
+    ensures looks { IfOk result (λ series. series.totals.looks ≡ length (looks_of about.now.value (plan_seen plan.now.value))) }
+    ensures hits { IfOk result (λ series. series.totals.hits ≡ hits (looks_of about.now.value (plan_seen plan.now.value)) capacity) }
     ensures counted { OnOk result (steps.new ≡ steps.old + cost (looks_of about.now.value (plan_seen plan.now.value)) capacity) }
     ensures rises { steps.old ≤ steps.new }
     ensures bounded { steps.new ≤ steps.old + cost (looks_of about.now.value (plan_seen plan.now.value)) capacity }
 {
     one_worker_has_the_hits_of_its_looks();
     one_worker_lacking_memory_takes_no_more_steps();
-    let book = match own_book::<N>(alloc, fresh, about, capacity) {
-        Ok(book) => book,
-        Err(Memory) => return Err(Memory),
-    };
-    let to_choose = match Arc::try_clone(code) {
-        Ok(to_choose) => to_choose,
-        Err(_) => return Err(Memory),
-    };
+    let book = own_book::<N>(alloc, fresh, about, capacity)?;
+    let to_choose = Arc::try_clone(code)?;
     let mut choices = Choices::new(to_choose, book);
     let records = records_of(alloc, about, plan, code, &mut choices, steps);
-    let (book, lane) = choices.into_memo().parts();
-    // what a book keeps
-    let _journal = book.journal();
-    let matches = match records {
-        Ok(matches) => matches,
-        Err(Memory) => return Err(Memory),
-    };
-    let standings = match standings(alloc, plan, &matches) {
-        Ok(standings) => standings,
-        Err(Memory) => return Err(Memory),
-    };
+    let totals = choices.into_memo().close();
+    let matches = records?;
+    let standings = standings(alloc, plan, &matches)?;
     Ok(Series {
         text: HouseText { matches, standings },
-        looks: lane.looks(),
-        hits: lane.hits(),
+        totals,
     })
 }
 
@@ -175,13 +137,8 @@ fn own_book<N: Naming>(
     requires parts { (fresh.looks.parts ≡ N.lanes) × (fresh.hits.parts ≡ N.lanes) × (fresh.keeps.parts ≡ N.lanes) }
     ensures { IfOk result (λ own. own ≡ ([], idle 0)) }
 {
-    match Book::<N>::new(alloc, fresh, about, capacity, 1) {
-        Ok((book, lanes)) => {
-            let mut lanes = lanes;
-            Ok(OwnBook::new(book, lanes.pop().unwrap()))
-        }
-        Err(Memory) => Err(Memory),
-    }
+    let (book, mut lanes) = Book::<N>::new(alloc, fresh, about, capacity, 1)?;
+    Ok(OwnBook::new(book, lanes.pop().unwrap()))
 }
 
 // The records of a plan's matches, in order.
@@ -239,21 +196,6 @@ pub fn record_of<C: Chooser, L: Ledger>(
     ensures bounded { steps.new ≤ steps.old + all_costs (asks_of about.now.value (plan_seen plan.now.value) number) }
 {
     let machine = OnwardMachine::start_of(alloc, code, about)?;
-    let job = job_of(about, plan, number)?;
+    let job = Job::of(about, plan, number)?;
     play_match(alloc, &job, machine, chooser, steps)
-}
-
-// The match with this number.
-fn job_of(about: &Arc<About>, plan: &Arc<Plan>, number: u32) -> Result<Job, Memory>
-    ensures about { IfOk result (λ job. job.about.value ≡ about.now.value) }
-    ensures plan { IfOk result (λ job. job.plan.value ≡ plan.now.value) }
-    ensures number { IfOk result (λ job. job.number ≡ number) }
-{
-    let about = Arc::try_clone(about)?;
-    let plan = Arc::try_clone(plan)?;
-    Ok(Job {
-        about,
-        plan,
-        number,
-    })
 }

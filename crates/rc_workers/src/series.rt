@@ -23,7 +23,8 @@ use std::thread::Threads;
 
 /// Plays the matches of a plan for a checked sheet by so many workers, 1 to 64, each in a thread of its own where one can be made.
 /// The plan is within the limits, and has a strategy for each player. What rollouts find is kept in one book of so many entries, 1 to
-/// 65,536, that all workers share. How many of the looks hit depends on which worker comes first; not all do. Memory may run out.
+/// 65,536, that all workers share; its totals tell its room, and that it had a lane for each worker. How many of the looks hit depends
+/// on which worker comes first; not all do. Memory may run out.
 pub fn series_by_workers<R: Threads + Wait + Sync, G: Gate>(
     rt: &R,
     alloc: Global,
@@ -40,9 +41,10 @@ pub fn series_by_workers<R: Threads + Wait + Sync, G: Gate>(
     ensures matches { IfOk result (λ series. map record_seen series.text.matches.items ≡ matches_of (about_of checked plan.turns) (plan_seen plan)) }
     ensures standings { IfOk result (λ series. map standing_seen series.text.standings.items
         ≡ standings_of (plan_seen plan) (matches_of (about_of checked plan.turns) (plan_seen plan))) }
-    ensures looks { IfOk result (λ series. series.looks ≡ length (looks_of (about_of checked plan.turns) (plan_seen plan))) }
-    ensures hits { IfOk result (λ series. series.hits ≤ series.looks) }
-    ensures missed { IfOk result (λ series. 0 < series.looks → series.hits < series.looks) }
+    ensures book { IfOk result (λ series. (series.totals.capacity ≡ capacity) × (series.totals.lanes ≡ workers)) }
+    ensures looks { IfOk result (λ series. series.totals.looks ≡ length (looks_of (about_of checked plan.turns) (plan_seen plan))) }
+    ensures hits { IfOk result (λ series. series.totals.hits ≤ series.totals.looks) }
+    ensures missed { IfOk result (λ series. 0 < series.totals.looks → series.totals.hits < series.totals.looks) }
 {
     let about = match shared_about(alloc, checked, plan.turns) {
         Ok(about) => about,
@@ -85,9 +87,10 @@ fn played<N: Naming + Send + Sync, R: Threads + Wait + Sync, G: Gate>(
     ensures matches { IfOk result (λ series. map record_seen series.text.matches.items ≡ matches_of about.now.value (plan_seen plan.now.value)) }
     ensures standings { IfOk result (λ series. map standing_seen series.text.standings.items
         ≡ standings_of (plan_seen plan.now.value) (matches_of about.now.value (plan_seen plan.now.value))) }
-    ensures looks { IfOk result (λ series. series.looks ≡ length (looks_of about.now.value (plan_seen plan.now.value))) }
-    ensures hits { IfOk result (λ series. series.hits ≤ series.looks) }
-    ensures missed { IfOk result (λ series. 0 < series.looks → series.hits < series.looks) }
+    ensures book { IfOk result (λ series. (series.totals.capacity ≡ capacity) × (series.totals.lanes ≡ workers)) }
+    ensures looks { IfOk result (λ series. series.totals.looks ≡ length (looks_of about.now.value (plan_seen plan.now.value))) }
+    ensures hits { IfOk result (λ series. series.totals.hits ≤ series.totals.looks) }
+    ensures missed { IfOk result (λ series. 0 < series.totals.looks → series.totals.hits < series.totals.looks) }
 {
     let (book, lanes) = match Book::<N>::new(alloc, fresh, about, capacity, workers) {
         Ok(made) => made,
@@ -109,7 +112,6 @@ fn played<N: Naming + Send + Sync, R: Threads + Wait + Sync, G: Gate>(
     let totals = close(book.into_inner(), lanes);
     Ok(Series {
         text: HouseText { matches, standings },
-        looks: totals.looks,
-        hits: totals.hits,
+        totals,
     })
 }

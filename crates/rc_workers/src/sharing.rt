@@ -18,7 +18,7 @@ use std::sync::{Arc, Mutex, Wait};
 use std::thread::Threads;
 
 /// Plays every match of a plan, with one worker for each lane to the book, on code that is made of the sheet once. The records are
-/// those of the matches, in order. The lanes come back in the order of the memos, and their numbers rise together by what the matches
+/// those of the matches, in order. As many lanes come back, in whatever order, and their numbers rise together by what the matches
 /// ask: each decision that asks for totals is one look, and each look hits, or is followed by a keep. Memory may run out.
 pub fn play_shared<'a, N: Naming + Send + Sync, R: Threads + Wait + Sync, G: Gate>(
     rt: &R,

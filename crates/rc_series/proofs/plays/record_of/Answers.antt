@@ -3,8 +3,8 @@ use Rattle.rc_redraw.specs.Choosing.{AsksAll, AsksSome, all_costs}
 use Rattle.rc_rules.specs.Plan.{plan_seen}
 use Rattle.rc_rules.specs.Record.{record_seen}
 use Rattle.rc_match.specs.Asks.{asks_of}
-use Rattle.rc_match.proofs.AskLemmas.{none_asked}
-use Rattle.rc_series.proofs.SeriesLemmas.{anyway, asked_alike, match_alike}
+use Rattle.rc_match.proofs.AskLemmas.{anyway, none_asked}
+use Rattle.rc_series.proofs.SeriesLemmas.{asked_alike, match_alike}
 use Rattle.rc_series.proofs.plays.record_of.Goals as goal
 
 pub returns-clause-is : goal.returns-clause-is

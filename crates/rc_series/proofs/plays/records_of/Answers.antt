@@ -5,9 +5,9 @@ use Rattle.rc_redraw.specs.Choosing.{AsksAll}
 use Rattle.rc_rules.specs.Plan.{plan_seen}
 use Rattle.rc_rules.specs.Record.{record_seen}
 use Rattle.rc_match.specs.Asks.{asks_of}
-use Rattle.rc_match.proofs.AskLemmas.{all_some, asks_then}
+use Rattle.rc_match.proofs.AskLemmas.{all_some, anyway, asks_then}
 use Rattle.rc_series.specs.Series.{looks_below}
-use Rattle.rc_series.proofs.SeriesLemmas.{anyway, told_more, looks_more, stopped_in}
+use Rattle.rc_series.proofs.SeriesLemmas.{told_more, looks_more, stopped_in}
 use Rattle.rc_series.proofs.plays.records_of.Goals as goal
 
 pub loop-number-init : goal.loop-number-init

@@ -7,12 +7,12 @@ use Rattle.rc_series.proofs.plays.series_of.Goals as goal
 
 pub returns-clause-matches : goal.returns-clause-matches
 returns-clause-matches g c =
-    subst (λ about. IfOk c.played.result (λ series. map record_seen series.text.matches.items ≡ matches_of about (plan_seen c.args.plan))) c.in-Ok.ensures
-    (subst (λ plan. IfOk c.played.result (λ series. map record_seen series.text.matches.items ≡ matches_of c.in-Ok.about.value (plan_seen plan))) c.in-Ok-new.ensures.ok
+    subst (λ about. IfOk c.played.result (λ series. map record_seen series.text.matches.items ≡ matches_of about (plan_seen c.args.plan))) c.in_ok-about.ensures
+    (subst (λ plan. IfOk c.played.result (λ series. map record_seen series.text.matches.items ≡ matches_of c.in_ok-about.about.value (plan_seen plan))) c.in_ok-plan.ensures.ok
     c.played.ensures.matches)
 
 pub returns-clause-standings : goal.returns-clause-standings
 returns-clause-standings g c =
-    subst (λ about. IfOk c.played.result (λ series. map standing_seen series.text.standings.items ≡ standings_of (plan_seen c.args.plan) (matches_of about (plan_seen c.args.plan)))) c.in-Ok.ensures
-    (subst (λ plan. IfOk c.played.result (λ series. map standing_seen series.text.standings.items ≡ standings_of (plan_seen plan) (matches_of c.in-Ok.about.value (plan_seen plan)))) c.in-Ok-new.ensures.ok
+    subst (λ about. IfOk c.played.result (λ series. map standing_seen series.text.standings.items ≡ standings_of (plan_seen c.args.plan) (matches_of about (plan_seen c.args.plan)))) c.in_ok-about.ensures
+    (subst (λ plan. IfOk c.played.result (λ series. map standing_seen series.text.standings.items ≡ standings_of (plan_seen plan) (matches_of c.in_ok-about.about.value (plan_seen plan)))) c.in_ok-plan.ensures.ok
     c.played.ensures.standings)

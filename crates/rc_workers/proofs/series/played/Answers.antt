@@ -1,4 +1,4 @@
-use Rattle.std.proofs.Common.{length, map, ap, ◌∙◌, subst, arith}
+use Rattle.std.proofs.Common.{length, map, sym, ap, ◌∙◌, subst, arith}
 use Rattle.rc_rules.specs.Plan.{plan_seen}
 use Rattle.rc_cache.specs.Memos.{shared_counts}
 use Rattle.rc_series.specs.Series.{looks_of}
@@ -16,6 +16,9 @@ play_shared-requires-clause-memos g c κs within =
 pub close-totals-requires : goal.close-totals-requires
 close-totals-requires g c =
     record { all = c.in-Ok-play_shared.ensures.lanes ∙ ap length (c.in-Ok-memos_of.ensures ∙ c.in-Ok.ensures.lanes) ∙ idle_count c.args.workers ∙ c.requires.name.2 }
+
+pub returns-clause-book : goal.returns-clause-book
+returns-clause-book g c = (c.close-totals.ensures.book.0 ∙ sym c.requires.name.1, c.close-totals.ensures.book.1 ∙ sym c.requires.name.2)
 
 pub returns-clause-looks : goal.returns-clause-looks
 returns-clause-looks g c =
