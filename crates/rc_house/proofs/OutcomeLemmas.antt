@@ -1,5 +1,5 @@
 -- How the outcome of a command follows from what its parts did.
-use Rattle.std.proofs.Common.{◌≡◌, ◌<◌, ◌≤◌, ◌+◌, ◌⊎◌, ◌↔◌, ℕ, List, [], ◌∷◌, ◌++◌, length, drop, length-append, Option, Some, None, Result, Ok, Err, inl, inr, refl, sym, ◌∙◌, ap, subst, arith}
+use Rattle.std.proofs.Common.{◌≡◌, ◌≢◌, ◌<◌, ◌≤◌, ◌+◌, ◌⊎◌, ◌↔◌, ℕ, List, [], ◌∷◌, ◌++◌, length, drop, length-append, Option, Some, None, Result, Ok, Err, inl, inr, refl, sym, ◌∙◌, ap, subst, arith}
 use Rattle.std.proofs.lemmas.Bool.{cases_lt}
 use Rattle.std.proofs.lemmas.List.{append-nil}
 use Rattle.rc_model.specs.Tree.{Tree}
@@ -13,7 +13,7 @@ use Rattle.rc_text_model.specs.Reading.{read_text}
 use Rattle.rc_judge_model.specs.Why.{Illegal}
 use Rattle.rc_judge_model.specs.Judged.{first_illegal}
 use Rattle.rc_series.specs.Series.{looks_of}
-use Rattle.rc_outside.specs.Source.{Gave, IsAtEnd}
+use Rattle.rc_outside.specs.Source.{Gave, IsAtEnd, longest_read}
 use Rattle.rc_outside.specs.declared.errors.ReadFail.{ReadFail}
 use Rattle.rc_outside.specs.declared.errors.ReadFail.TheVariants as fails
 use Rattle.rc_house.specs.declared.task.Task.{Task}
@@ -30,7 +30,7 @@ use Rattle.rc_house.specs.Task.{IsNoteOf, limit_of}
 use Rattle.rc_house.specs.Note.{note_line}
 use Rattle.rc_house.specs.Answer.{Answer, text, refused, seen, text_judged, verdict, AreAlike, IsAnswered, HasAnswer, form_faulty, sheet_faulty, plan_faulty, accepted, IsGameOf, IsPrepared}
 use Rattle.rc_house.specs.Status.{refusal_status, read_status}
-use Rattle.rc_house.specs.Port.{Port, Ports, port, HasFailed, Supplied, Delivers}
+use Rattle.rc_house.specs.Port.{Port, Ports, port, HasFailed, IsSteady, Supplied, Delivers}
 use Rattle.rc_house.specs.Outcome.{GaveTooMuch, Answers, CountedFew, Refuses, Outcome, written, refusing, no_memory, read_failed, too_long, text_failed, note_failed, NoPortFailed, Succeeds, status_of}
 use Rattle.rc_house.specs.Ends.{Performs}
 use Rattle.rc_house.specs.Reading.{IsAcceptedWith}
@@ -108,28 +108,30 @@ reads_game told after faults faults' named.Sheet bytes sheet plan given end few 
 
 -- what a command makes of the bytes that a source gave to its end
 pub reads_prepared : (told after : Option (List ℕ)) (faults faults' : ℕ) (task : Task) (bytes : List ℕ) (prepared : Prepared)
-    → Gave told after bytes → IsAtEnd after → length bytes ≤ limit_of task → IsPrepared task bytes prepared
+    → Gave told after bytes → IsAtEnd after → length bytes ≤ limit_of task → faults' ≡ faults → IsPrepared task bytes prepared
     → ReadsPrepared task (port told faults) (port after faults') prepared
-reads_prepared told after faults faults' task bytes (Answered answer) given end few is =
-    (answers_given told after faults faults' task bytes (seen answer 0) given end few is, note_answered task bytes answer 0 is)
-reads_prepared told after faults faults' task bytes (Playing game) given end few is =
-    (is.0, reads_game told after faults faults' task bytes game.checked (plan_seen game.plan) given end few is.1, (bytes, given, few))
+reads_prepared told after faults faults' task bytes (Answered answer) given end few steady is =
+    (answers_given told after faults faults' task bytes (seen answer 0) given end few is, note_answered task bytes answer 0 is, steady)
+reads_prepared told after faults faults' task bytes (Playing game) given end few steady is =
+    (is.0, reads_game told after faults faults' task bytes game.checked (plan_seen game.plan) given end few is.1, (bytes, given, few), steady)
 
 -- why a source wasn't read to its end
 pub unread_is : (task : Task) (limit : ℕ) (before after : Port) (fail : ReadFail) → limit ≡ limit_of task
-    → (fail ≡ fails.ReadFault → HasFailed before after)
-    → (taken : List ℕ) × Supplied before after taken × ((fail ≡ fails.TooLong) ↔ (limit < length taken))
+    → (fail ≡ fails.ReadFault → HasFailed before after) → (fail ≢ fails.ReadFault → IsSteady before after)
+    → (taken : List ℕ) × Supplied before after taken × ((fail ≡ fails.TooLong) ↔ (limit < length taken)) × (length taken ≤ limit + longest_read)
     → ReadsNone task before after (read_status fail)
-unread_is task limit before after fails.ReadFault same cause lost =
+unread_is task limit before after fails.ReadFault same cause steady lost =
     inl (refl, cause refl, (lost.0, lost.1, few_taken (cases_lt limit (length lost.0))))
   where
     few_taken : (limit < length lost.0) ⊎ (length lost.0 ≤ limit) → length lost.0 ≤ limit_of task
     few_taken (inl more) = let long = lost.2.1 more in absurd cc
     few_taken (inr few) = omega (arith, few, same)
-unread_is task limit before after fails.TooLong same cause lost =
-    let more = lost.2.0 refl in inr (inl (refl, (lost.0, lost.1, omega (arith, more, same))))
-unread_is task limit before after fails.Memory same cause lost =
-    inr (inr (refl, (lost.0, lost.1, few_taken (cases_lt limit (length lost.0)))))
+unread_is task limit before after fails.TooLong same cause steady lost =
+    let more = lost.2.0 refl in
+    let most = lost.3 in
+    inr (inl (refl, (lost.0, lost.1, omega (arith, more, same), omega (arith, most, same)), steady (λ is. absurd cc)))
+unread_is task limit before after fails.Memory same cause steady lost =
+    inr (inr (refl, (lost.0, lost.1, few_taken (cases_lt limit (length lost.0))), steady (λ is. absurd cc)))
   where
     few_taken : (limit < length lost.0) ⊎ (length lost.0 ≤ limit) → length lost.0 ≤ limit_of task
     few_taken (inl more) = let long = lost.2.1 more in absurd cc
@@ -147,41 +149,42 @@ counted_none before task steps = by before.told
 pub delivered : (task : Task) (before after : Ports) (steps steps' playouts : ℕ) (bytes note : List ℕ) (status : Status)
     → IsNoteOf task note
     → Answers before.source after.source task (λ other. other ≡ text bytes note playouts) → steps' ≡ steps + playouts
+    → IsSteady before.source after.source
     → Delivers bytes note before.out after.out before.notes after.notes status
     → Outcome task before after steps steps' status
-delivered task before after steps steps' playouts bytes note status noted answers counted (inl done) =
+delivered task before after steps steps' playouts bytes note status noted answers counted steady (inl done) =
     written done.0 note noted
-    (answers_with before.source after.source task (text bytes note playouts) _ answers (bytes, playouts, refl, counted, done.1)) done.2
-delivered task before after steps steps' playouts bytes note status noted answers counted (inr (inl failed)) =
+    (answers_with before.source after.source task (text bytes note playouts) _ answers (bytes, playouts, refl, counted, done.1)) done.2 steady done.3
+delivered task before after steps steps' playouts bytes note status noted answers counted steady (inr (inl failed)) =
     text_failed failed.0 failed.1 note noted
-    (answers_with before.source after.source task (text bytes note playouts) _ answers (bytes, playouts, refl, counted, failed.2)) failed.3
-delivered task before after steps steps' playouts bytes note status noted answers counted (inr (inr failed)) =
+    (answers_with before.source after.source task (text bytes note playouts) _ answers (bytes, playouts, refl, counted, failed.2)) failed.3 steady
+delivered task before after steps steps' playouts bytes note status noted answers counted steady (inr (inr failed)) =
     note_failed failed.0 failed.1 note noted
-    (answers_with before.source after.source task (text bytes note playouts) _ answers (bytes, playouts, refl, counted, failed.2)) failed.3
+    (answers_with before.source after.source task (text bytes note playouts) _ answers (bytes, playouts, refl, counted, failed.2)) failed.3 steady failed.4
 
 -- a source that wasn't read to its end, or for whose answer there was no memory
 unread_so : (task : Task) (before after : Ports) (steps : ℕ) (status : Status) → ReadsNone task before.source after.source status
     → Refuses status before after → Outcome task before after steps steps status
 unread_so task before after steps status (inl none) refuses = read_failed none.0 none.1 none.2 refuses refl
-unread_so task before after steps status (inr (inl none)) refuses = too_long none.0 none.1 refuses refl
+unread_so task before after steps status (inr (inl none)) refuses = too_long none.0 none.1 refuses refl none.2
 unread_so task before after steps status (inr (inr none)) refuses =
-    no_memory none.0 none.1 refuses (counted_none before.source task steps)
+    no_memory none.0 none.1 refuses (counted_none before.source task steps) none.2
 
 -- what follows from a command's answer and from what was done with it
 pub concluded : (task : Task) (before after : Ports) (steps steps' : ℕ) (answered : Result Stored Status) (status : Status)
     → AnswersSource task before.source after.source steps steps' answered
     → Concludes answered before.out after.out before.notes after.notes status → Outcome task before after steps steps' status
 concluded task before after steps steps' (Ok (Text bytes note)) status is ends =
-    delivered task before after steps steps' is.0 bytes.items (note_line note) status is.1.1 is.1.0 is.2 ends
+    delivered task before after steps steps' is.0 bytes.items (note_line note) status is.1.1 is.1.0 is.2 is.1.2 ends
 concluded task before after steps steps' (Ok (Refused refusal)) status is ends =
     let counted = is.2 in
-    refusing refusal ends.0 is.1.0 (record { untouched = ends.1; noted = ends.2 }) (omega (arith, counted))
+    refusing refusal ends.0 is.1.0 (record { untouched = ends.1; noted = ends.2 }) (omega (arith, counted)) is.1.2
 concluded task before after steps steps' (Err why) status (inl none) ends =
     subst (λ steps'. Outcome task before after steps steps' status) (sym none.1)
     (unread_so task before after steps status (subst (ReadsNone task before.source after.source) (sym ends.0) none.0)
     (record { untouched = ends.1; noted = ends.2 }))
 concluded task before after steps steps' (Err why) status (inr lacks) ends =
-    no_memory (ends.0 ∙ lacks.0) lacks.1 (record { untouched = ends.1; noted = ends.2 }) lacks.2
+    no_memory (ends.0 ∙ lacks.0) lacks.1 (record { untouched = ends.1; noted = ends.2 }) lacks.2 lacks.3
 
 -- the answers that two readings of one source give are alike
 same_answer : (before after : Port) (task : Task) (P : Answer → Type 0) (source : List ℕ) (other : Answer)
@@ -231,39 +234,39 @@ refusal_is_no_text refusal bytes note playouts other alike is = subst (AreAlike 
 answers_due : (task : Task) (before after : Ports) (steps steps' : ℕ) (status : Status) → Outcome task before after steps steps' status
     → (source : List ℕ) (answer : Answer) → before.source.told ≡ Some source → length source ≤ limit_of task
     → HasAnswer task source answer → NoPortFailed answer before after → (status ≡ status_of answer) ⊎ (status ≡ Memory)
-answers_due task before after steps steps' status (written is note noted answers took) source answer told few has well =
+answers_due task before after steps steps' status (written is note noted answers took steady quiet) source answer told few has well =
     let same = same_answer before.source after.source task _ source answer answers told has in
     inl (is ∙ ap status_of (sym same.1.2) ∙ sym (one_status answer same.0 same.2))
-answers_due task before after steps steps' status (refusing refusal is answers refuses counted) source answer told few has well =
+answers_due task before after steps steps' status (refusing refusal is answers refuses counted steady) source answer told few has well =
     let same = same_answer before.source after.source task _ source answer answers told has in
     inl (is ∙ ap status_of (sym same.1) ∙ sym (one_status answer same.0 same.2))
-answers_due task before after steps steps' status (no_memory is gave refuses counted) source answer told few has well = inr is
+answers_due task before after steps steps' status (no_memory is gave refuses counted steady) source answer told few has well = inr is
 answers_due task before after steps steps' status (read_failed is failed gave refuses counted) source (text bytes note' playouts) told few has well = absurd (well.0 failed)
 answers_due task before after steps steps' status (read_failed is failed gave refuses counted) source (refused refusal) told few has well = absurd (well failed)
-answers_due task before after steps steps' status (too_long is gave refuses counted) source answer told few has well =
+answers_due task before after steps steps' status (too_long is gave refuses counted steady) source answer told few has well =
     absurd (not_too_much task before.source after.source source gave told few)
-answers_due task before after steps steps' status (text_failed is failed note noted answers took) source (text bytes note' playouts) told few has well = absurd (well.1 failed)
-answers_due task before after steps steps' status (text_failed is failed note noted answers took) source (refused refusal) told few has well =
+answers_due task before after steps steps' status (text_failed is failed note noted answers took steady) source (text bytes note' playouts) told few has well = absurd (well.1 failed)
+answers_due task before after steps steps' status (text_failed is failed note noted answers took steady) source (refused refusal) told few has well =
     let same = same_answer before.source after.source task _ source (refused refusal) answers told has in
     absurd (refusal_is_no_text refusal same.1.0 note same.1.1 same.0 same.2 same.1.2)
-answers_due task before after steps steps' status (note_failed is failed note noted answers took) source (text bytes note' playouts) told few has well = absurd (well.2 failed)
-answers_due task before after steps steps' status (note_failed is failed note noted answers took) source (refused refusal) told few has well =
+answers_due task before after steps steps' status (note_failed is failed note noted answers took steady quiet) source (text bytes note' playouts) told few has well = absurd (well.2 failed)
+answers_due task before after steps steps' status (note_failed is failed note noted answers took steady quiet) source (refused refusal) told few has well =
     let same = same_answer before.source after.source task _ source (refused refusal) answers told has in
     absurd (refusal_is_no_text refusal same.1.0 note same.1.1 same.0 same.2 same.1.2)
 
 too_long_due : (task : Task) (before after : Ports) (steps steps' : ℕ) (status : Status) → Outcome task before after steps steps' status
     → (source : List ℕ) → before.source.told ≡ Some source → limit_of task < length source
     → (HasFailed before.source after.source → ⊥) → (status ≡ TooLong) ⊎ (status ≡ Memory)
-too_long_due task before after steps steps' status (written is note noted answers took) source told long well =
+too_long_due task before after steps steps' status (written is note noted answers took steady quiet) source told long well =
     absurd (not_answered before.source after.source task _ source answers told long)
-too_long_due task before after steps steps' status (refusing refusal is answers refuses counted) source told long well =
+too_long_due task before after steps steps' status (refusing refusal is answers refuses counted steady) source told long well =
     absurd (not_answered before.source after.source task _ source answers told long)
-too_long_due task before after steps steps' status (no_memory is gave refuses counted) source told long well = inr is
+too_long_due task before after steps steps' status (no_memory is gave refuses counted steady) source told long well = inr is
 too_long_due task before after steps steps' status (read_failed is failed gave refuses counted) source told long well = absurd (well failed)
-too_long_due task before after steps steps' status (too_long is gave refuses counted) source told long well = inl is
-too_long_due task before after steps steps' status (text_failed is failed note noted answers took) source told long well =
+too_long_due task before after steps steps' status (too_long is gave refuses counted steady) source told long well = inl is
+too_long_due task before after steps steps' status (text_failed is failed note noted answers took steady) source told long well =
     absurd (not_answered before.source after.source task _ source answers told long)
-too_long_due task before after steps steps' status (note_failed is failed note noted answers took) source told long well =
+too_long_due task before after steps steps' status (note_failed is failed note noted answers took steady quiet) source told long well =
     absurd (not_answered before.source after.source task _ source answers told long)
 
 -- only want of memory keeps a command whose ports don't fail from the status of its answer

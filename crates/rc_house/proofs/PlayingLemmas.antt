@@ -33,7 +33,7 @@ use Rattle.rc_house.specs.Ends.{Runs}
 use Rattle.rc_house.specs.Note.{looks_line, note_line}
 use Rattle.rc_house.specs.Outcome.{Answers, CountedFew}
 use Rattle.rc_house.specs.Players.{counted_playouts}
-use Rattle.rc_house.specs.Port.{Port, Ports, port}
+use Rattle.rc_house.specs.Port.{Port, Ports, port, IsSteady}
 use Rattle.rc_house.specs.Running.{ReadsAnswer, ReadsGame, IsSeriesOf, TellsOf, PreparesCommand, AnswersBench, AnswersSource, AnswersCommand, Concludes}
 use Rattle.rc_house.proofs.AnswerLaws.{counted_few}
 use Rattle.rc_house.proofs.BenchLaws.{summary_is, few_steps}
@@ -58,10 +58,10 @@ few_counted options before after sheet plan steps steps' reads few =
 
 -- what `play` tells of a series
 house_answers : (options : Options) (before after : Port) (sheet : Sheet) (plan : Plan) (steps steps' : ℕ) (series : Series) (bytes : Vec ℕ Global) (note : Note)
-    → ReadsGame (Play options) before after sheet plan → IsSeriesOf options (about_of sheet plan.turns) plan steps steps' series
+    → IsSteady before after → ReadsGame (Play options) before after sheet plan → IsSeriesOf options (about_of sheet plan.turns) plan steps steps' series
     → bytes.items ≡ text_of series.text → note ≡ Looks series.totals.looks series.totals.hits
     → AnswersSource (Play options) before after steps steps' (Ok (Text bytes note))
-house_answers options before after sheet plan steps steps' series bytes note reads is written noted =
+house_answers options before after sheet plan steps steps' series bytes note steady reads is written noted =
     let about = about_of sheet plan.turns in
     let playouts = counted_playouts options (looks_of about plan) in
     let wrote : bytes.items ≡ keyed_house about plan =
@@ -72,7 +72,7 @@ house_answers options before after sheet plan steps steps' series bytes note rea
     ap (λ bytes. text bytes (note_line note) playouts) wrote
     ∙ ap (λ note. text (keyed_house about plan) (note_line note) playouts) noted
     ∙ ap (λ looks. text (keyed_house about plan) (looks_line looks series.totals.hits) playouts) is.looks in
-    (playouts, (reads (seen (Text bytes note) playouts) (series.totals.hits, is.hits, told), (series.totals.looks, series.totals.hits, ap note_line noted)), is.counted)
+    (playouts, (reads (seen (Text bytes note) playouts) (series.totals.hits, is.hits, told), (series.totals.looks, series.totals.hits, ap note_line noted), steady), is.counted)
 
 -- what `bench` tells of it
 bench_answers : (options : Options) (number : ℕ) (sheet : Sheet) (plan : Plan) (steps steps' : ℕ) (series : Series) (bytes : Vec ℕ Global) (note : Note)
@@ -107,7 +107,7 @@ module _ (before after : Port) where
       → TellsOf called series answer → AnswersCommand called before after steps steps' (Ok answer)
   told called game steps steps' series (Refused refusal) prepared is tells = absurd tells
   told (command.Play options) game steps steps' series (Text bytes note) prepared is tells =
-      house_answers options before after game.checked (plan_seen game.plan) steps steps' series bytes note prepared.1 is tells.0 tells.1
+      house_answers options before after game.checked (plan_seen game.plan) steps steps' series bytes note prepared.3 prepared.1 is tells.0 tells.1
   told command.Check game steps steps' series (Text bytes note) prepared is tells = absurd prepared.1
   told command.Sheet game steps steps' series (Text bytes note) prepared is tells = absurd prepared.1
   told (command.Bench number options) game steps steps' series (Text bytes note) prepared is tells =
@@ -119,7 +119,7 @@ module _ (before after : Port) where
       → steps' ≤ steps + counted_playouts (options_of called) (looks_of (about_of game.checked game.plan.turns) (plan_seen game.plan))
       → status ≡ Memory → AnswersCommand called before after steps steps' (Err status)
   lacking (command.Play options) game steps steps' status prepared few is =
-      inr (is, prepared.2, few_counted options before after game.checked (plan_seen game.plan) steps steps' prepared.1 few)
+      inr (is, prepared.2, few_counted options before after game.checked (plan_seen game.plan) steps steps' prepared.1 few, prepared.3)
   lacking command.Check game steps steps' status prepared few is = absurd prepared.1
   lacking command.Sheet game steps steps' status prepared few is = absurd prepared.1
   lacking (command.Bench number options) game steps steps' status prepared few is =

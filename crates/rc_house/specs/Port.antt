@@ -19,6 +19,10 @@ port told faults = record { told = told; faults = faults }
 abbrev pub HasFailed : Port → Port → Type 0
 HasFailed before after = Rose before.faults after.faults
 
+-- No read or write failed: the count of faults is as it was. Where it stands at its largest value, one may have.
+abbrev pub IsSteady : Port → Port → Type 0
+IsSteady before after = after.faults ≡ before.faults
+
 -- the source gave these bytes, from the front of what it had
 abbrev pub Supplied : Port → Port → List ℕ → Type 0
 Supplied before after bytes = Gave before.told after.told bytes
@@ -31,25 +35,26 @@ Received before after text = Got before.told after.told text
 abbrev pub ReceivedFront : Port → Port → List ℕ → Type 0
 ReceivedFront before after text = GotFront before.told after.told text
 
--- the sink received this text, or a write failed and it received a front of it
+-- the sink received this text and no write failed, or one failed and it received a front of it
 abbrev pub Took : Port → Port → List ℕ → Type 0
-Took before after text = Received before after text ⊎ (HasFailed before after × ReceivedFront before after text)
+Took before after text =
+    (Received before after text × IsSteady before after) ⊎ (HasFailed before after × ReceivedFront before after text)
 
--- the notes received exactly this line; where there is none, nothing was done to them
+-- the notes received exactly this line, and no write failed; where there is none, nothing was done to them
 abbrev pub Noted : Port → Port → List ℕ → Type 0
-Noted before after note = Received before after note × (note ≡ [] → after ≡ before)
+Noted before after note = Received before after note × (note ≡ [] → after ≡ before) × IsSteady before after
 
 -- the notes received a front of this line, which isn't empty
 abbrev pub NotedFront : Port → Port → List ℕ → Type 0
 NotedFront before after note = ReceivedFront before after note × (note ≡ [] → ⊥)
 
 -- How writing a text and its note ends: both were written; or a write of the text failed, which was noted; or the text was
--- written, and a write of its note failed.
+-- written, and a write of its note failed. No write failed but these.
 abbrev pub Delivers : List ℕ → List ℕ → Port → Port → Port → Port → Status → Type 0
 Delivers text note out out' notes notes' status =
-    ((status ≡ Done) × Received out out' text × Noted notes notes' note)
+    ((status ≡ Done) × Received out out' text × Noted notes notes' note × IsSteady out out')
     ⊎ ((status ≡ WriteFault) × HasFailed out out' × ReceivedFront out out' text × Took notes notes' (line_of status))
-    ⊎ ((status ≡ WriteFault) × HasFailed notes notes' × Received out out' text × NotedFront notes notes' note)
+    ⊎ ((status ≡ WriteFault) × HasFailed notes notes' × Received out out' text × NotedFront notes notes' note × IsSteady out out')
 
 -- The three ports of a command at a moment.
 pub record Ports : Type 0 where

@@ -30,7 +30,7 @@ use Rattle.rc_house.specs.Note.{note_line}
 use Rattle.rc_house.specs.Players.{AreHits, CanPlay, counted_playouts}
 use Rattle.rc_house.specs.Answer.{Answer, seen, playouts_of, IsGame, IsPlayed}
 use Rattle.rc_house.specs.Bench.{IsBenchAnswer}
-use Rattle.rc_house.specs.Port.{Port, HasFailed, Delivers, Took}
+use Rattle.rc_house.specs.Port.{Port, HasFailed, IsSteady, Delivers, Took}
 use Rattle.rc_house.specs.Status.{line_of, refusal_status}
 use Rattle.rc_house.specs.Outcome.{Answers, CountedFew, GaveFew, GaveTooMuch}
 
@@ -41,7 +41,8 @@ HasNoteOf task (stored.Refused refusal) = Unit {0}
 
 -- the source was read, and this is the command's answer to it, where it takes so many playouts
 abbrev pub ReadsAnswer : Task → Port → Port → ℕ → Stored → Type 0
-ReadsAnswer task before after playouts answer = Answers before after task (λ other. other ≡ seen answer playouts) × HasNoteOf task answer
+ReadsAnswer task before after playouts answer =
+    Answers before after task (λ other. other ≡ seen answer playouts) × HasNoteOf task answer × IsSteady before after
 
 -- the source was read, and what is played of this sheet and plan is the command's answer to it
 abbrev pub ReadsGame : Task → Port → Port → Sheet → Plan → Type 0
@@ -54,14 +55,15 @@ abbrev pub ReadsPrepared : Task → Port → Port → Prepared → Type 0
 ReadsPrepared task before after (Answered answer) = ReadsAnswer task before after 0 answer
 ReadsPrepared task before after (Playing game) =
     IsGame game.checked (plan_seen game.plan) × ReadsGame task before after game.checked (plan_seen game.plan)
-    × GaveFew task before after
+    × GaveFew task before after × IsSteady before after
 
--- Why the command makes nothing of its source: a read failed, the source gave too much, or there was no memory.
+-- Why the command makes nothing of its source: a read failed, the source gave too much, or there was no memory. Only in the first case
+-- one failed.
 abbrev pub ReadsNone : Task → Port → Port → Status → Type 0
 ReadsNone task before after status =
     ((status ≡ ending.ReadFault) × HasFailed before after × GaveFew task before after)
-    ⊎ ((status ≡ ending.TooLong) × GaveTooMuch task before after)
-    ⊎ ((status ≡ ending.Memory) × GaveFew task before after)
+    ⊎ ((status ≡ ending.TooLong) × GaveTooMuch task before after × IsSteady before after)
+    ⊎ ((status ≡ ending.Memory) × GaveFew task before after × IsSteady before after)
 
 -- The matches of a sheet and a plan were played as the options say, and so many playouts were counted for them.
 pub record IsSeriesOf (options : Options) (about : About) (plan : Plan) (steps steps' : ℕ) (series : Series) : Type 0 where
@@ -96,7 +98,7 @@ AnswersSource task before after steps steps' (Ok answer) =
     (playouts : ℕ) × ReadsAnswer task before after playouts answer × (steps' ≡ steps + playouts_of (seen answer playouts))
 AnswersSource task before after steps steps' (Err status) =
     (ReadsNone task before after status × (steps' ≡ steps))
-    ⊎ ((status ≡ ending.Memory) × GaveFew task before after × CountedFew before task steps steps')
+    ⊎ ((status ≡ ending.Memory) × GaveFew task before after × CountedFew before task steps steps' × IsSteady before after)
 
 -- What `bench` makes before anybody plays: its game.
 abbrev pub PreparesBench : ℕ → Prepared → Type 0

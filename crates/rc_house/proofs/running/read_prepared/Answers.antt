@@ -15,7 +15,7 @@ returns-clause-prepared g c =
     subst (λ bytes. IsPrepared c.args.task bytes c.in_ok-prepared.prepared) c.deref.ensures.value c.in_ok-prepared.ensures in
     reads_prepared (g.S.Source.left c.args.source.now) (g.S.Source.left c.read_all.new.source) (g.S.Source.faults c.args.source.now)
     (g.S.Source.faults c.read_all.new.source) c.args.task bytes c.in_ok-prepared.prepared
-    c.in_ok-bytes.ensures.whole c.in_ok-bytes.ensures.end few is
+    c.in_ok-bytes.ensures.whole c.in_ok-bytes.ensures.end few (c.in_ok-bytes.ensures.steady (λ is. absurd cc)) is
 
 pub returns-in_err-bytes-clause-none : goal.returns-in_err-bytes-clause-none
 returns-in_err-bytes-clause-none g c =
@@ -24,7 +24,7 @@ returns-in_err-bytes-clause-none g c =
     at_err (λ r. IfErr r (ReadsNone c.args.task before after)) c.from_residual.result c.from_residual.ensures.1
     (λ status is. subst (ReadsNone c.args.task before after) (sym is)
     (unread_is c.args.task c.limit.result before after c.in_err-bytes.field-0.0 c.limit.ensures.is
-    (λ same. c.in_err-bytes.ensures.cause (ap (λ fail. Err fail) same)) c.in_err-bytes.ensures.lost))
+    (λ same. c.in_err-bytes.ensures.cause (ap (λ fail. Err fail) same)) (λ other. c.in_err-bytes.ensures.steady (λ same. other cc)) c.in_err-bytes.ensures.lost))
 
 pub returns-in_err-prepared-clause-none : goal.returns-in_err-prepared-clause-none
 returns-in_err-prepared-clause-none g c =
@@ -32,4 +32,4 @@ returns-in_err-prepared-clause-none g c =
     let after = port (g.S.Source.left c.read_all.new.source) (g.S.Source.faults c.read_all.new.source) in
     let few : length c.in_ok-bytes.bytes.items ≤ limit_of c.args.task = search rules in
     at_err (λ r. IfErr r (ReadsNone c.args.task before after)) c.from_residual-in_err-prepared.result c.from_residual-in_err-prepared.ensures.1
-    (λ status is. inr (inr (is, (c.in_ok-bytes.bytes.items, c.in_ok-bytes.ensures.whole, few))))
+    (λ status is. inr (inr (is, (c.in_ok-bytes.bytes.items, c.in_ok-bytes.ensures.whole, few), c.in_ok-bytes.ensures.steady (λ is. absurd cc))))
