@@ -1,5 +1,6 @@
 -- Who plays the matches of a plan: so many workers over one book of so many totals. What comes of their looks.
 use Rattle.std.specs.Prelude.{◌≡◌, ℕ, ◌<◌, ◌≤◌, Bool, true, false, nat_lt, if◌then◌else◌, List, length}
+use Rattle.rc_model.specs.Limits.{most_workers, most_entries}
 use Rattle.rc_redraw.specs.Asking.{Key}
 use Rattle.rc_cache.specs.Hits.{hits, cost}
 use Rattle.rc_command.specs.declared.options.Options.{Options}
@@ -7,9 +8,9 @@ use Rattle.rc_command.specs.declared.options.Options.{Options}
 -- the options are within their limits
 pub record AreWithin (options : Options) : Type 0 where
   pub some_workers : 1 ≤ options.workers
-  pub workers : options.workers ≤ 64
+  pub workers : options.workers ≤ most_workers
   pub some_cache : 1 ≤ options.cache
-  pub cache : options.cache ≤ 65536
+  pub cache : options.cache ≤ most_entries
 
 -- So many workers can play: one always can, and any number where several can play at one time, as `many` says.
 abbrev pub CanPlay : (many : Bool) → ℕ → Type 0
