@@ -1,5 +1,6 @@
 -- What is read, said of another form and its faults.
-use Rattle.std.proofs.Common.{◌≡◌, ℕ, List, [], ◌∷◌, ◌++◌, Result, Ok, Err, Some, sym, ap, subst, ◌∙◌}
+use Rattle.std.proofs.Common.{◌≡◌, ℕ, List, [], ◌∷◌, ◌++◌, Result, Ok, Err, IfErr, IsErrAnd, Some, sym, ap, subst, ◌∙◌}
+use Rattle.std.proofs.lemmas.Result.{err_from_is_err_and}
 use Rattle.rc_plan_model.specs.Faults.{fault}
 use Rattle.rc_plan_model.specs.PlanFault.{first}
 use Rattle.rc_plan_model.specs.declared.fault.PlanKind.TheVariants.{Shape}
@@ -23,6 +24,18 @@ pub reads_as : {A : Type 0} (r : Result A PlanFail) (Holds Other : A → Type 0)
     → ((a : A) → Holds a → Other a) → others ≡ faults → Reads r Holds faults → Reads r Other others
 reads_as (Ok a) Holds Other faults others then same reads = (then a reads.0, same ∙ reads.1)
 reads_as (Err fail) Holds Other faults others then same reads = fail_as fail faults others same reads
+
+-- a fail that a `?` hands on
+pub handed_on : {A : Type 0} (r : Result A PlanFail) (fail : PlanFail) (P : PlanFail → Type 0) → IsErrAnd r (λ other. other ≡ fail) → P fail → IfErr r P
+handed_on r fail P is told =
+    let passed = err_from_is_err_and r is in subst (λ r. IfErr r P) (sym passed.1) (subst P (sym passed.2) told)
+
+pub reads_handed_on : {A : Type 0} (r : Result A PlanFail) (fail : PlanFail) (Holds : A → Type 0) (faults : List PlanFault)
+    → IsErrAnd r (λ other. other ≡ fail) → IfPlanFault fail (λ fault. first faults ≡ Some fault) → Reads r Holds faults
+reads_handed_on r fail Holds faults is told =
+    let passed = err_from_is_err_and r is in
+    subst (λ r. Reads r Holds faults) (sym passed.1)
+    (subst (λ fail. IfPlanFault fail (λ fault. first faults ≡ Some fault)) (sym passed.2) told)
 
 -- the first fault of the first of two lists is that of both, and behind no fault the first of the second is
 first_before : (fail : PlanFail) (xs ys : List PlanFault) → IfPlanFault fail (λ fault. first xs ≡ Some fault)

@@ -41,25 +41,17 @@ pub fn read_draft(alloc: Global, form: &Form) -> Result<Draft, PlanFail>
     let [seats, matches, turns] = parts else {
         return Err(PlanFail::shape(start_of(form)));
     };
-    let strategies = match read_seats(alloc, seats) {
-        Ok(strategies) => strategies,
-        Err(fail) => return Err(fail),
-    };
-    let matches = match read_matches(alloc, matches) {
-        Ok(matches) => matches,
-        Err(fail) => return Err(fail),
-    };
-    match read_turns(turns) {
-        Ok((turns, turns_at)) => Ok(Draft {
-            strategies,
-            matches,
-            turns,
-            at: start_of(form),
-            seats_at: start_of(seats),
-            turns_at,
-        }),
-        Err(fail) => Err(fail),
-    }
+    let strategies = read_seats(alloc, seats)?;
+    let matches = read_matches(alloc, matches)?;
+    let (turns, turns_at) = read_turns(turns)?;
+    Ok(Draft {
+        strategies,
+        matches,
+        turns,
+        at: start_of(form),
+        seats_at: start_of(seats),
+        turns_at,
+    })
 }
 
 /// The turn limit of `(turns T)`, and its offset.
@@ -72,10 +64,8 @@ fn read_turns(form: &Form) -> Result<(u64, u32), PlanFail>
     let [limit] = parts else {
         return Err(PlanFail::shape(start_of(form)));
     };
-    match read_any(limit) {
-        Ok(turns) => Ok((turns, start_of(limit))),
-        Err(fail) => Err(fail),
-    }
+    let turns = read_any(limit)?;
+    Ok((turns, start_of(limit)))
 }
 
 impl Draft {
@@ -113,14 +103,12 @@ impl Draft {
         requires limit { self.turns ≤ most_turns }
         ensures { IfOk result (λ plan. plan_seen plan ≡ plan_drafted self) }
     {
-        match self.matches.deals(alloc) {
-            Ok(matches) => Ok(Plan {
-                strategies: self.strategies,
-                matches,
-                turns: self.turns as u32,
-            }),
-            Err(memory) => Err(memory),
-        }
+        let matches = self.matches.deals(alloc)?;
+        Ok(Plan {
+            strategies: self.strategies,
+            matches,
+            turns: self.turns as u32,
+        })
     }
 }
 

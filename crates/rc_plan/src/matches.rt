@@ -49,20 +49,19 @@ pub fn read_matches(alloc: Global, form: &Form) -> Result<Matches, PlanFail>
 fn read_only(alloc: Global, only: &Form) -> Result<Matches, PlanFail>
     ensures { Reads result (λ matches. AreMatchParts matches (cons (tree_of only.now) nil)) (place.match true (tree_of only.now)) }
 {
-    match read_match(true, only) {
-        Ok(Match::One(deal)) => {
+    match read_match(true, only)? {
+        Match::One(deal) => {
             let mut deals = Vec::new(alloc);
             if deals.push(deal).is_err() {
                 return Err(PlanFail::Memory);
             }
             Ok(Matches::Listed(deals))
         }
-        Ok(Match::From { first, count }) => Ok(Matches::From {
+        Match::From { first, count } => Ok(Matches::From {
             first,
             count,
             at: start_of(only),
         }),
-        Err(fail) => Err(fail),
     }
 }
 
@@ -76,10 +75,8 @@ fn read_several(alloc: Global, parts: &[Form]) -> Result<Matches, PlanFail>
     if lists_among(parts) <= 1 {
         return Err(fault_among(parts));
     }
-    match read_deals(alloc, parts) {
-        Ok(deals) => Ok(Matches::Listed(deals)),
-        Err(fail) => Err(fail),
-    }
+    let deals = read_deals(alloc, parts)?;
+    Ok(Matches::Listed(deals))
 }
 
 /// How many of the parts are lists.
@@ -116,14 +113,13 @@ fn read_deals(alloc: Global, parts: &[Form]) -> Result<Vec<Deal>, PlanFail>
 {
     let mut deals = Vec::new(alloc);
     for part in parts {
-        match read_match(false, part) {
-            Ok(Match::One(deal)) => {
+        match read_match(false, part)? {
+            Match::One(deal) => {
                 if deals.push(deal).is_err() {
                     return Err(PlanFail::Memory);
                 }
             }
-            Ok(Match::From { .. }) => unreachable!(),
-            Err(fail) => return Err(fail),
+            Match::From { .. } => unreachable!(),
         }
     }
     Ok(deals)
@@ -137,17 +133,15 @@ fn read_match(alone: bool, form: &Form) -> Result<Match, PlanFail>
         if !alone {
             return Err(PlanFail::shape(start_of(form)));
         }
-        return match read_count(parts, start_of(form)) {
-            Ok((first, count)) => Ok(Match::From { first, count }),
-            Err(fail) => Err(fail),
-        };
+        let (first, count) = read_count(parts, start_of(form))?;
+        return Ok(Match::From { first, count });
     }
     match form {
         Form::Atom { span, .. } => Err(PlanFail::shape(span.from)),
-        Form::List { items, span } => match read_deal(items, span.from) {
-            Ok(deal) => Ok(Match::One(deal)),
-            Err(fail) => Err(fail),
-        },
+        Form::List { items, span } => {
+            let deal = read_deal(items, span.from)?;
+            Ok(Match::One(deal))
+        }
     }
 }
 
@@ -159,13 +153,9 @@ fn read_deal(parts: &[Form], from: u32) -> Result<Deal, PlanFail>
     let [deal, seats] = parts else {
         return Err(PlanFail::shape(from));
     };
-    match read_any(deal) {
-        Ok(deal) => match read_any(seats) {
-            Ok(seats) => Ok(Deal { deal, seats }),
-            Err(fail) => Err(fail),
-        },
-        Err(fail) => Err(fail),
-    }
+    let deal = read_any(deal)?;
+    let seats = read_any(seats)?;
+    Ok(Deal { deal, seats })
 }
 
 /// The first match behind `from`, and how many there are.
@@ -176,16 +166,8 @@ fn read_count(parts: &[Form], from: u32) -> Result<(Deal, u64), PlanFail>
     let [deal, seats, count] = parts else {
         return Err(PlanFail::shape(from));
     };
-    let deal = match read_any(deal) {
-        Ok(deal) => deal,
-        Err(fail) => return Err(fail),
-    };
-    let seats = match read_any(seats) {
-        Ok(seats) => seats,
-        Err(fail) => return Err(fail),
-    };
-    match read_any(count) {
-        Ok(count) => Ok((Deal { deal, seats }, count)),
-        Err(fail) => Err(fail),
-    }
+    let deal = read_any(deal)?;
+    let seats = read_any(seats)?;
+    let count = read_any(count)?;
+    Ok((Deal { deal, seats }, count))
 }

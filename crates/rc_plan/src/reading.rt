@@ -31,10 +31,7 @@ pub fn plan_of(alloc: Global, form: &Form, players: u8) -> Result<Plan, PlanFail
 
     ensures found { IfErr result (λ fail. IfPlanFault fail (λ fault. IsPlanFault (tree_of form.now) players fault.kind fault.at)) }
 {
-    let draft = match read_draft(alloc, form) {
-        Ok(draft) => draft,
-        Err(fail) => return Err(fail),
-    };
+    let draft = read_draft(alloc, form)?;
     if let Some(fault) = draft.fault(players) {
         return Err(PlanFail::Fault(fault));
     }

@@ -32,13 +32,9 @@ fn read_strategies(alloc: Global, parts: &[Form]) -> Result<Vec<Strategy>, PlanF
 {
     let mut strategies = Vec::new(alloc);
     for part in parts {
-        match read_strategy(alloc, part) {
-            Ok(strategy) => {
-                if strategies.push(strategy).is_err() {
-                    return Err(PlanFail::Memory);
-                }
-            }
-            Err(fail) => return Err(fail),
+        let strategy = read_strategy(alloc, part)?;
+        if strategies.push(strategy).is_err() {
+            return Err(PlanFail::Memory);
         }
     }
     Ok(strategies)
@@ -49,22 +45,16 @@ fn read_strategy(alloc: Global, form: &Form) -> Result<Strategy, PlanFail>
     ensures { Reads result (λ strategy. IsStrategy (strategy_seen strategy) (tree_of form.now)) (place.strategy (tree_of form.now)) }
 {
     if let Some(parts) = parts_behind(form, b"script") {
-        return match read_script(alloc, parts) {
-            Ok(numbers) => Ok(Strategy::Script(numbers)),
-            Err(fail) => Err(fail),
-        };
+        let numbers = read_script(alloc, parts)?;
+        return Ok(Strategy::Script(numbers));
     }
     if let Some(parts) = parts_behind(form, b"random") {
-        return match read_key(parts, start_of(form)) {
-            Ok(key) => Ok(Strategy::Random { key }),
-            Err(fail) => Err(fail),
-        };
+        let key = read_key(parts, start_of(form))?;
+        return Ok(Strategy::Random { key });
     }
     if let Some(parts) = parts_behind(form, b"rollout") {
-        return match read_rollout(parts, start_of(form)) {
-            Ok((rounds, key)) => Ok(Strategy::Rollout { rounds, key }),
-            Err(fail) => Err(fail),
-        };
+        let (rounds, key) = read_rollout(parts, start_of(form))?;
+        return Ok(Strategy::Rollout { rounds, key });
     }
     Err(PlanFail::shape(start_of(form)))
 }
@@ -76,13 +66,9 @@ fn read_script(alloc: Global, parts: &[Form]) -> Result<Vec<u16>, PlanFail>
 {
     let mut numbers = Vec::new(alloc);
     for part in parts {
-        match read_number(part, 0, u64::from(u16::MAX)) {
-            Ok(number) => {
-                if numbers.push(number as u16).is_err() {
-                    return Err(PlanFail::Memory);
-                }
-            }
-            Err(fail) => return Err(fail),
+        let number = read_number(part, 0, u64::from(u16::MAX))?;
+        if numbers.push(number as u16).is_err() {
+            return Err(PlanFail::Memory);
         }
     }
     Ok(numbers)
@@ -106,11 +92,7 @@ fn read_rollout(parts: &[Form], from: u32) -> Result<(u16, u64), PlanFail>
     let [rounds, key] = parts else {
         return Err(PlanFail::shape(from));
     };
-    match read_number(rounds, 1, MOST_ROUNDS) {
-        Ok(rounds) => match read_any(key) {
-            Ok(key) => Ok((rounds as u16, key)),
-            Err(fail) => Err(fail),
-        },
-        Err(fail) => Err(fail),
-    }
+    let rounds = read_number(rounds, 1, MOST_ROUNDS)?;
+    let key = read_any(key)?;
+    Ok((rounds as u16, key))
 }

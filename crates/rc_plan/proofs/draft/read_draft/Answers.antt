@@ -6,7 +6,7 @@ use Rattle.rc_plan_model.specs.Faults.{fault, row, seats, matches, turns}
 use Rattle.rc_plan_model.specs.declared.fault.PlanKind.TheVariants.{Shape}
 use Rattle.rc_plan.proofs.Headed.{headed_is, unheaded}
 use Rattle.rc_plan.proofs.Lengths.{other_length, three}
-use Rattle.rc_plan.proofs.Told.{shape_told, fail_as, second_part}
+use Rattle.rc_plan.proofs.Told.{shape_told, fail_as, reads_handed_on, second_part}
 use Rattle.rc_plan.proofs.draft.read_draft.Goals as goal
 
 pub returns-in_default : goal.returns-in_default
@@ -24,8 +24,8 @@ returns-in_default-parts c =
     ∙ other_length places (start_of form) forms (λ long. grind arith)
     ∙ ap (fault Shape) (sym c.start_of-in_default-parts.ensures))
 
-pub returns-in-Err-read_matches : goal.returns-in-Err-read_matches
-returns-in-Err-read_matches c =
+pub returns-in_err-matches : goal.returns-in_err-matches
+returns-in_err-matches c =
     let form = tree_of c.args.form.now in
     let forms = c.in-Some.parts.now in
     let places = seats ∷ matches ∷ turns ∷ [] in
@@ -33,5 +33,6 @@ returns-in-Err-read_matches c =
     c.seats-item.is c.matches-item.is c.turns-item.is in
     let same = headed_is (codes "plan") (packed (trees_of forms)) form (row places) c.in-Some.ensures.found
     ∙ ap (λ forms. row places (start_of form) (packed (trees_of forms))) parts in
-    fail_as c.in-Err-read_matches.fail _ _ same
-    (second_part c.in-Err-read_matches.fail _ _ _ c.in-Ok.ensures.1 c.in-Err-read_matches.ensures)
+    let fail = c.in_err-matches.field-0.0 in
+    reads_handed_on c.from_residual-in_err-matches.result fail _ _ c.from_residual-in_err-matches.ensures.1
+    (fail_as fail _ _ same (second_part fail _ _ _ c.in_ok-strategies.ensures.1 c.in_err-matches.ensures))
