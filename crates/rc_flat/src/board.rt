@@ -85,6 +85,7 @@ impl Board {
 
     /// Takes a card out of its place and puts it on top of a location of cards.
     #[tactic(auto, using(crate::proofs::KeepsLemmas::keeps_all))]
+    #[inline(always)]
     pub fn put_top(&mut self, id: u16, loc: u16) -> Result<(), Memory>
         requires card { id < length self.old.laid.shape.faces }
         requires loc { HoldsCards self.old.laid.shape loc }
@@ -104,7 +105,7 @@ impl Board {
             Ok(()) => {}
             Err(Memory) => return Err(Memory),
         }
-        self.table.put_top(id, loc);
+        self.table.put_top_from(id, from, place, loc);
         Ok(())
     }
 
@@ -149,7 +150,7 @@ impl Board {
             Ok(()) => {}
             Err(Memory) => return Err(Memory),
         }
-        self.table.remember_top(id, loc);
+        self.table.note_top(id, loc);
         Ok(())
     }
 
@@ -169,7 +170,7 @@ impl Board {
             Ok(()) => {}
             Err(Memory) => return Err(Memory),
         }
-        self.table.remember_bottom(id, loc);
+        self.table.note_bottom(id, loc);
         Ok(())
     }
 

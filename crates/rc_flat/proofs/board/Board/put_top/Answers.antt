@@ -9,15 +9,15 @@ use Rattle.rc_flat.proofs.PastLemmas.{AreNoted, noted_edit}
 use Rattle.rc_flat.proofs.KeepsLemmas.{keeps_edit}
 use Rattle.rc_flat.proofs.board.Board.put_top.Goals as goal
 
-kept : (c : goal.After-put_top) →
-    AreNoted (past_seen c.note.new.self) c.put_top.new.self
+kept : (c : goal.After-put_top_from) →
+    AreNoted (past_seen c.note.new.self) c.put_top_from.new.self
     (edited (kept_of (past_seen c.self.inside.past) c.self.inside.table) (put_top c.self.inside.table.shape c.args.id c.args.loc c.self.inside.table.table))
 kept c =
     let now = c.self.inside.table in
     let card = subst (λ (k : Kept). c.args.id < length k.laid.shape.faces) (sym c.self.view_is) c.requires.card in
     let holds = subst (λ (k : Kept). HoldsCards k.laid.shape c.args.loc) (sym c.self.view_is) c.requires.loc in
     noted_edit (moved c.place_of-from.result.0 c.place_of-from.result.1 c.args.loc c.top_without-at.result) (past_seen c.self.inside.past) (past_seen c.note.new.self)
-    now c.put_top.new.self (put_top now.shape c.args.id c.args.loc now.table) c.in-Ok.ensures.noted c.put_top.ensures
+    now c.put_top_from.new.self (put_top now.shape c.args.id c.args.loc now.table) c.in-Ok.ensures.noted c.put_top_from.ensures
     (top_back now.shape now.table c.args.id c.args.loc c.shape-sound.ensures.sound card holds c.place_of-from.result c.top_without-at.result c.place_of-from.ensures.is c.top_without-at.ensures)
     (from_there now.shape now.table c.args.id c.place_of-from.result c.shape-sound.ensures.sound card c.place_of-from.ensures.is)
     c.shape-sound.ensures.sound c.self.invariant

@@ -9,14 +9,14 @@ use Rattle.rc_flat.proofs.PastLemmas.{AreNoted, noted_edit}
 use Rattle.rc_flat.proofs.KeepsLemmas.{keeps_edit}
 use Rattle.rc_flat.proofs.board.Board.remember_bottom.Goals as goal
 
-kept : (c : goal.After-remember_bottom) →
-    AreNoted (past_seen c.note.new.self) c.remember_bottom.new.self
+kept : (c : goal.After-note_bottom) →
+    AreNoted (past_seen c.note.new.self) c.note_bottom.new.self
     (edited (kept_of (past_seen c.self.inside.past) c.self.inside.table) (remember_bottom c.self.inside.table.shape c.args.id c.args.loc c.self.inside.table.table))
 kept c =
     let now = c.self.inside.table in
     let holds = subst (λ (k : Kept). HoldsReferences k.laid.shape c.args.loc) (sym c.self.view_is) c.requires.loc in
-    noted_edit (noted c.args.loc 0) (past_seen c.self.inside.past) (past_seen c.note.new.self) now c.remember_bottom.new.self
-    (remember_bottom now.shape c.args.id c.args.loc now.table) c.in-Ok.ensures.noted c.remember_bottom.ensures
+    noted_edit (noted c.args.loc 0) (past_seen c.self.inside.past) (past_seen c.note.new.self) now c.note_bottom.new.self
+    (remember_bottom now.shape c.args.id c.args.loc now.table) c.in-Ok.ensures.noted c.note_bottom.ensures
     (remembered_bottom_back now.shape now.table c.args.id c.args.loc c.shape-sound.ensures.sound holds (sym c.has_room.ensures ∙ c.if-not-has_room.false))
     holds c.shape-sound.ensures.sound c.self.invariant
 
