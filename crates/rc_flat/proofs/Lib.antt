@@ -16,3 +16,5 @@ pub mod MarkLemmas
 pub mod MachineLemmas
 pub mod SitePlaceLemmas
 pub mod HomeLemmas
+pub mod EveryoneLemmas
+pub mod SoleLemmas

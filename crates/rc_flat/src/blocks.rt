@@ -1,7 +1,7 @@
 //! Blocks of code: effects, one after the other.
-ghost use Rattle.std.specs.Prelude.{◌≡◌, ◌+◌, ◌<◌, ◌≤◌, [], ◌∷◌, ◌++◌, length, take, drop, map, fold, All, OnOk, IfOk};
+ghost use Rattle.std.specs.Prelude.{◌≡◌, ◌+◌, ◌<◌, ◌≤◌, [], ◌∷◌, ◌++◌, length, take, drop, map, fold, All, OnOk, IfOk, IfSome};
 ghost use Rattle.rc_model.specs.Numbers.{below};
-ghost use Rattle.rc_sheet_model.specs.Sheet.{when, repeat as repeat_of, for_each as for_each_of};
+ghost use Rattle.rc_sheet_model.specs.Sheet.{effect, no_effect, when, repeat as repeat_of, for_each as for_each_of};
 ghost use Rattle.rc_sheet_model.specs.WellFormed.{Around, AreEffects};
 ghost use Rattle.rc_play_model.specs.Value.{Bind as PureBind, player_bound, card_bound, coll_value};
 ghost use Rattle.rc_play_model.specs.Scene.{CardValue};
@@ -20,6 +20,8 @@ ghost use Rattle.rc_flat.specs.Undo.{Keeps};
 ghost use Rattle.rc_rules.specs.Dealer.{HasShuffled};
 
 use crate::board::Board;
+use crate::everyone::{set_all, set_for_each};
+use crate::scopes::one_more;
 use crate::simple::do_simple;
 use rc_ast::{CollExpr, Domain, IntExpr, Test};
 use rc_code::Instruction;
@@ -55,6 +57,24 @@ pub fn past(code: &[Instruction], count: usize) -> &[Instruction]
         return &code[count..];
     }
     &[]
+}
+
+// The test and what is inside, where a block is one `if`.
+#[inline(always)]
+fn sole_if(code: &[Instruction]) -> Option<(&Test, &[Instruction])>
+    ensures is { IfSome result (λ sole. effects_in (list_seen code.now) ≡ effect (when (test_seen sole.0.now) (effects_in (list_seen sole.1.now))) no_effect) }
+    ensures simple { IfSome result (λ sole. AreSimple (list_seen code.now) → AreSimple (list_seen sole.1.now)) }
+    ensures shorter { IfSome result (λ sole. length sole.1.now < length code.now) }
+{
+    match code {
+        [Instruction::If(test, inside), behind @ ..] => {
+            if behind.len() <= *inside {
+                return Some((test, behind));
+            }
+            None
+        }
+        _ => None,
+    }
 }
 
 /// Does the effects of a block.
@@ -242,7 +262,10 @@ fn for_each<D: Dealer>(
     ensures dealing { D.dealing dealer.new ≡ D.dealing dealer.old }
 {
     match domain {
-        Domain::Players => for_players(context, inside, board, frames, dealer),
+        Domain::Players => match set_for_each(context, inside) {
+            Some(each) => set_all(context.about, each, board),
+            None => for_players(context, inside, board, frames, dealer),
+        },
         Domain::Coll(cards) => for_cards(context, cards, inside, board, frames, dealer),
         Domain::Parts(_, _) => unreachable!(),
     }
@@ -270,7 +293,7 @@ fn for_players<D: Dealer>(
     ensures shuffled { HasShuffled (D.dealing dealer.old) (D.state dealer.old) (D.state dealer.new) }
     ensures dealing { D.dealing dealer.new ≡ D.dealing dealer.old }
 {
-    let mut scope = context.scope.with(Bind::Player(0));
+    let mut scope = one_more(context.scope, Bind::Player(0));
     for player in 0..context.about.sheet().players {
         let bind = Bind::Player(player);
         match do_for(context, &mut scope, bind, inside, board, frames, dealer) {
@@ -340,7 +363,7 @@ fn for_these<D: Dealer>(
     ensures shuffled { HasShuffled (D.dealing dealer.old) (D.state dealer.old) (D.state dealer.new) }
     ensures dealing { D.dealing dealer.new ≡ D.dealing dealer.old }
 {
-    let mut scope = context.scope.with(Bind::Player(0));
+    let mut scope = one_more(context.scope, Bind::Player(0));
     for card in cards {
         let bind = Bind::Card(*card);
         match do_for(context, &mut scope, bind, inside, board, frames, dealer) {
@@ -386,7 +409,7 @@ fn do_for<'g, D: Dealer>(
     do_inside(&inner, inside, board, frames, dealer)
 }
 
-// Does the effects of a block. A single effect takes no loop.
+// Does the effects of a block. A single effect takes no loop, and neither does a single `if`.
 #[tactic(auto, using(crate::proofs::ShuffleLemmas::not_shuffled))]
 #[cycle(blocks)]
 #[inline(always)]
@@ -409,7 +432,10 @@ fn do_inside<D: Dealer>(
 {
     match code {
         [Instruction::Simple(effect)] => do_simple(context, effect, board, frames, dealer),
-        _ => do_block(context, code, board, frames, dealer),
+        _ => match sole_if(code) {
+            Some((test, inside)) => do_if(context, test, inside, board, frames, dealer),
+            None => do_block(context, code, board, frames, dealer),
+        },
     }
 }
 

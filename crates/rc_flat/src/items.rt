@@ -24,6 +24,7 @@ ghost use Rattle.rc_rules.specs.Dealer.{HasShuffled};
 
 use crate::blocks::do_block;
 use crate::board::Board;
+use crate::scopes::one_more;
 use rc_ast::{Alt, Domain};
 use rc_code::Instruction;
 use rc_deck::Memory;
@@ -272,7 +273,7 @@ fn do_bound<D: Dealer>(
     ensures shuffled { HasShuffled (D.dealing dealer.old) (D.state dealer.old) (D.state dealer.new) }
     ensures dealing { D.dealing dealer.new ≡ D.dealing dealer.old }
 {
-    let scope = context.scope.with(bind);
+    let scope = one_more(context.scope, bind);
     let within = Context {
         about: context.about,
         scope: &scope,

@@ -81,8 +81,9 @@ fn change(
     }
 }
 
+/// Changes the number at a place by a value.
 #[inline(always)]
-fn change_at(board: &mut Board, at: u16, how: Change, value: i64) -> Result<(), Memory>
+pub fn change_at(board: &mut Board, at: u16, how: Change, value: i64) -> Result<(), Memory>
     requires clamped { IsWithinClamp value }
     ensures leads { OnOk result (board.new.laid ≡ relaid board.old.laid (effects.change (new_by how) value at board.old.laid.table)) }
     ensures keeps { Keeps board.old board.new }
