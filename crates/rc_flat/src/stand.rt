@@ -44,8 +44,8 @@ impl State {
             flat_of about code self.new ≡ flat_from about code stand.now.place table.now.table (control_seen stand.now.control) }
     {
         self.board.move_home(table);
-        self.control = stand.control.copy();
-        self.place = stand.place.copy();
+        write_control(&stand.control, &mut self.control);
+        self.place.set_to(&stand.place);
     }
 }
 

@@ -65,6 +65,7 @@ impl State {
     }
 
     /// Passes over the choice that is next where it offers nothing; else its mover decides, and its menu is kept.
+    #[inline(always)]
     fn choice_next(
         &mut self,
         about: &About,
@@ -167,6 +168,7 @@ impl State {
 
     /// Goes on where no item is next: to the round of the innermost stage whose body has ended, and to its next member; where none is
     /// open nothing is left.
+    #[inline(always)]
     fn leave(&mut self, about: &About, code: &[Instruction]) -> Option<Stop>
         requires ready { IsReady about.now (list_seen code.now) self.old }
         requires round { self.old.place.at_round ≡ false }
