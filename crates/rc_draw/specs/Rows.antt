@@ -2,7 +2,7 @@
 use Rattle.std.specs.Prelude.{ℕ, List, [], ◌∷◌, slice_index}
 
 abbrev pub words_of : List ℕ → ℕ × ℕ × ℕ × ℕ
-words_of row = (slice_index row 0, slice_index row 1, slice_index row 2, slice_index row 3)
+words_of vector = (slice_index vector 0, slice_index vector 1, slice_index vector 2, slice_index vector 3)
 
 abbrev pub state_of : List ℕ × List ℕ × List ℕ × List ℕ → List ℕ
 state_of rows =

@@ -52,28 +52,28 @@ pub(crate) fn column_round(rows: Rows) -> Rows
     quarter_rounds(a, b, c, d)
 }
 
-// A row with its words turned to the left by one place.
+// A vector with its words turned to the left by one place.
 #[inline(always)]
-fn left_by_one(row: u32x4) -> u32x4
-    ensures { words_of result ≡ (slice_index row 1, slice_index row 2, slice_index row 3, slice_index row 0) }
+fn left_by_one(vector: u32x4) -> u32x4
+    ensures { words_of result ≡ (slice_index vector 1, slice_index vector 2, slice_index vector 3, slice_index vector 0) }
 {
-    row.swizzle([1, 2, 3, 0])
+    vector.swizzle([1, 2, 3, 0])
 }
 
 // By two places.
 #[inline(always)]
-fn left_by_two(row: u32x4) -> u32x4
-    ensures { words_of result ≡ (slice_index row 2, slice_index row 3, slice_index row 0, slice_index row 1) }
+fn left_by_two(vector: u32x4) -> u32x4
+    ensures { words_of result ≡ (slice_index vector 2, slice_index vector 3, slice_index vector 0, slice_index vector 1) }
 {
-    row.swizzle([2, 3, 0, 1])
+    vector.swizzle([2, 3, 0, 1])
 }
 
 // By three places.
 #[inline(always)]
-fn left_by_three(row: u32x4) -> u32x4
-    ensures { words_of result ≡ (slice_index row 3, slice_index row 0, slice_index row 1, slice_index row 2) }
+fn left_by_three(vector: u32x4) -> u32x4
+    ensures { words_of result ≡ (slice_index vector 3, slice_index vector 0, slice_index vector 1, slice_index vector 2) }
 {
-    row.swizzle([3, 0, 1, 2])
+    vector.swizzle([3, 0, 1, 2])
 }
 
 /// The quarter round on each diagonal of a state: the rows are turned so that the diagonals stand in columns, and turned back.
