@@ -7,4 +7,4 @@ use Rattle.rc_flat.specs.declared.past.Past.TheVariants.{Nothing, Edits, Home}
 abbrev pub past_seen : Past → PurePast
 past_seen Nothing = none_kept
 past_seen (Edits log) = edits_kept (log_seen log.items)
-past_seen (Home home) = home_kept home.table home.touched.items
+past_seen (Home home) = home_kept home

@@ -22,8 +22,7 @@ use std::marker::Model;
 use std::sync::Arc;
 
 /// A match that is played onward from one decision again and again. It keeps the table, the control and the menu of that decision,
-/// its home, and goes back there from them: it copies the lists of the locations that were touched and the numbers, however many
-/// edits there were.
+/// its home, and goes back there by copying them, however many edits there were.
 #[derive(Drop)]
 pub struct HomeMachine {
     machine: FlatMachine,

@@ -1,9 +1,9 @@
 //! What a board keeps of what was before.
-ghost use Rattle.std.specs.Prelude.{◌≡◌, ◌∷◌, [], true, false, length, replicate, slice_set, MatchOption, IfOk, OnOk, OnErr};
+ghost use Rattle.std.specs.Prelude.{◌≡◌, ◌∷◌, [], length, MatchOption, IfOk, OnOk, OnErr};
 ghost use Rattle.rc_table.specs.Laid.{relaid};
 ghost use Rattle.rc_flat.specs.Undo.{ordered};
 ghost use Rattle.rc_flat.specs.Entry.{entry_seen, log_seen};
-ghost use Rattle.rc_flat.specs.Past.{home_kept, edits_of, notes_of, home_table, noted_in, touched_by, untouched, moved_to, IsFromHome, IsPast, HasShape, TookLast};
+ghost use Rattle.rc_flat.specs.Past.{home_kept, edits_of, notes_of, home_table, noted_in, moved_to, IsPast, HasShape, TookLast};
 ghost use Rattle.rc_flat.specs.PastSeen.{past_seen};
 
 use crate::entry::Entry;
@@ -19,22 +19,15 @@ pub enum Past {
     /// What takes each edit back, the last one at the end.
     Edits(Vec<Entry>),
     /// The table to which it goes home.
-    Home(Home),
-}
-
-/// A table to which a board goes home, with a flag for each location: whether the board may hold another list there.
-#[derive(Drop)]
-pub struct Home {
-    table: Table,
-    touched: Vec<bool>,
+    Home(Table),
 }
 
 impl Past {
     /// Home at this table, which is copied.
     pub fn at_home(alloc: Global, table: &Table) -> Result<Past, Memory>
-        ensures { IfOk result (λ past. past_seen past ≡ home_kept table.now (replicate (length table.now.shape.places) false)) }
+        ensures { IfOk result (λ past. past_seen past ≡ home_kept table.now) }
     {
-        let home = Home::new(alloc, table)?;
+        let home = table.copy(alloc)?;
         Ok(Past::Home(home))
     }
 
@@ -61,7 +54,7 @@ impl Past {
         }
     }
 
-    /// Notes an edit: what takes it back, or which locations it changes.
+    /// Notes what takes an edit back, where edits are noted.
     #[inline(always)]
     pub fn note(&mut self, entry: Entry) -> Result<(), Memory>
         ensures noted { OnOk result (past_seen self.new ≡ noted_in (entry_seen entry) (past_seen self.old)) }
@@ -70,10 +63,7 @@ impl Past {
         match self {
             Past::Nothing => Ok(()),
             Past::Edits(log) => log_entry(log, entry),
-            Past::Home(home) => {
-                home.touch_by(&entry);
-                Ok(())
-            }
+            Past::Home(_) => Ok(()),
         }
     }
 
@@ -86,10 +76,7 @@ impl Past {
         match self {
             Past::Nothing => Ok(()),
             Past::Edits(log) => log_order(alloc, log, loc, list),
-            Past::Home(home) => {
-                home.touch(loc);
-                Ok(())
-            }
+            Past::Home(_) => Ok(()),
         }
     }
 
@@ -106,13 +93,12 @@ impl Past {
     }
 
     /// Puts the home's table back, where there is a home.
-    pub fn go_home(&mut self, table: &mut Table)
-        requires { IsPast table.old (past_seen self.old) }
-        ensures table { table.new ≡ relaid table.old (home_table (past_seen self.old) table.old.table) }
-        ensures past { past_seen self.new ≡ untouched (past_seen self.old) }
+    pub fn go_home(&self, table: &mut Table)
+        requires { IsPast table.old (past_seen self.now) }
+        ensures { table.new ≡ relaid table.old (home_table (past_seen self.now) table.old.table) }
     {
         match self {
-            Past::Home(home) => home.put_back(table),
+            Past::Home(home) => table.copy_from(home),
             Past::Nothing => {}
             Past::Edits(_) => {}
         }
@@ -124,72 +110,10 @@ impl Past {
         ensures { past_seen self.new ≡ moved_to to.now (past_seen self.old) }
     {
         match self {
-            Past::Home(home) => home.move_to(to),
+            Past::Home(home) => home.copy_from(to),
             Past::Nothing => {}
             Past::Edits(_) => {}
         }
-    }
-}
-
-impl Home {
-    // A home with this table, which is copied.
-    fn new(alloc: Global, table: &Table) -> Result<Home, Memory>
-        ensures table { IfOk result (λ home. home.table ≡ table.now) }
-        ensures touched { IfOk result (λ home. home.touched.items ≡ replicate (length table.now.shape.places) false) }
-    {
-        let touched = vec![in alloc; false; table.shape().locations() as usize]?;
-        let table = table.copy(alloc)?;
-        Ok(Home { table, touched })
-    }
-
-    // Sets the flag of a location, if there is one.
-    #[inline(always)]
-    fn touch(&mut self, loc: u16)
-        ensures table { self.new.table ≡ self.old.table }
-        ensures touched { self.new.touched.items ≡ slice_set self.old.touched.items loc true }
-    {
-        if let Some(flag) = self.touched.get_mut(loc as usize) {
-            *flag = true;
-        }
-    }
-
-    // Sets the flags of the locations that an edit changes.
-    #[inline(always)]
-    fn touch_by(&mut self, entry: &Entry)
-        ensures table { self.new.table ≡ self.old.table }
-        ensures touched { self.new.touched.items ≡ touched_by (entry_seen entry.now) self.old.touched.items }
-    {
-        match entry {
-            Entry::Moved { from, to, .. } => {
-                self.touch(*from);
-                self.touch(*to);
-            }
-            Entry::Changed { .. } => {}
-            Entry::Ordered { loc, .. } => self.touch(*loc),
-            Entry::Noted { loc, .. } => self.touch(*loc),
-            Entry::Forgotten { loc, .. } => self.touch(*loc),
-        }
-    }
-
-    // Puts its table back.
-    fn put_back(&mut self, table: &mut Table)
-        requires { IsFromHome self.old.table self.old.touched.items table.old }
-        ensures back { table.new ≡ self.old.table }
-        ensures table { self.new.table ≡ self.old.table }
-        ensures touched { self.new.touched.items ≡ replicate (length self.old.touched.items) false }
-    {
-        table.put_back(&self.table, &self.touched);
-        self.touched.fill(false);
-    }
-
-    // Makes another table the one of the home.
-    fn move_to(&mut self, to: &Table)
-        requires { self.old.table.shape ≡ to.now.shape }
-        ensures table { self.new.table ≡ to.now }
-        ensures touched { self.new.touched.items ≡ replicate (length self.old.touched.items) false }
-    {
-        self.table.copy_from(to);
-        self.touched.fill(false);
     }
 }
 

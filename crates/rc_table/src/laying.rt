@@ -3,7 +3,6 @@ ghost use Rattle.std.specs.Prelude.{◌≡◌, length, map};
 ghost use Rattle.rc_play_model.specs.Table.{IsSound};
 ghost use Rattle.rc_table.specs.Laid.{relaid};
 ghost use Rattle.rc_table.specs.Refilled.{CanRefill, refilled};
-ghost use Rattle.rc_table.specs.Restored.{AreUntouched};
 
 use crate::table::Table;
 use crate::whereabouts::note_all;
@@ -17,19 +16,6 @@ impl Table {
         self.lists.copy_from(&other.lists);
         self.whereabouts.copy_from_slice(&other.whereabouts);
         self.numbers.copy_from_slice(&other.numbers);
-    }
-
-    /// Becomes the same as a base of the same shape, with a flag for each location. Where the flag is false, the location holds the
-    /// same list in both already, and only the other lists are copied.
-    pub fn put_back(&mut self, base: &Table, touched: &[bool])
-        requires shape { self.old.shape ≡ base.now.shape }
-        requires each { length touched.now ≡ length self.old.shape.places }
-        requires same { AreUntouched touched.now self.old.table.lists base.now.table.lists }
-        ensures { self.new ≡ base.now }
-    {
-        self.lists.put_back(&base.lists, touched);
-        self.whereabouts.copy_from_slice(&base.whereabouts);
-        self.numbers.copy_from_slice(&base.numbers);
     }
 
     /// Becomes the table of these lists and numbers, in the same shape. That table must be sound.

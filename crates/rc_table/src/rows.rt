@@ -2,7 +2,6 @@
 ghost use Rattle.std.specs.Prelude.{◌≡◌, ◌<◌, ◌≤◌, [], ◌∷◌, ◌++◌, length, map, replicate, slice_index_or, slice_set, vec_capacity, All, IfOk};
 ghost use Rattle.std.specs.List.{remove, insert};
 ghost use Rattle.rc_table.specs.Refilled.{CanRefill, lists_refilled};
-ghost use Rattle.rc_table.specs.Restored.{AreUntouched};
 
 use rc_deck::Memory;
 use std::alloc::Global;
@@ -97,14 +96,7 @@ impl Rows {
     pub(crate) fn list(&self, at: u16) -> &[u16]
         ensures { result.now ≡ slice_index_or self.now.all at [] }
     {
-        self.row(at as usize)
-    }
-
-    // The same by an index.
-    fn row(&self, at: usize) -> &[u16]
-        ensures { result.now ≡ slice_index_or self.now.all at [] }
-    {
-        match self.rows.get(at) {
+        match self.rows.get(at as usize) {
             Some(row) => row,
             None => &[],
         }
@@ -192,21 +184,6 @@ impl Rows {
         ensures { self.new ≡ record { all = other.now.all; room = self.old.room } }
     {
         self.lay(&other.rows);
-    }
-
-    /// Writes the lists of a base over those that were touched; the others are those of the base.
-    pub(crate) fn put_back(&mut self, base: &Rows, touched: &[bool])
-        requires each { length touched.now ≡ length self.old.all }
-        requires base { length base.now.all ≡ length self.old.all }
-        requires room { All (λ list. length list ≤ self.old.room) base.now.all }
-        requires same { AreUntouched touched.now self.old.all base.now.all }
-        ensures { self.new ≡ record { all = base.now.all; room = self.old.room } }
-    {
-        for at in 0..touched.len() {
-            if touched[at] {
-                self.overwrite(at, base.row(at));
-            }
-        }
     }
 
     /// Writes ids over these lists, one list after another, each with as many of them as it has.

@@ -6,11 +6,9 @@ use Rattle.rc_flat.proofs.board.Board.go_home.Goals as goal
 
 pub invariant_of-self : goal.invariant_of-self
 invariant_of-self c =
-    (went_home (past_seen c.self.inside.past) (past_seen c.go_home.new.self) c.self.inside.table c.go_home.new.table c.go_home.ensures.past
-    c.go_home.ensures.table c.self.invariant).0
+    (went_home (past_seen c.self.inside.past) c.self.inside.table c.go_home.new.table c.go_home.ensures c.self.invariant).0
 
 pub returns : goal.returns
 returns c =
-    (went_home (past_seen c.self.inside.past) (past_seen c.go_home.new.self) c.self.inside.table c.go_home.new.table c.go_home.ensures.past
-    c.go_home.ensures.table c.self.invariant).1
+    (went_home (past_seen c.self.inside.past) c.self.inside.table c.go_home.new.table c.go_home.ensures c.self.invariant).1
     ∙ ap gone_home c.self.view_is
