@@ -1,22 +1,21 @@
 -- How many cards and references a sound table holds: each card once, and references within their limits.
-use Rattle.std.proofs.Common.{◌≡◌, ℕ, zero, suc, ◌+◌, ◌<◌, ◌≤◌, Bool, true, false, cond, ◌==◌, if◌then◌else◌, inl, inr, List, [], ◌∷◌, ◌++◌, length, get_or, slice_get, nat_lt, subst, sum_by, zip, Some, refl, sym, ap, ap₂, ◌∙◌, arith, length-append}
+use Rattle.std.proofs.Common.{◌≡◌, ℕ, zero, suc, ◌+◌, ◌<◌, ◌≤◌, Bool, true, false, cond, ◌==◌, if◌then◌else◌, inl, inr, List, [], ◌∷◌, ◌++◌, length, map, get_or, slice_get, subst, sum_by, zip, Some, refl, sym, ap, ap₂, ◌∙◌, arith, length-append}
 use Rattle.std.specs.Prelude.{All, count_by}
 use Rattle.std.specs.List.{AllByRecursion, insert}
-use Rattle.std.proofs.lemmas.Option.{slice_get_within, get_or_from_slice_get}
-use Rattle.std.proofs.lemmas.Bool.Decides.{Decides-ltb}
 use Rattle.std.proofs.lemmas.Bool.{cases_lt, cond-true}
-use Rattle.std.proofs.lemmas.List.{get_or_past, get_or-set_same}
-use Rattle.std.proofs.lemmas.List.Elements.{recursion_from_All, All-from_get_or}
+use Rattle.std.proofs.lemmas.List.{get_or_past, get_or-set_same, length-set}
+use Rattle.std.proofs.lemmas.List.Elements.{recursion_from_All}
 use Rattle.std.proofs.lemmas.List.FromFn.{length-range_with_len}
-use Rattle.std.proofs.lemmas.List.Sums.{sum_by-cons, get_or-le-sum_by}
+use Rattle.std.proofs.lemmas.List.Sums.{sum_by-cons}
 use Rattle.rc_model.specs.Numbers.{below}
 use Rattle.rc_sheet_model.specs.WellFormed.{is_mem}
-use Rattle.rc_play_model.specs.Shape.{Place, Shape}
+use Rattle.rc_play_model.specs.Shape.{Place, Shape, holds_references}
 use Rattle.rc_play_model.specs.Table.{Table, IsSound, list_at, times_in, references_in, has_room, onto, under, remember_top, remember_bottom}
 use Rattle.rc_play_model.proofs.CardLemmas.{append_each}
 use Rattle.rc_play_model.proofs.Counting.{passing, same, passing-is, passing-append, passing-all, each_once}
 use Rattle.rc_table.specs.Shape.{IsShape}
-use Rattle.rc_table.specs.Laid.{longest}
+use Rattle.rc_table.specs.Laid.{room_in, rooms}
+use Rattle.rc_table.specs.Rows.{HaveRoom}
 use Rattle.rc_table.specs.Restored.{put_at}
 use Rattle.rc_table.proofs.PutBack.{one_longer}
 
@@ -58,64 +57,57 @@ cards_held shape table sound =
     (λ id less. sym (times_counted id shape.places table.lists) ∙ sound.once id less)
     ∙ passing-all (below n) ∙ length-range_with_len 0 n
 
-abbrev holds_notes : Place → Bool
-holds_notes place = is_mem place.kind
-
 abbrev few : Place × List ℕ → Type 0
 few at = references_in at ≤ 512
 
--- no list is longer than a number that is no smaller than that of the cards, nor than 512 where there is a `mem`
+-- a list is no longer than a number that is no smaller than that of the cards, nor than 512 where the list is of references
 short_here : (most : ℕ) (m : Bool) (list : List ℕ) → length (cond m [] list) ≤ most → cond m (length list) 0 ≤ 512 → (m ≡ true → 512 ≤ most) → length list ≤ most
 short_here most true list cards notes mem = let least = mem refl in omega (arith, notes, least)
 short_here most false list cards notes mem = cards
 
 list_short : (most : ℕ) (places : List Place) (lists : List (List ℕ)) (loc : ℕ) → length lists ≡ length places → AllByRecursion few (zip places lists) →
-    length (cards_in places lists) ≤ most → ((k : ℕ) (p : Place) → slice_get places k ≡ Some p → is_mem p.kind ≡ true → 512 ≤ most) → loc < length lists →
+    length (cards_in places lists) ≤ most → ((p : Place) → slice_get places loc ≡ Some p → is_mem p.kind ≡ true → 512 ≤ most) → loc < length lists →
     length (get_or lists loc []) ≤ most
 list_short most [] lists loc same all cards mem within = absurd (omega (arith, same, within))
 list_short most (place ∷ places) [] loc same all cards mem within = absurd (omega (arith, within))
 list_short most (place ∷ places) (list ∷ lists) zero same all cards mem within =
     let n = length-append (cond (is_mem place.kind) [] list) (cards_in places lists) in
-    short_here most (is_mem place.kind) list (omega (arith, n, cards)) all.0 (mem 0 place refl)
+    short_here most (is_mem place.kind) list (omega (arith, n, cards)) all.0 (mem place refl)
 list_short most (place ∷ places) (list ∷ lists) (suc loc) same all cards mem within =
     let n = length-append (cond (is_mem place.kind) [] list) (cards_in places lists) in
-    list_short most places lists loc (omega (arith, same)) all.1 (omega (arith, n, cards)) (λ k. mem (suc k)) (omega (arith, within))
+    list_short most places lists loc (omega (arith, same)) all.1 (omega (arith, n, cards)) mem (omega (arith, within))
 
 -- the most that a location may hold
 cards_fit_here : (n : ℕ) (b : Bool) → n ≤ 512 → n ≤ (if b then 512 else n)
 cards_fit_here n true le = le
 cards_fit_here n false le = omega arith
 
-pub cards_fit : (shape : Shape) → IsShape shape → length shape.faces ≤ longest shape
-cards_fit shape limits = cards_fit_here (length shape.faces) (nat_lt 0 (count_by holds_notes shape.places)) limits.cards
-
 few_here : (n : ℕ) (b : Bool) → n ≤ 512 → (if b then 512 else n) ≤ 512
 few_here n true le = omega arith
 few_here n false le = le
 
-pub longest_few : (shape : Shape) → IsShape shape → longest shape ≤ 512
-longest_few shape limits = few_here (length shape.faces) (nat_lt 0 (count_by holds_notes shape.places)) limits.cards
+room_here : (shape : Shape) (places : List Place) (loc : ℕ) → loc < length places →
+    get_or (map (λ place. room_in shape (Some place)) places) loc 0 ≡ room_in shape (slice_get places loc)
+room_here shape [] loc within = absurd (omega (arith, within))
+room_here shape (place ∷ places) zero within = refl
+room_here shape (place ∷ places) (suc loc) within = room_here shape places loc (omega (arith, within))
 
-mem_counts : (places : List Place) (k : ℕ) (p : Place) → slice_get places k ≡ Some p → is_mem p.kind ≡ true → 0 < count_by holds_notes places
-mem_counts places k p is mem =
-    let within = slice_get_within places k p is in
-    let one = ap (λ b. cond {A = ℕ} b 1 0) (ap holds_notes (get_or_from_slice_get places k p p is) ∙ mem) in
-    let least = get_or-le-sum_by (λ (place : Place). cond {A = ℕ} (holds_notes place) 1 0) places k p within in
-    omega (arith, one, least)
+pub room_at : (shape : Shape) (loc : ℕ) → loc < length shape.places → get_or (rooms shape) loc 0 ≡ room_in shape (slice_get shape.places loc)
+room_at shape loc within = room_here shape shape.places loc within
 
-mem_fits : (shape : Shape) (k : ℕ) (p : Place) → slice_get shape.places k ≡ Some p → is_mem p.kind ≡ true → 512 ≤ longest shape
-mem_fits shape k p is mem =
-    let some = (Decides-ltb 0 (count_by holds_notes shape.places)).1 (mem_counts shape.places k p is mem) in
-    let long = cond-true (nat_lt 0 (count_by holds_notes shape.places)) 512 (length shape.faces) some in
-    omega (arith, long)
+pub room_few : (shape : Shape) → IsShape shape → (loc : ℕ) → loc < length shape.places → get_or (rooms shape) loc 0 ≤ 512
+room_few shape limits loc within =
+    let is = room_at shape loc within in
+    let few = few_here (length shape.faces) (holds_references (slice_get shape.places loc)) limits.cards in
+    omega (arith, is, few)
 
 module _ (shape : Shape) (table : Table) (sound : IsSound shape table) (limits : IsShape shape) where
   few_each : AllByRecursion few (zip shape.places table.lists)
   few_each = recursion_from_All few (zip shape.places table.lists) sound.mems
 
-  list_within : (most : ℕ) → length shape.faces ≤ most → ((k : ℕ) (p : Place) → slice_get shape.places k ≡ Some p → is_mem p.kind ≡ true → 512 ≤ most) →
-      (loc : ℕ) → length (list_at table loc) ≤ most
-  list_within most all mem loc =
+  list_within : (most : ℕ) → length shape.faces ≤ most → (loc : ℕ) →
+      ((p : Place) → slice_get shape.places loc ≡ Some p → is_mem p.kind ≡ true → 512 ≤ most) → length (list_at table loc) ≤ most
+  list_within most all loc mem =
       let cards = cards_held shape table sound in
       elim (cases_lt loc (length table.lists)) [
         | inl within ↦ list_short most shape.places table.lists loc sound.locations few_each (omega (arith, cards, all)) mem within
@@ -123,23 +115,32 @@ module _ (shape : Shape) (table : Table) (sound : IsSound shape table) (limits :
       ]
 
   pub few_in_list : (loc : ℕ) → length (list_at table loc) ≤ 512
-  few_in_list = list_within 512 limits.cards (λ k p is mem. omega arith)
+  few_in_list loc = list_within 512 limits.cards loc (λ p is mem. omega arith)
 
-  pub list_fits : (loc : ℕ) → length (list_at table loc) ≤ longest shape
-  list_fits = list_within (longest shape) (cards_fit shape limits) (mem_fits shape)
+  pub list_fits : (loc : ℕ) → loc < length shape.places → length (list_at table loc) ≤ get_or (rooms shape) loc 0
+  list_fits loc within =
+      let place = slice_get shape.places loc in
+      let room = room_at shape loc within in
+      let few = list_within (room_in shape place) (cards_fit_here (length shape.faces) (holds_references place) limits.cards) loc
+      (λ p is mem.
+      let all = cond-true (holds_references place) 512 (length shape.faces) (ap holds_references is ∙ mem) in
+      omega (arith, all)) in
+      omega (arith, room, few)
 
 -- where there is room for what a shape needs, there is for each list of a sound table
-pub all_fit : (shape : Shape) (table : Table) → IsSound shape table → IsShape shape → (room : ℕ) → longest shape ≤ room →
-    All (λ list. length list ≤ room) table.lists
-all_fit shape table sound limits room fits =
-    All-from_get_or (λ list. length list ≤ room) table.lists [] (λ loc within. let most = list_fits shape table sound limits loc in omega (arith, most, fits))
+pub all_fit : (shape : Shape) (table : Table) → IsSound shape table → IsShape shape → (room : List ℕ) → room ≡ rooms shape → HaveRoom table.lists room
+all_fit shape table sound limits room fits loc within =
+    let most = list_fits shape table sound limits loc (omega (arith, within, sound.locations)) in
+    let same = ap (λ room. get_or room loc 0) fits in
+    omega (arith, most, same)
 
 -- where a sound table has one more at a place of a location, there was room for it
 pub one_more_fits : (shape : Shape) (table : Table) (id loc place : ℕ) → IsShape shape → loc < length table.lists →
-    IsSound shape (put_at id loc place table) → length (list_at table loc) < longest shape
+    IsSound shape (put_at id loc place table) → length (list_at table loc) < get_or (rooms shape) loc 0
 one_more_fits shape table id loc place limits within sound =
     let list = insert (list_at table loc) place id in
-    let most = list_fits shape (put_at id loc place table) sound limits loc in
+    let same = length-set table.lists loc list in
+    let most = list_fits shape (put_at id loc place table) sound limits loc (omega (arith, within, same, sound.locations)) in
     let is = ap length (get_or-set_same table.lists loc list [] within) in
     let longer = one_longer (list_at table loc) place id in
     omega (arith, most, is, longer)

@@ -2,6 +2,7 @@
 use Rattle.std.proofs.Common.{◌≡◌, ℕ, zero, suc, ◌+◌, ◌<◌, ◌≤◌, ◌==◌, Bool, true, false, cond, List, [], ◌∷◌, ◌++◌, length, map, get_or, set, replicate, slice_index, refl, sym, ap, ap₂, ◌∙◌, arith, append-nil}
 use Rattle.std.specs.Prelude.{filter}
 use Rattle.std.specs.List.{range_with_len}
+use Rattle.std.proofs.lemmas.Bool.{cond-false}
 use Rattle.std.proofs.lemmas.Bool.Decides.{Decides-eqb}
 use Rattle.std.proofs.lemmas.List.Elements.{filter-append}
 use Rattle.std.proofs.lemmas.List.FromFn.{get_or-map-range_with_len, length-range_with_len}
@@ -10,6 +11,9 @@ use Rattle.std.proofs.lemmas.Option.{slice_get_within}
 use Rattle.rc_model.specs.Numbers.{below}
 use Rattle.rc_play_model.specs.Shape.{Shape}
 use Rattle.rc_play_model.specs.Bound.{HasHomes}
+use Rattle.rc_table.specs.Laid.{rooms}
+use Rattle.rc_table.proofs.Held.{room_at}
+use Rattle.rc_table.proofs.WhereaboutLemmas.{no_references}
 
 -- the cards below n that begin in a location
 abbrev pub begun : List ℕ → ℕ → ℕ → List ℕ
@@ -81,6 +85,13 @@ begun_few home n count loc lists are within =
     omega (arith, here, held, most, all)
 
 -- a card begins in a location that is there
+-- there is room for all cards where one begins
+pub room_at_home : (shape : Shape) (id : ℕ) → HasHomes shape → id < length shape.faces → get_or (rooms shape) (slice_index shape.home id) 0 ≡ length shape.faces
+room_at_home shape id homes card =
+    let home = slice_index shape.home id in
+    let at = homes.hold id 0 (omega (arith, card, homes.each)) in
+    room_at shape home (slice_get_within shape.places home at.0 at.1) ∙ cond-false _ _ _ (no_references shape home at)
+
 pub home_within : (shape : Shape) (id : ℕ) → HasHomes shape → id < length shape.faces → slice_index shape.home id < length shape.places
 home_within shape id homes card =
     let at = homes.hold id 0 (omega (arith, card, homes.each)) in

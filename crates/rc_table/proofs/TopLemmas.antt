@@ -8,7 +8,7 @@ use Rattle.rc_play_model.specs.Shape.{Shape}
 use Rattle.rc_play_model.specs.Table.{Table, IsSound, list_at, place_of, without, onto, put_top}
 use Rattle.rc_play_model.specs.Bound.{HoldsCards}
 use Rattle.rc_table.specs.Shape.{IsShape}
-use Rattle.rc_table.specs.Laid.{longest}
+use Rattle.rc_table.specs.Laid.{rooms}
 use Rattle.rc_table.specs.Restored.{taken_at}
 use Rattle.rc_table.specs.Rows.{Lists}
 use Rattle.rc_table.specs.Whereabouts.{whereabouts, noted, noted_in}
@@ -45,13 +45,13 @@ module _ (shape : Shape) (table : Table) (limits : IsShape shape) (sound : IsSou
   pub to_within_out : loc < length out.lists
   to_within_out = let long = length-set table.lists from (remove (list_at table from) place) in let count = sound.locations in omega (arith, to_within, long, count)
 
-  pub room_on_top : length (list_at out loc) < longest shape
+  pub room_on_top : length (list_at out loc) < get_or (rooms shape) loc 0
   room_on_top =
       let top = length (list_at out loc) in
       one_more_fits shape out id loc top limits to_within_out
       (subst (IsSound shape) (sym (onto_is out id loc top (omega arith) ∙ ap (onto id loc) out_is)) after)
 
-  module _ (room top : ℕ) (taken put : Lists) (taken_is : taken ≡ record { all = out.lists; room = room })
+  module _ (room : List ℕ) (top : ℕ) (taken put : Lists) (taken_is : taken ≡ record { all = out.lists; room = room })
       (put_is : put ≡ record { all = set taken.all loc (get_or taken.all loc [] ++ id ∷ []); room = taken.room }) (top_is : top ≡ length (get_or taken.all loc [])) where
     taken_all : taken.all ≡ out.lists
     taken_all = ap (λ (lists : Lists). lists.all) taken_is

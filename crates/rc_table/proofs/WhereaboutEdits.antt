@@ -174,7 +174,7 @@ can_note shape table sound limits lists stand loc is long =
     )
 
 -- the lists when what is at a place went to another, at most on top
-pub moved_lists : (table : Table) (from at to place top room : ℕ) (taken put : Lists) (list other : List ℕ) → list ≡ list_at table from →
+pub moved_lists : (table : Table) (from at to place top : ℕ) (room : List ℕ) (taken put : Lists) (list other : List ℕ) → list ≡ list_at table from →
     taken ≡ record { all = set table.lists from (remove (list_at table from) at); room = room } → other ≡ get_or taken.all to [] →
     top ≡ min place (length other) → put ≡ record { all = set taken.all to (insert (get_or taken.all to []) top (get_or list at 0)); room = taken.room } →
     put.all ≡ (moved_between from at to place table).lists
@@ -185,7 +185,7 @@ moved_lists table from at to place top room taken put list other list_is taken_i
     ∙ ap (λ (lists : Lists). set lists.all to (insert (get_or lists.all to []) place (get_or list at 0))) taken_is
     ∙ ap (λ xs. (put_at (get_or xs at 0) to place (taken_at from at table)).lists) list_is
 
-pub moved_top : (table : Table) (from at to place top room : ℕ) (taken : Lists) (other : List ℕ) →
+pub moved_top : (table : Table) (from at to place top : ℕ) (room : List ℕ) (taken : Lists) (other : List ℕ) →
     taken ≡ record { all = set table.lists from (remove (list_at table from) at); room = room } → other ≡ get_or taken.all to [] →
     top ≡ min place (length other) → top ≡ min place (length (list_at (taken_at from at table) to))
 moved_top table from at to place top room taken other taken_is other_is top_is =

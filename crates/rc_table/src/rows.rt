@@ -1,103 +1,111 @@
 //! A list of ids for each location.
-ghost use Rattle.std.specs.Prelude.{◌≡◌, ◌<◌, ◌≤◌, [], ◌∷◌, ◌++◌, length, map, replicate, slice_index_or, slice_set, vec_capacity, All, IfOk};
+ghost use Rattle.std.specs.Prelude.{◌≡◌, ◌<◌, ◌≤◌, ◌-◌, [], ◌∷◌, ◌++◌, length, map, take, replicate, slice_index_or, slice_set, IfOk};
 ghost use Rattle.std.specs.List.{remove, insert};
+ghost use Rattle.rc_table.specs.Rows.{HaveRoom};
+ghost use Rattle.rc_table.specs.Laid.{rooms};
 ghost use Rattle.rc_table.specs.Refilled.{CanRefill, lists_refilled};
 
+use crate::shape::Shape;
 use rc_deck::Memory;
 use std::alloc::Global;
 use std::marker::Model;
 
-/// Lists of ids, each in a row of its own, so that an edit of one moves no other. Edits keep within the room for which memory was
-/// taken when the rows were made.
-#[derive(Drop)]
-pub(crate) struct Rows {
-    rows: Vec<Vec<u16>>,
-    // how many ids there may be in each
+/// Where the ids of a list lie among those of all lists.
+#[derive(Clone, Copy)]
+pub(crate) struct Row {
+    from: u32,
+    // how many ids the list has
+    count: u16,
+    // how many it may have
     room: u16,
 }
 
+/// Lists of ids, each in a row of its own, so that an edit of one moves no other. All rows lie in one memory, one behind the
+/// other, so that all of them are copied at once. Edits keep within the room that each row was given when the rows were made.
+#[derive(Drop)]
+pub(crate) struct Rows {
+    ids: Vec<u16>,
+    rows: Vec<Row>,
+}
+
 impl Model for Rows {
-    ghost use Rattle.std.specs.Prelude.{◌≤◌, map, All, vec_capacity};
+    ghost use Rattle.std.specs.Prelude.{map, length};
     ghost use Rattle.rc_table.specs.Rows.{Lists};
+    ghost use Rattle.rc_table.specs.RowsSeen.{list_in, room_of, AreRows};
 
     ghost Value = { Lists };
 
-    ghost view = { λ r. record { all = map (λ row. row.items) r.rows.items; room = r.room } };
+    ghost view = { λ r. record { all = map (list_in r.ids.items) r.rows.items; room = map room_of r.rows.items } };
 
-    ghost invariant = { λ r. All (λ row. r.room ≤ vec_capacity row) r.rows.items };
+    ghost invariant = { λ r. AreRows r.rows.items 0 (length r.ids.items) };
 }
 
-// A list with room for so many ids.
-fn row_of(alloc: Global, list: &[u16], room: u16) -> Result<Vec<u16>, Memory>
-    ensures list { IfOk result (λ row. row.items ≡ list.now) }
-    ensures room { IfOk result (λ row. room ≤ vec_capacity row) }
-{
-    let mut row = Vec::with_capacity(alloc, room as usize)?;
-    row.extend_from_slice(list)?;
-    Ok(row)
-}
-
-// Takes an id out of a row. Where it is the last one, none has to move.
+// Takes an id out of a row, and moves those behind it down. What the last place holds then no longer counts.
 #[inline(always)]
-fn remove_at(row: &mut Vec<u16>, place: usize)
-    requires { place < length row.old.items }
-    ensures items { row.new.items ≡ remove row.old.items place }
-    ensures capacity { vec_capacity row.new ≡ vec_capacity row.old }
+fn remove_at(row: &mut [u16], place: usize)
+    requires { place < length row.old }
+    ensures long { length row.new ≡ length row.old }
+    ensures rest { take (length row.old - 1) row.new ≡ remove row.old place }
 {
-    if place + 1 == row.len() {
-        let _last = row.pop();
-    } else {
-        row.remove(place);
+    if place + 1 < row.len() {
+        row.copy_within(place + 1.., place);
     }
 }
 
-// Puts an id into a row that has room. Where it becomes the last one, none has to move.
+// Puts an id into a row, and moves those behind it up. What the last place held is lost.
 #[inline(always)]
-fn insert_at(row: &mut Vec<u16>, place: usize, id: u16)
-    requires place { place ≤ length row.old.items }
-    requires room { length row.old.items < vec_capacity row.old }
-    ensures items { row.new.items ≡ insert row.old.items place id }
-    ensures capacity { vec_capacity row.old ≤ vec_capacity row.new }
+fn insert_at(row: &mut [u16], place: usize, id: u16)
+    requires { place < length row.old }
+    ensures long { length row.new ≡ length row.old }
+    ensures row { row.new ≡ insert (take (length row.old - 1) row.old) place id }
 {
-    if place == row.len() {
-        row.push_reserved(id);
-    } else {
-        row.insert(place, id).unwrap();
+    let last = row.len() - 1;
+    if place < last {
+        row.copy_within(place..last, place + 1);
     }
+    row[place] = id;
 }
 
 impl Rows {
-    /// So many empty lists, with room for so many ids in each.
-    pub(crate) fn new(alloc: Global, lists: u16, room: u16) -> Result<Rows, Memory>
-        ensures { IfOk result (λ rows. rows ≡ record { all = replicate lists []; room = room }) }
+    /// An empty list for each location of a shape, with room for all that it may hold.
+    pub(crate) fn new(alloc: Global, shape: &Shape) -> Result<Rows, Memory>
+        ensures { IfOk result (λ rows. rows ≡ record { all = replicate (length shape.now.places) []; room = rooms shape.now }) }
     {
-        let mut rows = Vec::with_capacity(alloc, lists as usize)?;
-        for _list in 0..lists {
-            rows.push(row_of(alloc, &[], room)?)?;
+        let mut rows = Vec::with_capacity(alloc, shape.locations() as usize)?;
+        let mut end = 0;
+        for loc in 0..shape.locations() {
+            let room = shape.room_of(loc);
+            rows.push(Row {
+                from: end,
+                count: 0,
+                room,
+            })?;
+            end += room as u32;
         }
-        Ok(Rows { rows, room })
+        let ids = vec![in alloc; 0; end as usize]?;
+        Ok(Rows { ids, rows })
     }
 
     /// The same lists once more, with as much room.
     pub(crate) fn copy(&self, alloc: Global) -> Result<Rows, Memory>
         ensures { IfOk result (λ copy. copy ≡ self.now) }
     {
-        let mut rows = Vec::with_capacity(alloc, self.rows.len())?;
-        for row in &self.rows {
-            rows.push(row_of(alloc, row, self.room)?)?;
-        }
         Ok(Rows {
-            rows,
-            room: self.room,
+            ids: Vec::from_slice(alloc, &self.ids)?,
+            rows: Vec::from_slice(alloc, &self.rows)?,
         })
     }
 
     /// A list, or an empty one where there is no such list.
+    #[inline(always)]
     pub(crate) fn list(&self, at: u16) -> &[u16]
         ensures { result.now ≡ slice_index_or self.now.all at [] }
     {
         match self.rows.get(at as usize) {
-            Some(row) => row,
+            Some(row) => {
+                let from = row.from as usize;
+                &self.ids[from..from + row.count as usize]
+            }
             None => &[],
         }
     }
@@ -112,7 +120,11 @@ impl Rows {
           room = self.old.room;
         } }
     {
-        remove_at(&mut self.rows[at as usize], place);
+        let row = &mut self.rows[at as usize];
+        let from = row.from as usize;
+        let to = from + row.count as usize;
+        row.count -= 1;
+        remove_at(&mut self.ids[from..to], place);
     }
 
     /// Puts an id into a list.
@@ -120,20 +132,24 @@ impl Rows {
     pub(crate) fn put_in(&mut self, at: u16, place: usize, id: u16)
         requires list { at < length self.old.all }
         requires place { place ≤ length (slice_index_or self.old.all at []) }
-        requires room { length (slice_index_or self.old.all at []) < self.old.room }
+        requires room { length (slice_index_or self.old.all at []) < slice_index_or self.old.room at 0 }
         ensures { self.new ≡ record {
           all = slice_set self.old.all at (insert (slice_index_or self.old.all at []) place id);
           room = self.old.room;
         } }
     {
-        insert_at(&mut self.rows[at as usize], place, id);
+        let row = &mut self.rows[at as usize];
+        row.count += 1;
+        let from = row.from as usize;
+        let to = from + row.count as usize;
+        insert_at(&mut self.ids[from..to], place, id);
     }
 
     /// Puts an id on top of a list, and tells its place.
     #[inline(always)]
     pub(crate) fn put_on(&mut self, at: u16, id: u16) -> usize
         requires list { at < length self.old.all }
-        requires room { length (slice_index_or self.old.all at []) < self.old.room }
+        requires room { length (slice_index_or self.old.all at []) < slice_index_or self.old.room at 0 }
         ensures place { result ≡ length (slice_index_or self.old.all at []) }
         ensures lists { self.new ≡ record {
           all = slice_set self.old.all at (slice_index_or self.old.all at [] ++ id ∷ []);
@@ -141,8 +157,9 @@ impl Rows {
         } }
     {
         let row = &mut self.rows[at as usize];
-        let place = row.len();
-        row.push_reserved(id);
+        let place = row.count as usize;
+        row.count += 1;
+        self.ids[row.from as usize + place] = id;
         place
     }
 
@@ -152,24 +169,26 @@ impl Rows {
         requires length { length list.now ≡ length (slice_index_or self.old.all at []) }
         ensures { self.new ≡ record { all = slice_set self.old.all at list.now; room = self.old.room } }
     {
-        self.rows[at as usize].copy_from_slice(list);
+        let from = self.rows[at as usize].from as usize;
+        self.ids[from..from + list.len()].copy_from_slice(list);
     }
 
     // Writes another list over one, of whatever length within the room.
     fn overwrite(&mut self, at: usize, list: &[u16])
         requires list { at < length self.old.all }
-        requires room { length list.now ≤ self.old.room }
+        requires room { length list.now ≤ slice_index_or self.old.room at 0 }
         ensures { self.new ≡ record { all = slice_set self.old.all at list.now; room = self.old.room } }
     {
         let row = &mut self.rows[at];
-        row.clear();
-        row.extend_from_slice(list).unwrap();
+        row.count = list.len() as u16;
+        let from = row.from as usize;
+        self.ids[from..from + list.len()].copy_from_slice(list);
     }
 
     /// Writes other lists over all of these.
     pub(crate) fn lay(&mut self, lists: &[Vec<u16>])
         requires each { length lists.now ≡ length self.old.all }
-        requires room { All (λ list. length list ≤ self.old.room) (map (λ list. list.items) lists.now) }
+        requires room { HaveRoom (map (λ list. list.items) lists.now) self.old.room }
         ensures { self.new ≡ record { all = map (λ list. list.items) lists.now; room = self.old.room } }
     {
         for at in 0..lists.len() {
@@ -177,13 +196,13 @@ impl Rows {
         }
     }
 
-    /// Writes the lists of other rows over all of these.
+    /// Writes the lists of other rows over all of these, each with as much room.
     pub(crate) fn copy_from(&mut self, other: &Rows)
-        requires each { length other.now.all ≡ length self.old.all }
-        requires room { All (λ list. length list ≤ self.old.room) other.now.all }
-        ensures { self.new ≡ record { all = other.now.all; room = self.old.room } }
+        requires { other.now.room ≡ self.old.room }
+        ensures { self.new ≡ other.now }
     {
-        self.lay(&other.rows);
+        self.ids.copy_from_slice(&other.ids);
+        self.rows.copy_from_slice(&other.rows);
     }
 
     /// Writes ids over these lists, one list after another, each with as many of them as it has.

@@ -1,7 +1,7 @@
 //! The shape of a sheet.
 ghost use Rattle.std.specs.Prelude.{◌≡◌, ◌≤◌, length, slice_get, slice_index_or, option_map, IfOk};
 ghost use Rattle.rc_play_model.specs.Shape.{team_at, face_at, holds_references};
-ghost use Rattle.rc_table.specs.Laid.{longest};
+ghost use Rattle.rc_table.specs.Laid.{room_in};
 ghost use Rattle.rc_table.specs.Places.{place_seen};
 ghost use Rattle.rc_table.specs.Shape.{IsShape, shape_of_parts, face_numbers_of, face_or_none};
 
@@ -161,18 +161,11 @@ impl Shape {
         }
     }
 
-    /// The most ids that a location may hold: 512 where there is a `mem`, and else as many as there are cards.
-    pub(crate) fn longest(&self) -> u16
-        ensures is { result ≡ longest self.now }
-        ensures cards { length self.now.faces ≤ result }
+    /// The most ids that a location may hold: 512 references, or else as many cards as there are.
+    pub(crate) fn room_of(&self, loc: u16) -> u16
+        ensures { result ≡ room_in self.now (slice_get self.now.places loc) }
     {
-        let mut mems = 0usize;
-        for place in &self.places {
-            if matches!(place.kind, LocKind::Mem) {
-                mems += 1;
-            }
-        }
-        if mems > 0 {
+        if self.holds_references(loc) {
             MOST_IN_MEM as u16
         } else {
             self.faces.len() as u16

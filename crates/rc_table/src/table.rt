@@ -4,7 +4,7 @@ ghost use Rattle.rc_model.specs.Numbers.{below};
 ghost use Rattle.rc_model.specs.Clamp.{IsWithinClamp};
 ghost use Rattle.rc_play_model.specs.Table.{IsSound, list_at, number_at, at_home, opening};
 ghost use Rattle.rc_play_model.specs.Bound.{HasHomes};
-ghost use Rattle.rc_table.specs.Laid.{longest};
+ghost use Rattle.rc_table.specs.Laid.{rooms};
 
 use crate::rows::Rows;
 use crate::shape::Shape;
@@ -104,9 +104,9 @@ impl Table {
 // The lists of the start: each card in its first location.
 fn homes(alloc: Global, shape: &Shape) -> Result<Rows, Memory>
     requires { HasHomes shape.now }
-    ensures { IfOk result (λ lists. lists ≡ record { all = map (at_home shape.now) (below (length shape.now.places)); room = longest shape.now }) }
+    ensures { IfOk result (λ lists. lists ≡ record { all = map (at_home shape.now) (below (length shape.now.places)); room = rooms shape.now }) }
 {
-    let mut lists = Rows::new(alloc, shape.locations(), shape.longest())?;
+    let mut lists = Rows::new(alloc, shape)?;
     for id in 0..shape.cards() {
         let home = shape.home(id);
         let top = lists.list(home).len();

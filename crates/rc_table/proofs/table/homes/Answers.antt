@@ -1,8 +1,11 @@
-use Rattle.std.proofs.Common.{◌≡◌, length, replicate, get_or, set, [], arith, ap, ◌∙◌}
+use Rattle.std.proofs.Common.{ℕ, List, length, get_or, set, [], arith, ap, ap₂, ◌∙◌}
 use Rattle.std.proofs.lemmas.List.FromFn.{length-map-range_with_len}
-use Rattle.rc_table.proofs.Homes.{begun, no_card, one_more, begun_few, home_within}
+use Rattle.rc_table.proofs.Homes.{begun, no_card, one_more, begun_few, home_within, room_at_home}
 use Rattle.rc_table.proofs.PutBack.{insert_above}
 use Rattle.rc_table.proofs.table.homes.Goals as goal
+
+abbrev get_or_zero : List ℕ → ℕ → ℕ
+get_or_zero room at = get_or room at 0
 
 pub put_in-requires-clause-list : goal.put_in-requires-clause-list
 put_in-requires-clause-list c =
@@ -17,16 +20,16 @@ put_in-requires-clause-room c =
     let cards = c.cards-id-end.ensures in
     let within = home_within shape c.loop-id.id c.requires (omega (arith, cards)) in
     let few = begun_few shape.home c.loop-id.id (length shape.places) c.home-home.result c.loop-id.lists.all c.loop-id.invariant.all (omega (arith, within, c.home-home.ensures)) in
-    omega (arith, few, cards, c.loop-id-test.true, c.longest.ensures.is, c.longest.ensures.cards, c.loop-id.invariant.room)
+    let room = ap₂ get_or_zero c.loop-id.invariant.room c.home-home.ensures ∙ room_at_home shape c.loop-id.id c.requires (omega (arith, cards)) in
+    omega (arith, few, cards, c.loop-id-test.true, room)
 
 pub loop-id-init : goal.loop-id-init
 loop-id-init c =
     let shape = c.args.shape.now in
     let made = c.in_ok-lists.ensures in
-    let count : c.locations.result ≡ length shape.places = c.locations.ensures in
     record {
-      all = ap (λ lists. lists.all) made ∙ ap (λ n. replicate n []) count ∙ no_card shape.home 0 (length shape.places);
-      room = ap (λ lists. lists.room) made ∙ c.longest.ensures.is;
+      all = ap (λ lists. lists.all) made ∙ no_card shape.home 0 (length shape.places);
+      room = ap (λ lists. lists.room) made;
     }
 
 pub loop-id-preserved : goal.loop-id-preserved

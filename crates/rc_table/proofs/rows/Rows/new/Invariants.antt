@@ -1,9 +1,12 @@
-use Rattle.std.proofs.Common.{◌≡◌, ◌≤◌, [], map, replicate, vec_capacity}
-use Rattle.std.specs.Prelude.{All}
+use Rattle.std.proofs.Common.{◌≡◌, ◌≤◌, ◌*◌, ℕ, List, [], map, take, replicate}
+use Rattle.rc_table.specs.Laid.{rooms}
+use Rattle.rc_table.specs.RowsSeen.{list_in, room_of, AreRows}
 use Rattle.rc_table.proofs.rows.Rows.new.Given as goal
 
-abbrev pub invariant-loop-list : goal.invariant-loop-list
-invariant-loop-list l = record {
-  lists : map (λ row. row.items) l.rows.items ≡ replicate l._list [];
-  room : All (λ row. l.room ≤ vec_capacity row) l.rows.items;
+abbrev pub invariant-loop-loc : goal.invariant-loop-loc
+invariant-loop-loc l = record {
+  are : AreRows l.rows.items 0 l.end;
+  rooms : map room_of l.rows.items ≡ take l.loc (rooms l.shape);
+  lists : (ids : List ℕ) → map (list_in ids) l.rows.items ≡ replicate l.loc [];
+  small : l.end ≤ l.loc * 65535;
 }

@@ -16,7 +16,8 @@ put_in-requires-clause-room c =
     let sound = subst (λ (laid : Laid). IsSound laid.shape (put_at c.args.id c.args.loc c.args.place laid.table)) (sym c.self.view_is) c.requires.sound in
     let within = slice_get_within _ c.args.loc mem.0 mem.1 in
     let less = one_more_fits _ _ c.args.id c.args.loc c.args.place c.self.invariant.limits (omega (arith, within, c.self.invariant.sound.locations)) sound in
-    omega (arith, less, c.self.invariant.fits)
+    let room = ap (λ room. slice_index_or room c.args.loc 0) c.self.invariant.fits in
+    omega (arith, less, room)
 
 pub invariant_of-self : goal.invariant_of-self
 invariant_of-self c =

@@ -1,10 +1,11 @@
 use Rattle.std.proofs.Common.{◌≡◌, ◌<◌, length, ap, ap₂, ◌∙◌, sym, subst, arith, [], get_or}
+use Rattle.std.proofs.lemmas.Option.{slice_get_within}
 use Rattle.rc_play_model.specs.Bound.{HoldsCards}
 use Rattle.rc_play_model.specs.Table.{Table, place_of, put_top}
 use Rattle.rc_table.specs.Laid.{Laid}
 use Rattle.rc_table.specs.Rows.{Lists}
 use Rattle.rc_table.specs.Whereabouts.{noted_in}
-use Rattle.rc_table.proofs.Held.{longest_few}
+use Rattle.rc_table.proofs.Held.{room_few}
 use Rattle.rc_table.proofs.WhereaboutLemmas.{noted_all, length-noted_in}
 use Rattle.rc_table.proofs.WhereaboutEdits.{refilled, can_note}
 use Rattle.rc_table.proofs.TopLemmas.{from_within, to_within_out, room_on_top, put_lists, put_room, put_last, put_noted}
@@ -63,8 +64,8 @@ put_on-top-requires-clause-room c =
     let after = (c.edits_keep_tables_sound.ensures.put shape table id loc sound card holds).0 in
     let less = room_on_top shape table c.self.invariant.limits sound id card loc holds c.args.from c.args.place here after in
     let all = ap (λ (lists : Lists). length (get_or lists.all loc [])) c.take_out.ensures in
-    let room = ap (λ (lists : Lists). lists.room) c.take_out.ensures in
-    omega (arith, less, all, room, c.self.invariant.fits)
+    let room = ap (λ room. get_or room loc 0) (ap (λ (lists : Lists). lists.room) c.take_out.ensures ∙ c.self.invariant.fits) in
+    omega (arith, less, all, room)
 
 pub note_top-requires-clause-ids : goal.note_top-requires-clause-ids
 note_top-requires-clause-ids c =
@@ -125,7 +126,7 @@ note_top-requires-clause-place c =
     let after = (c.edits_keep_tables_sound.ensures.put shape table id loc sound card holds).0 in
     let less = room_on_top shape table c.self.invariant.limits sound id card loc holds c.args.from c.args.place here after in
     let all = ap (λ (lists : Lists). length (get_or lists.all loc [])) c.take_out.ensures in
-    let most = longest_few shape c.self.invariant.limits in
+    let most = room_few shape c.self.invariant.limits loc (slice_get_within shape.places loc holds.0 holds.1) in
     omega (arith, less, all, most, c.put_on-top.ensures.place)
 
 pub note_top-requires-clause-last : goal.note_top-requires-clause-last
@@ -167,6 +168,6 @@ invariant_of-self c =
     (record {
       limits = c.self.invariant.limits;
       sound = after;
-      fits = omega (arith, c.self.invariant.fits, room);
+      fits = room ∙ c.self.invariant.fits;
       noted = noted;
     })

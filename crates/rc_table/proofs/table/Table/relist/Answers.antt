@@ -54,6 +54,6 @@ invariant_of-self c =
     (record {
       limits = c.self.invariant.limits;
       sound = sound;
-      fits = omega (arith, c.self.invariant.fits, room);
+      fits = room ∙ c.self.invariant.fits;
       noted = noted;
     })
