@@ -1,5 +1,5 @@
 -- What a board keeps, after edits and where it goes home.
-use Rattle.std.proofs.Common.{◌≡◌, ℕ, ℤ, Bool, false, true, true≢false, List, [], ◌∷◌, length, refl, sym, ap, subst}
+use Rattle.std.proofs.Common.{◌≡◌, ℕ, ℤ, false, true, true≢false, List, [], ◌∷◌, length, refl, sym, ap, subst}
 use Rattle.rc_play_model.specs.Table.{Table, IsSound}
 use Rattle.rc_table.specs.Laid.{Laid, relaid}
 use Rattle.rc_flat.specs.Undo.{Edit, changed, undone, before_of, IsEditOf, CanUndo, Kept, edited, gone_home, GoesBack}
