@@ -19,10 +19,10 @@ use std::alloc::Global;
 
 // The place of an owner of this class, if the name is of the class and there is such an owner.
 #[inline(always)]
-fn place_of(range: Range, wanted: Class, owner: u8) -> Option<u16>
-    ensures { result ≡ place_in wanted owner (Some (range_seen range)) }
+fn place_of(range: &Range, wanted: Class, owner: u8) -> Option<u16>
+    ensures { result ≡ place_in wanted owner (Some (range_seen range.now)) }
 {
-    if range.class == wanted && u16::from(owner) < range.count {
+    if range.class == wanted && u32::from(owner) < range.count {
         Some(range.first + u16::from(owner))
     } else {
         None
@@ -35,7 +35,7 @@ fn place_at(ranges: &[Range], name: u16, wanted: Class, owner: u8) -> Option<u16
     ensures { result ≡ place_in wanted owner (slice_get (ranges_seen ranges.now) name) }
 {
     match ranges.get(name as usize) {
-        Some(range) => place_of(*range, wanted, owner),
+        Some(range) => place_of(range, wanted, owner),
         None => None,
     }
 }
@@ -135,7 +135,7 @@ fn loc_ranges(alloc: Global, sheet: &Sheet) -> Result<Vec<Range>, Memory>
         list.push(Range {
             class,
             first: first as u16,
-            count: count as u16,
+            count: count as u32,
         })?;
         first += count;
     }
@@ -154,7 +154,7 @@ fn num_ranges(alloc: Global, sheet: &Sheet) -> Result<Vec<Range>, Memory>
         list.push(Range {
             class,
             first: first as u16,
-            count: count as u16,
+            count: count as u32,
         })?;
         first += count;
     }
