@@ -151,9 +151,11 @@ fn pick_of<M: Machine>(about: &About, machine: &M, item: u16) -> Pick
     requires decides { StandsAtDecision about.now (M.config machine.now) }
     ensures { pick_seen result ≡ pick_here about.now (M.config machine.now) item }
 {
+    // what an about keeps
+    let _sheet = about.sheet();
     let control = machine.control();
     Pick {
-        seat: current_in(about.sheet(), Class::Player, control.frames.as_slice()),
+        seat: current_in(about, Class::Player, control.frames.as_slice()),
         site: control.site.unwrap_or(0),
         item,
         size: machine.menu_size() as u16,

@@ -8,6 +8,7 @@ ghost use Rattle.rc_ast.specs.Items.{item_seen, items_seen};
 ghost use Rattle.rc_rules.specs.Control.{frames_seen};
 ghost use Rattle.rc_rules.specs.Stages.{passed};
 
+use crate::about::About;
 use crate::control::Frame;
 use rc_ast::{Sheet, SheetItem};
 use rc_names::Class;
@@ -48,22 +49,34 @@ fn pass_items(items: &Vec<SheetItem>, number: u16) -> ControlFlow<Class, u16>
 }
 
 /// Whether the stage with this number is of this class.
-pub fn is_stage_of(sheet: &Sheet, class: Class, number: u16) -> bool
-    ensures { result ≡ owners.is_stage_of (sheet_seen sheet.now) class number }
+#[inline(always)]
+pub fn is_stage_of(about: &About, class: Class, number: u16) -> bool
+    ensures { result ≡ owners.is_stage_of about.now.sheet class number }
 {
-    match class_of_stage(sheet, number) {
+    match class_at(about, number) {
         Some(other) => other == class,
         None => false,
     }
 }
 
+// The class of the stage with this number: that of one of the first is looked up.
+#[inline(always)]
+fn class_at(about: &About, number: u16) -> Option<Class>
+    ensures { result ≡ slice_get (classes_in about.now.sheet.items) number }
+{
+    match about.lookup().stage(number) {
+        Some(class) => Some(class),
+        None => class_of_stage(about.sheet(), number),
+    }
+}
+
 /// The current member of the innermost open stage of a class, or 0 where none is open.
-pub fn current_in(sheet: &Sheet, class: Class, frames: &[Frame]) -> u8
-    ensures { result ≡ owners.current_in (sheet_seen sheet.now) class (frames_seen frames.now) }
+pub fn current_in(about: &About, class: Class, frames: &[Frame]) -> u8
+    ensures { result ≡ owners.current_in about.now.sheet class (frames_seen frames.now) }
 {
     let mut rest = frames;
     while let Some((frame, outer)) = rest.split_last() {
-        if is_stage_of(sheet, class, frame.stage) {
+        if is_stage_of(about, class, frame.stage) {
             return frame.member;
         }
         rest = outer;

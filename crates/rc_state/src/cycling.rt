@@ -13,9 +13,8 @@ ghost use Rattle.rc_state.specs.Innermost.{IsInnermost};
 
 use crate::context::Context;
 use crate::reading::who_now;
-use crate::stages::is_stage_of;
 use rc_ast::{Class, Who};
-use rc_rules::{About, Frame, Frames};
+use rc_rules::{About, Frame, Frames, is_stage_of};
 use rc_table::Table;
 
 /// Names who comes next in the innermost stage of the class, whoever was named before.
