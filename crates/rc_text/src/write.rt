@@ -1,5 +1,5 @@
 //! The lines of a house text. Every line ends with LF.
-ghost use Rattle.std.specs.Prelude.{◌≡◌, ◌++◌, codes, decimal, string_bytes, map, flat_map, OnOk};
+ghost use Rattle.std.specs.Prelude.{◌≡◌, ◌<◌, ◌++◌, codes, decimal, string_bytes, map, flat_map, OnOk};
 ghost use Rattle.std.specs.Fmt.{signed_decimal};
 ghost use Rattle.rc_model.specs.Transcript.{match_line, choose_line, shuffles_line, end_line, score_line, standing_line};
 ghost use Rattle.rc_rules.specs.Record.{pick_seen, ending_seen, score_seen, record_seen, standing_seen};
@@ -32,7 +32,42 @@ pub(crate) fn write_picks(out: &mut Vec<u8>, picks: &[Pick]) -> Result<(), Alloc
     Ok(())
 }
 
+// Adds the line of a choice, in one piece where each of its numbers has one digit, as most have.
 fn write_pick(out: &mut Vec<u8>, pick: Pick) -> Result<(), AllocError>
+    ensures { OnOk result (out.new.items ≡ out.old.items ++ choose_line (pick_seen pick)) }
+{
+    let Pick {
+        seat,
+        site,
+        item,
+        size,
+    } = pick;
+    if seat < 10 && site < 10 && item < 10 && size < 10 {
+        return out.extend_from_slice(&short_line(seat, site, item as u8, size as u8));
+    }
+    write_numbers(out, pick)
+}
+
+// The line of a choice of such numbers.
+#[inline(always)]
+fn short_line(seat: u8, site: u8, item: u8, size: u8) -> [u8; 15]
+    requires seat { seat < 10 }
+    requires site { site < 10 }
+    requires item { item < 10 }
+    requires size { size < 10 }
+    ensures { result ≡ choose_line (record { seat = seat; site = site; item = item; size = size }) }
+{
+    let mut line = *b"choose 0 0 0 0\n";
+    line[7] += seat;
+    line[9] += site;
+    line[11] += item;
+    line[13] += size;
+    line
+}
+
+// Adds the line of a choice, number by number.
+#[inline(never)]
+fn write_numbers(out: &mut Vec<u8>, pick: Pick) -> Result<(), AllocError>
     ensures { OnOk result (out.new.items ≡ out.old.items ++ choose_line (pick_seen pick)) }
 {
     out.extend_from_slice(b"choose ")?;
