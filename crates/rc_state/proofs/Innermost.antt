@@ -7,6 +7,7 @@ use Rattle.rc_sheet_model.specs.Sheet.{Class, Sheet}
 use Rattle.rc_play_model.specs.Ends.{last_of}
 use Rattle.rc_play_model.specs.Control.{Frame, at_innermost}
 use Rattle.rc_play_model.specs.Owners.{is_stage_of, frames_of, current_in}
+use Rattle.rc_play_model.specs.Step.{with_next, passed}
 use Rattle.rc_play_model.specs.Effects.{with_named, named_next, turned_back, turned}
 use Rattle.rc_rules.specs.declared.control.Frame.{Frame as FrameCode}
 use Rattle.rc_rules.specs.Control.{frame_seen, frames_seen}
@@ -164,6 +165,11 @@ pub turned_last : (frames : List FrameCode) (at : ℕ) (d : FrameCode) → at + 
     })) ≡ turned (frames_seen frames)
 turned_last frames at d is =
     changed_at (λ frame. true) turned_back frames at d _ (last_stands (frames_seen frames) at (is ∙ sym (seen_length frames))) refl
+
+pub passed_last : (count : ℕ) (frames : List FrameCode) (at : ℕ) (d new : FrameCode) → at + 1 ≡ length frames →
+    frame_seen new ≡ with_next count (frame_seen (get_or frames at d)) → frames_seen (slice_set frames at new) ≡ passed count (frames_seen frames)
+passed_last count frames at d new is same =
+    changed_at (λ frame. true) (with_next count) frames at d new (last_stands (frames_seen frames) at (is ∙ sym (seen_length frames))) same
 
 pub named_current : (sheet : Sheet) (class other : Class) (member : ℕ) (frames : List Frame) →
     current_in sheet other (named_next sheet class member frames) ≡ current_in sheet other frames

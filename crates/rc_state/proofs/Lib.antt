@@ -4,5 +4,6 @@ pub mod Rows
 pub mod Orders
 pub mod MemberLemmas
 pub mod FrameEnds
+pub mod CurrentLemmas
 pub mod OwnerLemmas
 pub mod ScoreLemmas

@@ -3,10 +3,12 @@ ghost use Rattle.std.specs.Prelude.{◌≡◌, ◌<◌, ◌≤◌, ◌++◌, ◌
 ghost use Rattle.rc_play_model.specs.Owners.{current_in as pure_current_in};
 ghost use Rattle.rc_play_model.specs.Step.{beside as pure_beside, with_next, passed, closed};
 ghost use Rattle.rc_rules.specs.Control.{frame_seen, frames_seen};
+ghost use Rattle.rc_value.specs.Current.{IsCurrent};
 
-use crate::stages::current_member;
+use crate::stages::member_by;
 use rc_ast::Class;
 use rc_rules::{About, Frame, Frames};
+use rc_value::{Current, current_inside, current_of};
 
 /// A stage opens at the current member of the nearest stage of its class, forward.
 pub fn open_frame(frames: &mut Frames, about: &About, number: u16, class: Class)
@@ -14,13 +16,33 @@ pub fn open_frame(frames: &mut Frames, about: &About, number: u16, class: Class)
     ensures { frames_seen frames.new.items ≡ frames_seen frames.old.items
         ++ record { stage = number; member = pure_current_in about.now.sheet class (frames_seen frames.old.items); back = false; named = None } ∷ [] }
 {
-    let member = current_member(about, class, frames.as_slice());
-    frames.push(Frame {
+    let current = current_of(about.sheet(), about.lookup(), frames.as_slice());
+    let _inside = open_frame_by(frames, about, current, number, class);
+}
+
+/// The same where it is known who is current: tells who is then.
+#[inline(always)]
+pub fn open_frame_by(
+    frames: &mut Frames,
+    about: &About,
+    current: Current,
+    number: u16,
+    class: Class,
+) -> Current
+    requires room { length frames.old.items < 64 }
+    requires current { IsCurrent about.now.sheet (frames_seen frames.old.items) current }
+    ensures opened { frames_seen frames.new.items ≡ frames_seen frames.old.items
+        ++ record { stage = number; member = pure_current_in about.now.sheet class (frames_seen frames.old.items); back = false; named = None } ∷ [] }
+    ensures current { IsCurrent about.now.sheet (frames_seen frames.new.items) result }
+{
+    let frame = Frame {
         stage: number,
-        member,
+        member: member_by(about, current, class, frames.as_slice()),
         back: false,
         named: None,
-    });
+    };
+    frames.push(frame);
+    current_inside(about.sheet(), about.lookup(), current, frame)
 }
 
 /// The innermost stage closes.
@@ -45,6 +67,35 @@ pub fn pass_frame(frames: &mut Frames, count: u8)
     }
 }
 
+/// The same where it is known who is current: tells who is then.
+#[inline(always)]
+pub fn pass_frame_by(frames: &mut Frames, about: &About, current: Current, count: u8) -> Current
+    requires some { 1 ≤ count }
+    requires current { IsCurrent about.now.sheet (frames_seen frames.old.items) current }
+    ensures passed { frames_seen frames.new.items ≡ passed count (frames_seen frames.old.items) }
+    ensures current { IsCurrent about.now.sheet (frames_seen frames.new.items) result }
+{
+    pass_innermost(frames.as_mut_slice(), about, current, count)
+}
+
+// The last of these frames takes its next member.
+#[inline(always)]
+fn pass_innermost(frames: &mut [Frame], about: &About, current: Current, count: u8) -> Current
+    requires some { 1 ≤ count }
+    requires current { IsCurrent about.now.sheet (frames_seen frames.old) current }
+    ensures passed { frames_seen frames.new ≡ passed count (frames_seen frames.old) }
+    ensures current { IsCurrent about.now.sheet (frames_seen frames.new) result }
+{
+    let open = frames.len();
+    if open == 0 {
+        return current;
+    }
+    let next = next_of(frames[open - 1], count);
+    frames[open - 1] = next;
+    current_inside(about.sheet(), about.lookup(), current, next)
+}
+
+#[inline(always)]
 fn next_of(frame: Frame, count: u8) -> Frame
     requires { 1 ≤ count }
     ensures { frame_seen result ≡ with_next count (frame_seen frame) }

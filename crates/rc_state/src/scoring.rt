@@ -6,11 +6,14 @@ ghost use Rattle.rc_play_model.specs.About.{scene_at};
 ghost use Rattle.rc_play_model.specs.Scores.{score_of, scores_of};
 ghost use Rattle.rc_ast.specs.Expressions.{test_seen};
 ghost use Rattle.rc_rules.specs.Control.{frames_seen, control_seen};
+ghost use Rattle.rc_value.specs.Current.{IsCurrent};
 
 use rc_ast::Test;
 use rc_rules::{About, Control, Scores};
 use rc_table::Table;
-use rc_value::{Bind, Bindings, Scene, expressions_bind_few, int_of, test_of};
+use rc_value::{
+    Bind, Bindings, Current, Scene, current_of, expressions_bind_few, int_of, players_test, test_of,
+};
 
 /// Whether the end test of a stage holds.
 pub fn has_ended(about: &About, table: &Table, control: &Control, end: &Test) -> bool
@@ -18,12 +21,58 @@ pub fn has_ended(about: &About, table: &Table, control: &Control, end: &Test) ->
     requires well { (around : Around) × (around.binders ≡ 0) × IsTest about.now.sheet around (test_seen end.now) }
     ensures { result ≡ test_value (scene_at about.now table.now.table (frames_seen control.now.frames.items)) [] (test_seen end.now) }
 {
-    expressions_bind_few();
-    let scene = Scene::new(
+    let current = current_of(about.sheet(), about.lookup(), control.frames.as_slice());
+    has_ended_asked(about, current, table, control, end)
+}
+
+/// The same where it is known who is current. A test of how many cards each player has takes no variable.
+#[inline(always)]
+pub fn has_ended_by(
+    about: &About,
+    current: Current,
+    table: &Table,
+    control: &Control,
+    end: &Test,
+) -> bool
+    requires laid { table.now.shape ≡ about.now.shape }
+    requires current { IsCurrent about.now.sheet (frames_seen control.now.frames.items) current }
+    requires well { (around : Around) × (around.binders ≡ 0) × IsTest about.now.sheet around (test_seen end.now) }
+    ensures { result ≡ test_value (scene_at about.now table.now.table (frames_seen control.now.frames.items)) [] (test_seen end.now) }
+{
+    let scene = Scene::with_current(
         about.sheet(),
         about.lookup(),
         table,
         control.frames.as_slice(),
+        current,
+    );
+    match players_test(&scene, end) {
+        Some(ends) => ends,
+        None => has_ended_asked(about, current, table, control, end),
+    }
+}
+
+// The same, whatever it takes.
+#[inline(never)]
+fn has_ended_asked(
+    about: &About,
+    current: Current,
+    table: &Table,
+    control: &Control,
+    end: &Test,
+) -> bool
+    requires laid { table.now.shape ≡ about.now.shape }
+    requires current { IsCurrent about.now.sheet (frames_seen control.now.frames.items) current }
+    requires well { (around : Around) × (around.binders ≡ 0) × IsTest about.now.sheet around (test_seen end.now) }
+    ensures { result ≡ test_value (scene_at about.now table.now.table (frames_seen control.now.frames.items)) [] (test_seen end.now) }
+{
+    expressions_bind_few();
+    let scene = Scene::with_current(
+        about.sheet(),
+        about.lookup(),
+        table,
+        control.frames.as_slice(),
+        current,
     );
     test_of(&scene, &Bindings::empty(), end)
 }

@@ -26,7 +26,7 @@ pub fn current_of(sheet: &Sheet, lookup: &Lookup, frames: &[Frame]) -> Current
     // from outside to inside: a stage's member takes the place of that of a stage around it
     for place in 0..frames.len() {
         let frame = frame_at(frames, place);
-        current = inside(sheet, lookup, current, frame);
+        current = current_inside(sheet, lookup, current, frame);
     }
     current
 }
@@ -39,9 +39,9 @@ fn frame_at(frames: &[Frame], place: usize) -> Frame
     frames[place]
 }
 
-// Who is current inside one more stage.
+/// Who is current inside one more stage, where it is known who is current around it.
 #[inline(always)]
-fn inside(sheet: &Sheet, lookup: &Lookup, around: Current, frame: Frame) -> Current
+pub fn current_inside(sheet: &Sheet, lookup: &Lookup, around: Current, frame: Frame) -> Current
     requires stages { AreStages (sheet_seen sheet.now) lookup.now.stages.items }
     ensures player { result.player ≡ (if is_stage_of (sheet_seen sheet.now) player_class frame.stage then frame.member else around.player) }
     ensures team { result.team ≡ (if is_stage_of (sheet_seen sheet.now) team_class frame.stage then frame.member else around.team) }

@@ -1,15 +1,16 @@
 //! Tests of all players that ask how many cards each has in a location of his: these go over the locations, with no variable.
-ghost use Rattle.std.specs.Prelude.{◌≡◌, ◌≤◌, IfSome};
+ghost use Rattle.std.specs.Prelude.{◌≡◌, ◌≤◌, ◌∷◌, [], map, IfSome};
 ghost use Rattle.std.specs.List.{list_all, list_any};
 ghost use Rattle.rc_model.specs.Numbers.{below};
 ghost use Rattle.rc_sheet_model.specs.Sheet.{literal, who_var};
+ghost use Rattle.rc_play_model.specs.Value.{player_bound, test_value};
 ghost use Rattle.rc_ast.specs.Names.{loc_seen};
 ghost use Rattle.rc_ast.specs.Expressions.{coll_seen, int_seen, test_seen};
 ghost use Rattle.rc_value.specs.Holding.{holds, size_held, IsCompared, IsHisOwn, IsHolding};
 ghost use Rattle.rc_value.specs.Scene.{scene_seen};
 
 use crate::scene::Scene;
-use rc_ast::{Class, CollExpr, IntExpr, Loc, Test, Who};
+use rc_ast::{Class, CollExpr, Domain, IntExpr, Loc, Test, Who};
 
 /// How many cards a player is to have in his location of a name.
 #[derive(Clone, Copy)]
@@ -19,6 +20,7 @@ pub(crate) struct Holding {
 }
 
 /// What a test asks of the player that the variable at this place stands for, if it is so many cards in a location.
+#[inline(always)]
 pub(crate) fn holding_of(test: &Test, place: usize) -> Option<Holding>
     ensures { IfSome result (IsHolding place (test_seen test.now)) }
 {
@@ -72,7 +74,32 @@ fn name_at(loc: &Loc, place: usize) -> Option<u16>
     }
 }
 
+/// Whether a test of all players holds that asks how many cards each has in a location of his. Nothing is told of other tests.
+#[inline(always)]
+pub fn players_test(scene: &Scene, test: &Test) -> Option<bool>
+    ensures { IfSome result (λ holds. holds ≡ test_value (scene_seen scene.now) [] (test_seen test.now)) }
+{
+    match test {
+        Test::All(domain, _, inner) => match domain {
+            Domain::Players => all_of_players(scene, inner),
+            _ => None,
+        },
+        _ => None,
+    }
+}
+
+#[inline(always)]
+fn all_of_players(scene: &Scene, inner: &Test) -> Option<bool>
+    ensures { IfSome result (λ holds. holds ≡ list_all (λ m. test_value (scene_seen scene.now) (m ∷ []) (test_seen inner.now)) (map (λ n. player_bound n) (below (scene_seen scene.now).known.sheet.players))) }
+{
+    match holding_of(inner, 0) {
+        Some(holding) => Some(all_hold(scene, holding)),
+        None => None,
+    }
+}
+
 /// Whether each player has so many.
+#[inline(always)]
 pub(crate) fn all_hold(scene: &Scene, holding: Holding) -> bool
     ensures { result ≡ list_all (holds (scene_seen scene.now) holding) (below (scene_seen scene.now).known.sheet.players) }
 {

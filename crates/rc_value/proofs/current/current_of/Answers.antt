@@ -8,8 +8,8 @@ use Rattle.rc_value.proofs.current.current_of.Goals as goal
 
 pub loop-place-preserved : goal.loop-place-preserved
 loop-place-preserved c =
-    current_on (sheet_seen c.args.sheet.now) c.args.frames.now c.loop-place.place c.frame_at-frame.result c.loop-place.current c.inside-current.result
-    c.loop-place-test.true c.frame_at-frame.ensures c.loop-place.invariant c.inside-current.ensures.player c.inside-current.ensures.team
+    current_on (sheet_seen c.args.sheet.now) c.args.frames.now c.loop-place.place c.frame_at-frame.result c.loop-place.current c.current_inside-current.result
+    c.loop-place-test.true c.frame_at-frame.ensures c.loop-place.invariant c.current_inside-current.ensures.player c.current_inside-current.ensures.team
 
 pub returns : goal.returns
 returns c =
