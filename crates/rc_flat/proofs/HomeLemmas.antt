@@ -7,8 +7,9 @@ use Rattle.rc_play_model.specs.Table.{Table}
 use Rattle.rc_play_model.specs.About.{About, menu_at}
 use Rattle.rc_play_model.specs.Step.{Config}
 use Rattle.rc_play_model.specs.Path.{Path}
-use Rattle.rc_rules.specs.Control.{control_seen}
+use Rattle.rc_rules.specs.Control.{control_seen, frames_seen}
 use Rattle.rc_rules.specs.Menu.{menu_seen}
+use Rattle.rc_value.specs.Current.{IsCurrent}
 use Rattle.rc_code.specs.Instruction.{Code, Instruction}
 use Rattle.rc_code.specs.Laws.{SitesArePlaced}
 use Rattle.rc_code.specs.Stands.{StandsFor}
@@ -38,13 +39,14 @@ module _ (about : About) (code : List Instruction) (old : Kept) (new : State) (s
       ap config_of (stands_home home.table home.is)
       ∙ sym (ap (λ o. config_at_home about code o stand) home.is)
 
-  pub ready_home : menu_seen new.menu.items ≡ menu_seen stand.menu.items → old.laid.shape ≡ about.shape → IsHome about code old.home stand →
+  pub ready_home : menu_seen new.menu.items ≡ menu_seen stand.menu.items → IsCurrent about.sheet (frames_seen new.control.frames.items) new.current → old.laid.shape ≡ about.shape → IsHome about code old.home stand →
       IsReady about code new
-  ready_home menu shape home =
+  ready_home menu current shape home =
       let same = stands_home home.table home.is in
       record {
         laid = ap (λ (k : Kept). k.laid.shape) board ∙ shape;
         play = subst IsInPlay (sym same) home.on.play;
+        current = current;
         kept = λ site is.
             let there = sym (ap (λ (c : Control). c.site) control) ∙ is in
             record {

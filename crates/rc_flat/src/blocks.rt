@@ -8,7 +8,9 @@ ghost use Rattle.rc_play_model.specs.Scene.{CardValue};
 ghost use Rattle.rc_play_model.specs.Bound.{IsBindOf, IsCardOf};
 ghost use Rattle.rc_play_model.specs.Effects.{does_one, does, times as times_in};
 ghost use Rattle.rc_ast.specs.Expressions.{coll_seen, int_seen, test_seen, domain_seen};
+ghost use Rattle.rc_rules.specs.Control.{frames_seen};
 ghost use Rattle.rc_value.specs.Cards.{value_seen, values_seen};
+ghost use Rattle.rc_value.specs.Current.{IsCurrent};
 ghost use Rattle.rc_value.specs.Seen.{bind_seen};
 ghost use Rattle.rc_state.specs.Point.{point_of};
 ghost use Rattle.rc_state.specs.Under.{IsCollUnder, IsEffectUnder, AreEffectsUnder};
@@ -29,7 +31,7 @@ use rc_deck::Memory;
 use rc_names::limits::MOST_TIMES;
 use rc_rules::{About, Dealer, Frames};
 use rc_state::{Context, FewCards, cards_now, few_cards_now, int_now, test_now};
-use rc_value::{Bind, Bindings, Card, Cards, current_of};
+use rc_value::{Bind, Bindings, Card, Cards, Current};
 
 /// The first instructions, so many of them.
 #[tactic(auto, using(crate::proofs::ListLemmas::front_seen, crate::proofs::ListLemmas::all_seen, crate::proofs::ListLemmas::front_simple))]
@@ -448,26 +450,28 @@ pub fn behind(code: &[Instruction], from: usize, inside: usize) -> usize
     from + inside.min(code.len() - from)
 }
 
-/// Does the effects of a block outside all binders.
+/// Does the effects of a block outside all binders, where it is known who is current. That stays so.
 #[tactic(auto, using(crate::proofs::ShuffleLemmas::not_shuffled))]
 pub fn do_outside<D: Dealer>(
     about: &About,
+    current: Current,
     code: &[Instruction],
     board: &mut Board,
     frames: &mut Frames,
     dealer: &mut D,
 ) -> Result<(), Memory>
     requires laid { board.old.laid.shape ≡ about.now.shape }
+    requires current { IsCurrent about.now.sheet (frames_seen frames.old.items) current }
     requires well { (around : Around) × (around.binders ≡ 0) × AreEffects about.now.sheet around (effects_in (list_seen code.now)) }
     requires simple { AreSimple (list_seen code.now) }
     ensures does { OnOk result (does about.now (D.dealing dealer.old) [] (effects_in (list_seen code.now))
         (point_of board.old.laid frames.old.items (D.state dealer.old)) ≡ point_of board.new.laid frames.new.items (D.state dealer.new)) }
+    ensures current { OnOk result (IsCurrent about.now.sheet (frames_seen frames.new.items) current) }
     ensures keeps { Keeps board.old board.new }
     ensures shuffled { HasShuffled (D.dealing dealer.old) (D.state dealer.old) (D.state dealer.new) }
     ensures dealing { D.dealing dealer.new ≡ D.dealing dealer.old }
 {
     let scope = Bindings::empty();
-    let current = current_of(about.sheet(), about.lookup(), frames.as_slice());
     let context = Context {
         about,
         scope: &scope,

@@ -59,7 +59,7 @@ impl FlatMachine {
         ensures home { self.new.home ≡ self.old.home }
         ensures fresh { self.new.spent ≡ false }
     {
-        self.state.go_home(stand);
+        self.state.go_home(&self.about, stand);
         self.spent = false;
     }
 

@@ -5,6 +5,8 @@ ghost use Rattle.rc_play_model.specs.Decision.{choose};
 ghost use Rattle.rc_ast.specs.Items.{alts_seen};
 ghost use Rattle.rc_rules.specs.Machine.{StandsAtDecision, menu_here};
 ghost use Rattle.rc_rules.specs.Menu.{item_seen};
+ghost use Rattle.rc_rules.specs.Control.{frames_seen};
+ghost use Rattle.rc_value.specs.Current.{IsCurrent};
 ghost use Rattle.rc_code.specs.Instruction.{offer};
 ghost use Rattle.rc_code.specs.Meaning.{block_in};
 ghost use Rattle.rc_code.specs.Seen.{block_seen, list_seen};
@@ -23,7 +25,6 @@ use rc_code::{Block, Instruction};
 use rc_deck::Memory;
 use rc_rules::{About, Dealer, Item};
 use rc_state::count_decision;
-use rc_value::current_of;
 
 impl State {
     /// Takes an item out of the menu of the decision that is next, and does its effects.
@@ -100,6 +101,7 @@ impl State {
     ) -> Result<(), Memory>
         requires serves { Serves about.now.sheet (list_seen code.now) }
         requires laid { self.old.board.laid.shape ≡ about.now.shape }
+        requires current { IsCurrent about.now.sheet (frames_seen self.old.control.frames.items) self.old.current }
         requires play { IsInPlay (flat_of about.now (list_seen code.now) self.old) }
         requires round { self.old.place.at_round ≡ false }
         requires here { (site : ℕ) × (slice_get (list_seen code.now) self.old.place.next ≡ Some (offer site (alts_seen alts.now) (map block_seen blocks.now) inside)) }
@@ -114,11 +116,7 @@ impl State {
         ensures dealing { D.dealing dealer.new ≡ D.dealing dealer.old }
     {
         let _turns = about.turns();
-        let current = current_of(
-            about.sheet(),
-            about.lookup(),
-            self.control.frames.as_slice(),
-        );
+        let current = self.current;
         let next = self.place.next() + 1;
         let block = block_of(past(code, next), blocks, item.alt);
         match do_item(

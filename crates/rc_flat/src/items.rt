@@ -55,6 +55,7 @@ pub fn do_item<D: Dealer>(
         does about.now (D.dealing dealer.old)
         (bindings_of (scene_at about.now board.old.laid.table (frames_seen frames.old.items)) [] alt item.now.spots.items) (effects_of alt)
         (point_of board.old.laid frames.old.items (D.state dealer.old)) ≡ point_of board.new.laid frames.new.items (D.state dealer.new)) }
+    ensures current { OnOk result (IsCurrent about.now.sheet (frames_seen frames.new.items) current) }
     ensures keeps { Keeps board.old board.new }
     ensures shuffled { HasShuffled (D.dealing dealer.old) (D.state dealer.old) (D.state dealer.new) }
     ensures dealing { D.dealing dealer.new ≡ D.dealing dealer.old }
@@ -99,6 +100,7 @@ fn do_here<D: Dealer>(
     ensures does { OnOk result (does context.now.about.now (D.dealing dealer.old)
         (bindings_of (scene_in context.now board.old.laid frames.old.items) context.now.scope.now (alt_seen alt.now) spots.now) (effects_of (alt_seen alt.now))
         (point_of board.old.laid frames.old.items (D.state dealer.old)) ≡ point_of board.new.laid frames.new.items (D.state dealer.new)) }
+    ensures current { OnOk result (IsCurrent context.now.about.now.sheet (frames_seen frames.new.items) context.now.current) }
     ensures keeps { Keeps board.old board.new }
     ensures shuffled { HasShuffled (D.dealing dealer.old) (D.state dealer.old) (D.state dealer.new) }
     ensures dealing { D.dealing dealer.new ≡ D.dealing dealer.old }
@@ -132,6 +134,7 @@ fn do_alt<D: Dealer>(
     ensures does { OnOk result (does context.now.about.now (D.dealing dealer.old)
         (bindings_of (scene_in context.now board.old.laid frames.old.items) context.now.scope.now (alt_seen alt.now) spots.now) (effects_of (alt_seen alt.now))
         (point_of board.old.laid frames.old.items (D.state dealer.old)) ≡ point_of board.new.laid frames.new.items (D.state dealer.new)) }
+    ensures current { OnOk result (IsCurrent context.now.about.now.sheet (frames_seen frames.new.items) context.now.current) }
     ensures keeps { Keeps board.old board.new }
     ensures shuffled { HasShuffled (D.dealing dealer.old) (D.state dealer.old) (D.state dealer.new) }
     ensures dealing { D.dealing dealer.new ≡ D.dealing dealer.old }
@@ -159,6 +162,7 @@ fn do_inner<D: Dealer>(
     ensures does { OnOk result (does context.now.about.now (D.dealing dealer.old)
         (bindings_of (scene_in context.now board.old.laid frames.old.items) context.now.scope.now (alt_seen alt.now) spots.now) (effects_of (alt_seen alt.now))
         (point_of board.old.laid frames.old.items (D.state dealer.old)) ≡ point_of board.new.laid frames.new.items (D.state dealer.new)) }
+    ensures current { OnOk result (IsCurrent context.now.about.now.sheet (frames_seen frames.new.items) context.now.current) }
     ensures keeps { Keeps board.old board.new }
     ensures shuffled { HasShuffled (D.dealing dealer.old) (D.state dealer.old) (D.state dealer.new) }
     ensures dealing { D.dealing dealer.new ≡ D.dealing dealer.old }
@@ -195,6 +199,7 @@ fn do_any<D: Dealer>(
         (bindings_of (scene_in context.now board.old.laid frames.old.items) context.now.scope.now (any_alt (domain_seen domain.now) 0 (alt_seen inner.now)) spots.now)
         (effects_of (alt_seen inner.now))
         (point_of board.old.laid frames.old.items (D.state dealer.old)) ≡ point_of board.new.laid frames.new.items (D.state dealer.new)) }
+    ensures current { OnOk result (IsCurrent context.now.about.now.sheet (frames_seen frames.new.items) context.now.current) }
     ensures keeps { Keeps board.old board.new }
     ensures shuffled { HasShuffled (D.dealing dealer.old) (D.state dealer.old) (D.state dealer.new) }
     ensures dealing { D.dealing dealer.new ≡ D.dealing dealer.old }
@@ -235,6 +240,7 @@ fn do_member<D: Dealer>(
         (bindings_of (scene_in context.now board.old.laid frames.old.items) context.now.scope.now (any_alt (domain_seen domain.now) 0 (alt_seen inner.now)) (spot ∷ rest.now))
         (effects_of (alt_seen inner.now))
         (point_of board.old.laid frames.old.items (D.state dealer.old)) ≡ point_of board.new.laid frames.new.items (D.state dealer.new)) }
+    ensures current { OnOk result (IsCurrent context.now.about.now.sheet (frames_seen frames.new.items) context.now.current) }
     ensures keeps { Keeps board.old board.new }
     ensures shuffled { HasShuffled (D.dealing dealer.old) (D.state dealer.old) (D.state dealer.new) }
     ensures dealing { D.dealing dealer.new ≡ D.dealing dealer.old }
@@ -269,6 +275,7 @@ fn do_bound<D: Dealer>(
         (bindings_of (scene_in context.now board.old.laid frames.old.items) (context.now.scope.now ++ bind_seen bind.entry ∷ []) (alt_seen alt.now) spots.now)
         (effects_of (alt_seen alt.now))
         (point_of board.old.laid frames.old.items (D.state dealer.old)) ≡ point_of board.new.laid frames.new.items (D.state dealer.new)) }
+    ensures current { OnOk result (IsCurrent context.now.about.now.sheet (frames_seen frames.new.items) context.now.current) }
     ensures keeps { Keeps board.old board.new }
     ensures shuffled { HasShuffled (D.dealing dealer.old) (D.state dealer.old) (D.state dealer.new) }
     ensures dealing { D.dealing dealer.new ≡ D.dealing dealer.old }

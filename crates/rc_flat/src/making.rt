@@ -22,6 +22,7 @@ use rc_flow::Checked;
 use rc_rules::{About, Control, Menu};
 use rc_state::new_control;
 use rc_table::{Shape, Table};
+use rc_value::Current;
 use std::alloc::Global;
 use std::sync::Arc;
 
@@ -110,6 +111,8 @@ impl FlatMachine {
                 control,
                 place: Position::start(),
                 menu: Menu::new(),
+                // no stage is open
+                current: Current { player: 0, team: 0 },
             },
             spent: false,
         }
@@ -189,6 +192,8 @@ impl FlatMachine {
             control,
             place,
             menu: Menu::new(),
+            // any, until it is filled
+            current: Current { player: 0, team: 0 },
         };
         state.refill(&about, &code.list);
         FlatMachine {

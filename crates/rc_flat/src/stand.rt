@@ -1,8 +1,9 @@
 //! Where a match stands at home.
 ghost use Rattle.std.specs.Prelude.{◌≡◌, List, IsSome};
 ghost use Rattle.rc_play_model.specs.About.{About as PureAbout};
-ghost use Rattle.rc_rules.specs.Control.{control_seen};
+ghost use Rattle.rc_rules.specs.Control.{control_seen, frames_seen};
 ghost use Rattle.rc_rules.specs.Menu.{menu_seen};
+ghost use Rattle.rc_value.specs.Current.{IsCurrent};
 ghost use Rattle.rc_code.specs.Instruction.{Instruction as PureInstruction};
 ghost use Rattle.rc_flat.specs.Undo.{gone_home, home_at};
 ghost use Rattle.rc_flat.specs.Flat.{flat_from};
@@ -10,7 +11,7 @@ ghost use Rattle.rc_flat.specs.State.{flat_of};
 
 use crate::place::{Position, write_list};
 use crate::state::State;
-use rc_rules::{Control, Menu};
+use rc_rules::{About, Control, Menu};
 use rc_table::Table;
 
 /// Where a match stands beside its table: the control, the place in the code, and the menu.
@@ -23,19 +24,21 @@ pub struct Stand {
 
 impl State {
     /// Goes home with the table, and stands there as it is told.
-    pub fn go_home(&mut self, stand: &Stand)
+    pub fn go_home(&mut self, about: &About, stand: &Stand)
         ensures board { self.new.board ≡ gone_home self.old.board }
         ensures control { control_seen self.new.control ≡ control_seen stand.now.control }
         ensures place { self.new.place ≡ stand.now.place }
+        ensures current { IsCurrent about.now.sheet (frames_seen self.new.control.frames.items) self.new.current }
         ensures menu { menu_seen self.new.menu.items ≡ menu_seen stand.now.menu.items }
     {
         self.board.go_home();
         write_control(&stand.control, &mut self.control);
         self.place.set_to(&stand.place);
         write_menu(&stand.menu, &mut self.menu);
+        self.current = self.current_now(about);
     }
 
-    /// Goes to another home with this table, and stands there as it is told. The menu is any.
+    /// Goes to another home with this table, and stands there as it is told. The menu is any, and who is current.
     pub fn move_home(&mut self, table: &Table, stand: &Stand)
         requires shape { self.old.board.laid.shape ≡ table.now.shape }
         requires home { IsSome self.old.board.home }

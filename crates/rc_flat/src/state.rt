@@ -6,31 +6,47 @@ ghost use Rattle.rc_play_model.specs.About.{scene_at};
 ghost use Rattle.rc_play_model.specs.Scores.{scores_of};
 ghost use Rattle.rc_ast.specs.Expressions.{test_seen};
 ghost use Rattle.rc_rules.specs.Control.{frames_seen, control_seen};
+ghost use Rattle.rc_value.specs.Current.{IsCurrent};
 
 use crate::board::Board;
 use crate::place::Position;
 use rc_ast::Test;
 use rc_rules::{About, Control, Menu, Scores};
-use rc_state::{has_ended, scores_now};
+use rc_state::{has_ended_by, scores_now};
+use rc_value::{Current, current_of};
 
-/// The board, the control, the place in the code, and the menu of the decision at which the match stands. Where it stands at none,
-/// the menu is any.
+/// The board, the control, the place in the code, the menu of the decision at which the match stands, and who is current in the open
+/// stages. Where it stands at no decision, the menu is any.
 #[derive(Drop)]
 pub struct State {
     pub board: Board,
     pub control: Control,
     pub place: Position,
     pub menu: Menu,
+    pub current: Current,
 }
 
 impl State {
+    /// Who is current in the stages that are open now, whoever was before.
+    pub fn current_now(&self, about: &About) -> Current
+        ensures { IsCurrent about.now.sheet (frames_seen self.now.control.frames.items) result }
+    {
+        current_of(
+            about.sheet(),
+            about.lookup(),
+            self.control.frames.as_slice(),
+        )
+    }
+
     /// Whether the end test of a stage holds.
+    #[inline(always)]
     pub fn ends(&self, about: &About, end: &Test) -> bool
         requires laid { self.now.board.laid.shape ≡ about.now.shape }
+        requires current { IsCurrent about.now.sheet (frames_seen self.now.control.frames.items) self.now.current }
         requires well { (around : Around) × (around.binders ≡ 0) × IsTest about.now.sheet around (test_seen end.now) }
         ensures { result ≡ test_value (scene_at about.now self.now.board.laid.table (frames_seen self.now.control.frames.items)) [] (test_seen end.now) }
     {
-        has_ended(about, self.board.table(), &self.control, end)
+        has_ended_by(about, self.current, self.board.table(), &self.control, end)
     }
 
     /// Each player's score.

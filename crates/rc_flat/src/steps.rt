@@ -24,8 +24,7 @@ use rc_code::Instruction;
 use rc_deck::Memory;
 use rc_play_model::stops_stay;
 use rc_rules::{About, Dealer, Stop};
-use rc_state::{close_frame, fill_menu_by, member_count, open_frame, pass_frame};
-use rc_value::current_of;
+use rc_state::{close_frame, fill_menu_by, member_count, open_frame_by, pass_frame_by};
 
 impl State {
     /// Does the effects that are next, so many instructions.
@@ -52,6 +51,7 @@ impl State {
         let inner = front(past(code, next), inside);
         match do_outside(
             about,
+            self.current,
             inner,
             &mut self.board,
             &mut self.control.frames,
@@ -82,11 +82,7 @@ impl State {
         ensures ready { IsReady about.now (list_seen code.now) self.new }
         ensures keeps { self.new.board ≡ self.old.board }
     {
-        let current = current_of(
-            about.sheet(),
-            about.lookup(),
-            self.control.frames.as_slice(),
-        );
+        let current = self.current;
         fill_menu_by(
             about,
             current,
@@ -129,11 +125,12 @@ impl State {
         ensures ready { IsReady about.now (list_seen code.now) self.new }
         ensures keeps { self.new.board ≡ self.old.board }
     {
-        open_frame(&mut self.control.frames, about, number, class);
+        self.current = open_frame_by(&mut self.control.frames, about, self.current, number, class);
         self.place.open();
     }
 
     /// Leaves the stage at this place where its end test holds; else a round of it begins, where the turn limit isn't met.
+    #[inline(always)]
     fn round_next(
         &mut self,
         about: &About,
@@ -155,6 +152,7 @@ impl State {
         let _sheet = about.sheet();
         if self.ends(about, end) {
             close_frame(&mut self.control.frames);
+            self.current = self.current_now(about);
             self.place.close(behind(code, place + 1, inside));
             return None;
         }
@@ -185,6 +183,7 @@ impl State {
     }
 
     /// The stage at this place, whose body has ended, takes its next member.
+    #[inline(always)]
     fn turn_next(&mut self, about: &About, code: &[Instruction], place: usize)
         requires ready { IsReady about.now (list_seen code.now) self.old }
         requires round { self.old.place.at_round ≡ false }
@@ -196,11 +195,12 @@ impl State {
     {
         let stage = stage_there(code, place);
         let count = member_count(about, stage.class);
-        pass_frame(&mut self.control.frames, count);
+        self.current = pass_frame_by(&mut self.control.frames, about, self.current, count);
         self.place.to_round();
     }
 
     /// A step at a round.
+    #[inline(always)]
     fn step_round(&mut self, about: &About, code: &[Instruction]) -> Option<Stop>
         requires serves { Serves about.now.sheet (list_seen code.now) }
         requires ready { IsReady about.now (list_seen code.now) self.old }

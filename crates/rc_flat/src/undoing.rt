@@ -15,7 +15,7 @@ use crate::state::State;
 use crate::there::choice_there;
 use rc_code::Instruction;
 use rc_rules::About;
-use rc_state::fill_menu_at;
+use rc_state::fill_menu_by;
 
 impl State {
     /// Where it stands.
@@ -32,7 +32,7 @@ impl State {
         }
     }
 
-    /// Goes back to where a match stood. The menu is any.
+    /// Goes back to where a match stood. The menu is any, and who is current.
     pub fn go_back(&mut self, mark: Mark)
         requires notes { self.old.board.notes ≡ true }
         requires fits { mark.edits ≤ length self.old.board.before }
@@ -46,7 +46,7 @@ impl State {
         self.place = mark.place;
     }
 
-    /// Fills the menu anew where a decision is next.
+    /// Finds anew who is current, and fills the menu anew where a decision is next.
     pub fn refill(&mut self, about: &About, code: &[Instruction])
         requires serves { Serves about.now.sheet (list_seen code.now) }
         requires laid { self.old.board.laid.shape ≡ about.now.shape }
@@ -56,12 +56,14 @@ impl State {
         ensures control { self.new.control ≡ self.old.control }
         ensures place { self.new.place ≡ self.old.place }
     {
+        self.current = self.current_now(about);
         let Some(site) = self.control.site else {
             return;
         };
         let choice = choice_there(code, self.place.next());
-        fill_menu_at(
+        fill_menu_by(
             about,
+            self.current,
             self.board.table(),
             &self.control,
             site,

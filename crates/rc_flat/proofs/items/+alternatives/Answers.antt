@@ -9,6 +9,12 @@ use Rattle.rc_flat.proofs.KeepsLemmas.{on_ok}
 use Rattle.rc_state.proofs.MemberLemmas.{bare_any}
 use Rattle.rc_flat.proofs.items.+alternatives.Goals as goal
 
+pub do_here-returns-in-Do-clause-current : goal.do_here-returns-in-Do-clause-current
+do_here-returns-in-Do-clause-current g t c = on_ok _ _ c.do_block.result c.do_block.ensures.stands (λ stands. stands.1)
+
+pub do_here-returns-in-If-clause-current : goal.do_here-returns-in-If-clause-current
+do_here-returns-in-If-clause-current g t c = on_ok _ _ c.do_block-in-If.result c.do_block-in-If.ensures.stands (λ stands. stands.1)
+
 pub do_any-returns-in-None-clause-does : goal.do_any-returns-in-None-clause-does
 do_any-returns-in-None-clause-does g t c =
     let context = c.args.context.now in

@@ -11,7 +11,7 @@ invariant_of-self c =
     let code = list_seen m.code.value.list.items in
     let home = subst (λ (m : Machine). IsHome m.about m.code m.home c.args.stand.now) (sym c.self.view_is) c.requires in
     let back = c.go_home.ensures in
-    let ready = ready_home m.about code m.state.board c.go_home.new.self c.args.stand.now back.board back.control back.place back.menu
+    let ready = ready_home m.about code m.state.board c.go_home.new.self c.args.stand.now back.board back.control back.place back.menu back.current
     c.self.invariant.laid home in
     record {
       serves = c.self.invariant.serves;

@@ -1,7 +1,8 @@
-use Rattle.std.proofs.Common.{ap}
+use Rattle.std.proofs.Common.{refl, sym, ap, subst}
 use Rattle.rc_play_model.specs.Control.{Control}
 use Rattle.rc_table.specs.Laid.{Laid}
 use Rattle.rc_rules.specs.Control.{control_seen}
+use Rattle.rc_value.specs.Current.{IsCurrent}
 use Rattle.rc_code.specs.Seen.{list_seen, code_seen}
 use Rattle.rc_code.specs.Serves.{Serves}
 use Rattle.rc_flat.proofs.MachineLemmas.{start_ready}
@@ -21,6 +22,7 @@ invariant_of-result c =
         laid = ap (λ (l : Laid). l.shape) c.requires.opens;
         play = (start_ready about code c.start.result c.args.board.laid.table (control_seen c.new_control-control.result) serves
             formed c.start.ensures table c.new_control-control.ensures).0;
+        current = subst (λ (control : Control). IsCurrent about.sheet control.frames (record { player = 0; team = 0 })) (sym c.new_control-control.ensures) (refl, refl);
         kept = λ site is. absurd (let none = ap (λ (control : Control). control.site) c.new_control-control.ensures in cc);
       };
     }

@@ -1,13 +1,11 @@
 use Rattle.std.proofs.Common.{◌+◌, length, drop, Some, ap, sym, ◌∙◌, subst, arith}
 use Rattle.std.proofs.lemmas.Bool.{eqb-true, eqb-false}
 use Rattle.std.proofs.lemmas.List.{length-map}
-use Rattle.rc_play_model.specs.Owners.{mover}
 use Rattle.rc_play_model.specs.Menu.{menu_from}
 use Rattle.rc_play_model.specs.About.{scene_at, menu_at}
 use Rattle.rc_play_model.specs.Step.{goes}
 use Rattle.rc_ast.specs.Items.{alts_seen}
 use Rattle.rc_table.specs.Laid.{Laid}
-use Rattle.rc_rules.specs.Control.{frames_seen}
 use Rattle.rc_rules.specs.Menu.{item_seen}
 use Rattle.rc_code.specs.Instruction.{offer}
 use Rattle.rc_code.specs.Seen.{list_seen}
@@ -48,6 +46,7 @@ returns-then-is_empty-clause-ready c =
       play = goes_on m play c.go_to.new.self m.table m.control still 0 0
           (subst (IsPlace m.code) (sym c.go_to.ensures) (went_place m play c.behind.result)) play.turn play.counts
           (returns-then-is_empty-clause-leads c still 0);
+      current = c.requires.ready.current;
       kept = λ other is.
           let offered = (c.requires.ready.kept other is).offered in
           let some = offered.some in
@@ -80,6 +79,22 @@ decide-requires-clause-here c =
     }
 
 pub decide-requires-clause-seat : goal.decide-requires-clause-seat
-decide-requires-clause-seat c =
-    c.current_of-current.ensures.0 ∙ ap (λ sheet. mover sheet (frames_seen c.as_slice.result.now)) c.sheet.ensures.same
-    ∙ ap (λ frames. mover c.args.about.now.sheet (frames_seen frames)) c.as_slice.ensures.value
+decide-requires-clause-seat c = c.requires.ready.current.0
+
+pub decide-requires-clause-ready : goal.decide-requires-clause-ready
+decide-requires-clause-ready c =
+    let about = c.args.about.now in
+    let m = flat_of about (list_seen c.args.code.now) c.args.self.now in
+    let here = c.requires.here in
+    let filled = c.fill_menu_by.ensures ∙ ap (λ (laid : Laid). menu_at about c.args.site laid.table m.control) c.table.ensures in
+    record {
+      laid = c.requires.ready.laid;
+      play = c.requires.ready.play;
+      current = c.requires.ready.current;
+      kept = λ other is.
+          let offered = (c.requires.ready.kept other is).offered in
+          record {
+            offered = offered;
+            menu = filled ∙ ap (λ site. menu_at about site m.table m.control) (one_site m c.args.site other (alts_seen c.args.alts.now) here.0 c.args.inside here.1 offered);
+          };
+    }

@@ -1,11 +1,11 @@
 use Rattle.std.proofs.Common.{◌+◌, ◌≤◌, [], All, drop, map, ap, sym, ◌∙◌, subst, arith}
-use Rattle.rc_play_model.specs.Owners.{mover}
 use Rattle.rc_play_model.specs.About.{scene_at}
 use Rattle.rc_play_model.specs.Menu.{Item, alt_in, effects_of, bindings_of}
 use Rattle.rc_play_model.specs.Effects.{does}
 use Rattle.rc_play_model.specs.Step.{goes}
 use Rattle.rc_ast.specs.Items.{alts_seen}
-use Rattle.rc_rules.specs.Control.{control_seen, frames_seen}
+use Rattle.rc_rules.specs.Control.{control_seen}
+use Rattle.rc_value.specs.Current.{IsCurrent}
 use Rattle.rc_code.specs.Seen.{block_seen, list_seen}
 use Rattle.rc_play_model.specs.Control.{Control}
 use Rattle.rc_flat.specs.Places.{went_to, IsPlace}
@@ -24,17 +24,15 @@ returns-clause-leads g c =
     let alts = alts_seen c.args.alts.now in
     let dealing = g.D.Dealer.dealing c.args.dealer.now in
     let k = g.D.Dealer.state c.args.dealer.now in
-    let seat = c.current_of-current.result.player in
+    let seat = c.args.self.now.current.player in
     let before = point_of c.args.self.now.board.laid c.args.self.now.control.frames.items k in
     let after = point_of c.do_item.new.board.laid c.do_item.new.frames.items (g.D.Dealer.state c.do_item.new.dealer) in
     let scene = scene_at about m.table m.control.frames in
-    let moves = c.current_of-current.ensures.0 ∙ ap (λ sheet. mover sheet (frames_seen c.as_slice.result.now)) c.sheet.ensures.same
-    ∙ ap (λ frames. mover about.sheet (frames_seen frames)) c.as_slice.ensures.value in
     λ x chosen.
     choose_leads m dealing k c.requires.here.0 alts (map block_seen c.args.blocks.now) c.args.inside c.requires.round c.requires.here.1
     x seat c.behind.result after (c.behind.ensures ∙ ap (λ n. drop (n + 1 + c.args.inside) m.code) c.next-next.ensures)
     (ap (λ (i : Item). does about dealing (bindings_of scene [] (alt_in alts i.alt) i.spots) (effects_of (alt_in alts i.alt)) before) chosen
-    ∙ c.in-Ok.ensures.does) moves
+    ∙ c.in-Ok.ensures.does) c.requires.current.0
     ∙ ap (λ control. goes after.dealer (config_of (moved m (went_to c.behind.result m.place) after.table control))) (sym c.count_decision.ensures)
     ∙ ap (λ path. goes after.dealer (config_of (moved m path after.table (control_seen c.count_decision.new.control)))) (sym c.go_to.ensures)
 
@@ -51,7 +49,8 @@ returns-clause-ready g c =
           (subst (IsPlace m.code) (sym c.go_to.ensures) (went_place m play c.behind.result))
           (subst (λ (control : Control). control.turn ≤ about.turns) (sym c.count_decision.ensures) (omega (arith, below)))
           (subst (λ (control : Control). All (λ n. n ≤ control.turn) control.made) (sym c.count_decision.ensures)
-          (one_decision_counts m.control.turn c.current_of-current.result.player m.control.made play.counts))
+          (one_decision_counts m.control.turn c.args.self.now.current.player m.control.made play.counts))
           (returns-clause-leads g c c.requires.offered.0 c.requires.offered.1);
+      current = subst (λ (control : Control). IsCurrent about.sheet control.frames c.args.self.now.current) (sym c.count_decision.ensures) c.in-Ok.ensures.current;
       kept = λ site is. absurd (let none = ap (λ (control : Control). control.site) c.count_decision.ensures in cc);
     }

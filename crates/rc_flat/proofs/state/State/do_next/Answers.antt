@@ -35,5 +35,6 @@ returns-clause-ready g c =
       play = goes_on m play c.go_to.new.self c.do_outside.new.board.laid.table (with_frames m.control (frames_seen c.do_outside.new.frames.items))
           (g.D.Dealer.dealing c.args.dealer.now) (g.D.Dealer.state c.args.dealer.now) (g.D.Dealer.state c.do_outside.new.dealer)
           (subst (IsPlace m.code) (sym c.go_to.ensures) (went_place m play c.behind.result)) play.turn play.counts (returns-clause-leads g c);
+      current = c.in-Ok.ensures.current;
       kept = λ site is. absurd (let e = sym (c.requires.ready.kept site is).offered.there ∙ c.requires.here in cc);
     }

@@ -35,6 +35,7 @@ returns-then-ends-clause-ready c =
       play = goes_on m play c.close.new.self m.table (with_frames m.control (frames_seen c.close_frame.new.frames.items)) still 0 0
           (subst (IsPlace m.code) (sym c.close.ensures) (closed_place m play c.behind.result)) play.turn play.counts
           (returns-then-ends-clause-leads c still 0);
+      current = c.current_now-self.ensures;
       kept = λ site is. absurd (true≢false (sym c.requires.round ∙ (c.requires.ready.kept site is).offered.here));
     }
 
@@ -65,5 +66,6 @@ returns-clause-ready c =
       play = goes_on m play c.go_to.new.self m.table (one_turn_more m.control) still 0 0
           (subst (IsPlace m.code) (sym c.go_to.ensures) (went_place m play (c.args.place + 1))) (omega (arith, below))
           (one_turn_counts c.args.self.now.control.turn c.args.self.now.control.made.items play.counts) (returns-clause-leads c still 0);
+      current = c.requires.ready.current;
       kept = λ site is. absurd (true≢false (sym c.requires.round ∙ (c.requires.ready.kept site is).offered.here));
     }
