@@ -176,11 +176,11 @@ told_asked told false any rest is e = e
 -- by the row of all cards' values
 module _ (s : PureScene CardValue) (vars : List (PureBind CardValue)) where
   pub met_here : (c : CardValue) (ask : Ask) → asks_value ask ≡ true → met_value (id_of c) ask ≡ ask_value s vars c ask
-  met_here c (Value sought) by_row = refl
-  met_here c (Wish rowed) by_row = refl
+  met_here c (Value value row) by_row = refl
+  met_here c (Wish equal value row) by_row = refl
   met_here c (Whole t) by_row = absurd (cc)
 
   pub met_depth : (ask : Ask) → asks_value ask ≡ true → ask_depth ask ≡ 0
-  met_depth (Value sought) by_row = refl
-  met_depth (Wish rowed) by_row = refl
+  met_depth (Value value row) by_row = refl
+  met_depth (Wish equal value row) by_row = refl
   met_depth (Whole t) by_row = absurd (cc)

@@ -1,15 +1,17 @@
 -- Tests that are the same in all scopes of some length.
-use Rattle.std.proofs.Common.{◌≡◌, ℕ, ℤ, pos, Bool, List, [], ◌∷◌, ◌++◌, length, map, Option, Some, None, option_map, refl, sym, ap, ap₂, ◌∙◌}
+use Rattle.std.proofs.Common.{◌≡◌, ℕ, ℤ, pos, Bool, true, false, not, List, [], ◌∷◌, ◌++◌, length, map, Option, Some, None, refl, sym, ap, ap₂, ◌∙◌}
 use Rattle.std.specs.Prelude.{IfSome}
 use Rattle.std.specs.List.{list_any, list_all}
 use Rattle.rc_sheet_model.specs.Sheet.{Loc, Num, NumName, CollExpr, cards_in, IntExpr, literal, number, size_of, Test, Domain, each_card, all_of, any_of}
 use Rattle.rc_sheet_model.specs.Naming.{class_of}
 use Rattle.rc_play_model.specs.Owners.{place_among}
 use Rattle.rc_play_model.specs.Scene.{CardValue}
-use Rattle.rc_play_model.specs.Value.{Scene as PureScene, Bind as PureBind, card_bound, number_there, coll_value, int_value, test_value}
+use Rattle.rc_play_model.specs.Value.{Scene as PureScene, Bind as PureBind, attr_of, both, card_bound, nat_same, number_there, coll_value, int_value, test_value}
+use Rattle.rc_value.specs.declared.known.AtHand.{AtHand}
+use Rattle.rc_value.specs.declared.known.AtHand.TheVariants.{Wished, Holds, Unclear}
 use Rattle.rc_value.specs.declared.wanted.Wanted.{Wanted}
-use Rattle.rc_value.specs.Known.{IsAllKnownAt, IsAnyKnownAt, IsFixedNumber, IsKnownAt, IsKnownPair, IsTurned, turned}
-use Rattle.rc_value.specs.Wanted.{wanted_value, IsFixedCollection, IsFixedOwner, IsWantedAt}
+use Rattle.rc_value.specs.Known.{hand_turned, turned, IsAllKnownAt, IsAnyKnownAt, IsAtHand, IsFixedNumber, IsKnownAt, IsKnownNumber, IsKnownPair, IsTurned}
+use Rattle.rc_value.specs.Wanted.{compares, wanted_value, IsFixedCollection, IsFixedOwner, IsWantedAt}
 use Rattle.rc_value.proofs.WantedLemmas.{fixed_cards, all_wanted, any_wanted}
 
 -- numbers that no variable owns
@@ -26,11 +28,26 @@ pub fixed_size : (cards : CollExpr) (e : IntExpr) → e ≡ size_of cards → Is
 fixed_size cards e is fixed = λ s vars vars'.
     ap (int_value s vars) is ∙ ap (λ cs. pos (length cs)) (fixed s vars vars') ∙ sym (ap (int_value s vars') is)
 
+not_not : (b : Bool) → not (not b) ≡ b
+not_not true = refl
+not_not false = refl
+
+-- the opposite of a wish
+turned_meets : (opposite equal : Bool) (value has : Option ℕ) → turned opposite (compares equal value has) ≡ compares (turned opposite equal) value has
+turned_meets true true value has = refl
+turned_meets true false value has = not_not (both nat_same has value)
+turned_meets false equal value has = refl
+
 module _ (s : PureScene CardValue) where
-  pub known_pair : (compare : ℤ → ℤ → Bool) (vars : List (PureBind CardValue)) (a b : IntExpr) (is : Option Bool) → IsFixedNumber a → IsFixedNumber b →
-      IfSome is (λ is. is ≡ compare (int_value s vars a) (int_value s vars b)) → IfSome is (IsKnownPair s compare a b)
-  known_pair compare vars a b None one other h = h
-  known_pair compare vars a b (Some is) one other h = λ vars'. ap₂ compare (one s vars' vars) (other s vars' vars) ∙ sym h
+  -- such a number in some scope, and so in all
+  pub known_number : (vars : List (PureBind CardValue)) (e : IntExpr) (n : Option ℤ) → IsFixedNumber e →
+      IfSome n (λ n. n ≡ int_value s vars e) → IfSome n (IsKnownNumber s e)
+  known_number vars e None fixed is = is
+  known_number vars e (Some n) fixed is = λ vars'. fixed s vars' vars ∙ sym is
+
+  pub known_pair : (compare : ℤ → ℤ → Bool) (a b : IntExpr) (one other : ℤ) (is : Bool) → IsKnownNumber s a one → IsKnownNumber s b other →
+      is ≡ compare one other → IsKnownPair s compare a b is
+  known_pair compare a b one other is known known' so = λ vars. ap₂ compare (known vars) (known' vars) ∙ sym so
 
   -- tests of them
   pub pair_at : (count : ℕ) (compare : ℤ → ℤ → Bool) (a b : IntExpr) (t : Test) (is : Option Bool) →
@@ -39,16 +56,13 @@ module _ (s : PureScene CardValue) where
   pair_at count compare a b t None same h = h
   pair_at count compare a b t (Some is) same h = λ vars few. same vars ∙ h vars
 
-  pub turned_at : (count : ℕ) (opposite : Bool) (t t' : Test) (is is' : Option Bool) → IsTurned opposite t t' → is' ≡ option_map (turned opposite) is →
-      IfSome is (IsKnownAt s count t) → IfSome is' (IsKnownAt s count t')
-  turned_at count opposite t t' None None how e h = h
-  turned_at count opposite t t' None (Some is') how e h = absurd (cc)
-  turned_at count opposite t t' (Some is) None how e h = absurd (cc)
-  turned_at count opposite t t' (Some is) (Some is') how e h = λ vars few.
-      how s vars ∙ ap (turned opposite) (h vars few) ∙ ap (some_or is') (sym e) where
-        some_or : Bool → Option Bool → Bool
-        some_or d None = d
-        some_or d (Some x) = x
+  -- what is at hand of an opposite
+  pub turned_hand : (vars : List (PureBind CardValue)) (opposite : Bool) (t t' : Test) (hand : AtHand) → IsTurned opposite t t' →
+      IsAtHand s vars t hand → IsAtHand s vars t' (hand_turned opposite hand)
+  turned_hand vars opposite t t' (Wished w) how h = λ c.
+      how s (vars ++ card_bound c ∷ []) ∙ ap (turned opposite) (h c) ∙ turned_meets opposite w.equal w.value (attr_of s w.name c)
+  turned_hand vars opposite t t' (Holds holds) how h = λ vars' few. how s vars' ∙ ap (turned opposite) (h vars' few)
+  turned_hand vars opposite t t' Unclear how h = h
 
   -- tests of the cards of a location
   pub all_at : (count bound : ℕ) (domain : Domain) (inner t : Test) (is : Option Bool) → t ≡ all_of domain bound inner →

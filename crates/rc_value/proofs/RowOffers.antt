@@ -13,8 +13,8 @@ use Rattle.rc_value.proofs.Offers.{each_mapped, same_offers}
 module _ (s : PureScene CardValue) (vars : List (PureBind CardValue)) where
   met_all : (c : CardValue) (asks : List Ask) → list_all asks_value asks ≡ true → map (met_value (id_of c)) asks ≡ map (ask_value s vars c) asks
   met_all c [] sought = refl
-  met_all c (Value one ∷ asks) sought = ap (λ bs. met_value (id_of c) (Value one) ∷ bs) (met_all c asks sought)
-  met_all c (Wish one ∷ asks) sought = ap (λ bs. met_value (id_of c) (Wish one) ∷ bs) (met_all c asks sought)
+  met_all c (Value value row ∷ asks) sought = ap (λ bs. met_value (id_of c) (Value value row) ∷ bs) (met_all c asks sought)
+  met_all c (Wish equal value row ∷ asks) sought = ap (λ bs. met_value (id_of c) (Wish equal value row) ∷ bs) (met_all c asks sought)
   met_all c (Whole t ∷ asks) sought = absurd (cc)
 
   pub row_offers : (asks : List Ask) (any sought : Bool) (ids : List ℕ) (cards : List CardValue) → sought ≡ list_all asks_value asks → sought ≡ true → ids ≡ map id_of cards →

@@ -9,29 +9,29 @@ use Rattle.rc_value.specs.declared.asks.Ask.{Ask}
 use Rattle.rc_value.specs.declared.asks.Ask.TheVariants.{Value, Wish, Whole}
 use Rattle.rc_value.specs.declared.asks.Parts.{Parts}
 use Rattle.rc_value.specs.Depth.{test_depth}
-use Rattle.rc_value.specs.Wanted.{meets}
+use Rattle.rc_value.specs.Wanted.{compares}
 
 -- the answer for a card that the innermost variable stands for
 abbrev pub ask_value : PureScene CardValue → List (PureBind CardValue) → CardValue → Ask → Bool
-ask_value s vars c (Value sought) = both nat_same (slice_index_or sought.row.now (id_of c) None) (Some sought.value)
-ask_value s vars c (Wish rowed) = meets rowed.wanted (slice_index_or rowed.row.now (id_of c) None)
+ask_value s vars c (Value value row) = both nat_same (slice_index_or row.now (id_of c) None) (Some value)
+ask_value s vars c (Wish equal value row) = compares equal value (slice_index_or row.now (id_of c) None)
 ask_value s vars c (Whole t) = test_value s (vars ++ card_bound c ∷ []) (test_seen t.now)
 
 -- whether a card's value is all that is asked, and then the answer for the card with an id
 abbrev pub asks_value : Ask → Bool
-asks_value (Value sought) = true
-asks_value (Wish rowed) = true
+asks_value (Value value row) = true
+asks_value (Wish equal value row) = true
 asks_value (Whole t) = false
 
 abbrev pub met_value : ℕ → Ask → Bool
-met_value id (Value sought) = both nat_same (slice_index_or sought.row.now id None) (Some sought.value)
-met_value id (Wish rowed) = meets rowed.wanted (slice_index_or rowed.row.now id None)
+met_value id (Value value row) = both nat_same (slice_index_or row.now id None) (Some value)
+met_value id (Wish equal value row) = compares equal value (slice_index_or row.now id None)
 met_value id (Whole t) = false
 
 -- how many variables it binds, the innermost one counted
 abbrev pub ask_depth : Ask → ℕ
-ask_depth (Value sought) = 0
-ask_depth (Wish rowed) = 0
+ask_depth (Value value row) = 0
+ask_depth (Wish equal value row) = 0
 ask_depth (Whole t) = 1 + test_depth (test_seen t.now)
 
 -- whether a scope has room for all of them

@@ -6,8 +6,11 @@ use Rattle.rc_play_model.specs.Scene.{CardValue}
 use Rattle.rc_value.specs.declared.wanted.Wanted.{Wanted}
 
 -- whether a value for the attribute is the one that is wanted, or isn't
+abbrev pub compares : Bool → Option ℕ → Option ℕ → Bool
+compares equal wanted value = if equal then both nat_same value wanted else not (both nat_same value wanted)
+
 abbrev pub meets : Wanted → Option ℕ → Bool
-meets w value = if w.equal then both nat_same value w.value else not (both nat_same value w.value)
+meets w value = compares w.equal w.value value
 
 -- whether a card's value is so
 abbrev pub wanted_value : PureScene CardValue → Wanted → CardValue → Bool

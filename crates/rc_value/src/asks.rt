@@ -13,40 +13,34 @@ ghost use Rattle.rc_value.specs.Wanted.{meets, IsWanted};
 
 use crate::Card;
 use crate::expressions::{test_of, wanted_of};
-use crate::known::known_at;
+use crate::known::{AtHand, at_hand};
 use crate::leaves::value_in;
 use crate::scene::Scene;
 use crate::scope::{Bind, Bindings};
-use crate::wanted::{Wanted, is_met_in, wanted_at_hand};
+use crate::wanted::{Wanted, is_so};
 use arrayvec::ArrayVec;
 use rc_ast::Test;
 use rc_reads::test_reads;
 
-/// A value that a card is to have in the row of all cards' values for an attribute.
-#[derive(Clone, Copy)]
-pub(crate) struct Sought<'s> {
-    pub(crate) row: &'s [Option<u16>],
-    pub(crate) value: u16,
-}
-
-/// How a card's value is wanted, with such a row.
-#[derive(Clone, Copy)]
-pub(crate) struct Rowed<'s> {
-    pub(crate) row: &'s [Option<u16>],
-    pub(crate) wanted: Wanted,
-}
-
-/// What is asked of each card that the innermost variable stands for. Most guards ask for values, which stand apart from other wishes.
+/// What is asked of each card that the innermost variable stands for. Most guards ask for values, which stand apart from other wishes:
+/// for a value, or as a value is to be or not to be, in the row of all cards' values for an attribute.
 #[derive(Clone, Copy)]
 pub(crate) enum Ask<'t> {
-    Value(Sought<'t>),
-    Wish(Rowed<'t>),
+    Value {
+        value: u16,
+        row: &'t [Option<u16>],
+    },
+    Wish {
+        equal: bool,
+        value: Option<u16>,
+        row: &'t [Option<u16>],
+    },
     Whole(&'t Test),
 }
 
 impl<'t> Default for Ask<'t> {
     fn default() -> Ask<'t> {
-        Ask::Value(Sought { row: &[], value: 0 })
+        Ask::Value { value: 0, row: &[] }
     }
 }
 
@@ -68,8 +62,12 @@ fn ask_in<'t>(row: &'t [Option<u16>], wanted: Wanted) -> Ask<'t>
     ensures by_row { asks_value result ≡ true }
 {
     match wanted.value {
-        Some(value) if wanted.equal => Ask::Value(Sought { row, value }),
-        _ => Ask::Wish(Rowed { row, wanted }),
+        Some(value) if wanted.equal => Ask::Value { value, row },
+        value => Ask::Wish {
+            equal: wanted.equal,
+            value,
+            row,
+        },
     }
 }
 
@@ -112,8 +110,8 @@ fn answer(scene: &Scene, scope: &Bindings, ask: &Ask, card: Card) -> bool
     ensures { result ≡ ask_value (scene_seen scene.now) scope.now (value_seen card) ask.now }
 {
     match ask {
-        Ask::Value(sought) => has_value(sought.row, sought.value, card.id()),
-        Ask::Wish(rowed) => is_met_in(rowed.row, rowed.wanted, card.id()),
+        Ask::Value { value, row } => has_value(*row, *value, card.id()),
+        Ask::Wish { equal, value, row } => is_so(*equal, *value, value_in(*row, card.id())),
         Ask::Whole(test) => holds_for(scene, scope, *test, card),
     }
 }
@@ -164,32 +162,13 @@ fn settles<'t>(
     ensures count { length asks.new.items ≤ length asks.old.items + 1 }
     ensures fit { AllFit scope.now asks.new.items }
 {
-    if let Some(wanted) = wanted_at_hand(scene, scope, test) {
-        asks.push(ask_by(scene, scope, wanted, test));
-        return false;
-    }
-    settles_unwanted(scene, scope, test, any, asks)
-}
-
-// The same with a test of which it isn't at hand which value the cards are to have.
-#[inline(never)]
-fn settles_unwanted<'t>(
-    scene: &'t Scene,
-    scope: &Bindings,
-    test: &'t Test,
-    any: bool,
-    asks: &mut Asks<'t>,
-) -> bool
-    requires deep { length scope.now + (1 + test_depth (test_seen test.now)) ≤ 5 }
-    requires room { length asks.old.items < 8 }
-    requires fit { AllFit scope.now asks.old.items }
-    ensures is { IsJoined (scene_seen scene.now) scope.now (test_seen test.now) any result asks.old.items asks.new.items }
-    ensures count { length asks.new.items ≤ length asks.old.items + 1 }
-    ensures fit { AllFit scope.now asks.new.items }
-{
-    match known_at(scene, scope, scope.len() + 1, test) {
-        Some(holds) => holds == any,
-        None => settles_whole(scene, scope, test, any, asks),
+    match at_hand(scene, scope, test) {
+        AtHand::Wished(wanted) => {
+            asks.push(ask_by(scene, scope, wanted, test));
+            false
+        }
+        AtHand::Holds(holds) => holds == any,
+        AtHand::Unclear => settles_whole(scene, scope, test, any, asks),
     }
 }
 
@@ -241,6 +220,7 @@ fn all_settle<'t>(
 }
 
 // A guard that is no list of tests, or a long one.
+#[inline(never)]
 fn single_part<'t>(
     scene: &'t Scene,
     scope: &Bindings,
@@ -310,8 +290,12 @@ fn is_sought(ask: &Ask) -> bool
     ensures { result ≡ asks_value ask.now }
 {
     match ask {
-        Ask::Value(_) => true,
-        Ask::Wish(_) => true,
+        Ask::Value { value: _, row: _ } => true,
+        Ask::Wish {
+            equal: _,
+            value: _,
+            row: _,
+        } => true,
         Ask::Whole(_) => false,
     }
 }
@@ -334,8 +318,8 @@ fn is_met(ask: &Ask, id: u16) -> bool
     ensures { result ≡ met_value id ask.now }
 {
     match ask {
-        Ask::Value(sought) => has_value(sought.row, sought.value, id),
-        Ask::Wish(rowed) => is_met_in(rowed.row, rowed.wanted, id),
+        Ask::Value { value, row } => has_value(*row, *value, id),
+        Ask::Wish { equal, value, row } => is_so(*equal, *value, value_in(*row, id)),
         Ask::Whole(_) => false,
     }
 }
@@ -348,9 +332,8 @@ fn sole_list<'t>(asks: &Asks<'t>) -> Option<&'t Test>
         return None;
     }
     match asks[0] {
-        Ask::Value(_) => None,
-        Ask::Wish(_) => None,
         Ask::Whole(test) => listed(test),
+        _ => None,
     }
 }
 

@@ -103,14 +103,9 @@ pub(crate) fn value_at_hand(
     }
 }
 
-/// Whether two numbers are equal, if they are at hand.
+// Whether two numbers are equal, if they are at hand.
 #[inline(always)]
-pub(crate) fn equal_at_hand(
-    scene: &Scene,
-    scope: &Bindings,
-    a: &IntExpr,
-    b: &IntExpr,
-) -> Option<bool>
+fn equal_at_hand(scene: &Scene, scope: &Bindings, a: &IntExpr, b: &IntExpr) -> Option<bool>
     ensures { IfSome result (λ is. is ≡ int_eq (int_value (scene_seen scene.now) scope.now (int_seen a.now)) (int_value (scene_seen scene.now) scope.now (int_seen b.now))) }
 {
     match number_at_hand(scene, scope, a) {
@@ -122,14 +117,9 @@ pub(crate) fn equal_at_hand(
     }
 }
 
-/// Whether one is less than the other.
+// Whether one is less than the other.
 #[inline(always)]
-pub(crate) fn less_at_hand(
-    scene: &Scene,
-    scope: &Bindings,
-    a: &IntExpr,
-    b: &IntExpr,
-) -> Option<bool>
+fn less_at_hand(scene: &Scene, scope: &Bindings, a: &IntExpr, b: &IntExpr) -> Option<bool>
     ensures { IfSome result (λ is. is ≡ int_lt (int_value (scene_seen scene.now) scope.now (int_seen a.now)) (int_value (scene_seen scene.now) scope.now (int_seen b.now))) }
 {
     match number_at_hand(scene, scope, a) {
@@ -141,14 +131,9 @@ pub(crate) fn less_at_hand(
     }
 }
 
-/// Whether one is at most the other.
+// Whether one is at most the other.
 #[inline(always)]
-pub(crate) fn at_most_at_hand(
-    scene: &Scene,
-    scope: &Bindings,
-    a: &IntExpr,
-    b: &IntExpr,
-) -> Option<bool>
+fn at_most_at_hand(scene: &Scene, scope: &Bindings, a: &IntExpr, b: &IntExpr) -> Option<bool>
     ensures { IfSome result (λ is. is ≡ int_le (int_value (scene_seen scene.now) scope.now (int_seen a.now)) (int_value (scene_seen scene.now) scope.now (int_seen b.now))) }
 {
     match number_at_hand(scene, scope, a) {

@@ -1,30 +1,43 @@
-//! Tests that hold or don't whatever variables stand for, where that is at hand: comparisons of numbers that no variable owns, and
-//! whether the cards of such a location are as they are wanted.
-ghost use Rattle.std.specs.Prelude.{◌≡◌, true, IfSome, option_map, int_lt, int_le};
+//! What is at hand of the tests of a guard. Some hold or don't whatever variables stand for: comparisons of numbers that no variable
+//! owns, and whether the cards of such a location are as they are wanted.
+ghost use Rattle.std.specs.Prelude.{◌≡◌, ◌<◌, true, IfSome, int_lt, int_le, length};
 ghost use Rattle.std.specs.Ordering.{int_eq};
+ghost use Rattle.std.specs.List.{list_any, list_all};
 ghost use Rattle.rc_sheet_model.specs.Sheet.{cards_in, each_card};
+ghost use Rattle.rc_play_model.specs.Value.{coll_value};
 ghost use Rattle.rc_ast.specs.Names.{loc_seen};
 ghost use Rattle.rc_ast.specs.Expressions.{coll_seen, int_seen, test_seen, domain_seen};
-ghost use Rattle.rc_value.specs.Known.{IsAllKnownAt, IsAnyKnownAt, IsFixedNumber, IsKnownAt, IsKnownPair, IsTurned, turned};
+ghost use Rattle.rc_value.specs.Known.{hand_turned, IsAtHand, IsAllKnownAt, IsAnyKnownAt, IsKnownAt, IsFixedNumber, IsKnownNumber, IsKnownPair, IsTurned};
 ghost use Rattle.rc_value.specs.Scene.{scene_seen};
-ghost use Rattle.rc_value.specs.Wanted.{IsFixedOwner};
+ghost use Rattle.rc_value.specs.Wanted.{wanted_value, IsFixedOwner};
 
-use crate::hand::{at_most_at_hand, equal_at_hand, less_at_hand};
+use crate::hand::number_at_hand;
 use crate::leaves::cards_of;
+use crate::rows::ids_of;
 use crate::scene::Scene;
 use crate::scope::Bindings;
 use crate::wanted::{
-    all_as_wanted, is_fixed_collection, is_fixed_owner, some_as_wanted, wanted_at,
+    Wanted, all_met_in, all_one_by_one, equal_at, is_fixed_collection, is_fixed_owner, some_met_in,
+    some_one_by_one, wanted_at,
 };
 use rc_ast::{CollExpr, Domain, IntExpr, Loc, Test};
 
-/// Whether a test holds in any scope of so many variables, if that is at hand.
+/// What is at hand of a test of the innermost variable's card: which value the card is to have, or whether the test holds for any card.
+#[derive(Clone, Copy)]
+pub(crate) enum AtHand {
+    Wished(Wanted),
+    Holds(bool),
+    Unclear,
+}
+
+/// What is at hand of a test.
 #[inline(always)]
-pub(crate) fn known_at(scene: &Scene, scope: &Bindings, count: usize, test: &Test) -> Option<bool>
-    ensures { IfSome result (IsKnownAt (scene_seen scene.now) count (test_seen test.now)) }
+pub(crate) fn at_hand(scene: &Scene, scope: &Bindings, test: &Test) -> AtHand
+    requires { length scope.now < 5 }
+    ensures { IsAtHand (scene_seen scene.now) scope.now (test_seen test.now) result }
 {
     let plain = plain_of(test);
-    turned_if(plain.opposite, plain_at(scene, scope, count, plain.test))
+    turned_if(plain.opposite, plain_at_hand(scene, scope, plain.test))
 }
 
 // A test, or the test of which it is the opposite.
@@ -54,17 +67,57 @@ fn plain_of<'t>(test: &'t Test) -> Plain<'t>
     }
 }
 
+// The same of the opposite.
 #[inline(always)]
-fn turned_if(opposite: bool, holds: Option<bool>) -> Option<bool>
-    ensures { result ≡ option_map (turned opposite) holds }
+fn turned_if(opposite: bool, hand: AtHand) -> AtHand
+    ensures { result ≡ hand_turned opposite hand }
 {
-    match holds {
-        Some(holds) => Some(holds != opposite),
-        None => None,
+    match hand {
+        AtHand::Wished(wanted) => AtHand::Wished(Wanted {
+            name: wanted.name,
+            value: wanted.value,
+            equal: wanted.equal != opposite,
+        }),
+        AtHand::Holds(holds) => AtHand::Holds(holds != opposite),
+        AtHand::Unclear => AtHand::Unclear,
     }
 }
 
 // The same, but for opposites.
+#[inline(always)]
+fn plain_at_hand(scene: &Scene, scope: &Bindings, test: &Test) -> AtHand
+    requires { length scope.now < 5 }
+    ensures { IsAtHand (scene_seen scene.now) scope.now (test_seen test.now) result }
+{
+    match test {
+        Test::EqAttr(_, _, _, _) => wish_at_hand(scene, scope, test),
+        Test::Is(_, _, _) => wish_at_hand(scene, scope, test),
+        _ => known_at_hand(scene, scope, test),
+    }
+}
+
+#[inline(always)]
+fn wish_at_hand(scene: &Scene, scope: &Bindings, test: &Test) -> AtHand
+    ensures { IsAtHand (scene_seen scene.now) scope.now (test_seen test.now) result }
+{
+    match equal_at(scene, scope, scope.len(), test) {
+        Some(wanted) => AtHand::Wished(wanted),
+        None => AtHand::Unclear,
+    }
+}
+
+#[inline(always)]
+fn known_at_hand(scene: &Scene, scope: &Bindings, test: &Test) -> AtHand
+    requires { length scope.now < 5 }
+    ensures { IsAtHand (scene_seen scene.now) scope.now (test_seen test.now) result }
+{
+    match plain_at(scene, scope, scope.len() + 1, test) {
+        Some(holds) => AtHand::Holds(holds),
+        None => AtHand::Unclear,
+    }
+}
+
+// Whether a test holds in any scope of so many variables, if that is at hand, and the test is no opposite.
 #[inline(always)]
 fn plain_at(scene: &Scene, scope: &Bindings, count: usize, test: &Test) -> Option<bool>
     ensures { IfSome result (IsKnownAt (scene_seen scene.now) count (test_seen test.now)) }
@@ -94,34 +147,75 @@ fn is_fixed_number(expr: &IntExpr) -> bool
     }
 }
 
+// The number, if no variable owns it and it is at hand.
+#[inline(always)]
+fn fixed_number(scene: &Scene, scope: &Bindings, expr: &IntExpr) -> Option<i64>
+    ensures { IfSome result (IsKnownNumber (scene_seen scene.now) (int_seen expr.now)) }
+{
+    if is_fixed_number(expr) {
+        return number_at_hand(scene, scope, expr);
+    }
+    None
+}
+
+#[inline(always)]
+fn are_equal(one: i64, other: i64) -> bool
+    ensures { result ≡ int_eq one other }
+{
+    one == other
+}
+
 #[inline(always)]
 fn equal_known(scene: &Scene, scope: &Bindings, a: &IntExpr, b: &IntExpr) -> Option<bool>
     ensures { IfSome result (IsKnownPair (scene_seen scene.now) int_eq (int_seen a.now) (int_seen b.now)) }
 {
-    if is_fixed_number(a) && is_fixed_number(b) {
-        return equal_at_hand(scene, scope, a, b);
+    match fixed_number(scene, scope, a) {
+        Some(one) => match fixed_number(scene, scope, b) {
+            Some(other) => Some(are_equal(one, other)),
+            None => None,
+        },
+        None => None,
     }
-    None
+}
+
+#[inline(always)]
+fn is_less(one: i64, other: i64) -> bool
+    ensures { result ≡ int_lt one other }
+{
+    one < other
 }
 
 #[inline(always)]
 fn less_known(scene: &Scene, scope: &Bindings, a: &IntExpr, b: &IntExpr) -> Option<bool>
     ensures { IfSome result (IsKnownPair (scene_seen scene.now) int_lt (int_seen a.now) (int_seen b.now)) }
 {
-    if is_fixed_number(a) && is_fixed_number(b) {
-        return less_at_hand(scene, scope, a, b);
+    match fixed_number(scene, scope, a) {
+        Some(one) => match fixed_number(scene, scope, b) {
+            Some(other) => Some(is_less(one, other)),
+            None => None,
+        },
+        None => None,
     }
-    None
+}
+
+#[inline(always)]
+fn is_at_most(one: i64, other: i64) -> bool
+    ensures { result ≡ int_le one other }
+{
+    one <= other
 }
 
 #[inline(always)]
 fn at_most_known(scene: &Scene, scope: &Bindings, a: &IntExpr, b: &IntExpr) -> Option<bool>
     ensures { IfSome result (IsKnownPair (scene_seen scene.now) int_le (int_seen a.now) (int_seen b.now)) }
 {
-    if is_fixed_number(a) && is_fixed_number(b) {
-        return at_most_at_hand(scene, scope, a, b);
+    match fixed_number(scene, scope, a) {
+        Some(one) => match fixed_number(scene, scope, b) {
+            Some(other) => Some(is_at_most(one, other)),
+            None => None,
+        },
+        None => None,
     }
-    None
 }
 
 // The location that a variable runs over, if no variable owns it.
@@ -151,7 +245,7 @@ fn fixed_location<'d>(cards: &'d CollExpr) -> Option<&'d Loc>
 }
 
 // Whether all cards of such a location are as they are wanted.
-#[inline(always)]
+#[inline(never)]
 fn all_known(
     scene: &Scene,
     scope: &Bindings,
@@ -163,7 +257,7 @@ fn all_known(
 {
     match location_of(domain) {
         Some(loc) => match wanted_at(scene, scope, count, inner) {
-            Some(wanted) => Some(all_as_wanted(scene, wanted, &cards_of(scene, scope, loc))),
+            Some(wanted) => Some(all_there(scene, scope, loc, wanted)),
             None => None,
         },
         None => None,
@@ -171,7 +265,7 @@ fn all_known(
 }
 
 // Whether one of them is.
-#[inline(always)]
+#[inline(never)]
 fn any_known(
     scene: &Scene,
     scope: &Bindings,
@@ -183,9 +277,31 @@ fn any_known(
 {
     match location_of(domain) {
         Some(loc) => match wanted_at(scene, scope, count, inner) {
-            Some(wanted) => Some(some_as_wanted(scene, wanted, &cards_of(scene, scope, loc))),
+            Some(wanted) => Some(some_there(scene, scope, loc, wanted)),
             None => None,
         },
         None => None,
+    }
+}
+
+// Whether all cards of a location are as they are wanted.
+#[inline(always)]
+fn all_there(scene: &Scene, scope: &Bindings, loc: &Loc, wanted: Wanted) -> bool
+    ensures { result ≡ list_all (wanted_value (scene_seen scene.now) wanted) (coll_value (scene_seen scene.now) scope.now (cards_in (loc_seen loc.now))) }
+{
+    match scene.lookup.values(wanted.name) {
+        Some(row) => all_met_in(row, wanted, ids_of(scene, scope, loc)),
+        None => all_one_by_one(scene, wanted, &cards_of(scene, scope, loc)),
+    }
+}
+
+// Whether one of them is.
+#[inline(always)]
+fn some_there(scene: &Scene, scope: &Bindings, loc: &Loc, wanted: Wanted) -> bool
+    ensures { result ≡ list_any (wanted_value (scene_seen scene.now) wanted) (coll_value (scene_seen scene.now) scope.now (cards_in (loc_seen loc.now))) }
+{
+    match scene.lookup.values(wanted.name) {
+        Some(row) => some_met_in(row, wanted, ids_of(scene, scope, loc)),
+        None => some_one_by_one(scene, wanted, &cards_of(scene, scope, loc)),
     }
 }

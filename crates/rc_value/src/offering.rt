@@ -53,9 +53,25 @@ fn put_at(menu: &mut Menu, item: &Item, spot: u16)
     requires { length item.now.spots.items < 4 }
     ensures { menu_seen menu.new.items ≡ take 256 (menu_seen menu.old.items ++ extended (extended (item_seen item.now) (spot ∷ [])) [] ∷ []) }
 {
-    if !menu.is_full() {
-        menu.push(with_spot(item, spot));
+    if menu.is_full() {
+        return;
     }
+    // each pushes its own item: one that may be either would be put together elsewhere, and copied
+    if is_bare(item) {
+        menu.push(first_spot(item.alt, spot));
+    } else {
+        push_behind(menu, item, spot);
+    }
+}
+
+// Pushes the item with one more position behind those that it has.
+#[inline(never)]
+fn push_behind(menu: &mut Menu, item: &Item, spot: u16)
+    requires spots { length item.now.spots.items < 4 }
+    requires room { length menu.old.items < 256 }
+    ensures { menu_seen menu.new.items ≡ menu_seen menu.old.items ++ extended (item_seen item.now) (spot ∷ []) ∷ [] }
+{
+    menu.push(with_spot(item, spot));
 }
 
 // The same where it passes.

@@ -7,7 +7,7 @@ ghost use Rattle.rc_ast.specs.Expressions.{card_seen, coll_seen, test_seen};
 ghost use Rattle.rc_reads.specs.Reads.{reads_card};
 ghost use Rattle.rc_value.specs.Cards.{value_seen, values_seen};
 ghost use Rattle.rc_value.specs.Scene.{scene_seen};
-ghost use Rattle.rc_value.specs.Wanted.{meets, wanted_value, turned, IsFixed, IsFixedCollection, IsFixedOwner, IsWanted, IsWantedAt};
+ghost use Rattle.rc_value.specs.Wanted.{compares, meets, wanted_value, turned, IsFixed, IsFixedCollection, IsFixedOwner, IsWanted, IsWantedAt};
 
 use crate::collection::Collection;
 use crate::hand::value_at_hand;
@@ -27,16 +27,24 @@ pub(crate) struct Wanted {
     pub(crate) equal: bool,
 }
 
+/// Whether a value is the one that is wanted, or isn't.
+#[inline(always)]
+pub(crate) fn is_so(equal: bool, wanted: Option<u16>, value: Option<u16>) -> bool
+    ensures { result ≡ compares equal wanted value }
+{
+    if equal {
+        value == wanted
+    } else {
+        value != wanted
+    }
+}
+
 // Whether a value is as it is wanted.
 #[inline(always)]
 fn is_met(wanted: Wanted, value: Option<u16>) -> bool
     ensures { result ≡ meets wanted value }
 {
-    if wanted.equal {
-        value == wanted.value
-    } else {
-        value != wanted.value
-    }
+    is_so(wanted.equal, wanted.value, value)
 }
 
 /// Whether a card is as it is wanted.
@@ -67,7 +75,9 @@ pub(crate) fn all_as_wanted(scene: &Scene, wanted: Wanted, cards: &Collection) -
     all_one_by_one(scene, wanted, cards)
 }
 
-fn all_met_in(row: &[Option<u16>], wanted: Wanted, ids: &[u16]) -> bool
+/// Whether all of the cards with these ids are so, by the row of the attribute's values.
+#[inline(always)]
+pub(crate) fn all_met_in(row: &[Option<u16>], wanted: Wanted, ids: &[u16]) -> bool
     ensures { result ≡ list_all (λ id. meets wanted (slice_index_or row.now id None)) ids.now }
 {
     for place in 0..ids.len() {
@@ -78,7 +88,9 @@ fn all_met_in(row: &[Option<u16>], wanted: Wanted, ids: &[u16]) -> bool
     true
 }
 
-fn all_one_by_one(scene: &Scene, wanted: Wanted, cards: &Collection) -> bool
+/// The same, card by card.
+#[inline(never)]
+pub(crate) fn all_one_by_one(scene: &Scene, wanted: Wanted, cards: &Collection) -> bool
     ensures { result ≡ list_all (wanted_value (scene_seen scene.now) wanted) cards.now }
 {
     for place in 0..cards.len() {
@@ -101,7 +113,9 @@ pub(crate) fn some_as_wanted(scene: &Scene, wanted: Wanted, cards: &Collection) 
     some_one_by_one(scene, wanted, cards)
 }
 
-fn some_met_in(row: &[Option<u16>], wanted: Wanted, ids: &[u16]) -> bool
+/// Whether one of the cards with these ids is so, by the row of the attribute's values.
+#[inline(always)]
+pub(crate) fn some_met_in(row: &[Option<u16>], wanted: Wanted, ids: &[u16]) -> bool
     ensures { result ≡ list_any (λ id. meets wanted (slice_index_or row.now id None)) ids.now }
 {
     for place in 0..ids.len() {
@@ -112,7 +126,9 @@ fn some_met_in(row: &[Option<u16>], wanted: Wanted, ids: &[u16]) -> bool
     false
 }
 
-fn some_one_by_one(scene: &Scene, wanted: Wanted, cards: &Collection) -> bool
+/// The same, card by card.
+#[inline(never)]
+pub(crate) fn some_one_by_one(scene: &Scene, wanted: Wanted, cards: &Collection) -> bool
     ensures { result ≡ list_any (wanted_value (scene_seen scene.now) wanted) cards.now }
 {
     for place in 0..cards.len() {
@@ -262,9 +278,9 @@ pub(crate) fn wanted_at(
     }
 }
 
-// The same, but for opposites.
+/// The same, but for opposites.
 #[inline(always)]
-fn equal_at(scene: &Scene, scope: &Bindings, place: usize, test: &Test) -> Option<Wanted>
+pub(crate) fn equal_at(scene: &Scene, scope: &Bindings, place: usize, test: &Test) -> Option<Wanted>
     ensures { IfSome result (IsWantedAt (scene_seen scene.now) place (test_seen test.now)) }
 {
     match test {
