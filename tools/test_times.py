@@ -140,6 +140,14 @@ class Table(unittest.TestCase):
         times.take(self.root, self.root / "samples", [])
         self.assertIn("rc_a proof 11 busy\n", (self.root / times.SECONDS).read_text())
 
+    def test_what_is_done_no_more_is_not_taken(self):
+        (self.root / "crates/rc_b/must-fail/wrong.edit").unlink()
+        self.write("samples", "# 9 seconds\nrc_a edits 7 busy\nrc_b proof 8 busy\n")
+        times.take(self.root, self.root / "samples", [])
+        self.assertEqual(
+            (self.root / times.SECONDS).read_text(), "# head\nrc_a proof 10 alone\nrc_b proof 8 busy\nrc_c_tests tests 5 alone\n"
+        )
+
 
 class Page(unittest.TestCase):
     """The table of this repository. Its lines may have been counted before the last change."""

@@ -65,9 +65,14 @@ def cell(taken: Taken | None, is_done: bool) -> str:
     return f"{taken.seconds}{'*' if taken.beside_others else ''}"
 
 
+def kinds_of(size: Size) -> list[str]:
+    """What is done for a crate of this size."""
+    return [PROOF, *[EDITS] * (size.edits > 0), *[TESTS] * (size.tests > 0)]
+
+
 def row_of(crate: str, size: Size, taken: dict[Task, Taken]) -> str:
-    is_done = {PROOF: True, EDITS: size.edits > 0, TESTS: size.tests > 0}
-    return row([f"`{crate}`", *(cell(taken.get((crate, kind)), is_done[kind]) for kind in KINDS), *astuple(size)])
+    done = kinds_of(size)
+    return row([f"`{crate}`", *(cell(taken.get((crate, kind)), kind in done) for kind in KINDS), *astuple(size)])
 
 
 def row(cells: Iterable[object]) -> str:
@@ -119,12 +124,13 @@ def write_table(root: Path) -> None:
 
 
 def take(root: Path, file: Path, names: list[str]) -> None:
-    """Puts what a file says into that of the repository, which tells of the crates in the order of crates.txt."""
+    """Puts what a file says into that of the repository, which tells of the crates in the order of crates.txt, and of what is done there."""
     kept = root / SECONDS
     text = kept.read_text("utf-8")
     new = sampling.read_lines(file.read_text("utf-8"))
     taken = {**sampling.read_lines(text), **{task: it for task, it in new.items() if not names or task[0] in names}}
-    ordered = {(crate, kind): taken[crate, kind] for crate in listed(root) for kind in KINDS if (crate, kind) in taken}
+    done = [(crate, kind) for crate in listed(root) for kind in kinds_of(size_of(root, crate))]
+    ordered = {task: taken[task] for task in done if task in taken}
     head = "".join(line for line in text.splitlines(keepends=True) if line.startswith("#"))
     kept.write_text(head + "".join(sampling.lines_of(ordered)), "utf-8")
 
