@@ -158,23 +158,23 @@ length-put ids part from long fits same =
     omega (arith, whole, rest, before, behind, left, fits, same)
 
 -- rows that show these lists, and one of them
-module _ (rows : List Row) (ids : Vec ℕ Global) (now : Lists) (view : rows_seen rows ids.items ≡ now) (are : AreRows rows 0 (length ids.items)) (at : ℕ)
+module _ (all_rows : List Row) (ids : Vec ℕ Global) (now : Lists) (view : rows_seen all_rows ids.items ≡ now) (are : AreRows all_rows 0 (length ids.items)) (at : ℕ)
     (there : at < length now.all) where
-  pub within : at < length rows
-  within = subst (λ n. at < n) (ap (λ (lists : Lists). length lists.all) (sym view) ∙ length-map rows (list_in ids.items)) there
+  pub within : at < length all_rows
+  within = subst (λ n. at < n) (ap (λ (lists : Lists). length lists.all) (sym view) ∙ length-map all_rows (list_in ids.items)) there
 
-  module _ (held : Row) (is : held ≡ get_or rows at held) where
+  module _ (held : Row) (is : held ≡ get_or all_rows at held) where
     pub lies : IsWithin held 0 (length ids.items)
-    lies = subst (λ row. IsWithin row 0 (length ids.items)) (sym is) (row_within rows 0 (length ids.items) are at held within)
+    lies = subst (λ row. IsWithin row 0 (length ids.items)) (sym is) (row_within all_rows 0 (length ids.items) are at held within)
 
     pub list_is : get_or now.all at [] ≡ list_in ids.items held
-    list_is = sym (ap (λ (lists : Lists). get_or lists.all at []) view) ∙ list_of_row rows ids.items at held within ∙ ap (list_in ids.items) (sym is)
+    list_is = sym (ap (λ (lists : Lists). get_or lists.all at []) view) ∙ list_of_row all_rows ids.items at held within ∙ ap (list_in ids.items) (sym is)
 
     pub count_is : length (get_or now.all at []) ≡ held.count
     count_is = ap length list_is ∙ list_long ids.items held 0 lies
 
     pub room_is : get_or now.room at 0 ≡ held.room
-    room_is = sym (ap (λ (lists : Lists). get_or lists.room at 0) view) ∙ room_of_row rows at held within ∙ ap room_of (sym is)
+    room_is = sym (ap (λ (lists : Lists). get_or lists.room at 0) view) ∙ room_of_row all_rows at held within ∙ ap room_of (sym is)
 
     -- the part that is the list
     pub part_is : (whole : List ℕ) (n : ℕ) → whole ≡ ids.items → n ≡ held.count → take n (drop held.from whole) ≡ get_or now.all at []
@@ -188,42 +188,42 @@ module _ (rows : List Row) (ids : Vec ℕ Global) (now : Lists) (view : rows_see
         omega (arith, long, ends, few)
 
     module _ (row : Row) (begins : row.from ≡ held.from) (fits : row.room ≡ held.room) (few : row.count ≤ row.room) where
-      pub still : AreRows (set rows at row) 0 (length ids.items)
-      still = still_rows rows 0 (length ids.items) are at row held within (begins ∙ ap (λ (row : Row). row.from) is) (fits ∙ ap (λ (row : Row). row.room) is) few
+      pub still : AreRows (set all_rows at row) 0 (length ids.items)
+      still = still_rows all_rows 0 (length ids.items) are at row held within (begins ∙ ap (λ (row : Row). row.from) is) (fits ∙ ap (λ (row : Row). row.room) is) few
 
       same_around : (ids' list : List ℕ) → take row.from ids' ≡ take row.from ids.items → drop (row.from + held.room) ids' ≡ drop (row.from + held.room) ids.items →
-          list_in ids' row ≡ list → rows_seen (set rows at row) ids' ≡ lists_of (set now.all at list) now.room
+          list_in ids' row ≡ list → rows_seen (set all_rows at row) ids' ≡ lists_of (set now.all at list) now.room
       same_around ids' list before behind holds =
-          let room : held.room ≡ (get_or rows at held).room = ap (λ (row : Row). row.room) is in
+          let room : held.room ≡ (get_or all_rows at held).room = ap (λ (row : Row). row.room) is in
           ap₂ lists_of
-          (row_written ids.items ids' rows 0 (length ids.items) are at row held within (begins ∙ ap (λ (row : Row). row.from) is) before
+          (row_written ids.items ids' all_rows 0 (length ids.items) are at row held within (begins ∙ ap (λ (row : Row). row.from) is) before
           (subst (λ n. drop (row.from + n) ids' ≡ drop (row.from + n) ids.items) room behind)
           ∙ ap₂ (λ lists list. set lists at list) (ap (λ (lists : Lists). lists.all) view) holds)
-          (same_rooms rows at row held within (fits ∙ room) ∙ ap (λ (lists : Lists). lists.room) view)
+          (same_rooms all_rows at row held within (fits ∙ room) ∙ ap (λ (lists : Lists). lists.room) view)
 
       -- after a part was written that begins with it
       pub written : (whole part list : List ℕ) (long : ℕ) → whole ≡ ids.items → row.count ≤ length part → long ≡ length part → long ≤ row.room →
           take row.count part ≡ list →
-          (rows_seen (set rows at row) (with_items ids (put_mid row.from long whole part)).items ≡ lists_of (set now.all at list) now.room)
-          × AreRows (set rows at row) 0 (length (with_items ids (put_mid row.from long whole part)).items)
+          (rows_seen (set all_rows at row) (with_items ids (put_mid row.from long whole part)).items ≡ lists_of (set now.all at list) now.room)
+          × AreRows (set all_rows at row) 0 (length (with_items ids (put_mid row.from long whole part)).items)
       written whole part list long same covers each short holds =
           let ends = lies.ends in
           let end : row.from + long ≤ length ids.items = omega (arith, begins, fits, short, ends) in
           let put : put_mid row.from long whole part ≡ put_mid row.from long ids.items part = ap (λ ids. put_mid row.from long ids part) same in
           let as_long = length-put ids.items part row.from long end each in
           let items = with_items_is ids (put_mid row.from long whole part) (ap length put ∙ as_long ∙ sym ids.ok.0) ∙ put in (
-            ap (rows_seen (set rows at row)) items
+            ap (rows_seen (set all_rows at row)) items
                 ∙ same_around (put_mid row.from long ids.items part) list
                 (take-put_mid_below row.from long ids.items part row.from (omega arith) (omega (arith, end)))
                 (drop-put_mid row.from long ids.items part (row.from + held.room) (omega (arith, short, fits)) (omega (arith, end)) (sym each))
                 (part_there ids.items part row.from row.count long (omega (arith, end)) covers ∙ holds),
-            subst (AreRows (set rows at row) 0) (sym (ap length items ∙ as_long)) still,
+            subst (AreRows (set all_rows at row) 0) (sym (ap length items ∙ as_long)) still,
           )
 
       -- after an id was put behind its last one
       pub put_last : (id : ℕ) → row.count ≡ held.count + 1 →
-          (rows_seen (set rows at row) (set ids.items (held.from + held.count) id) ≡ lists_of (set now.all at (get_or now.all at [] ++ id ∷ [])) now.room)
-          × AreRows (set rows at row) 0 (length (set ids.items (held.from + held.count) id))
+          (rows_seen (set all_rows at row) (set ids.items (held.from + held.count) id) ≡ lists_of (set now.all at (get_or now.all at [] ++ id ∷ [])) now.room)
+          × AreRows (set all_rows at row) 0 (length (set ids.items (held.from + held.count) id))
       put_last id more =
           let ends = lies.ends in
           let left = length-drop held.from ids.items in
@@ -235,16 +235,16 @@ module _ (rows : List Row) (ids : Vec ℕ Global) (now : Lists) (view : rows_see
                 ∙ ap (take (held.count + 1)) (drop-set-add held.from ids.items held.count id)
                 ∙ take_more_set (drop held.from ids.items) held.count id (omega (arith, left, ends, fits, few, more))
                 ∙ ap (λ list. list ++ id ∷ []) (sym list_is)),
-            subst (AreRows (set rows at row) 0) (sym (length-set ids.items last id)) still,
+            subst (AreRows (set all_rows at row) 0) (sym (length-set ids.items last id)) still,
           )
 
     -- after an id was taken out of it
     pub taken_out : (place : ℕ) (whole new : List ℕ) → whole ≡ ids.items →
         length new ≡ length (take (held.from + held.count - held.from) (drop held.from whole)) →
         take (length (take (held.from + held.count - held.from) (drop held.from whole)) - 1) new ≡ remove (take (held.from + held.count - held.from) (drop held.from whole)) place →
-        (rows_seen (set rows at (counting held (held.count - 1))) (with_items ids (put_mid held.from (held.from + held.count - held.from) whole new)).items
+        (rows_seen (set all_rows at (counting held (held.count - 1))) (with_items ids (put_mid held.from (held.from + held.count - held.from) whole new)).items
         ≡ lists_of (set now.all at (remove (get_or now.all at []) place)) now.room)
-        × AreRows (set rows at (counting held (held.count - 1))) 0 (length (with_items ids (put_mid held.from (held.from + held.count - held.from) whole new)).items)
+        × AreRows (set all_rows at (counting held (held.count - 1))) 0 (length (with_items ids (put_mid held.from (held.from + held.count - held.from) whole new)).items)
     taken_out place whole new same as_long left =
         let few = lies.few in
         let part = part_is whole (held.from + held.count - held.from) same (omega arith) in
@@ -257,9 +257,9 @@ module _ (rows : List Row) (ids : Vec ℕ Global) (now : Lists) (view : rows_see
     pub inserted : (place id : ℕ) (whole new : List ℕ) → whole ≡ ids.items → held.count < held.room →
         length new ≡ length (take (held.from + (held.count + 1) - held.from) (drop held.from whole)) →
         new ≡ insert (take (length (take (held.from + (held.count + 1) - held.from) (drop held.from whole)) - 1) (take (held.from + (held.count + 1) - held.from) (drop held.from whole))) place id →
-        (rows_seen (set rows at (counting held (held.count + 1))) (with_items ids (put_mid held.from (held.from + (held.count + 1) - held.from) whole new)).items
+        (rows_seen (set all_rows at (counting held (held.count + 1))) (with_items ids (put_mid held.from (held.from + (held.count + 1) - held.from) whole new)).items
         ≡ lists_of (set now.all at (insert (get_or now.all at []) place id)) now.room)
-        × AreRows (set rows at (counting held (held.count + 1))) 0 (length (with_items ids (put_mid held.from (held.from + (held.count + 1) - held.from) whole new)).items)
+        × AreRows (set all_rows at (counting held (held.count + 1))) 0 (length (with_items ids (put_mid held.from (held.from + (held.count + 1) - held.from) whole new)).items)
     inserted place id whole new same less as_long is_new =
         let n = held.from + (held.count + 1) - held.from in
         let ends = part_ends whole (held.count + 1) same (omega (arith, less)) in
@@ -274,20 +274,20 @@ module _ (rows : List Row) (ids : Vec ℕ Global) (now : Lists) (view : rows_see
         (take_all (held.count + 1) new (omega (arith, as_long, long)) ∙ is_new ∙ ap (λ list. insert list place id) front)
 
 -- a list has no more than there is room for
-pub list_has_room : (rows : List Row) (ids : Vec ℕ Global) (now : Lists) → rows_seen rows ids.items ≡ now → AreRows rows 0 (length ids.items) → (at : ℕ) → at < length now.all →
+pub list_has_room : (all_rows : List Row) (ids : Vec ℕ Global) (now : Lists) → rows_seen all_rows ids.items ≡ now → AreRows all_rows 0 (length ids.items) → (at : ℕ) → at < length now.all →
     length (get_or now.all at []) ≤ get_or now.room at 0
-list_has_room rows ids now view are at there =
+list_has_room all_rows ids now view are at there =
     let none : Row = record { from = 0; count = 0; room = 0 } in
-    let held = get_or rows at none in
-    let is = get_or_default rows at none held (within rows ids now view are at there) in
-    let count = count_is rows ids now view are at there held is in
-    let room = room_is rows ids now view are at there held is in
-    let few = (lies rows ids now view are at there held is).few in
+    let held = get_or all_rows at none in
+    let is = get_or_default all_rows at none held (within all_rows ids now view are at there) in
+    let count = count_is all_rows ids now view are at there held is in
+    let room = room_is all_rows ids now view are at there held is in
+    let few = (lies all_rows ids now view are at there held is).few in
     omega (arith, count, room, few)
 
 -- where there is a row there is a list
-pub there_is : (rows : List Row) (ids : Vec ℕ Global) (now : Lists) → rows_seen rows ids.items ≡ now → (at : ℕ) → at < length rows → at < length now.all
-there_is rows ids now view at = subst (λ n. at < n) (sym (length-map rows (list_in ids.items)) ∙ ap (λ (lists : Lists). length lists.all) view)
+pub there_is : (all_rows : List Row) (ids : Vec ℕ Global) (now : Lists) → rows_seen all_rows ids.items ≡ now → (at : ℕ) → at < length all_rows → at < length now.all
+there_is all_rows ids now view at = subst (λ n. at < n) (sym (length-map all_rows (list_in ids.items)) ∙ ap (λ (lists : Lists). length lists.all) view)
 
 -- AN ID THAT IS PUT IN
 

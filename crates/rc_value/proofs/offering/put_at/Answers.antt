@@ -1,4 +1,4 @@
-use Rattle.std.proofs.Common.{◌<◌, ◌∷◌, [], length, arith, ap, sym, ◌∙◌}
+use Rattle.std.proofs.Common.{◌∷◌, [], arith, ap, sym, ◌∙◌}
 use Rattle.std.proofs.lemmas.List.{length-map, map-append}
 use Rattle.rc_rules.specs.Menu.{item_seen, menu_seen}
 use Rattle.rc_value.specs.Menu.{extended}

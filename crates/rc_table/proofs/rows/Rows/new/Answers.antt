@@ -14,9 +14,9 @@ loop-loc-preserved c =
     let loc = c.loop-loc.loc in
     let end = c.loop-loc.end in
     let room = c.room_of-room.result in
-    let rows = c.loop-loc.rows.items in
+    let all_rows = c.loop-loc.rows.items in
     let row : Row = record { from = end; count = 0; room = room } in
-    let more : c.push.new.self.items ≡ rows ++ row ∷ [] = c.in_ok-push.ensures.items in
+    let more : c.push.new.self.items ≡ all_rows ++ row ∷ [] = c.in_ok-push.ensures.items in
     let test = c.loop-loc-test.true in
     let last = c.loop-loc.auto.loc-end in
     let count = c.locations-loc-end.ensures in
@@ -25,8 +25,8 @@ loop-loc-preserved c =
     let small : room ≤ 65535 = search rules in
     let ends = inv.small in
     record {
-      are = subst (λ rows. AreRows rows 0 (end + room)) (sym more) (rows_more rows 0 end row inv.are refl (omega arith) small);
-      rooms = ap (map room_of) more ∙ map-append room_of rows (row ∷ [])
+      are = subst (λ list. AreRows list 0 (end + room)) (sym more) (rows_more all_rows 0 end row inv.are refl (omega arith) small);
+      rooms = ap (map room_of) more ∙ map-append room_of all_rows (row ∷ [])
           ∙ ap₂ (λ rooms room. rooms ++ room ∷ []) inv.rooms (c.room_of-room.ensures ∙ sym (room_at shape loc within))
           ∙ sym (take_more (rooms shape) loc 0 (omega (arith, within, long)));
       lists = λ ids. ap (map (list_in ids)) more ∙ map-append (list_in ids) rows (row ∷ []) ∙ ap (λ lists. lists ++ [] ∷ []) (inv.lists ids) ∙ replicate_more loc [];
