@@ -29,6 +29,6 @@ loop-loc-preserved c =
       rooms = ap (map room_of) more ∙ map-append room_of all_rows (row ∷ [])
           ∙ ap₂ (λ rooms room. rooms ++ room ∷ []) inv.rooms (c.room_of-room.ensures ∙ sym (room_at shape loc within))
           ∙ sym (take_more (rooms shape) loc 0 (omega (arith, within, long)));
-      lists = λ ids. ap (map (list_in ids)) more ∙ map-append (list_in ids) rows (row ∷ []) ∙ ap (λ lists. lists ++ [] ∷ []) (inv.lists ids) ∙ replicate_more loc [];
+      lists = λ ids. ap (map (list_in ids)) more ∙ map-append (list_in ids) all_rows (row ∷ []) ∙ ap (λ lists. lists ++ [] ∷ []) (inv.lists ids) ∙ replicate_more loc [];
       small = omega (arith, ends, small);
     }
