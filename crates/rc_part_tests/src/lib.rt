@@ -1,7 +1,9 @@
 //! Tests of calls that remember no playouts: decks, forms, draws, the lines of a match and what stands outside; names, tables, views and
-//! redrawn deals; the tree machine, and the two machines side by side with the flat one's way back.
+//! redrawn deals; the tree machine, and the two machines side by side with the flat one's way back; and how workers claim matches.
 #![tactic(auto)]
 
+#[cfg(test)]
+mod claims;
 #[cfg(test)]
 mod deck;
 #[cfg(test)]

@@ -1,5 +1,5 @@
 use Rattle.std.proofs.Common.{◌≡◌, ◌-◌, ◌<◌, All, length}
-use Rattle.rc_house_tests.proofs.claims.claimed.Given as goal
+use Rattle.rc_part_tests.proofs.claims.claimed.Given as goal
 
 abbrev pub invariant-loop-number : goal.invariant-loop-number
 invariant-loop-number l =

@@ -6,7 +6,7 @@ ghost use Rattle.rc_play_model.specs.Tally.{tally as tally_of};
 ghost use Rattle.rc_redraw.specs.Asking.{key_seen};
 ghost use Rattle.rc_redraw.specs.Reply.{IfHit};
 ghost use Rattle.rc_cache.specs.Same as same;
-ghost use Rattle.rc_house_tests.specs.Fickle.{counts_of};
+ghost use Rattle.rc_play_tests.specs.Fickle.{counts_of};
 
 use rc_cache::same_ask;
 use rc_deck::Memory;
@@ -33,7 +33,7 @@ impl Model for Fickle {
     ghost use Rattle.rc_flow.specs.Codes.{sheet_codes};
     ghost use Rattle.std.specs.Prelude.{◌≡◌};
     ghost use Rattle.std.specs.List.{AllByRecursion};
-    ghost use Rattle.rc_house_tests.specs.Fickle.{Fickle};
+    ghost use Rattle.rc_play_tests.specs.Fickle.{Fickle};
 
     ghost Value = { Fickle };
 

@@ -1,7 +1,7 @@
 use Rattle.std.proofs.Common.{◌∙◌}
 use Rattle.rc_redraw.specs.Asking.{ask_seen}
-use Rattle.rc_house_tests.proofs.FoundLemmas.{same_totals}
-use Rattle.rc_house_tests.proofs.fickle.totals_of.Goals as goal
+use Rattle.rc_play_tests.proofs.FoundLemmas.{same_totals}
+use Rattle.rc_play_tests.proofs.fickle.totals_of.Goals as goal
 
 pub returns : goal.returns
 returns c =
