@@ -1,36 +1,11 @@
 //! A source that is cut off behind each of its bytes.
 use crate::expect::expect_same;
-use crate::ports::{End, expect_end};
-use rc_games::GAME;
+use crate::game::{PLAYED, SHEET, SOURCE};
+use crate::ports::{End, expect_text};
 use rc_house::{PlanKind, SourceKind, Status};
 use std::alloc::{AllocError, Global};
 use std::process::Abort;
 use std::test::Fail;
-
-/// Both players choose the first card each time, of which the last dealt is worth least.
-const PLAN: &[u8] = b"(plan (seats (script) (script)) (matches (0 0)) (turns 100))
-";
-
-/// The text of its play.
-const TEXT: &[u8] = b"\
-house 1
-match 0 deal 0 seats 0
-choose 0 0 0 2
-choose 1 0 0 2
-choose 0 0 0 1
-choose 1 0 0 1
-end done 8
-score 0 7 2
-score 1 3 0
-standing 1 strategy 0 points 2
-standing 2 strategy 1 points 0
-";
-
-const PLAYED: End<'static> = End {
-    status: Status::Done,
-    written: TEXT,
-    noted: b"cache looks 0 hits 0\n",
-};
 
 /// The offset of the last list that is still open behind a text without comments, if one is.
 fn last_open(alloc: Global, text: &[u8]) -> Result<Option<usize>, AllocError> {
@@ -67,7 +42,7 @@ fn expect_refused(
         written: b"",
         noted: noted.as_bytes(),
     };
-    expect_end(rt, "play", text.to_vec(alloc)?, end)
+    expect_text(rt, "play", text, end)
 }
 
 /// Fails unless the play of a text is refused for the sheet's first fault.
@@ -97,7 +72,7 @@ fn expect_cut(rt: &(impl AllocGlobal + Abort), text: &[u8]) -> Result<(), Fail> 
         Some(at) => expect_sheet(rt, text, SourceKind::Unclosed, at),
         // the sheet stands there, with its line feed or without, and no plan
         None => {
-            assert!(rt; matches!(text.len(), 462 | 463));
+            assert!(rt; matches!(text.len(), 462 | SHEET));
             let status = Status::Plan {
                 kind: PlanKind::Shape,
                 at: offset(text.len())?,
@@ -107,17 +82,14 @@ fn expect_cut(rt: &(impl AllocGlobal + Abort), text: &[u8]) -> Result<(), Fail> 
     }
 }
 
-/// The sheet has 462 bytes without its line feed, and the plan 60.
 #[test]
 fn a_cut_source_is_refused_where_it_ends(rt: HostRuntime) -> Result<(), Fail> {
-    let mut whole = GAME.to_vec(rt.alloc())?;
-    whole.extend_from_slice(PLAN)?;
-    expect_same(&rt, whole.len(), 524);
+    expect_same(&rt, SOURCE.len(), 524);
     for length in 0..523usize {
-        let text = whole.get(..length).ok_or("the source is long enough")?;
+        let text = SOURCE.get(..length).ok_or("the source is long enough")?;
         expect_cut(&rt, text)?;
     }
-    let text = whole.get(..523).ok_or("the source is long enough")?;
-    expect_end(&rt, "play", text.to_vec(rt.alloc())?, PLAYED)?;
-    expect_end(&rt, "play", whole, PLAYED)
+    let text = SOURCE.get(..523).ok_or("the source is long enough")?;
+    expect_text(&rt, "play", text, PLAYED)?;
+    expect_text(&rt, "play", SOURCE, PLAYED)
 }

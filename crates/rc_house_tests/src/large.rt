@@ -1,6 +1,6 @@
 //! Texts of the largest size, numbers out of their ranges, and plays that come to the limits of references and numbers.
-use crate::ports::{End, expect_end};
-use rc_games::GAME;
+use crate::game::SOURCE;
+use crate::ports::{End, expect_text};
 use rc_house::{SourceKind, Status};
 use std::process::Abort;
 use std::test::Fail;
@@ -23,7 +23,7 @@ fn expect_refused(
         written: b"",
         noted,
     };
-    expect_end(rt, "sheet", text, end)
+    expect_text(rt, "sheet", &text, end)
 }
 
 #[test]
@@ -44,7 +44,7 @@ const NUMBERS: [&[u8]; 3] = [b"9", b"0", b"1234567890123456789"];
 
 /// Fails unless the sheet is refused for this number of players.
 fn expect_players(rt: &(impl AllocGlobal + Abort), number: &[u8]) -> Result<(), Fail> {
-    let behind = GAME
+    let behind = SOURCE
         .get(BEFORE.len() + 1..)
         .ok_or("the sheet is long enough")?;
     let mut text = BEFORE.to_vec(rt.alloc())?;
@@ -58,7 +58,7 @@ fn expect_players(rt: &(impl AllocGlobal + Abort), number: &[u8]) -> Result<(), 
         written: b"",
         noted: b"sheet Number 29\n",
     };
-    expect_end(rt, "sheet", text, end)
+    expect_text(rt, "sheet", &text, end)
 }
 
 #[test]
@@ -90,7 +90,7 @@ fn expect_played(rt: &(impl AllocGlobal + Abort), text: &[u8], written: &[u8]) -
         written,
         noted: b"cache looks 0 hits 0\n",
     };
-    expect_end(rt, "play", text.to_vec(rt.alloc())?, end)
+    expect_text(rt, "play", text, end)
 }
 
 #[test]

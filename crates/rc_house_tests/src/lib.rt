@@ -7,11 +7,11 @@ mod cuts;
 #[cfg(test)]
 mod expect;
 #[cfg(test)]
+mod game;
+#[cfg(test)]
 mod house;
 #[cfg(test)]
 mod large;
-#[cfg(test)]
-mod notes;
 #[cfg(test)]
 mod ports;
 #[cfg(test)]

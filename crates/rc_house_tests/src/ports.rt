@@ -1,9 +1,9 @@
-//! Commands over a source and sinks in memory.
+//! Commands over a source and sinks in memory, which may fail.
 ghost use Rattle.std.specs.Prelude.{◌≡◌, ◌<◌};
 
 use crate::expect::expect_same;
 use rc_house::{Status, run_alone};
-use rc_outside::{Plain, Room};
+use rc_outside::{Bytes, Room};
 use rc_steps::Steps;
 use std::alloc::{AllocError, Global};
 use std::marker::Brand;
@@ -19,17 +19,43 @@ pub struct End<'a> {
     pub noted: &'a [u8],
 }
 
-/// What a command writes and notes to.
-#[derive(Drop)]
-struct Sinks {
-    out: Room,
-    notes: Room,
+/// What a sink takes: so many bytes in all and at once, and the write that fails.
+#[derive(Clone, Copy)]
+pub struct Writes {
+    pub room: usize,
+    pub chunk: usize,
+    pub failing: Option<u64>,
 }
 
-/// Sinks with room for any text of these tests. A write of a note fails where its number is among these.
-fn sinks_of(alloc: Global, unnoted: Vec<u64>) -> Result<Sinks, Fail> {
-    let out = Room::new(alloc, 4096, 4096, Vec::new(alloc))?;
-    let notes = Room::new(alloc, 100, 100, unnoted)?;
+/// Takes any text of these tests.
+pub const WIDE: Writes = Writes {
+    room: 4096,
+    chunk: 4096,
+    failing: None,
+};
+
+fn fails_of(alloc: Global, writes: Writes) -> Result<Vec<u64>, AllocError> {
+    let Some(call) = writes.failing else {
+        return Ok(Vec::new(alloc));
+    };
+    Ok(vec![in alloc; call]?)
+}
+
+fn room_of(alloc: Global, writes: Writes) -> Result<Room, Fail> {
+    let fails = fails_of(alloc, writes)?;
+    Ok(Room::new(alloc, writes.room, writes.chunk.max(1), fails)?)
+}
+
+/// What a command writes and notes to.
+#[derive(Drop)]
+pub struct Sinks {
+    pub out: Room,
+    pub notes: Room,
+}
+
+pub fn sinks_of(alloc: Global, writes: (Writes, Writes)) -> Result<Sinks, Fail> {
+    let out = room_of(alloc, writes.0)?;
+    let notes = room_of(alloc, writes.1)?;
     Ok(Sinks { out, notes })
 }
 
@@ -37,7 +63,7 @@ fn sinks_of(alloc: Global, unnoted: Vec<u64>) -> Result<Sinks, Fail> {
 fn run_on<L: Ledger>(
     alloc: Global,
     words: &[String],
-    source: &mut Plain,
+    source: &mut Bytes,
     sinks: &mut Sinks,
     blank: Blank,
 ) -> Status
@@ -50,42 +76,66 @@ fn run_on<L: Ledger>(
     run_alone(alloc, words, source, out, notes, &mut steps)
 }
 
-/// How a command of one word ends.
-fn run_word(
-    alloc: Global,
-    word: &str,
-    text: Vec<u8>,
-    sinks: &mut Sinks,
-) -> Result<Status, AllocError> {
-    let word = String::from_str(alloc, word)?;
-    let words = vec![in alloc; word]?;
-    let mut source = Plain::new(text);
-    let blank = Blank::new(1);
-    Ok(run_on::<Brand>(alloc, words.as_slice(), &mut source, sinks, blank))
+pub fn owned(alloc: Global, words: &[&str]) -> Result<Vec<String>, AllocError> {
+    let mut owned = Vec::new(alloc);
+    for word in words {
+        owned.push(String::from_str(alloc, *word)?)?;
+    }
+    Ok(owned)
 }
 
-/// Fails unless a command of one word on a text ends so, where these notes fail.
-pub fn expect_end_over(
+fn run_words(
+    alloc: Global,
+    words: &[&str],
+    source: &mut Bytes,
+    sinks: &mut Sinks,
+) -> Result<Status, AllocError> {
+    let words = owned(alloc, words)?;
+    let blank = Blank::new(1);
+    Ok(run_on::<Brand>(alloc, words.as_slice(), source, sinks, blank))
+}
+
+/// A text in pieces of so many bytes, of which this read fails.
+pub fn pieces(alloc: Global, text: &[u8], chunk: usize, failing: u64) -> Result<Bytes, AllocError> {
+    let fails = vec![in alloc; failing]?;
+    let text = text.to_vec(alloc)?;
+    Ok(Bytes::new(text, chunk.max(1), fails))
+}
+
+/// Fails unless a command on this source and these sinks ends so.
+pub fn expect_end(
     rt: &(impl AllocGlobal + Abort),
-    word: &str,
-    text: Vec<u8>,
-    unnoted: Vec<u64>,
+    words: &[&str],
+    source: &mut Bytes,
+    writes: (Writes, Writes),
     end: End<'_>,
 ) -> Result<(), Fail> {
-    let mut sinks = sinks_of(rt.alloc(), unnoted)?;
-    let status = run_word(rt.alloc(), word, text, &mut sinks)?;
+    let mut sinks = sinks_of(rt.alloc(), writes)?;
+    let status = run_words(rt.alloc(), words, source, &mut sinks)?;
     expect_same(rt, status, end.status);
     expect_same(rt, sinks.out.written(), end.written);
     expect_same(rt, sinks.notes.written(), end.noted);
     Ok(())
 }
 
-/// Fails unless a command of one word on a text ends so.
-pub fn expect_end(
+/// Fails unless a command of one word ends so on a text, of which no read fails, and these sinks.
+pub fn expect_sinks(
     rt: &(impl AllocGlobal + Abort),
     word: &str,
-    text: Vec<u8>,
+    text: &[u8],
+    writes: (Writes, Writes),
     end: End<'_>,
 ) -> Result<(), Fail> {
-    expect_end_over(rt, word, text, Vec::new(rt.alloc()), end)
+    let mut source = pieces(rt.alloc(), text, 4096, u64::MAX)?;
+    expect_end(rt, &[word], &mut source, writes, end)
+}
+
+/// Fails unless a command of one word ends so on a text, where no read and no write fails.
+pub fn expect_text(
+    rt: &(impl AllocGlobal + Abort),
+    word: &str,
+    text: &[u8],
+    end: End<'_>,
+) -> Result<(), Fail> {
+    expect_sinks(rt, word, text, (WIDE, WIDE), end)
 }

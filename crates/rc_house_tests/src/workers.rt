@@ -1,11 +1,11 @@
 //! Matches by several workers: who enters while a match is held, and what a match finds behind those before it. The rollouts are two
 //! seats' with two cards each, of which each decision asks something else.
 use crate::expect::expect_same;
-use crate::house::owned;
-use rc_games::GAME;
+use crate::game::{SHEET, SOURCE};
+use crate::ports::{Sinks, WIDE, owned, sinks_of};
 use rc_house::{Status, run};
-use rc_outside::{Gate, Plain, Room};
-use std::alloc::{AllocError, Global};
+use rc_outside::{Gate, Plain};
+use std::alloc::Global;
 use std::process::Abort;
 use std::sync::Wait;
 use std::sync::atomic::{AtomicU64, Ordering};
@@ -93,22 +93,10 @@ const WORDS: &[&str] = &["play", "--workers", "2"];
 
 const WORDS_WITH_CACHE: &[&str] = &["play", "--workers", "2", "--cache", "65536"];
 
-/// What a play writes and notes.
-#[derive(Drop)]
-struct Sinks {
-    out: Room,
-    notes: Room,
-}
-
-fn fresh_sinks(alloc: Global) -> Result<Sinks, Fail> {
-    let out = Room::new(alloc, 4096, 4096, Vec::new(alloc))?;
-    let notes = Room::new(alloc, 100, 100, Vec::new(alloc))?;
-    Ok(Sinks { out, notes })
-}
-
 /// The game with a plan.
-fn source_of(alloc: Global, plan: &[u8]) -> Result<Plain, AllocError> {
-    let mut text = GAME.to_vec(alloc)?;
+fn source_of(alloc: Global, plan: &[u8]) -> Result<Plain, Fail> {
+    let sheet = SOURCE.get(..SHEET).ok_or("the source is long enough")?;
+    let mut text = sheet.to_vec(alloc)?;
     text.extend_from_slice(plan)?;
     Ok(Plain::new(text))
 }
@@ -119,7 +107,7 @@ fn run_words<R: AllocGlobal + Threads + Wait + Sync>(
     plan: &[u8],
     sinks: &mut Sinks,
     gate: &Held,
-) -> Result<Status, AllocError> {
+) -> Result<Status, Fail> {
     let words = owned(rt.alloc(), words)?;
     let mut source = source_of(rt.alloc(), plan)?;
     let Sinks { out, notes } = sinks;
@@ -141,7 +129,7 @@ fn played<R: AllocGlobal + Abort + Threads + Wait + Sync>(
     plan: &[u8],
     gate: &Held,
 ) -> Result<Sinks, Fail> {
-    let mut sinks = fresh_sinks(rt.alloc())?;
+    let mut sinks = sinks_of(rt.alloc(), (WIDE, WIDE))?;
     let status = run_words(rt, words, plan, &mut sinks, gate)?;
     expect_same(rt, status, Status::Done);
     assert!(rt; gate.was_in_time());

@@ -1,4 +1,4 @@
-use Rattle.rc_house_tests.proofs.house.run_words.Given as goal
+use Rattle.rc_house_tests.proofs.ports.run_words.Given as goal
 
 abbrev pub ghosts-run_on : goal.ghosts-run_on
 ghosts-run_on a = record { name = a.blank.name; parts = a.blank.parts }
