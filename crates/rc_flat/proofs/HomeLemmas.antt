@@ -13,7 +13,7 @@ use Rattle.rc_value.specs.Current.{IsCurrent}
 use Rattle.rc_code.specs.Instruction.{Code, Instruction}
 use Rattle.rc_code.specs.Laws.{SitesArePlaced}
 use Rattle.rc_code.specs.Stands.{StandsFor}
-use Rattle.rc_flat.specs.Undo.{Kept, gone_home}
+use Rattle.rc_board.specs.Undo.{Kept, gone_home}
 use Rattle.rc_flat.specs.Flat.{Flat, config_of, flat_from, IsInPlay, IsOffered}
 use Rattle.rc_flat.specs.State.{IsReady, flat_of}
 use Rattle.rc_flat.specs.Moments.{IsInMatch}

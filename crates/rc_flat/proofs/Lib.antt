@@ -1,12 +1,9 @@
 pub mod EffectSteps
-pub mod UndoLemmas
-pub mod PastLemmas
 pub mod StepCases
 pub mod PlayLemmas
 pub mod ShallowLemmas
 pub mod PlaceLemmas
 pub mod ListLemmas
-pub mod KeepsLemmas
 pub mod ShuffleLemmas
 pub mod OfferedLemmas
 pub mod KeptLemmas

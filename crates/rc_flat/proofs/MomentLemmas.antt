@@ -8,7 +8,7 @@ use Rattle.rc_play_model.specs.Path.{Path}
 use Rattle.rc_rules.specs.Control.{control_seen}
 use Rattle.rc_code.specs.Instruction.{Instruction}
 use Rattle.rc_rules.specs.declared.control.Control.{Control as RawControl}
-use Rattle.rc_flat.specs.Undo.{Kept, tables}
+use Rattle.rc_board.specs.Undo.{Kept, tables}
 use Rattle.rc_flat.specs.Flat.{config_of}
 use Rattle.rc_flat.specs.State.{IsReady, flat_of, config_at}
 use Rattle.rc_flat.specs.Moments.{rewound, flat_marked, IsInMatch}

@@ -1,8 +1,3 @@
-pub mod Undo
-pub mod Entry
-pub mod Past
-pub mod PastSeen
-pub mod Board
 pub mod Places
 pub mod Shallow
 pub mod Flat

@@ -18,14 +18,14 @@ ghost use Rattle.rc_state.specs.Context.{scene_in, Stands};
 ghost use Rattle.rc_code.specs.Meaning.{effects_in, first_effects, passed_over};
 ghost use Rattle.rc_code.specs.Seen.{instruction_seen, list_seen};
 ghost use Rattle.rc_code.specs.Serves.{IsSimple, AreSimple};
-ghost use Rattle.rc_flat.specs.Undo.{Keeps};
+ghost use Rattle.rc_board.specs.Undo.{Keeps};
 ghost use Rattle.rc_rules.specs.Dealer.{HasShuffled};
 
-use crate::board::Board;
 use crate::everyone::{set_all, set_for_each};
 use crate::scopes::one_more;
 use crate::simple::do_simple;
 use rc_ast::{CollExpr, Domain, IntExpr, Test};
+use rc_board::Board;
 use rc_code::Instruction;
 use rc_deck::Memory;
 use rc_names::limits::MOST_TIMES;

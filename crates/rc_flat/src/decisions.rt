@@ -10,7 +10,7 @@ ghost use Rattle.rc_value.specs.Current.{IsCurrent};
 ghost use Rattle.rc_code.specs.Instruction.{offer};
 ghost use Rattle.rc_code.specs.Meaning.{block_in};
 ghost use Rattle.rc_code.specs.Seen.{block_seen, list_seen};
-ghost use Rattle.rc_flat.specs.Undo.{Keeps};
+ghost use Rattle.rc_board.specs.Undo.{Keeps};
 ghost use Rattle.rc_code.specs.Serves.{AreSimple, Serves};
 ghost use Rattle.rc_flat.specs.Flat.{IsInPlay, chosen_item};
 ghost use Rattle.rc_flat.specs.State.{IsReady, flat_of, config_at};

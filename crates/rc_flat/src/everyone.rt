@@ -10,11 +10,11 @@ ghost use Rattle.rc_table.specs.Laid.{relaid};
 ghost use Rattle.rc_code.specs.Meaning.{effects_in};
 ghost use Rattle.rc_code.specs.Seen.{list_seen};
 ghost use Rattle.rc_flat.specs.Everyone.{number_of, set_for, setting};
-ghost use Rattle.rc_flat.specs.Undo.{Keeps};
+ghost use Rattle.rc_board.specs.Undo.{Keeps};
 
-use crate::board::Board;
 use crate::numbers::change_at;
 use rc_ast::{Class, Effect, IntExpr, Who};
+use rc_board::Board;
 use rc_code::Instruction;
 use rc_deck::Memory;
 use rc_rules::About;

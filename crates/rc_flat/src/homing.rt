@@ -9,10 +9,10 @@ ghost use Rattle.rc_rules.specs.Machine.{CanDecide, StandsAtDecision, StandsWher
 ghost use Rattle.rc_code.specs.Seen.{code_seen};
 ghost use Rattle.rc_code.specs.Stands.{StandsFor};
 
-use crate::board::Board;
 use crate::machine::FlatMachine;
 use crate::site::{place_of, site_of};
 use crate::stand::Stand;
+use rc_board::Board;
 use rc_code::{Code, sites_are_placed};
 use rc_deck::Memory;
 use rc_rules::{About, Control, Dealer, Machine, Menu, Scores, Stop};

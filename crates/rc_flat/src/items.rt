@@ -16,16 +16,16 @@ ghost use Rattle.rc_state.specs.Point.{point_of};
 ghost use Rattle.rc_state.specs.Under.{IsAltUnder, IsDomainUnder};
 ghost use Rattle.rc_state.specs.Bindings.{AreAltsOutside};
 ghost use Rattle.rc_state.specs.Context.{scene_in, Stands};
-ghost use Rattle.rc_flat.specs.Undo.{Keeps};
+ghost use Rattle.rc_board.specs.Undo.{Keeps};
 ghost use Rattle.rc_code.specs.Meaning.{effects_in};
 ghost use Rattle.rc_code.specs.Seen.{list_seen};
 ghost use Rattle.rc_code.specs.Serves.{AreSimple};
 ghost use Rattle.rc_rules.specs.Dealer.{HasShuffled};
 
 use crate::blocks::do_block;
-use crate::board::Board;
 use crate::scopes::one_more;
 use rc_ast::{Alt, Domain};
+use rc_board::Board;
 use rc_code::Instruction;
 use rc_deck::Memory;
 use rc_rules::{About, Dealer, Frames, Item};

@@ -3,10 +3,8 @@
 #![tactic(auto)]
 
 mod blocks;
-mod board;
 mod calls;
 mod decisions;
-mod entry;
 mod everyone;
 mod homing;
 mod items;
@@ -15,7 +13,6 @@ mod making;
 mod moving;
 mod numbers;
 mod onward;
-mod past;
 mod place;
 mod references;
 mod scopes;

@@ -11,11 +11,11 @@ ghost use Rattle.rc_code.specs.Stands.{StandsFor};
 ghost use Rattle.rc_flat.specs.Flat.{flat_from, config_of};
 ghost use Rattle.rc_flat.specs.Moments.{IsInMatch};
 
-use crate::board::Board;
 use crate::machine::FlatMachine;
 use crate::place::Position;
 use crate::site::{place_of, site_of};
 use crate::state::State;
+use rc_board::Board;
 use rc_code::{Code, sites_are_placed, standing_code_serves};
 use rc_deck::Memory;
 use rc_flow::Checked;

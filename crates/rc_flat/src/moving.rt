@@ -12,10 +12,10 @@ ghost use Rattle.rc_value.specs.Cards.{value_seen, values_seen};
 ghost use Rattle.rc_state.specs.Context.{scene_in, Stands};
 ghost use Rattle.rc_state.specs.Under.{IsCollUnder, IsEffectUnder};
 ghost use Rattle.rc_state.specs.Leads.{LeadsTo};
-ghost use Rattle.rc_flat.specs.Undo.{Keeps};
+ghost use Rattle.rc_board.specs.Undo.{Keeps};
 
-use crate::board::Board;
 use rc_ast::{CardExpr, CollExpr, End, Loc};
+use rc_board::Board;
 use rc_deck::Memory;
 use rc_rules::Frames;
 use rc_state::{Context, FewCards, card_now, cards_now, few_cards_now, loc_now, sole_card_now};

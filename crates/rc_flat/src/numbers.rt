@@ -9,10 +9,10 @@ ghost use Rattle.rc_state.specs.Context.{Stands};
 ghost use Rattle.rc_state.specs.Under.{IsEffectUnder};
 ghost use Rattle.rc_state.specs.declared.change.Change.TheVariants.{Set};
 ghost use Rattle.rc_state.specs.Leads.{LeadsTo, effect_by, new_by};
-ghost use Rattle.rc_flat.specs.Undo.{Keeps};
+ghost use Rattle.rc_board.specs.Undo.{Keeps};
 
-use crate::board::Board;
 use rc_ast::{IntExpr, Num};
+use rc_board::Board;
 use rc_deck::Memory;
 use rc_rules::Frames;
 use rc_state::{Change, Context, changed, int_now, num_now};

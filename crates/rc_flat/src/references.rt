@@ -12,10 +12,10 @@ ghost use Rattle.rc_value.specs.Cards.{value_seen};
 ghost use Rattle.rc_state.specs.Context.{Stands};
 ghost use Rattle.rc_state.specs.Under.{IsEffectUnder};
 ghost use Rattle.rc_state.specs.Leads.{LeadsTo};
-ghost use Rattle.rc_flat.specs.Undo.{Keeps};
+ghost use Rattle.rc_board.specs.Undo.{Keeps};
 
-use crate::board::Board;
 use rc_ast::{CardExpr, End, Loc};
+use rc_board::Board;
 use rc_deck::Memory;
 use rc_rules::Frames;
 use rc_state::{Context, card_now, loc_now};

@@ -8,11 +8,11 @@ ghost use Rattle.rc_table.specs.Laid.{relaid};
 ghost use Rattle.rc_state.specs.Context.{Stands};
 ghost use Rattle.rc_state.specs.Under.{IsEffectUnder};
 ghost use Rattle.rc_state.specs.Point.{point_of};
-ghost use Rattle.rc_flat.specs.Undo.{Keeps};
+ghost use Rattle.rc_board.specs.Undo.{Keeps};
 ghost use Rattle.rc_rules.specs.Dealer.{HasShuffled};
 
-use crate::board::Board;
 use rc_ast::Loc;
+use rc_board::Board;
 use rc_deck::Memory;
 use rc_rules::{Dealer, Frames};
 use rc_state::{Context, loc_now, places};

@@ -6,15 +6,15 @@ ghost use Rattle.rc_code.specs.Serves.{HoldsNone};
 ghost use Rattle.rc_state.specs.Context.{Stands};
 ghost use Rattle.rc_state.specs.Point.{point_of};
 ghost use Rattle.rc_state.specs.Under.{IsEffectUnder};
-ghost use Rattle.rc_flat.specs.Undo.{Keeps};
+ghost use Rattle.rc_board.specs.Undo.{Keeps};
 ghost use Rattle.rc_rules.specs.Dealer.{HasShuffled};
 
-use crate::board::Board;
 use crate::moving::{move_all, move_one};
 use crate::numbers::{change_number, set_number};
 use crate::references::{forget, remember};
 use crate::shuffling::shuffle;
 use rc_ast::Effect;
+use rc_board::Board;
 use rc_deck::Memory;
 use rc_rules::{Dealer, Frames};
 use rc_state::{Change, Context, name_next, turn_round};

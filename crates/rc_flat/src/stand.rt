@@ -5,7 +5,7 @@ ghost use Rattle.rc_rules.specs.Control.{control_seen, frames_seen};
 ghost use Rattle.rc_rules.specs.Menu.{menu_seen};
 ghost use Rattle.rc_value.specs.Current.{IsCurrent};
 ghost use Rattle.rc_code.specs.Instruction.{Instruction as PureInstruction};
-ghost use Rattle.rc_flat.specs.Undo.{gone_home, home_at};
+ghost use Rattle.rc_board.specs.Undo.{gone_home, home_at};
 ghost use Rattle.rc_flat.specs.Flat.{flat_from};
 ghost use Rattle.rc_flat.specs.State.{flat_of};
 

@@ -8,9 +8,9 @@ ghost use Rattle.rc_ast.specs.Expressions.{test_seen};
 ghost use Rattle.rc_rules.specs.Control.{frames_seen, control_seen};
 ghost use Rattle.rc_value.specs.Current.{IsCurrent};
 
-use crate::board::Board;
 use crate::place::Position;
 use rc_ast::Test;
+use rc_board::Board;
 use rc_rules::{About, Control, Menu, Scores};
 use rc_state::{has_ended_by, scores_now};
 use rc_value::{Current, current_of};

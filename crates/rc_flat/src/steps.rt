@@ -11,7 +11,7 @@ ghost use Rattle.rc_rules.specs.Machine.{StandsWhereItStops};
 ghost use Rattle.rc_code.specs.Instruction.{Block as PureBlock, do_all, begin_stage, offer};
 ghost use Rattle.rc_code.specs.Meaning.{items_from};
 ghost use Rattle.rc_code.specs.Seen.{instruction_seen, list_seen};
-ghost use Rattle.rc_flat.specs.Undo.{Keeps};
+ghost use Rattle.rc_board.specs.Undo.{Keeps};
 ghost use Rattle.rc_code.specs.Serves.{Serves};
 ghost use Rattle.rc_flat.specs.State.{KeepsMenu, IsReady, config_at, next_seen, LeadsTo};
 ghost use Rattle.rc_rules.specs.Dealer.{HasShuffled};

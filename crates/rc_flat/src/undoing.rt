@@ -6,7 +6,7 @@ ghost use Rattle.rc_rules.specs.Control.{control_seen};
 ghost use Rattle.rc_code.specs.Instruction.{Instruction as PureInstruction};
 ghost use Rattle.rc_code.specs.Seen.{list_seen};
 ghost use Rattle.rc_code.specs.Serves.{Serves};
-ghost use Rattle.rc_flat.specs.Undo.{GoesBack, tables};
+ghost use Rattle.rc_board.specs.Undo.{GoesBack, tables};
 ghost use Rattle.rc_flat.specs.State.{IsReady, flat_of};
 ghost use Rattle.rc_flat.specs.Moments.{IsInMatch, flat_marked};
 

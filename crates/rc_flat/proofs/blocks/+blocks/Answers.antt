@@ -15,7 +15,7 @@ use Rattle.rc_state.specs.Point.{point_of}
 use Rattle.rc_state.specs.Under.{AreEffectsUnder}
 use Rattle.rc_flat.proofs.EffectSteps.{one_player, no_player, once_more}
 use Rattle.rc_flat.proofs.EveryoneLemmas.{set_each}
-use Rattle.rc_flat.proofs.KeepsLemmas.{keeps_then, on_ok}
+use Rattle.rc_board.proofs.KeepsLemmas.{keeps_then, on_ok}
 use Rattle.rc_flat.proofs.ShuffleLemmas.{shuffled_then}
 use Rattle.rc_flat.proofs.blocks.+blocks.Goals as goal
 

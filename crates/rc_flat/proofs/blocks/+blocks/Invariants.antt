@@ -12,7 +12,7 @@ use Rattle.rc_code.specs.Serves.{AreSimple}
 use Rattle.rc_state.specs.Point.{point_of}
 use Rattle.rc_state.specs.Under.{AreEffectsUnder}
 use Rattle.rc_state.specs.Context.{Stands}
-use Rattle.rc_flat.specs.Undo.{Keeps}
+use Rattle.rc_board.specs.Undo.{Keeps}
 use Rattle.rc_flat.proofs.blocks.+blocks.Given as goal
 
 -- what a block holds is shorter than the block

@@ -1,4 +1,4 @@
-use Rattle.rc_flat.proofs.KeepsLemmas.{on_ok}
+use Rattle.rc_board.proofs.KeepsLemmas.{on_ok}
 use Rattle.rc_flat.proofs.blocks.do_outside.Goals as goal
 
 pub returns-clause-current : goal.returns-clause-current

@@ -3,7 +3,7 @@ use Rattle.rc_sheet_model.specs.Sheet.{Sheet}
 use Rattle.rc_table.specs.Laid.{Laid, relaid}
 use Rattle.rc_flat.specs.Everyone.{set_for}
 use Rattle.rc_flat.proofs.EffectSteps.{one_player, no_player}
-use Rattle.rc_flat.proofs.KeepsLemmas.{keeps_then}
+use Rattle.rc_board.proofs.KeepsLemmas.{keeps_then}
 use Rattle.rc_flat.proofs.everyone.set_all.Goals as goal
 
 pub returns-in-Err-clause-keeps : goal.returns-in-Err-clause-keeps

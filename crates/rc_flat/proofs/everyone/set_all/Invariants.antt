@@ -3,7 +3,7 @@ use Rattle.std.specs.Prelude.{fold}
 use Rattle.rc_model.specs.Numbers.{below}
 use Rattle.rc_play_model.specs.Value.{player_bound}
 use Rattle.rc_flat.specs.Everyone.{set_for}
-use Rattle.rc_flat.specs.Undo.{Keeps}
+use Rattle.rc_board.specs.Undo.{Keeps}
 use Rattle.rc_flat.proofs.everyone.set_all.Given as goal
 
 -- what is left to set, from here, leads to what all lead to

@@ -5,7 +5,7 @@ use Rattle.rc_ast.specs.Expressions.{domain_seen}
 use Rattle.rc_ast.specs.Items.{alt_seen}
 use Rattle.rc_state.specs.Point.{point_of}
 use Rattle.rc_state.specs.Context.{scene_in}
-use Rattle.rc_flat.proofs.KeepsLemmas.{on_ok}
+use Rattle.rc_board.proofs.KeepsLemmas.{on_ok}
 use Rattle.rc_state.proofs.MemberLemmas.{bare_any}
 use Rattle.rc_flat.proofs.items.+alternatives.Goals as goal
 

@@ -1,7 +1,7 @@
 use Rattle.std.proofs.Common.{ap, arith}
 use Rattle.std.proofs.lemmas.Grind.{common_steps}
 use Rattle.rc_table.specs.Laid.{Laid}
-use Rattle.rc_flat.proofs.KeepsLemmas.{keeps_then}
+use Rattle.rc_board.proofs.KeepsLemmas.{keeps_then}
 use Rattle.rc_flat.proofs.moving.put_all.Goals as goal
 
 pub returns-in-Err-clause-keeps : goal.returns-in-Err-clause-keeps

@@ -5,7 +5,7 @@ use Rattle.std.proofs.lemmas.List.FromFn.{length-range_with_len}
 use Rattle.rc_model.specs.Numbers.{below}
 use Rattle.rc_play_model.specs.Table.{list_at, reorder}
 use Rattle.rc_table.specs.Laid.{Laid, relaid}
-use Rattle.rc_flat.specs.Undo.{Kept}
+use Rattle.rc_board.specs.Undo.{Kept}
 use Rattle.rc_state.proofs.Orders.{shuffled}
 use Rattle.rc_flat.proofs.ShuffleLemmas.{one_shuffle}
 use Rattle.rc_flat.proofs.shuffling.shuffle_at.Goals as goal

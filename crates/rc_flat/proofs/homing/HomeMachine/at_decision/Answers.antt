@@ -3,7 +3,7 @@ use Rattle.rc_play_model.specs.Decision.{at_site}
 use Rattle.rc_rules.specs.Control.{control_seen}
 use Rattle.rc_code.specs.Seen.{list_seen, code_seen}
 use Rattle.rc_code.specs.declared.code.Code.{Code}
-use Rattle.rc_flat.specs.Undo.{Kept}
+use Rattle.rc_board.specs.Undo.{Kept}
 use Rattle.rc_flat.specs.Flat.{config_of, flat_from}
 use Rattle.rc_flat.specs.Moments.{IsInMatch}
 use Rattle.rc_flat.specs.Home.{config_at_home, IsHome}

@@ -5,7 +5,7 @@ use Rattle.rc_rules.specs.Control.{stop_seen}
 use Rattle.rc_code.specs.Seen.{list_seen}
 use Rattle.rc_flat.specs.State.{config_at, next_seen}
 use Rattle.rc_flat.proofs.KeptLemmas.{stands_there}
-use Rattle.rc_flat.proofs.KeepsLemmas.{keeps_then}
+use Rattle.rc_board.proofs.KeepsLemmas.{keeps_then}
 use Rattle.rc_flat.proofs.ShuffleLemmas.{shuffled_then}
 use Rattle.rc_flat.proofs.state.State.advance.Goals as goal
 

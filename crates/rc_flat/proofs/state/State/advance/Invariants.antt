@@ -2,7 +2,7 @@ use Rattle.std.proofs.Common.{◌≡◌}
 use Rattle.rc_play_model.specs.Stop.{stop_of, effort}
 use Rattle.rc_rules.specs.Dealer.{HasShuffled}
 use Rattle.rc_code.specs.Seen.{list_seen}
-use Rattle.rc_flat.specs.Undo.{Keeps}
+use Rattle.rc_board.specs.Undo.{Keeps}
 use Rattle.rc_flat.specs.State.{IsReady, config_at}
 use Rattle.rc_flat.proofs.state.State.advance.Given as goal
 

@@ -1,5 +1,5 @@
 use Rattle.std.proofs.Common.{refl}
-use Rattle.rc_flat.specs.Undo.{tables}
+use Rattle.rc_board.specs.Undo.{tables}
 use Rattle.rc_flat.proofs.MomentLemmas.{marked_back}
 use Rattle.rc_flat.proofs.state.State.go_back.Goals as goal
 

@@ -2,7 +2,7 @@ use Rattle.std.proofs.Common.{◌<◌, sym, subst, map, arith}
 use Rattle.rc_ast.specs.Items.{alts_seen}
 use Rattle.rc_code.specs.Seen.{block_seen, list_seen}
 use Rattle.rc_flat.proofs.KeptLemmas.{so_many, item_kept, stands_here}
-use Rattle.rc_flat.proofs.KeepsLemmas.{on_ok}
+use Rattle.rc_board.proofs.KeepsLemmas.{on_ok}
 use Rattle.rc_flat.proofs.state.State.take.Goals as goal
 
 pub swap_remove-item-requires : goal.swap_remove-item-requires

@@ -1,0 +1,3 @@
+pub mod UndoLemmas
+pub mod PastLemmas
+pub mod KeepsLemmas

@@ -1,0 +1,73 @@
+-- What a board keeps, after edits and where it goes home.
+use Rattle.std.proofs.Common.{◌≡◌, ℕ, ℤ, false, true, true≢false, List, [], ◌∷◌, length, refl, sym, ap, subst}
+use Rattle.rc_play_model.specs.Table.{Table, IsSound}
+use Rattle.rc_table.specs.Laid.{Laid, relaid}
+use Rattle.rc_board.specs.Undo.{Edit, changed, undone, before_of, IsEditOf, CanUndo, Kept, edited, gone_home, GoesBack}
+use Rattle.rc_board.specs.Past.{Past, none_kept, edits_kept, home_kept, noted_in, edits_of, notes_of, home_of, home_table, TookLast, IsPast, kept_of}
+use Rattle.rc_board.proofs.UndoLemmas.{noted_can, so_many}
+
+-- EDITS
+
+abbrev pub AreNoted : Past → Laid → Kept → Type 0
+AreNoted past laid kept = IsPast laid past × (kept_of past laid ≡ kept)
+
+one_noted : (e : Edit) (past : Past) (old : Laid) (t : Table) → undone e t ≡ old.table → IsEditOf old.shape e → IsSound old.shape old.table → IsPast old past →
+    AreNoted (noted_in e past) (relaid old t) (edited (kept_of past old) t)
+one_noted e none_kept old t back is sound kept = (tt, refl)
+one_noted e (edits_kept edits) old t back is sound kept = (
+  noted_can old.shape edits (e ∷ edits) e old.table t refl back is sound kept,
+  ap (λ u. record { laid = relaid old t; before = u ∷ before_of edits u; notes = true; home = home_of (edits_kept edits) }) back,
+)
+one_noted e (home_kept base) old t back is sound kept = (kept, refl)
+
+-- what a board is after an edit
+pub noted_edit : (e : Edit) (past past' : Past) (old new : Laid) (t : Table) → past' ≡ noted_in e past → new ≡ relaid old t → undone e t ≡ old.table →
+    IsEditOf old.shape e → IsSound old.shape old.table → IsPast old past → AreNoted past' new (edited (kept_of past old) t)
+noted_edit e past past' old new t more laid back is sound kept =
+    subst (λ (p : Past). AreNoted p new (edited (kept_of past old) t)) (sym more)
+    (subst (λ (l : Laid). AreNoted (noted_in e past) l (edited (kept_of past old) t)) (sym laid) (one_noted e past old t back is sound kept))
+
+-- where edits aren't noted, nothing is noted of a number
+pub unnoted : (num : ℕ) (value : ℤ) (past : Past) → notes_of past ≡ false → past ≡ noted_in (changed num value) past
+unnoted num value none_kept off = refl
+unnoted num value (edits_kept edits) off = absurd (true≢false off)
+unnoted num value (home_kept base) off = refl
+
+-- THE LAST EDIT
+
+-- what there is to be taken back
+pub edits_long : (past : Past) (laid : Laid) → length (edits_of past) ≡ length (kept_of past laid).before
+edits_long past laid = sym (so_many (edits_of past) laid.table)
+
+-- where the last edit was taken out, it leads back
+pub record LeadsBack (e : Edit) (old : Laid) (past past' : Past) : Type 0 where
+  pub edit : IsEditOf old.shape e
+  pub sound : IsSound old.shape (undone e old.table)
+  pub kept : IsPast (relaid old (undone e old.table)) past'
+  pub goes : GoesBack (kept_of past old) (kept_of past' (relaid old (undone e old.table))) (old.table ∷ [])
+
+last_of : (e : Edit) (edits : List Edit) (old : Laid) → CanUndo old.shape (e ∷ edits) old.table → LeadsBack e old (edits_kept (e ∷ edits)) (edits_kept edits)
+last_of e edits old can =
+    record {
+      edit = can.0;
+      sound = can.1;
+      kept = can.2;
+      goes = record { shape = refl; notes = refl; behind = refl; home = refl };
+    }
+
+pub took_last : (e : Edit) (old : Laid) (past past' : Past) → TookLast e past past' → IsPast old past → LeadsBack e old past past'
+took_last e old past past' took kept =
+    subst (λ (p : Past). LeadsBack e old p past') (sym took.1)
+    (subst (λ (p : Past). LeadsBack e old (edits_kept (e ∷ took.0)) p) (sym took.2)
+    (last_of e took.0 old (subst (IsPast old) took.1 kept)))
+
+-- HOME
+
+home_again : (past : Past) (old : Laid) → IsPast old past → AreNoted past (relaid old (home_table past old.table)) (gone_home (kept_of past old))
+home_again none_kept old kept = (tt, refl)
+home_again (edits_kept edits) old kept = (kept, refl)
+home_again (home_kept base) old kept = (kept, refl)
+
+pub went_home : (past : Past) (old new : Laid) → new ≡ relaid old (home_table past old.table) → IsPast old past → AreNoted past new (gone_home (kept_of past old))
+went_home past old new laid kept =
+    subst (λ (l : Laid). AreNoted past l (gone_home (kept_of past old))) (sym laid) (home_again past old kept)

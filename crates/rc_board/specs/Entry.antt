@@ -1,0 +1,16 @@
+-- Entries of a log as edits.
+use Rattle.std.specs.Prelude.{List, map, reverse}
+use Rattle.rc_board.specs.Undo.{Edit, moved, changed, ordered, noted, forgotten}
+use Rattle.rc_board.specs.declared.entry.Entry.{Entry}
+use Rattle.rc_board.specs.declared.entry.Entry.TheVariants.{Moved, Changed, Ordered, Noted, Forgotten}
+
+abbrev pub entry_seen : Entry → Edit
+entry_seen (Moved from place to at) = moved from place to at
+entry_seen (Changed num value) = changed num value
+entry_seen (Ordered loc list) = ordered loc list.items
+entry_seen (Noted loc at) = noted loc at
+entry_seen (Forgotten id loc place) = forgotten id loc place
+
+-- the edits of a log, the last one first
+abbrev pub log_seen : List Entry → List Edit
+log_seen entries = reverse (map entry_seen entries)

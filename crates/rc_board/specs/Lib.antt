@@ -1,0 +1,5 @@
+pub mod Undo
+pub mod Entry
+pub mod Past
+pub mod PastSeen
+pub mod Board

@@ -1,0 +1,328 @@
+//! A table whose edits can be taken back, or which goes home.
+ghost use Rattle.std.specs.Prelude.{◌≡◌, ◌<◌, ◌≤◌, true, false, List, [], ◌∷◌, length, slice_index, None, IsSome, IfOk, OnOk};
+ghost use Rattle.std.specs.List.Sorted.{IsPermutation};
+ghost use Rattle.rc_model.specs.Numbers.{below};
+ghost use Rattle.rc_model.specs.Clamp.{IsWithinClamp};
+ghost use Rattle.rc_play_model.specs.Bound.{HoldsCards, HoldsReferences};
+ghost use Rattle.rc_play_model.specs.Table.{Table as PureTable, list_at, place_of, without, put_top, put_bottom, remember_top, remember_bottom, forget_in, set_number, reorder};
+ghost use Rattle.rc_table.specs.Laid.{relaid};
+ghost use Rattle.rc_table.specs.Restored.{taken_at};
+ghost use Rattle.rc_board.specs.Entry.{entry_seen};
+ghost use Rattle.rc_board.specs.Undo.{changed, edited, gone_home, home_at, Keeps, GoesBack};
+
+use crate::entry::{Entry, take_back};
+use crate::past::Past;
+use rc_deck::Memory;
+use rc_play_model::edits_keep_tables_sound;
+use rc_table::Table;
+use std::alloc::Global;
+use std::marker::Model;
+
+/// A table, with what is kept of those before it: nothing, what takes each edit back, or the table to which it goes home.
+#[derive(Drop)]
+pub struct Board {
+    alloc: Global,
+    table: Table,
+    past: Past,
+}
+
+impl Model for Board {
+    ghost use Rattle.rc_board.specs.Undo.{Kept};
+
+    ghost Value = { Kept };
+
+    ghost use Rattle.rc_board.specs.Board.{board_seen, IsBoard};
+
+    ghost view = { board_seen };
+
+    ghost invariant = { IsBoard };
+}
+
+impl Board {
+    /// A table with none before it, whose edits are noted.
+    pub fn new(alloc: Global, table: Table) -> Board
+        ensures { result ≡ record { laid = table; before = []; notes = true; home = None } }
+    {
+        Board {
+            alloc,
+            table,
+            past: Past::Edits(Vec::new(alloc)),
+        }
+    }
+
+    /// A table of which nothing before it is kept.
+    pub fn onward(alloc: Global, table: Table) -> Board
+        ensures { result ≡ record { laid = table; before = []; notes = false; home = None } }
+    {
+        Board {
+            alloc,
+            table,
+            past: Past::Nothing,
+        }
+    }
+
+    /// A table that is at home, to which it goes back.
+    pub fn at_home(alloc: Global, table: Table) -> Result<Board, Memory>
+        ensures { IfOk result (λ board. board ≡ home_at table) }
+    {
+        let past = Past::at_home(alloc, &table)?;
+        Ok(Board { alloc, table, past })
+    }
+
+    /// The table as it is now.
+    pub fn table(&self) -> &Table
+        ensures { result.now ≡ self.now.laid }
+    {
+        &self.table
+    }
+
+    /// How many edits can be taken back.
+    pub fn edits(&self) -> usize
+        ensures { result ≡ length self.now.before }
+    {
+        self.past.edits()
+    }
+
+    /// Takes a card out of its place and puts it on top of a location of cards.
+    #[tactic(auto, using(crate::proofs::KeepsLemmas::keeps_all))]
+    #[inline(always)]
+    pub fn put_top(&mut self, id: u16, loc: u16) -> Result<(), Memory>
+        requires card { id < length self.old.laid.shape.faces }
+        requires loc { HoldsCards self.old.laid.shape loc }
+        ensures leads { OnOk result (self.new ≡ edited self.old (put_top self.old.laid.shape id loc self.old.laid.table)) }
+        ensures keeps { Keeps self.old self.new }
+    {
+        let _sound = self.table.shape();
+        let (from, place) = self.table.place_of(id);
+        let at = top_without(&self.table, from, place, loc);
+        let entry = Entry::Moved {
+            from,
+            place,
+            to: loc,
+            at,
+        };
+        match self.past.note(entry) {
+            Ok(()) => {}
+            Err(Memory) => return Err(Memory),
+        }
+        self.table.put_top_from(id, from, place, loc);
+        Ok(())
+    }
+
+    /// Takes a card out of its place and puts it at the bottom of a location of cards.
+    #[tactic(auto, using(crate::proofs::KeepsLemmas::keeps_all))]
+    pub fn put_bottom(&mut self, id: u16, loc: u16) -> Result<(), Memory>
+        requires card { id < length self.old.laid.shape.faces }
+        requires loc { HoldsCards self.old.laid.shape loc }
+        ensures leads { OnOk result (self.new ≡ edited self.old (put_bottom self.old.laid.shape id loc self.old.laid.table)) }
+        ensures keeps { Keeps self.old self.new }
+    {
+        let _sound = self.table.shape();
+        let (from, place) = self.table.place_of(id);
+        let entry = Entry::Moved {
+            from,
+            place,
+            to: loc,
+            at: 0,
+        };
+        match self.past.note(entry) {
+            Ok(()) => {}
+            Err(Memory) => return Err(Memory),
+        }
+        self.table.put_bottom(id, loc);
+        Ok(())
+    }
+
+    /// Puts a reference on top of a location of references, where there is room.
+    #[tactic(auto, using(crate::proofs::KeepsLemmas::keeps_all))]
+    pub fn remember_top(&mut self, id: u16, loc: u16) -> Result<(), Memory>
+        requires card { id < length self.old.laid.shape.faces }
+        requires loc { HoldsReferences self.old.laid.shape loc }
+        ensures leads { OnOk result (self.new.laid ≡ relaid self.old.laid (remember_top self.old.laid.shape id loc self.old.laid.table)) }
+        ensures keeps { Keeps self.old self.new }
+    {
+        let _sound = self.table.shape();
+        if !self.table.has_room(loc) {
+            return Ok(());
+        }
+        let at = count_of(&self.table, loc);
+        match self.past.note(Entry::Noted { loc, at }) {
+            Ok(()) => {}
+            Err(Memory) => return Err(Memory),
+        }
+        self.table.note_top(id, loc);
+        Ok(())
+    }
+
+    /// Puts a reference at the bottom of a location of references, where there is room.
+    #[tactic(auto, using(crate::proofs::KeepsLemmas::keeps_all))]
+    pub fn remember_bottom(&mut self, id: u16, loc: u16) -> Result<(), Memory>
+        requires card { id < length self.old.laid.shape.faces }
+        requires loc { HoldsReferences self.old.laid.shape loc }
+        ensures leads { OnOk result (self.new.laid ≡ relaid self.old.laid (remember_bottom self.old.laid.shape id loc self.old.laid.table)) }
+        ensures keeps { Keeps self.old self.new }
+    {
+        let _sound = self.table.shape();
+        if !self.table.has_room(loc) {
+            return Ok(());
+        }
+        match self.past.note(Entry::Noted { loc, at: 0 }) {
+            Ok(()) => {}
+            Err(Memory) => return Err(Memory),
+        }
+        self.table.note_bottom(id, loc);
+        Ok(())
+    }
+
+    /// Takes the topmost reference with the card's face out of a location of references, if there is one.
+    #[tactic(auto, using(crate::proofs::KeepsLemmas::keeps_all))]
+    pub fn forget(&mut self, id: u16, loc: u16) -> Result<(), Memory>
+        requires card { id < length self.old.laid.shape.faces }
+        requires loc { HoldsReferences self.old.laid.shape loc }
+        ensures leads { OnOk result (self.new.laid ≡ relaid self.old.laid (forget_in self.old.laid.shape id loc self.old.laid.table)) }
+        ensures keeps { Keeps self.old self.new }
+    {
+        edits_keep_tables_sound();
+        let _sound = self.table.shape();
+        let Some(place) = self.table.topmost_like(id, loc) else {
+            return Ok(());
+        };
+        let old = id_at(&self.table, loc, place);
+        let entry = Entry::Forgotten {
+            id: old,
+            loc,
+            place,
+        };
+        match self.past.note(entry) {
+            Ok(()) => {}
+            Err(Memory) => return Err(Memory),
+        }
+        self.table.take_reference(loc, place);
+        Ok(())
+    }
+
+    /// Sets a number. Nothing changes where there is no such number.
+    #[inline(always)]
+    pub fn set_number(&mut self, num: u16, value: i64) -> Result<(), Memory>
+        requires clamped { IsWithinClamp value }
+        ensures leads { OnOk result (self.new ≡ edited self.old (set_number num value self.old.laid.table)) }
+        ensures keeps { Keeps self.old self.new }
+    {
+        // what is known of a sound table and of a number
+        let _sound = self.table.shape();
+        let _old = self.table.number(num);
+        if self.past.notes() {
+            return self.note_and_set(num, value);
+        }
+        self.table.set_number(num, value);
+        Ok(())
+    }
+
+    // The same with an entry of what the number was.
+    #[tactic(auto, using(crate::proofs::KeepsLemmas::keeps_all))]
+    #[inline(never)]
+    fn note_and_set(&mut self, num: u16, value: i64) -> Result<(), Memory>
+        requires clamped { IsWithinClamp value }
+        ensures leads { OnOk result (self.new ≡ edited self.old (set_number num value self.old.laid.table)) }
+        ensures keeps { Keeps self.old self.new }
+    {
+        let _sound = self.table.shape();
+        let entry = changed_entry(num, self.table.number(num));
+        match self.past.note(entry) {
+            Ok(()) => {}
+            Err(Memory) => return Err(Memory),
+        }
+        self.table.set_number(num, value);
+        Ok(())
+    }
+
+    /// Puts the list of a location into another order.
+    #[tactic(auto, using(crate::proofs::KeepsLemmas::keeps_all))]
+    pub fn reorder(&mut self, loc: u16, order: &[u16]) -> Result<(), Memory>
+        requires loc { loc < length self.old.laid.shape.places }
+        requires order { IsPermutation (below (length (list_at self.old.laid.table loc))) order.now }
+        ensures leads { OnOk result (self.new ≡ edited self.old (reorder loc order.now self.old.laid.table)) }
+        ensures keeps { Keeps self.old self.new }
+    {
+        let _sound = self.table.shape();
+        match self.past.note_order(self.alloc, loc, self.table.list(loc)) {
+            Ok(()) => {}
+            Err(Memory) => return Err(Memory),
+        }
+        self.table.reorder(loc, order);
+        Ok(())
+    }
+
+    // Takes the last edit back.
+    fn undo(&mut self)
+        requires notes { self.old.notes ≡ true }
+        requires some { 0 < length self.old.before }
+        ensures { GoesBack self.old self.new (self.old.laid.table ∷ []) }
+    {
+        match self.past.take_last() {
+            Some(entry) => take_back(&mut self.table, &entry),
+            None => {}
+        }
+    }
+
+    /// Takes edits back until so many are left.
+    pub fn go_back(&mut self, edits: usize)
+        requires notes { self.old.notes ≡ true }
+        requires fits { edits ≤ length self.old.before }
+        ensures back { (undone : List PureTable) × GoesBack self.old self.new undone }
+        ensures count { length self.new.before ≡ edits }
+    {
+        while self.edits() > edits {
+            self.undo();
+        }
+    }
+
+    /// Goes home, where there is one. It takes no memory.
+    pub fn go_home(&mut self)
+        ensures { self.new ≡ gone_home self.old }
+    {
+        self.past.go_home(&mut self.table);
+    }
+
+    /// Goes to another home, a table of the same shape. It takes no memory.
+    pub fn move_home(&mut self, table: &Table)
+        requires shape { self.old.laid.shape ≡ table.now.shape }
+        requires home { IsSome self.old.home }
+        ensures { self.new ≡ home_at table.now }
+    {
+        self.past.move_home(table);
+        self.table.copy_from(table);
+    }
+}
+
+// How many are in a location.
+fn count_of(table: &Table, loc: u16) -> u16
+    ensures { result ≡ length (list_at table.now.table loc) }
+{
+    table.list(loc).len() as u16
+}
+
+// Which one is at a place of a location.
+fn id_at(table: &Table, loc: u16, place: u16) -> u16
+    requires { place < length (list_at table.now.table loc) }
+    ensures { result ≡ slice_index (list_at table.now.table loc) place }
+{
+    table.list(loc)[place as usize]
+}
+
+// How many are in a location without what is at this place of that one.
+#[tactic(auto, using(crate::proofs::UndoLemmas::one_shorter, crate::proofs::UndoLemmas::as_long, crate::proofs::UndoLemmas::some_there))]
+fn top_without(table: &Table, from: u16, place: u16, loc: u16) -> u16
+    requires there { place < length (list_at table.now.table from) }
+    ensures { result ≡ length (list_at (taken_at from place table.now.table) loc) }
+{
+    let count = table.list(loc).len() as u16;
+    if from == loc { count - 1 } else { count }
+}
+
+// An entry of a number's value.
+fn changed_entry(num: u16, value: i64) -> Entry
+    ensures { entry_seen result ≡ changed num value }
+{
+    Entry::Changed { num, value }
+}
