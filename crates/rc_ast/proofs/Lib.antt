@@ -1,12 +1,1 @@
 pub mod ViewLemmas
-pub mod FormLemmas
-pub mod MapLemmas
-pub mod PrintedNumbers
-pub mod Copied
-pub mod CopiedNames
-pub mod CopiedExpressions
-pub mod CopiedItems
-pub mod CopiedSetup
-pub mod CopiedSheet
-pub mod Added
-pub mod Rows

@@ -10,16 +10,12 @@ mod expressions;
 mod items;
 mod laws;
 mod names;
-mod printing;
 mod sheet;
-mod unplaced_examples;
 
 pub use effects::{Effect, End};
 pub use expressions::{CardExpr, CollExpr, Domain, IntExpr, Loc, Num, Test, Who};
 pub use items::{Alt, SheetItem};
 pub use laws::cards_are_faces;
 pub use names::{LocName, Names, NumName};
-pub use printing::{print_sheet, printed_form_stands};
 pub use rc_names::{Class, LocKind, Sort, Word};
 pub use sheet::{Best, DeckLine, Sheet, Teams};
-pub use unplaced_examples::{bare_forms, offsets_taken_away};

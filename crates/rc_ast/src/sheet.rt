@@ -39,7 +39,7 @@ pub struct Sheet {
     pub score: IntExpr,
 }
 
-/// Only the number of players stands there: a whole sheet is printed by `print_sheet`.
+/// Only the number of players stands there: a whole sheet is printed by `rc_print`.
 impl fmt::Debug for Sheet {
     fn fmt<W: fmt::Write>(&self, f: &mut fmt::Formatter<W>) -> fmt::Result {
         f.debug_struct("Sheet")

@@ -4,8 +4,9 @@ ghost use Rattle.rc_model.specs.Transcript.{line};
 ghost use Rattle.rc_sheet_model.specs.Printing.{printed_sheet};
 ghost use Rattle.rc_ast.specs.Sheet.{sheet_seen};
 
-use rc_ast::{Sheet, print_sheet};
+use rc_ast::Sheet;
 use rc_deck::Memory;
+use rc_print::print_sheet;
 use std::alloc::Global;
 
 /// A sheet as it is printed on a line. Memory may run out.

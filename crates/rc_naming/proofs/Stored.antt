@@ -1,5 +1,5 @@
 -- What is stored, and what is seen of it.
-use Rattle.std.proofs.Common.{◌≡◌, ℕ, false, List, bytes_eq, Option, Some, None, is_some, Result, Ok, Err, IfOk, refl, ◌∙◌}
+use Rattle.std.proofs.Common.{◌≡◌, ℕ, false, List, bytes_eq, Option, Some, None, is_some, Result, Ok, Err, OnOk, IfOk, refl, ◌∙◌}
 use Rattle.std.specs.List.{list_any}
 use Rattle.std.specs.Map.{keys_of}
 use Rattle.std.specs.HashMap.{HashMap, get_by}
@@ -12,6 +12,10 @@ pub if_ok : {T E : Type 0} {P Q : T → Type 0} (result : Result T E) → IfOk r
     → ((value : T) → P value → Q value) → IfOk result Q
 if_ok (Ok value) holds follows = follows value holds
 if_ok (Err error) holds follows = tt
+
+pub on_ok : {T E P Q : Type 0} (result : Result T E) → OnOk result P → (P → Q) → OnOk result Q
+on_ok (Ok value) holds follows = follows holds
+on_ok (Err error) holds follows = tt
 
 pub none_from : {T : Type 0} (found : Option T) → is_some found ≡ false → found ≡ None
 none_from None is = refl

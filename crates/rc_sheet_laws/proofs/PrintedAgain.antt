@@ -13,8 +13,8 @@ use Rattle.rc_sheet_model.specs.Stands.{Stands}
 use Rattle.rc_sheet_model.specs.Sight.{IsInSight}
 use Rattle.rc_sheet_model.specs.Printing.{sheet_form, printed_sheet}
 use Rattle.rc_sheet_model.specs.WellFormed.{IsWellFormed}
-use Rattle.rc_ast.specs.Unplaced.{unplaced, IsBare, AreBare}
-use Rattle.rc_ast.proofs.CopiedSheet.{sheet_copied}
+use Rattle.rc_print.specs.Unplaced.{unplaced, IsBare, AreBare}
+use Rattle.rc_print.proofs.CopiedSheet.{sheet_copied}
 use Rattle.rc_sheet_laws.specs.PrintedAgain.{IsReadBack}
 use Rattle.rc_sheet_laws.proofs.One.Sheet.{one_well_formed}
 use Rattle.rc_sheet_laws.proofs.Sound.Sheet.{no_fault}

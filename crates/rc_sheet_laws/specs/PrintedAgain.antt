@@ -7,7 +7,7 @@ use Rattle.rc_sheet_model.specs.Stands.{Stands}
 use Rattle.rc_sheet_model.specs.WellFormed.{IsWellFormed}
 use Rattle.rc_sheet_model.specs.Sight.{IsInSight}
 use Rattle.rc_sheet_model.specs.Printing.{sheet_form, printed_sheet}
-use Rattle.rc_ast.specs.Unplaced.{unplaced}
+use Rattle.rc_print.specs.Unplaced.{unplaced}
 use Rattle.rc_faults.specs.SecondFaults.{sheet_fault}
 
 -- One form is read. Its words and lists are those of the form that is printed, it is printed as the same text, and it has no

@@ -7,7 +7,7 @@ use Rattle.rc_sheet_model.specs.Naming.{Naming, Scope, bind, sort_of}
 use Rattle.rc_sheet_model.specs.StandsExpressions.{StandsRange, StandsDomain}
 use Rattle.rc_sheet_model.specs.StandsEffects.{StandsSpot, StandsEffect, StandEffects}
 use Rattle.rc_sheet_model.specs.StandsItems.{StandsAlt, StandAlts, StandsClass, StandsItem, StandItems}
-use Rattle.rc_ast.specs.Unplaced.{loc_unplaced, domain_unplaced, effect_unplaced, effects_unplaced, alt_unplaced, item_unplaced, items_unplaced}
+use Rattle.rc_print.specs.Unplaced.{loc_unplaced, domain_unplaced, effect_unplaced, effects_unplaced, alt_unplaced, item_unplaced, items_unplaced}
 use Rattle.rc_sheet_laws.proofs.Moved.Common.{Keeps, Moves, AllMove, word_keeps, row_keeps, part_keeps, end_keeps, still, made, all_made, kept, row_moves, behind_kept, before_kept, least_moves, one_moves, part_moves, two_move}
 use Rattle.rc_sheet_laws.proofs.Moved.Expressions.{owner_keeps, loc_moves, num_keeps, ranged_moves, card_moves, coll_moves, int_moves, test_moves, range_moves, domain_moves}
 

@@ -9,7 +9,7 @@ use Rattle.rc_sheet_model.specs.StandsSetup.{StandsSetup}
 use Rattle.rc_sheet_model.specs.StandsExpressions.{StandsInt}
 use Rattle.rc_sheet_model.specs.StandsItems.{StandItems}
 use Rattle.rc_sheet_model.specs.Stands.{StandsBest, StandsScoring, Stands}
-use Rattle.rc_ast.specs.Unplaced.{items_unplaced, int_unplaced, unplaced}
+use Rattle.rc_print.specs.Unplaced.{items_unplaced, int_unplaced, unplaced}
 use Rattle.rc_sheet_laws.proofs.Moved.Common.{Keeps, Moves, word_keeps, row_keeps, part_keeps, end_keeps, least_keeps, row_moves, behind_kept, before_kept, least_moves}
 use Rattle.rc_sheet_laws.proofs.Moved.Expressions.{int_moves}
 use Rattle.rc_sheet_laws.proofs.Moved.Items.{items_move}

@@ -10,7 +10,7 @@ use Rattle.rc_model.specs.Words.{different}
 use Rattle.rc_model.specs.Numbers.{below}
 use Rattle.rc_sheet_model.specs.Numbering.{mentioned, IsNumbered}
 use Rattle.rc_sheet_model.specs.WellFormed.{outside, scored, team_count, owner_count, IsInt, AreItems, HasWords, IsWithinLimits, IsShallow, IsWellFormed}
-use Rattle.rc_ast.specs.Unplaced.{int_unplaced, items_unplaced}
+use Rattle.rc_print.specs.Unplaced.{int_unplaced, items_unplaced}
 use Rattle.rc_sheet_laws.proofs.Moved.Sheet.{with_body}
 use Rattle.rc_sheet_laws.proofs.Unplaced.Mentions.{int_mentions, items_mentions, items_stages, items_sites, items_count}
 use Rattle.rc_sheet_laws.proofs.Unplaced.Parts.{int_is, items_are}

@@ -1,0 +1,11 @@
+mod FormLemmas
+mod MapLemmas
+mod PrintedNumbers
+mod Copied
+mod CopiedNames
+mod CopiedExpressions
+mod CopiedItems
+mod CopiedSetup
+pub mod CopiedSheet
+mod Added
+mod Rows

@@ -1,0 +1,51 @@
+-- A row that is printed in several steps: a space, a head behind a parenthesis that opens, parts, and a parenthesis that closes.
+use Rattle.std.proofs.Common.{◌≡◌, ℕ, List, [], ◌∷◌, ◌++◌, Result, OnOk, sym, ap, ◌∙◌, append_assoc, append-nil}
+use Rattle.rc_model.specs.Tree.{Tree, printed, printed_behind}
+use Rattle.rc_sheet_model.specs.Printing.{packed, atom, row}
+use Rattle.rc_print.proofs.Added.{on_ok}
+use Rattle.rc_print.proofs.FormLemmas.{printed_behind-append}
+
+-- the head and these parts are printed
+pub record Begins (old new head : List ℕ) (parts : List Tree) : Type 0 where
+  pub is : new ≡ old ++ 32 ∷ 40 ∷ (head ++ printed_behind (packed parts))
+
+pub opened : {old new head : List ℕ} → new ≡ old ++ 32 ∷ 40 ∷ head → Begins old new head []
+opened {old = old} {head = head} is = record { is = is ∙ ap (λ bytes. old ++ 32 ∷ 40 ∷ bytes) (sym (append-nil head)) }
+
+pub with_parts : {old new newer head : List ℕ} {parts : List Tree} (others : List Tree) → Begins old new head parts
+    → newer ≡ new ++ printed_behind (packed others) → Begins old newer head (parts ++ others)
+with_parts {old = old} {head = head} {parts = parts} others begins is =
+    let bytes : List ℕ = printed_behind (packed parts) in
+    let more : List ℕ = printed_behind (packed others) in
+    let joined : (head ++ bytes) ++ more ≡ head ++ printed_behind (packed (parts ++ others)) =
+    append_assoc head bytes more ∙ ap (λ all. head ++ all) (sym (printed_behind-append parts others)) in
+    record {
+      is =
+          is ∙ ap (λ text. text ++ more) begins.is ∙ append_assoc old (32 ∷ 40 ∷ (head ++ bytes)) more
+          ∙ ap (λ all. old ++ 32 ∷ 40 ∷ all) joined;
+    }
+
+pub with_part : {old new newer head : List ℕ} {parts : List Tree} (part : Tree) → Begins old new head parts
+    → newer ≡ new ++ 32 ∷ printed part → Begins old newer head (parts ++ part ∷ [])
+with_part {new = new} part begins is =
+    with_parts (part ∷ []) begins (is ∙ ap (λ bytes. new ++ 32 ∷ bytes) (sym (append-nil (printed part))))
+
+-- and then the end
+pub ended : {old new newer head : List ℕ} {parts : List Tree} → Begins old new head parts → newer ≡ new ++ 41 ∷ []
+    → newer ≡ old ++ 32 ∷ printed (row (atom head ∷ parts))
+ended {old = old} {head = head} {parts = parts} begins is =
+    is ∙ ap (λ text. text ++ 41 ∷ []) begins.is
+    ∙ append_assoc old (32 ∷ 40 ∷ (head ++ printed_behind (packed parts))) (41 ∷ [])
+
+-- where nothing fails
+pub closed : {A E : Type 0} {old new head : List ℕ} {parts : List Tree} (newer : List ℕ) (result : Result A E) (form : Tree)
+    → Begins old new head parts → OnOk result (newer ≡ new ++ 41 ∷ []) → form ≡ row (atom head ∷ parts)
+    → OnOk result (newer ≡ old ++ 32 ∷ printed form)
+closed {old = old} newer result form begins ends same =
+    on_ok result ends (λ is. ended begins is ∙ ap (λ tree. old ++ 32 ∷ printed tree) (sym same))
+
+-- what is printed, as the form of something else
+pub printed_as : {A E : Type 0} (old newer : List ℕ) (result : Result A E) (form other : Tree)
+    → OnOk result (newer ≡ old ++ 32 ∷ printed form) → other ≡ form → OnOk result (newer ≡ old ++ 32 ∷ printed other)
+printed_as old newer result form other ends same =
+    on_ok result ends (λ is. is ∙ ap (λ tree. old ++ 32 ∷ printed tree) (sym same))

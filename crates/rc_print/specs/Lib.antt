@@ -1,0 +1,3 @@
+pub mod Printing
+pub mod Unplaced
+pub mod Respelled

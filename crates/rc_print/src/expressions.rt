@@ -1,0 +1,416 @@
+//! Prints expressions and tests, each with a space before it.
+ghost use Rattle.std.specs.Prelude.{◌≡◌, ◌∷◌, ◌++◌, [], OnOk};
+ghost use Rattle.rc_model.specs.Tree.{printed, printed_behind};
+ghost use Rattle.rc_sheet_model.specs.Printing.{packed, atom, keyword, row, named, binding, who_form, attr_form, card_form, coll_form, coll_forms, int_form, test_form, test_forms, sides, domain_form};
+ghost use Rattle.rc_ast.specs.Names.{who_seen};
+ghost use Rattle.rc_ast.specs.Expressions.{card_seen, coll_seen, colls_seen, int_seen, test_seen, tests_seen, domain_seen};
+ghost use Rattle.rc_print.specs.Printing.{naming_seen, bound_seen};
+
+use crate::printer::Printer;
+use crate::words::{
+    Variable, behind, push_binder, push_loc, push_num, push_variable, push_who, push_word,
+};
+use rc_ast::{CardExpr, CollExpr, Domain, IntExpr, Sheet, Test, Who};
+use std::alloc::AllocError;
+
+/// Adds the word of a point map behind its keyword.
+fn push_map(out: &mut Printer, sheet: &Sheet, map: u16) -> Result<(), AllocError>
+    ensures { OnOk result (out.new.bytes.items ≡ out.old.bytes.items
+        ++ printed_behind (packed (keyword "using" ∷ named (naming_seen sheet.now).names.maps map ∷ []))) }
+{
+    out.keyword(" using")?;
+    push_word(out, &sheet.names.maps, usize::from(map))
+}
+
+/// Adds the word of an attribute.
+fn push_attr(out: &mut Printer, sheet: &Sheet, attr: u16) -> Result<(), AllocError>
+    ensures { OnOk result (out.new.bytes.items ≡ out.old.bytes.items
+        ++ 32 ∷ printed (named (naming_seen sheet.now).names.attrs attr)) }
+{
+    push_word(out, &sheet.names.attrs, usize::from(attr))
+}
+
+/// Adds the word of a value.
+fn push_value(out: &mut Printer, sheet: &Sheet, value: u16) -> Result<(), AllocError>
+    ensures { OnOk result (out.new.bytes.items ≡ out.old.bytes.items
+        ++ 32 ∷ printed (named (naming_seen sheet.now).names.values value)) }
+{
+    push_word(out, &sheet.names.values, usize::from(value))
+}
+
+/// Adds a test of two owners.
+fn push_owners(
+    out: &mut Printer,
+    sheet: &Sheet,
+    bound: &[Variable],
+    head: &str,
+    first: Who,
+    second: Who,
+) -> Result<(), AllocError>
+    ensures { OnOk result (out.new.bytes.items ≡ out.old.bytes.items
+        ++ 32 ∷ printed (row (atom head.now ∷ who_form (bound_seen sheet.now bound.now) (who_seen first)
+        ∷ who_form (bound_seen sheet.now bound.now) (who_seen second) ∷ []))) }
+{
+    out.open_part(head)?;
+    out.space()?;
+    push_who(out, sheet, bound, first)?;
+    out.space()?;
+    push_who(out, sheet, bound, second)?;
+    out.close()
+}
+
+#[cycle(expressions)]
+pub fn push_card(
+    out: &mut Printer,
+    sheet: &Sheet,
+    bound: &[Variable],
+    card: &CardExpr,
+) -> Result<(), AllocError>
+    ensures { OnOk result (out.new.bytes.items ≡ out.old.bytes.items
+        ++ 32 ∷ printed (card_form (naming_seen sheet.now) (bound_seen sheet.now bound.now) (card_seen card.now))) }
+{
+    match card {
+        CardExpr::Var(var) => {
+            out.space()?;
+            push_variable(out, sheet, bound, *var)
+        }
+        CardExpr::Top(cards) => {
+            out.open_part("top")?;
+            push_coll(out, sheet, bound, cards)?;
+            out.close()
+        }
+        CardExpr::Bottom(cards) => {
+            out.open_part("bottom")?;
+            push_coll(out, sheet, bound, cards)?;
+            out.close()
+        }
+        CardExpr::Max(cards, map) => push_by_map(out, sheet, bound, "max", cards, *map),
+        CardExpr::Min(cards, map) => push_by_map(out, sheet, bound, "min", cards, *map),
+    }
+}
+
+/// Adds what is told of cards by the points of a map.
+#[cycle(expressions)]
+fn push_by_map(
+    out: &mut Printer,
+    sheet: &Sheet,
+    bound: &[Variable],
+    head: &str,
+    cards: &CollExpr,
+    map: u16,
+) -> Result<(), AllocError>
+    ensures { OnOk result (out.new.bytes.items ≡ out.old.bytes.items
+        ++ 32 ∷ printed (row (atom head.now ∷ coll_form (naming_seen sheet.now) (bound_seen sheet.now bound.now) (coll_seen cards.now)
+        ∷ keyword "using" ∷ named (naming_seen sheet.now).names.maps map ∷ []))) }
+{
+    out.open_part(head)?;
+    push_coll(out, sheet, bound, cards)?;
+    push_map(out, sheet, map)?;
+    out.close()
+}
+
+#[cycle(expressions)]
+pub fn push_coll(
+    out: &mut Printer,
+    sheet: &Sheet,
+    bound: &[Variable],
+    cards: &CollExpr,
+) -> Result<(), AllocError>
+    ensures { OnOk result (out.new.bytes.items ≡ out.old.bytes.items
+        ++ 32 ∷ printed (coll_form (naming_seen sheet.now) (bound_seen sheet.now bound.now) (coll_seen cards.now))) }
+{
+    match cards {
+        CollExpr::Var(var) => {
+            out.space()?;
+            push_variable(out, sheet, bound, *var)
+        }
+        CollExpr::Loc(loc) => push_loc(out, sheet, bound, loc),
+        CollExpr::Filter(inner, var, test) => {
+            out.open_part("filter")?;
+            push_coll(out, sheet, bound, inner)?;
+            push_binder(out, sheet, *var)?;
+            close_within(out, sheet, bound, *var, test)
+        }
+        CollExpr::Union(parts) => push_union(out, sheet, bound, parts),
+    }
+}
+
+#[cycle(expressions)]
+fn push_union(
+    out: &mut Printer,
+    sheet: &Sheet,
+    bound: &[Variable],
+    parts: &Vec<CollExpr>,
+) -> Result<(), AllocError>
+    ensures { OnOk result (out.new.bytes.items ≡ out.old.bytes.items
+        ++ 32 ∷ printed (row (keyword "union" ∷ coll_forms (naming_seen sheet.now) (bound_seen sheet.now bound.now) (colls_seen parts.now.items)))) }
+{
+    out.open_part("union")?;
+    for cards in parts {
+        push_coll(out, sheet, bound, cards)?;
+    }
+    out.close()
+}
+
+#[cycle(expressions)]
+pub fn push_int(
+    out: &mut Printer,
+    sheet: &Sheet,
+    bound: &[Variable],
+    int: &IntExpr,
+) -> Result<(), AllocError>
+    ensures { OnOk result (out.new.bytes.items ≡ out.old.bytes.items
+        ++ 32 ∷ printed (int_form (naming_seen sheet.now) (bound_seen sheet.now bound.now) (int_seen int.now))) }
+{
+    match int {
+        IntExpr::Lit(value) => {
+            out.space()?;
+            out.number(*value)
+        }
+        IntExpr::Num(num) => push_num(out, sheet, bound, num),
+        IntExpr::Size(cards) => {
+            out.open_part("size")?;
+            push_coll(out, sheet, bound, cards)?;
+            out.close()
+        }
+        IntExpr::Sum(cards, map) => push_by_map(out, sheet, bound, "sum", cards, *map),
+        IntExpr::Points(card, map) => {
+            out.open_part("points")?;
+            push_card(out, sheet, bound, card)?;
+            push_map(out, sheet, *map)?;
+            out.close()
+        }
+        IntExpr::Add(a, b) => {
+            open_with_int(out, sheet, bound, "+", a)?;
+            close_with_int(out, sheet, bound, b)
+        }
+        IntExpr::Sub(a, b) => {
+            open_with_int(out, sheet, bound, "-", a)?;
+            close_with_int(out, sheet, bound, b)
+        }
+        IntExpr::Mul(a, b) => {
+            open_with_int(out, sheet, bound, "*", a)?;
+            close_with_int(out, sheet, bound, b)
+        }
+    }
+}
+
+/// Opens a list that begins with an atom and a number.
+#[cycle(expressions)]
+fn open_with_int(
+    out: &mut Printer,
+    sheet: &Sheet,
+    bound: &[Variable],
+    head: &str,
+    int: &IntExpr,
+) -> Result<(), AllocError>
+    ensures { OnOk result (out.new.bytes.items ≡ out.old.bytes.items ++ 32 ∷ 40 ∷ head.now
+        ++ 32 ∷ printed (int_form (naming_seen sheet.now) (bound_seen sheet.now bound.now) (int_seen int.now))) }
+{
+    out.open_part(head)?;
+    push_int(out, sheet, bound, int)
+}
+
+/// Closes a list behind a number.
+#[cycle(expressions)]
+fn close_with_int(
+    out: &mut Printer,
+    sheet: &Sheet,
+    bound: &[Variable],
+    int: &IntExpr,
+) -> Result<(), AllocError>
+    ensures { OnOk result (out.new.bytes.items ≡ out.old.bytes.items
+        ++ 32 ∷ printed (int_form (naming_seen sheet.now) (bound_seen sheet.now bound.now) (int_seen int.now)) ++ 41 ∷ []) }
+{
+    push_int(out, sheet, bound, int)?;
+    out.close()
+}
+
+#[cycle(expressions)]
+pub fn push_test(
+    out: &mut Printer,
+    sheet: &Sheet,
+    bound: &[Variable],
+    test: &Test,
+) -> Result<(), AllocError>
+    ensures { OnOk result (out.new.bytes.items ≡ out.old.bytes.items
+        ++ 32 ∷ printed (test_form (naming_seen sheet.now) (bound_seen sheet.now bound.now) (test_seen test.now))) }
+{
+    match test {
+        Test::EqInt(..) | Test::EqCard(..) | Test::EqAttr(..) | Test::EqWho(..) => {
+            push_sides(out, sheet, bound, "=", test)
+        }
+        Test::Ne(inner) => push_sides(out, sheet, bound, "!=", inner),
+        Test::Less(a, b) => {
+            open_with_int(out, sheet, bound, "<", a)?;
+            close_with_int(out, sheet, bound, b)
+        }
+        Test::LessEq(a, b) => {
+            open_with_int(out, sheet, bound, "<=", a)?;
+            close_with_int(out, sheet, bound, b)
+        }
+        Test::More(a, b) => {
+            open_with_int(out, sheet, bound, ">", a)?;
+            close_with_int(out, sheet, bound, b)
+        }
+        Test::MoreEq(a, b) => {
+            open_with_int(out, sheet, bound, ">=", a)?;
+            close_with_int(out, sheet, bound, b)
+        }
+        Test::Is(card, attr, value) => {
+            out.open_part("is")?;
+            push_card(out, sheet, bound, card)?;
+            push_attr(out, sheet, *attr)?;
+            push_value(out, sheet, *value)?;
+            out.close()
+        }
+        Test::And(tests) => push_tests(out, sheet, bound, "and", tests),
+        Test::Or(tests) => push_tests(out, sheet, bound, "or", tests),
+        Test::Not(inner) => {
+            out.open_part("not")?;
+            push_test(out, sheet, bound, inner)?;
+            out.close()
+        }
+        Test::All(domain, var, inner) => {
+            open_over(out, sheet, bound, "all", domain, *var)?;
+            close_within(out, sheet, bound, *var, inner)
+        }
+        Test::Any(domain, var, inner) => {
+            open_over(out, sheet, bound, "any", domain, *var)?;
+            close_within(out, sheet, bound, *var, inner)
+        }
+    }
+}
+
+/// Adds what a test for equality compares, behind a head.
+#[cycle(expressions)]
+fn push_sides(
+    out: &mut Printer,
+    sheet: &Sheet,
+    bound: &[Variable],
+    head: &str,
+    test: &Test,
+) -> Result<(), AllocError>
+    ensures { OnOk result (out.new.bytes.items ≡ out.old.bytes.items
+        ++ 32 ∷ printed (row (atom head.now ∷ sides (naming_seen sheet.now) (bound_seen sheet.now bound.now) (test_seen test.now)))) }
+{
+    match test {
+        Test::EqInt(a, b) => {
+            open_with_int(out, sheet, bound, head, a)?;
+            close_with_int(out, sheet, bound, b)
+        }
+        Test::EqCard(a, b) => {
+            out.open_part(head)?;
+            push_card(out, sheet, bound, a)?;
+            push_card(out, sheet, bound, b)?;
+            out.close()
+        }
+        Test::EqAttr(a, attr, b, other) => {
+            out.open_part(head)?;
+            push_attr_of(out, sheet, bound, a, *attr)?;
+            push_attr_of(out, sheet, bound, b, *other)?;
+            out.close()
+        }
+        Test::EqWho(a, b) => push_owners(out, sheet, bound, head, *a, *b),
+        _ => {
+            out.open_part(head)?;
+            out.close()
+        }
+    }
+}
+
+/// Adds an attribute of a card.
+#[cycle(expressions)]
+fn push_attr_of(
+    out: &mut Printer,
+    sheet: &Sheet,
+    bound: &[Variable],
+    card: &CardExpr,
+    attr: u16,
+) -> Result<(), AllocError>
+    ensures { OnOk result (out.new.bytes.items ≡ out.old.bytes.items
+        ++ 32 ∷ printed (attr_form (naming_seen sheet.now) (card_form (naming_seen sheet.now) (bound_seen sheet.now bound.now) (card_seen card.now)) attr)) }
+{
+    out.open_part("attr")?;
+    push_card(out, sheet, bound, card)?;
+    push_attr(out, sheet, attr)?;
+    out.close()
+}
+
+/// Adds a list of tests behind its head.
+#[cycle(expressions)]
+fn push_tests(
+    out: &mut Printer,
+    sheet: &Sheet,
+    bound: &[Variable],
+    head: &str,
+    tests: &Vec<Test>,
+) -> Result<(), AllocError>
+    ensures { OnOk result (out.new.bytes.items ≡ out.old.bytes.items
+        ++ 32 ∷ printed (row (atom head.now ∷ test_forms (naming_seen sheet.now) (bound_seen sheet.now bound.now) (tests_seen tests.now.items)))) }
+{
+    out.open_part(head)?;
+    for test in tests {
+        push_test(out, sheet, bound, test)?;
+    }
+    out.close()
+}
+
+/// Opens a list that begins with an atom, and with a variable behind what it runs over.
+#[cycle(expressions)]
+fn open_over(
+    out: &mut Printer,
+    sheet: &Sheet,
+    bound: &[Variable],
+    head: &str,
+    domain: &Domain,
+    var: u32,
+) -> Result<(), AllocError>
+    ensures { OnOk result (out.new.bytes.items ≡ out.old.bytes.items ++ 32 ∷ 40 ∷ head.now
+        ++ 32 ∷ printed (domain_form (naming_seen sheet.now) (bound_seen sheet.now bound.now) (domain_seen domain.now))
+        ++ 32 ∷ printed (named (naming_seen sheet.now).names.vars var)) }
+{
+    out.open_part(head)?;
+    push_domain(out, sheet, bound, domain)?;
+    push_binder(out, sheet, var)
+}
+
+/// Closes a list behind a test that sees one more variable.
+#[cycle(expressions)]
+fn close_within(
+    out: &mut Printer,
+    sheet: &Sheet,
+    bound: &[Variable],
+    var: u32,
+    test: &Test,
+) -> Result<(), AllocError>
+    ensures { OnOk result (out.new.bytes.items ≡ out.old.bytes.items
+        ++ 32 ∷ printed (test_form (naming_seen sheet.now) (binding (naming_seen sheet.now) (bound_seen sheet.now bound.now) var)
+        (test_seen test.now)) ++ 41 ∷ []) }
+{
+    let within = behind(out, sheet, bound, var)?;
+    push_test(out, sheet, &within, test)?;
+    out.close()
+}
+
+#[cycle(expressions)]
+pub fn push_domain(
+    out: &mut Printer,
+    sheet: &Sheet,
+    bound: &[Variable],
+    domain: &Domain,
+) -> Result<(), AllocError>
+    ensures { OnOk result (out.new.bytes.items ≡ out.old.bytes.items
+        ++ 32 ∷ printed (domain_form (naming_seen sheet.now) (bound_seen sheet.now bound.now) (domain_seen domain.now))) }
+{
+    match domain {
+        Domain::Players => out.keyword(" player"),
+        Domain::Coll(cards) => push_coll(out, sheet, bound, cards),
+        Domain::Parts(cards, attr) => {
+            out.open_part("partition")?;
+            push_coll(out, sheet, bound, cards)?;
+            push_attr(out, sheet, *attr)?;
+            out.close()
+        }
+    }
+}
