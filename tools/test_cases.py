@@ -1,5 +1,6 @@
 """Tests of how files of cases are read, and of what is asked of a run."""
 
+import re
 import shutil
 import tempfile
 import unittest
@@ -427,7 +428,7 @@ class SideBySide(InFolder):
     TEXT = "house 1\nmatch 0 deal 0 seats 0\nchoose 0 0 0 1\nchoose 1 0 0 1\nend done 2\nscore 0 1 2\n"
 
     def met(self, source: str) -> list[bool]:
-        case = side_by_side.paired_case(ROW, source, self.TEXT)
+        case = side_by_side.paired_case(ROW, source, self.TEXT, self.folder)
         ends = (End(0, "3 stops agree\n", ""), End(0, "4 stops agree\n", ""), End(0, "", ""), End(1, "", "Memory\n"))
         return [case.is_met(end) for end in ends]
 
@@ -441,19 +442,17 @@ class SideBySide(InFolder):
     def test_plays_with_a_whole_text(self) -> None:
         first, others = "[one]\na: 1\nb: 2\n> house 1\n> end done 0\n", "[two]\n> house 1\n> ..\n[three]\na: ^2\nNumber\n"
         plays = read_plays(self.write("a.plays", first + others), Plays.SOURCE)
-        cases = [(case.source, case.expected) for case in side_by_side.of_plays(plays)]
+        cases = [(case.source, case.expected) for case in side_by_side.of_plays(plays, self.folder)]
         self.assertEqual(cases, [("(game 1 2)", "that 1 stops agree")])
 
     def test_examples_with_a_plan(self) -> None:
         for name, text in (("a.sheet", "(game)\n"), ("a.plan", "(plan)\n"), ("a.transcript", self.TEXT), ("b.sheet", "(")):
             self.write(name, text)
-        cases = [(case.source, case.expected) for case in side_by_side.of_examples(self.folder)]
+        cases = [(case.source, case.expected) for case in side_by_side.of_examples(self.folder, self.folder)]
         self.assertEqual(cases, [("(game)\n(plan)\n", "that 3 stops agree")])
 
-    def test_crates_below(self) -> None:
-        below = side_by_side.crates_below("rc_side_by_side")
-        self.assertLess({"rc_side_by_side", "rc_flat", "rc_plain", "rc_model"}, below)
-        self.assertFalse({"rc_house", "lru"} & below)
+    def test_the_libraries_of_the_program_are_those_that_it_names(self) -> None:
+        self.assertEqual(set(side_by_side.LIBRARIES.split()), set(re.findall(r"\brc_\w+", side_by_side.SOURCE.read_text("utf-8"))))
 
 
 class Files(unittest.TestCase):

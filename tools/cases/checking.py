@@ -2,11 +2,10 @@
 
 import os
 import sys
-from collections.abc import Iterator
+from collections.abc import Iterable, Iterator
 from concurrent.futures import ThreadPoolExecutor
 from pathlib import Path
 
-from cases import side_by_side
 from cases.bench import TRICKS, read_bench
 from cases.lengths import FIRST, read_longest
 from cases.language import PAGES, read_page
@@ -45,26 +44,23 @@ def read_all() -> dict[Path, list[Case]]:
     cases[HERE / "words.rows"] = list(read_words(HERE / "words.rows"))
     for folder in sorted(path for path in HERE.iterdir() if path.is_dir()):
         cases.update(read_folder(folder))
-    plays = side_by_side.of_plays(case for of_file in cases.values() for case in of_file)
-    cases[side_by_side.CRATE] = [*plays, *side_by_side.of_examples(side_by_side.EXAMPLES)]
     for file, of_file in cases.items():
         if not of_file:
             raise Mistake(f"{name_of(file)}: it has no cases")
     return cases
 
 
-def failures(cases: dict[Path, list[Case]]) -> list[str]:
+def failures(cases: Iterable[Case]) -> list[str]:
     """What is to be said of the cases that fail, which run side by side."""
     with ThreadPoolExecutor(os.cpu_count()) as pool:
-        return [said for said in pool.map(Case.run, (case for of_file in cases.values() for case in of_file)) if said]
+        return [said for said in pool.map(Case.run, cases) if said]
 
 
 def main() -> int:
     try:
         cases = read_all()
         build()
-        side_by_side.build()
-        failed = failures(cases)
+        failed = failures(case for of_file in cases.values() for case in of_file)
     except (Mistake, OSError, UnicodeError) as error:
         print(f"cases/check: {error}", file=sys.stderr)
         return 1

@@ -1,17 +1,21 @@
 """Plays on the tree machine and on the flat machine side by side, which are to agree at each stop."""
 
 import re
+import shutil
 import subprocess
+import sys
 from collections.abc import Iterable, Iterator
 from pathlib import Path
+from tempfile import TemporaryDirectory
 
-from cases.rows import ROOT, Mistake, Row, name_of
+from cases.checking import failures, read_all
+from cases.rows import ROOT, Mistake, Row
 from cases.running import Case, End
-from crates import listed, sources
 
-CRATE = ROOT / "crates/rc_side_by_side"
-PROGRAM = CRATE / "out/rc_side_by_side"
+SOURCE = ROOT / "bench/stops.main"
 EXAMPLES = ROOT / "examples"
+CRATE = "bench_stops"
+LIBRARIES = "rc_model rc_names rc_outside rc_deck rc_form rc_play_model rc_flow rc_draw rc_rules rc_plain rc_code rc_flat rc_plan rc_games"
 
 AGREE = re.compile(r"(\d+) stops agree\n")
 ROLLS_OUT = re.compile(r"\(rollout\s")
@@ -22,7 +26,7 @@ def stops_in(text: str) -> int:
     return len(re.findall(r"^(?:choose|end) ", text, re.MULTILINE))
 
 
-def paired_case(row: Row, source: str, text: str) -> Case:
+def paired_case(row: Row, source: str, text: str, program: Path) -> Case:
     """The case of a source that is played so. There are as many stops as its text has, but where a seat rolls out: here it picks by
     chance, and matches may be longer or shorter."""
     stops = None if ROLLS_OUT.search(source) else stops_in(text)
@@ -32,48 +36,52 @@ def paired_case(row: Row, source: str, text: str) -> Case:
         return (end.status, end.notes) == (0, "") and agree is not None and stops in (None, int(agree[1]))
 
     expected = "stops agree" if stops is None else f"{stops} stops agree"
-    return Case(row, (), source, f"that {expected}", is_played, PROGRAM)
+    return Case(row, (), source, f"that {expected}", is_played, program)
 
 
-def of_plays(cases: Iterable[Case]) -> Iterator[Case]:
+def of_plays(cases: Iterable[Case], program: Path) -> Iterator[Case]:
     """The cases of the plays whose text is known as a whole: it stands behind the source where it is judged."""
     for case in cases:
         if case.row.file.suffix == ".plays" and case.expected == "legal":
             source, _, text = case.source.rpartition("\nhouse 1\n")
-            yield paired_case(case.row, source, text)
+            yield paired_case(case.row, source, text, program)
 
 
-def of_examples(folder: Path) -> Iterator[Case]:
+def of_examples(folder: Path, program: Path) -> Iterator[Case]:
     """The cases of the examples that are played."""
     for sheet in sorted(folder.glob("**/*.sheet")):
         parts = [sheet.with_suffix(suffix) for suffix in (".sheet", ".plan", ".transcript")]
         if all(part.exists() for part in parts):
             source, plan, text = (part.read_text("latin-1") for part in parts)
-            yield paired_case(Row(sheet, 1, sheet.stem), source + plan, text)
+            yield paired_case(Row(sheet, 1, sheet.stem), source + plan, text, program)
 
 
-def crates_below(crate: str) -> set[str]:
-    """A crate and those that it stands on."""
-    crates = listed(ROOT)
-    found, more = set(), {crate}
-    while more:
-        found |= more
-        more = {name for crate in more for name in crates[crate] if name in crates} - found
-    return found
+def built_in(room: Path) -> Path:
+    """The program, proved and built beside a copy of the crates. The libraries that were proved here are copied too."""
+    shutil.copytree(ROOT / "crates", room / "crates", ignore=shutil.ignore_patterns("incremental"))
+    shutil.copy(ROOT / "HANDLES", room)
+    (room / "crates.txt").write_text(f"{(ROOT / 'crates.txt').read_text('utf-8')}{CRATE}: {LIBRARIES}\n", "utf-8")
+    crate = room / "crates" / CRATE
+    (crate / "src").mkdir(parents=True)
+    shutil.copy(SOURCE, crate / "src/main.rt")
+    ran = subprocess.run(["rt", "run"], cwd=crate, stdin=subprocess.DEVNULL, capture_output=True, check=False)
+    program = crate / "out" / CRATE
+    if not program.exists():
+        raise Mistake(f"the program can't be built: {ran.stderr.decode(errors='replace')[-2000:]}")
+    return program
 
 
-def is_built() -> bool:
-    """Whether the program is there, and no file that it is made of is newer."""
-    if not PROGRAM.exists():
-        return False
-    files = (file for crate in crates_below(CRATE.name) for file in sources(ROOT / "crates" / crate))
-    return max(file.stat().st_mtime for file in files) <= PROGRAM.stat().st_mtime
-
-
-def build() -> None:
-    """Has the program proved and built where it isn't."""
-    if is_built():
-        return
-    ran = subprocess.run(["rt", "run"], cwd=CRATE, stdin=subprocess.DEVNULL, capture_output=True, check=False)
-    if not is_built():
-        raise Mistake(f"{name_of(CRATE)} can't be built: {ran.stderr.decode(errors='replace')[-2000:]}")
+def main() -> int:
+    with TemporaryDirectory() as room:
+        try:
+            program = built_in(Path(room))
+            plays = of_plays((case for of_file in read_all().values() for case in of_file), program)
+            cases = [*plays, *of_examples(EXAMPLES, program)]
+            failed = failures(cases)
+        except (Mistake, OSError, UnicodeError) as error:
+            print(f"bench/stops: {error}", file=sys.stderr)
+            return 1
+    for said in failed:
+        print(said, file=sys.stderr)
+    print(f"{len(cases)} sources, {len(failed)} failed")
+    return 1 if failed else 0
