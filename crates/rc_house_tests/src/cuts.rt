@@ -72,7 +72,7 @@ fn expect_cut(rt: &(impl AllocGlobal + Abort), text: &[u8]) -> Result<(), Fail> 
         Some(at) => expect_sheet(rt, text, SourceKind::Unclosed, at),
         // the sheet stands there, with its line feed or without, and no plan
         None => {
-            assert!(rt; matches!(text.len(), 462 | SHEET));
+            assert!(rt; text.len() == SHEET - 1 || text.len() == SHEET);
             let status = Status::Plan {
                 kind: PlanKind::Shape,
                 at: offset(text.len())?,
