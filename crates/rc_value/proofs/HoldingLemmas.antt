@@ -15,7 +15,7 @@ use Rattle.rc_value.proofs.Steps.{all-map, any-map, all_here, all_on, any_here, 
 use Rattle.rc_value.proofs.WantedLemmas.{at_end}
 
 -- what the innermost variable stands for
-his : (vars : List (PureBind CardValue)) (player place : ℕ) → length vars ≡ place → player_of (slice_get (vars ++ player_bound player ∷ []) place) ≡ player
+pub his : (vars : List (PureBind CardValue)) (player place : ℕ) → length vars ≡ place → player_of (slice_get (vars ++ player_bound player ∷ []) place) ≡ player
 his vars player place is = ap (λ n. player_of (slice_get (vars ++ player_bound player ∷ []) n)) (sym is) ∙ ap player_of (at_end vars (player_bound player))
 
 pub own_is : (place name at : ℕ) (loc : Loc) (cards : CollExpr) → cards ≡ cards_in loc → loc ≡ record { who = who_var place; name = name; at = at } → IsHisOwn place cards name

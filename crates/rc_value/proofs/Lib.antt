@@ -11,5 +11,6 @@ pub mod AskLemmas
 pub mod RowLemmas
 pub mod RowOffers
 pub mod HoldingLemmas
+pub mod ComparingLemmas
 pub mod KnownLemmas
 pub mod CurrentLemmas

@@ -12,4 +12,5 @@ pub mod Current
 pub mod Wanted
 pub mod Asks
 pub mod Holding
+pub mod Comparing
 pub mod Known

@@ -20,7 +20,7 @@ use crate::hand::{bare, number_at_hand, test_at_hand, value_at_hand};
 use crate::leaves::{are_same, attr_of_id, cards_of, number_of, worth_of_id};
 use crate::loops::{Which, append, card_at, fill, keep, pick_from, sum};
 use crate::places::who_of;
-use crate::players::{all_hold, any_hold, holding_of};
+use crate::players::{all_at_once, any_at_once};
 use crate::rows::{bottom_card, bottom_id, ids_of, top_card, top_id};
 use crate::scene::Scene;
 use crate::scope::{Bind, Bindings};
@@ -643,8 +643,8 @@ fn all_players(scene: &Scene, scope: &Bindings, test: &Test) -> bool
     requires fits { length scope.now + (1 + test_depth (test_seen test.now)) ≤ 5 }
     ensures { result ≡ list_all (λ m. test_value (scene_seen scene.now) (scope.now ++ m ∷ []) (test_seen test.now)) (map (λ n. player_bound n) (below (scene_seen scene.now).known.sheet.players)) }
 {
-    match holding_of(test, scope.len()) {
-        Some(holding) => all_hold(scene, holding),
+    match all_at_once(&*scene, &*scope, test) {
+        Some(holds) => holds,
         None => all_players_asked(scene, scope, test),
     }
 }
@@ -672,8 +672,8 @@ fn any_player(scene: &Scene, scope: &Bindings, test: &Test) -> bool
     requires fits { length scope.now + (1 + test_depth (test_seen test.now)) ≤ 5 }
     ensures { result ≡ list_any (λ m. test_value (scene_seen scene.now) (scope.now ++ m ∷ []) (test_seen test.now)) (map (λ n. player_bound n) (below (scene_seen scene.now).known.sheet.players)) }
 {
-    match holding_of(test, scope.len()) {
-        Some(holding) => any_hold(scene, holding),
+    match any_at_once(&*scene, &*scope, test) {
+        Some(holds) => holds,
         None => any_player_asked(scene, scope, test),
     }
 }

@@ -6,6 +6,7 @@ mod asks;
 mod binding;
 mod cards;
 mod collection;
+mod comparing;
 mod current;
 mod expressions;
 mod groups;

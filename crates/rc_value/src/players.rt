@@ -1,5 +1,6 @@
-//! Tests of all players that ask how many cards each has in a location of his: these go over the locations, with no variable.
-ghost use Rattle.std.specs.Prelude.{◌≡◌, ◌≤◌, ◌∷◌, [], map, IfSome};
+//! Tests of all players that go over what each has, with no variable: how many cards in a location of his, or how a number of his
+//! compares.
+ghost use Rattle.std.specs.Prelude.{◌≡◌, ◌≤◌, ◌++◌, ◌∷◌, [], map, IfSome};
 ghost use Rattle.std.specs.List.{list_all, list_any};
 ghost use Rattle.rc_model.specs.Numbers.{below};
 ghost use Rattle.rc_sheet_model.specs.Sheet.{literal, who_var};
@@ -9,7 +10,9 @@ ghost use Rattle.rc_ast.specs.Expressions.{coll_seen, int_seen, test_seen};
 ghost use Rattle.rc_value.specs.Holding.{holds, size_held, IsCompared, IsHisOwn, IsHolding};
 ghost use Rattle.rc_value.specs.Scene.{scene_seen};
 
+use crate::comparing::{all_suit, any_suit, suited_of};
 use crate::scene::Scene;
+use crate::scope::Bindings;
 use rc_ast::{Class, CollExpr, Domain, IntExpr, Loc, Test, Who};
 
 /// How many cards a player is to have in his location of a name.
@@ -21,7 +24,7 @@ pub(crate) struct Holding {
 
 /// What a test asks of the player that the variable at this place stands for, if it is so many cards in a location.
 #[inline(always)]
-pub(crate) fn holding_of(test: &Test, place: usize) -> Option<Holding>
+fn holding_of(test: &Test, place: usize) -> Option<Holding>
     ensures { IfSome result (IsHolding place (test_seen test.now)) }
 {
     match test {
@@ -98,9 +101,37 @@ fn all_of_players(scene: &Scene, inner: &Test) -> Option<bool>
     }
 }
 
+/// Whether a test holds for each player, if it asks how many cards he has, or how a number of his compares.
+#[inline(always)]
+pub(crate) fn all_at_once(scene: &Scene, scope: &Bindings, test: &Test) -> Option<bool>
+    ensures { IfSome result (λ holds. holds ≡ list_all (λ m. test_value (scene_seen scene.now) (scope.now ++ m ∷ []) (test_seen test.now)) (map (λ n. player_bound n) (below (scene_seen scene.now).known.sheet.players))) }
+{
+    match holding_of(test, scope.len()) {
+        Some(holding) => Some(all_hold(scene, holding)),
+        None => match suited_of(scene, scope, test) {
+            Some(suited) => Some(all_suit(scene, suited)),
+            None => None,
+        },
+    }
+}
+
+/// Whether it holds for one of them.
+#[inline(always)]
+pub(crate) fn any_at_once(scene: &Scene, scope: &Bindings, test: &Test) -> Option<bool>
+    ensures { IfSome result (λ holds. holds ≡ list_any (λ m. test_value (scene_seen scene.now) (scope.now ++ m ∷ []) (test_seen test.now)) (map (λ n. player_bound n) (below (scene_seen scene.now).known.sheet.players))) }
+{
+    match holding_of(test, scope.len()) {
+        Some(holding) => Some(any_hold(scene, holding)),
+        None => match suited_of(scene, scope, test) {
+            Some(suited) => Some(any_suit(scene, suited)),
+            None => None,
+        },
+    }
+}
+
 /// Whether each player has so many.
 #[inline(always)]
-pub(crate) fn all_hold(scene: &Scene, holding: Holding) -> bool
+fn all_hold(scene: &Scene, holding: Holding) -> bool
     ensures { result ≡ list_all (holds (scene_seen scene.now) holding) (below (scene_seen scene.now).known.sheet.players) }
 {
     for player in 0..scene.sheet.players {
@@ -112,7 +143,7 @@ pub(crate) fn all_hold(scene: &Scene, holding: Holding) -> bool
 }
 
 /// Whether one of the players has so many.
-pub(crate) fn any_hold(scene: &Scene, holding: Holding) -> bool
+fn any_hold(scene: &Scene, holding: Holding) -> bool
     ensures { result ≡ list_any (holds (scene_seen scene.now) holding) (below (scene_seen scene.now).known.sheet.players) }
 {
     for player in 0..scene.sheet.players {

@@ -10,7 +10,6 @@ use Rattle.rc_value.specs.Cards.{value_seen, values_seen}
 use Rattle.rc_value.specs.Scene.{scene_seen}
 use Rattle.rc_sheet_model.specs.Sheet.{all_of, any_of, each_card, card_var, cards_in, filtered, group_var}
 use Rattle.rc_value.proofs.Passing.{pass_step, pass_end}
-use Rattle.rc_value.proofs.HoldingLemmas.{all_held, any_held}
 use Rattle.rc_rules.proofs.Elements.{below_length}
 use Rattle.rc_value.proofs.Steps.{players_are, all_stop, all_on, all_end, any_stop, any_on, any_end, player_here, union_on, union_end, colls_here, tests_here, and_here, or_here, union_here, and_depth, or_depth, union_depth, inner_is, tests_on, tests_off, count_on, count_end}
 use Rattle.rc_ast.specs.declared.expressions.CardExpr.TheFolds
@@ -246,16 +245,6 @@ value_asked-returns t c = c.attr_of_id.ensures _ c.id_now.ensures
 
 pub points_of-returns : goal.points_of-returns
 points_of-returns t c = let e = c.worth_of_id.ensures _ c.id_now.ensures in grind (arith, common_steps, e)
-
-pub all_players-returns-in-Some : goal.all_players-returns-in-Some
-all_players-returns-in-Some t c =
-    c.all_hold.ensures
-    ∙ all_held (scene_seen c.args.scene.now) c.args.scope.now (test_seen c.args.test.now) c.in-Some.holding (below (scene_seen c.args.scene.now).known.sheet.players) c.len.result c.len.ensures c.in-Some.ensures
-
-pub any_player-returns-in-Some : goal.any_player-returns-in-Some
-any_player-returns-in-Some t c =
-    c.any_hold.ensures
-    ∙ any_held (scene_seen c.args.scene.now) c.args.scope.now (test_seen c.args.test.now) c.in-Some.holding (below (scene_seen c.args.scene.now).known.sheet.players) c.len.result c.len.ensures c.in-Some.ensures
 
 pub over_built-returns-in-Coll : goal.over_built-returns-in-Coll
 over_built-returns-in-Coll t c =

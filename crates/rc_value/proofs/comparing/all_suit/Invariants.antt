@@ -1,0 +1,11 @@
+use Rattle.std.proofs.Common.{◌≡◌, drop}
+use Rattle.std.specs.List.{list_all}
+use Rattle.rc_model.specs.Numbers.{below}
+use Rattle.rc_value.specs.Comparing.{suits}
+use Rattle.rc_value.specs.Scene.{scene_seen}
+use Rattle.rc_value.proofs.comparing.all_suit.Given as goal
+
+abbrev pub invariant-loop-player : goal.invariant-loop-player
+invariant-loop-player l =
+    list_all (suits (scene_seen l.scene) l.suited) (drop l.player (below l.scene.sheet.now.players))
+    ≡ list_all (suits (scene_seen l.scene) l.suited) (below l.scene.sheet.now.players)

@@ -1,0 +1,54 @@
+-- Tests of all players that compare a number of each with one that is the same for all.
+use Rattle.std.specs.Prelude.{◌≡◌, ℕ, ℤ, int_lt, int_le, ◌++◌, ◌∷◌, [], Bool, List, length, map}
+use Rattle.std.specs.Ordering.{int_eq}
+use Rattle.rc_sheet_model.specs.Sheet.{player_class, IntExpr, Test}
+use Rattle.rc_play_model.specs.Owners.{place_among}
+use Rattle.rc_play_model.specs.Value.{Scene as PureScene, Bind as PureBind, player_bound, number_there, int_value, test_value}
+use Rattle.rc_play_model.specs.Scene.{CardValue}
+use Rattle.rc_value.specs.declared.comparing.Comparison.{Comparison}
+use Rattle.rc_value.specs.declared.comparing.Comparison.TheVariants.{Equal, Less, AtMost, More, AtLeast}
+use Rattle.rc_value.specs.declared.comparing.Suited.{Suited}
+
+-- whether a number compares so with another
+abbrev pub compare : Comparison → ℤ → ℤ → Bool
+compare Equal one other = int_eq one other
+compare Less one other = int_lt one other
+compare AtMost one other = int_le one other
+compare More one other = int_lt other one
+compare AtLeast one other = int_le other one
+
+-- the same comparison, told of the other number
+abbrev pub turned : Comparison → Comparison
+turned Equal = Equal
+turned Less = More
+turned AtMost = AtLeast
+turned More = Less
+turned AtLeast = AtMost
+
+-- a player's number of a name, and 0 where he has none
+abbrev pub number_held : PureScene CardValue → ℕ → ℕ → ℤ
+number_held s name player =
+    number_there s.known.numbers (place_among s.known.sheet player_class (map (λ n. n.class) s.known.sheet.nums) name player)
+
+-- whether it compares as it is to
+abbrev pub suits : PureScene CardValue → Suited → ℕ → Bool
+suits s w player = compare w.how (number_held s w.name player) w.against
+
+-- a number of the player that the innermost variable stands for, inside so many others: his number of a name
+abbrev pub IsHisNumber : ℕ → IntExpr → ℕ → Type 0
+IsHisNumber place e name =
+    (s : PureScene CardValue) (vars : List (PureBind CardValue)) (player : ℕ) → length vars ≡ place →
+    int_value s (vars ++ player_bound player ∷ []) e ≡ number_held s name player
+
+-- a number that is the same whatever the innermost variable stands for
+abbrev pub IsSameForAll : PureScene CardValue → List (PureBind CardValue) → IntExpr → ℤ → Type 0
+IsSameForAll s vars e n = (m : PureBind CardValue) → int_value s (vars ++ m ∷ []) e ≡ n
+
+-- two numbers, which compare so where his number is as it is to be
+abbrev pub ArePaired : PureScene CardValue → List (PureBind CardValue) → IntExpr → Comparison → IntExpr → Suited → Type 0
+ArePaired s vars a how b w =
+    (player : ℕ) → compare how (int_value s (vars ++ player_bound player ∷ []) a) (int_value s (vars ++ player_bound player ∷ []) b) ≡ suits s w player
+
+-- a test that asks this of him
+abbrev pub IsSuited : PureScene CardValue → List (PureBind CardValue) → Test → Suited → Type 0
+IsSuited s vars t w = (player : ℕ) → test_value s (vars ++ player_bound player ∷ []) t ≡ suits s w player

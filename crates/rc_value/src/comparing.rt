@@ -1,0 +1,211 @@
+//! Tests of all players that compare a number of each with one that is the same for all: that one is found once, and of each player no
+//! more than his number is looked up.
+ghost use Rattle.std.specs.Prelude.{◌≡◌, not, IfSome, true, false};
+ghost use Rattle.std.specs.List.{list_all, list_any};
+ghost use Rattle.rc_model.specs.Numbers.{below};
+ghost use Rattle.rc_sheet_model.specs.Sheet.{who_var};
+ghost use Rattle.rc_ast.specs.Names.{num_seen, who_seen};
+ghost use Rattle.rc_ast.specs.Expressions.{int_seen, test_seen};
+ghost use Rattle.rc_reads.specs.Reads.{reads_who};
+ghost use Rattle.rc_value.specs.Comparing.{compare, number_held, suits, turned, ArePaired, IsHisNumber, IsSameForAll, IsSuited};
+ghost use Rattle.rc_value.specs.Scene.{scene_seen};
+
+use crate::leaves::number_of;
+use crate::scene::Scene;
+use crate::scope::Bindings;
+use rc_ast::{Class, IntExpr, Num, Test, Who};
+
+/// How a number is to compare with another.
+#[derive(Clone, Copy)]
+pub(crate) enum Comparison {
+    Equal,
+    Less,
+    AtMost,
+    More,
+    AtLeast,
+}
+
+/// How a player's number of a name is to compare with a number that is the same for all players.
+#[derive(Clone, Copy)]
+pub(crate) struct Suited {
+    pub(crate) name: u16,
+    pub(crate) how: Comparison,
+    pub(crate) against: i64,
+}
+
+/// What a test asks of the player that the innermost variable is to stand for, if it is such a comparison.
+#[inline(never)]
+pub(crate) fn suited_of(scene: &Scene, scope: &Bindings, test: &Test) -> Option<Suited>
+    ensures { IfSome result (IsSuited (scene_seen scene.now) scope.now (test_seen test.now)) }
+{
+    match test {
+        Test::EqInt(a, b) => paired(scene, scope, a, Comparison::Equal, b),
+        Test::Less(a, b) => paired(scene, scope, a, Comparison::Less, b),
+        Test::LessEq(a, b) => paired(scene, scope, a, Comparison::AtMost, b),
+        Test::More(a, b) => paired(scene, scope, a, Comparison::More, b),
+        Test::MoreEq(a, b) => paired(scene, scope, a, Comparison::AtLeast, b),
+        _ => None,
+    }
+}
+
+// The same of two numbers, of which either may be his.
+#[inline(always)]
+fn paired(
+    scene: &Scene,
+    scope: &Bindings,
+    a: &IntExpr,
+    how: Comparison,
+    b: &IntExpr,
+) -> Option<Suited>
+    ensures { IfSome result (ArePaired (scene_seen scene.now) scope.now (int_seen a.now) how (int_seen b.now)) }
+{
+    match his_number(a, scope.len()) {
+        Some(name) => against(scene, scope, name, how, b),
+        None => match his_number(b, scope.len()) {
+            Some(name) => against(scene, scope, name, turned(how), a),
+            None => None,
+        },
+    }
+}
+
+// The same comparison, told of the other number.
+#[inline(always)]
+fn turned(how: Comparison) -> Comparison
+    ensures { result ≡ turned how }
+{
+    match how {
+        Comparison::Equal => Comparison::Equal,
+        Comparison::Less => Comparison::More,
+        Comparison::AtMost => Comparison::AtLeast,
+        Comparison::More => Comparison::Less,
+        Comparison::AtLeast => Comparison::AtMost,
+    }
+}
+
+// A player's number of this name against another number, if that is the same for all.
+#[inline(always)]
+fn against(
+    scene: &Scene,
+    scope: &Bindings,
+    name: u16,
+    how: Comparison,
+    other: &IntExpr,
+) -> Option<Suited>
+    ensures { IfSome result (λ s. (s.name ≡ name) × (s.how ≡ how) × IsSameForAll (scene_seen scene.now) scope.now (int_seen other.now) s.against) }
+{
+    match same_for_all(scene, scope, other) {
+        Some(against) => Some(Suited { name, how, against }),
+        None => None,
+    }
+}
+
+// The name of a number of the player that a variable stands for.
+#[inline(always)]
+fn his_number(expr: &IntExpr, place: usize) -> Option<u16>
+    ensures { IfSome result (IsHisNumber place (int_seen expr.now)) }
+{
+    match expr {
+        IntExpr::Num(num) => name_of(num, place),
+        _ => None,
+    }
+}
+
+#[inline(always)]
+fn name_of(num: &Num, place: usize) -> Option<u16>
+    ensures { IfSome result (λ name. (num_seen num.now ≡ record { who = who_var place; name = name })) }
+{
+    match num.who {
+        Who::Var(var) if var as usize == place => Some(num.name),
+        _ => None,
+    }
+}
+
+// A number that doesn't hang on one more variable: a literal, or one that the variable doesn't own.
+#[inline(always)]
+fn same_for_all(scene: &Scene, scope: &Bindings, expr: &IntExpr) -> Option<i64>
+    ensures { IfSome result (IsSameForAll (scene_seen scene.now) scope.now (int_seen expr.now)) }
+{
+    match expr {
+        IntExpr::Lit(value) => Some(*value),
+        IntExpr::Num(num) => {
+            if does_own(num.who, scope.len()) {
+                return None;
+            }
+            Some(number_of(scene, scope, num))
+        }
+        _ => None,
+    }
+}
+
+// Whether an owner is what a variable stands for, or his team.
+#[inline(always)]
+fn does_own(who: Who, place: usize) -> bool
+    ensures { result ≡ reads_who place (who_seen who) }
+{
+    match who {
+        Who::Game => false,
+        Who::CurrentPlayer => false,
+        Who::CurrentTeam => false,
+        Who::TeamOfCurrent => false,
+        Who::TeamOfVar(var) => var as usize == place,
+        Who::Var(var) => var as usize == place,
+    }
+}
+
+/// Whether each player's number is so.
+#[inline(never)]
+pub(crate) fn all_suit(scene: &Scene, suited: Suited) -> bool
+    ensures { result ≡ list_all (suits (scene_seen scene.now) suited) (below (scene_seen scene.now).known.sheet.players) }
+{
+    for player in 0..scene.sheet.players {
+        if !does_suit(scene, suited, player) {
+            return false;
+        }
+    }
+    true
+}
+
+/// Whether one of the players' numbers is so.
+#[inline(never)]
+pub(crate) fn any_suit(scene: &Scene, suited: Suited) -> bool
+    ensures { result ≡ list_any (suits (scene_seen scene.now) suited) (below (scene_seen scene.now).known.sheet.players) }
+{
+    for player in 0..scene.sheet.players {
+        if does_suit(scene, suited, player) {
+            return true;
+        }
+    }
+    false
+}
+
+#[inline(always)]
+fn does_suit(scene: &Scene, suited: Suited, player: u8) -> bool
+    ensures { result ≡ suits (scene_seen scene.now) suited player }
+{
+    compare(suited.how, held(scene, suited.name, player), suited.against)
+}
+
+// A player's number of a name, and 0 where he has none.
+#[inline(always)]
+fn held(scene: &Scene, name: u16, player: u8) -> i64
+    ensures { result ≡ number_held (scene_seen scene.now) name player }
+{
+    match scene.lookup.number(name, Class::Player, player) {
+        Some(at) => scene.table.number(at),
+        None => 0,
+    }
+}
+
+// Whether one number compares so with another.
+#[inline(always)]
+fn compare(how: Comparison, one: i64, other: i64) -> bool
+    ensures { result ≡ compare how one other }
+{
+    match how {
+        Comparison::Equal => one == other,
+        Comparison::Less => one < other,
+        Comparison::AtMost => one <= other,
+        Comparison::More => other < one,
+        Comparison::AtLeast => other <= one,
+    }
+}
