@@ -45,7 +45,7 @@ impl<'t> Default for Ask<'t> {
 }
 
 /// What a guard asks of each card.
-pub(crate) type Asks<'t> = ArrayVec<Ask<'t>, 8>;
+pub(crate) type Asks<'t> = ArrayVec<Ask<'t>, 4>;
 
 /// What is known of a guard for all cards: whether it is settled, and, where it isn't, whether one yes is enough. Where it is settled,
 /// the second says which way.
@@ -156,7 +156,7 @@ fn settles<'t>(
     asks: &mut Asks<'t>,
 ) -> bool
     requires deep { length scope.now + (1 + test_depth (test_seen test.now)) ≤ 5 }
-    requires room { length asks.old.items < 8 }
+    requires room { length asks.old.items < 4 }
     requires fit { AllFit scope.now asks.old.items }
     ensures is { IsJoined (scene_seen scene.now) scope.now (test_seen test.now) any result asks.old.items asks.new.items }
     ensures count { length asks.new.items ≤ length asks.old.items + 1 }
@@ -182,7 +182,7 @@ fn settles_whole<'t>(
     asks: &mut Asks<'t>,
 ) -> bool
     requires deep { length scope.now + (1 + test_depth (test_seen test.now)) ≤ 5 }
-    requires room { length asks.old.items < 8 }
+    requires room { length asks.old.items < 4 }
     requires fit { AllFit scope.now asks.old.items }
     ensures is { IsJoined (scene_seen scene.now) scope.now (test_seen test.now) any result asks.old.items asks.new.items }
     ensures count { length asks.new.items ≤ length asks.old.items + 1 }
@@ -204,7 +204,7 @@ fn all_settle<'t>(
     any: bool,
     asks: &mut Asks<'t>,
 ) -> bool
-    requires few { length tests.now.items ≤ 8 }
+    requires few { length tests.now.items ≤ 4 }
     requires deep { length scope.now + (1 + tests_depth (tests_seen tests.now.items)) ≤ 5 }
     requires empty { asks.old.items ≡ [] }
     ensures is { (c : CardValue) → joined any (tests_value (scene_seen scene.now) (scope.now ++ card_bound c ∷ []) (tests_seen tests.now.items))
@@ -252,7 +252,7 @@ fn outer_parts<'t>(
 {
     match guard {
         Test::Or(tests) => {
-            if tests.len() <= 8 {
+            if tests.len() <= 4 {
                 return Parts {
                     settled: all_settle(scene, scope, tests, true, asks),
                     any: true,
@@ -261,7 +261,7 @@ fn outer_parts<'t>(
             single_part(scene, scope, guard, asks)
         }
         Test::And(tests) => {
-            if tests.len() <= 8 {
+            if tests.len() <= 4 {
                 return Parts {
                     settled: all_settle(scene, scope, tests, false, asks),
                     any: false,

@@ -8,14 +8,14 @@ pub all_settle-requires-clause-deep : goal.all_settle-requires-clause-deep
 all_settle-requires-clause-deep c =
     let e = or_depth c.args.guard.now c.in-Or.tests c.in-Or.is in omega (arith, c.requires.deep)
 
-pub all_settle-requires-then-len-le8-2-clause-deep : goal.all_settle-requires-then-len-le8-2-clause-deep
-all_settle-requires-then-len-le8-2-clause-deep c =
+pub all_settle-requires-then-len-le4-2-clause-deep : goal.all_settle-requires-then-len-le4-2-clause-deep
+all_settle-requires-then-len-le4-2-clause-deep c =
     let e = and_depth c.args.guard.now c.in-And.tests c.in-And.is in omega (arith, c.requires.deep)
 
-pub returns-then-len-le8-clause-is : goal.returns-then-len-le8-clause-is
-returns-then-len-le8-clause-is c = λ x.
+pub returns-then-len-le4-clause-is : goal.returns-then-len-le4-clause-is
+returns-then-len-le4-clause-is c = λ x.
     ap (λ t. told_of (scene_seen c.args.scene.now) c.args.scope.now t x) (or_here c.args.guard.now c.in-Or.tests c.in-Or.is) ∙ c.all_settle.ensures.is x
 
-pub returns-then-len-le8-2-clause-is : goal.returns-then-len-le8-2-clause-is
-returns-then-len-le8-2-clause-is c = λ x.
-    ap (λ t. told_of (scene_seen c.args.scene.now) c.args.scope.now t x) (and_here c.args.guard.now c.in-And.tests c.in-And.is) ∙ c.all_settle-then-len-le8-2.ensures.is x
+pub returns-then-len-le4-2-clause-is : goal.returns-then-len-le4-2-clause-is
+returns-then-len-le4-2-clause-is c = λ x.
+    ap (λ t. told_of (scene_seen c.args.scene.now) c.args.scope.now t x) (and_here c.args.guard.now c.in-And.tests c.in-And.is) ∙ c.all_settle-then-len-le4-2.ensures.is x
