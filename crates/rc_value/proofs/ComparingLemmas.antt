@@ -1,10 +1,9 @@
 -- Tests of all players that compare a number of each with one that is the same for all.
-use Rattle.std.proofs.Common.{◌≡◌, ℕ, zero, suc, ℤ, ◌==◌, Bool, true, false, List, [], ◌∷◌, ◌++◌, length, map, slice_get, Option, Some, None, arith, refl, sym, ap, ap₂, ◌∙◌}
+use Rattle.std.proofs.Common.{◌≡◌, ℕ, zero, suc, ℤ, ◌==◌, Bool, false, List, [], ◌∷◌, ◌++◌, length, map, slice_get, Option, Some, None, arith, refl, sym, ap, ap₂, ◌∙◌}
 use Rattle.std.specs.Prelude.{IfSome}
 use mathlib.Core.Path.{fun_ext}
 use Rattle.std.specs.List.{list_any, list_all}
-use Rattle.std.specs.Ordering.{int_eq}
-use Rattle.std.proofs.lemmas.Bool.Decides.{nat_tests, Decides-int_eq}
+use Rattle.std.proofs.lemmas.Bool.Decides.{nat_tests}
 use Rattle.rc_sheet_model.specs.Sheet.{player_class, Who, game, current_player, current_team, team_of_current, team_of_var, who_var, Num, NumName, IntExpr, literal, number, Test}
 use Rattle.rc_sheet_model.specs.Naming.{class_of}
 use Rattle.rc_play_model.specs.Owners.{place_among}
@@ -13,26 +12,10 @@ use Rattle.rc_play_model.specs.Scene.{CardValue}
 use Rattle.rc_play_model.specs.Value.{Scene as PureScene, Bind as PureBind, Known, player_bound, player_of, who_value, num_place, number_there, int_value, test_value}
 use Rattle.rc_reads.specs.Reads.{reads_who}
 use Rattle.rc_value.specs.declared.comparing.Comparison.{Comparison}
-use Rattle.rc_value.specs.declared.comparing.Comparison.TheVariants.{Equal, Less, AtMost, More, AtLeast}
 use Rattle.rc_value.specs.declared.comparing.Suited.{Suited}
-use Rattle.rc_value.specs.Comparing.{compare, number_held, suits, turned, ArePaired, IsHisNumber, IsSameForAll, IsSuited}
+use Rattle.rc_value.specs.Comparing.{compare, number_held, suits, ArePaired, IsHisNumber, IsSameForAll, IsSuited}
 use Rattle.rc_value.proofs.HoldingLemmas.{his}
 use Rattle.rc_value.proofs.Steps.{all-map, any-map}
-
--- comparisons that are told of the other number
-same_if : (p q : Bool) → (p ≡ true → q ≡ true) → (q ≡ true → p ≡ true) → p ≡ q
-same_if true true there back = refl
-same_if true false there back = sym (there refl)
-same_if false true there back = back refl
-same_if false false there back = refl
-
-compare_turned : (how : Comparison) (a b : ℤ) → compare (turned how) a b ≡ compare how b a
-compare_turned Equal a b =
-    same_if (int_eq a b) (int_eq b a) (λ e. (Decides-int_eq b a).1 (sym ((Decides-int_eq a b).0 e))) (λ e. (Decides-int_eq a b).1 (sym ((Decides-int_eq b a).0 e)))
-compare_turned Less a b = refl
-compare_turned AtMost a b = refl
-compare_turned More a b = refl
-compare_turned AtLeast a b = refl
 
 -- a number of the player that the innermost variable stands for, where there may be none
 pub his_any : (place : ℕ) (num : Num) (e : IntExpr) (name : Option ℕ) → e ≡ number num →
@@ -73,21 +56,13 @@ module _ (s : PureScene CardValue) (vars : List (PureBind CardValue)) where
       (outside_who s.known vars m num.who (ap (λ k. reads_who k num.who) (sym count) ∙ unread))
       ∙ sym here
 
-  -- two numbers, of which the first is his, or the other
+  -- two numbers, of which the first is his
   module _ (a b : IntExpr) (place name : ℕ) (how : Comparison) (count : place ≡ length vars) where
     pub paired_his : (w : Option Suited) → IsHisNumber place a name →
         IfSome w (λ w. (w.name ≡ name) × (w.how ≡ how) × IsSameForAll s vars b w.against) → IfSome w (ArePaired s vars a how b)
     paired_his None own told = told
     paired_his (Some w) own told = λ player.
         ap₂ (compare how) (own s vars player (sym count)) (told.2 (player_bound player))
-        ∙ ap₂ (λ h n. compare h (number_held s n player) w.against) (sym told.1) (sym told.0)
-
-    pub paired_turned : (w : Option Suited) → IsHisNumber place b name →
-        IfSome w (λ w. (w.name ≡ name) × (w.how ≡ turned how) × IsSameForAll s vars a w.against) → IfSome w (ArePaired s vars a how b)
-    paired_turned None own told = told
-    paired_turned (Some w) own told = λ player.
-        ap₂ (compare how) (told.2 (player_bound player)) (own s vars player (sym count))
-        ∙ sym (compare_turned how (number_held s name player) w.against)
         ∙ ap₂ (λ h n. compare h (number_held s n player) w.against) (sym told.1) (sym told.0)
 
   -- a test of them

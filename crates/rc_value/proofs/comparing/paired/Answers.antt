@@ -1,6 +1,6 @@
 use Rattle.rc_ast.specs.Expressions.{int_seen}
 use Rattle.rc_value.specs.Scene.{scene_seen}
-use Rattle.rc_value.proofs.ComparingLemmas.{paired_his, paired_turned}
+use Rattle.rc_value.proofs.ComparingLemmas.{paired_his}
 use Rattle.rc_value.proofs.comparing.paired.Goals as goal
 
 pub returns-in-Some : goal.returns-in-Some
