@@ -2,6 +2,7 @@ pub mod Held
 pub mod ByLocation
 pub mod Orders
 pub mod Homes
+pub mod Mems
 pub mod FaceNumbers
 pub mod PutBack
 pub mod RowLemmas

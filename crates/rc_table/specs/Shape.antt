@@ -1,11 +1,11 @@
 -- What a shape keeps: its parts are within the limits, each player has a team, owners are players and teams that are there, and
 -- each card begins in a location of cards.
-use Rattle.std.specs.Prelude.{◌≡◌, ℕ, ◌<◌, ◌≤◌, true, length, map, List, Option, Some, None, [], All}
+use Rattle.std.specs.Prelude.{◌≡◌, ℕ, ◌<◌, ◌≤◌, ◌+◌, true, if◌then◌else◌, length, map, List, Option, Some, None, [], ◌∷◌, All}
 use Rattle.std.specs.List.{position_or_len}
 use Rattle.rc_model.specs.Deck.{Face}
 use Rattle.rc_model.specs.Limits.{most_players, most_cards, most_locations, most_numbers}
 use Rattle.rc_sheet_model.specs.Sheet.{Class, game_class, player_class, team_class}
-use Rattle.rc_sheet_model.specs.WellFormed.{is_among}
+use Rattle.rc_sheet_model.specs.WellFormed.{is_among, is_mem}
 use Rattle.rc_play_model.specs.Shape.{Place as PurePlace, Shape as PureShape, face_eq}
 use Rattle.rc_play_model.specs.Bound.{HasHomes}
 use Rattle.rc_table.specs.Places.{place_seen}
@@ -40,3 +40,12 @@ face_numbers_of faces = map (λ face. position_or_len (face_eq face) faces) face
 abbrev pub face_or_none : Option Face → Face
 face_or_none None = []
 face_or_none (Some face) = face
+
+-- one more, where a location holds references
+abbrev pub mems_here : PurePlace → ℕ
+mems_here place = if is_mem place.kind then 1 else 0
+
+-- how many of these locations hold references
+abbrev pub mems_among : List PurePlace → ℕ
+mems_among [] = 0
+mems_among (place ∷ places) = mems_here place + mems_among places

@@ -1,5 +1,5 @@
 //! Where a card is, and how many references there are.
-ghost use Rattle.std.specs.Prelude.{◌≡◌, ◌<◌, if◌then◌else◌, length, slice_get, reverse, remove, MatchOption};
+ghost use Rattle.std.specs.Prelude.{◌≡◌, ◌<◌, nat_lt, if◌then◌else◌, length, slice_get, reverse, remove, MatchOption};
 ghost use Rattle.rc_play_model.specs.Shape.{holds_references};
 ghost use Rattle.rc_play_model.specs.Table.{list_at, place_of, references, has_room, without_face, forget_in};
 ghost use Rattle.rc_table.specs.Restored.{taken_at};
@@ -58,7 +58,18 @@ impl Table {
     pub fn has_room(&self, loc: u16) -> bool
         ensures { result ≡ has_room self.now.shape loc self.now.table }
     {
-        self.list(loc).len() < MOST_IN_MEM && self.references() < MOST_REFERENCES
+        self.list(loc).len() < MOST_IN_MEM && self.has_room_among_all(loc)
+    }
+
+    // Whether all locations together have room, where this one has. They need not be counted where two at most hold references.
+    fn has_room_among_all(&self, loc: u16) -> bool
+        requires room { length (list_at self.now.table loc) < 512 }
+        ensures { result ≡ nat_lt (references self.now.shape self.now.table) 1024 }
+    {
+        if self.shape().is_of_two(loc) {
+            return true;
+        }
+        self.references() < MOST_REFERENCES
     }
 
     /// The place of the topmost reference with a card's face in a location, which `forget` takes out, if there is one.

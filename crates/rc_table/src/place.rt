@@ -1,4 +1,7 @@
-//! One location.
+//! One location, and how many of some hold references.
+ghost use Rattle.std.specs.Prelude.{◌≡◌, ◌≤◌, length, map};
+ghost use Rattle.rc_table.specs.Places.{place_seen};
+ghost use Rattle.rc_table.specs.Shape.{mems_among, mems_here};
 
 use rc_names::LocKind;
 
@@ -15,4 +18,27 @@ pub enum Owner {
 pub struct Place {
     pub owner: Owner,
     pub kind: LocKind,
+}
+
+// One more, where a location holds references.
+fn mems_here(place: Place) -> u16
+    ensures is { result ≡ mems_here (place_seen place) }
+    ensures few { result ≤ 1 }
+{
+    match place.kind {
+        LocKind::Mem => 1,
+        _ => 0,
+    }
+}
+
+/// How many of these locations hold references.
+pub(crate) fn mems_among(places: &[Place]) -> u16
+    requires few { length places.now ≤ 256 }
+    ensures { result ≡ mems_among (map place_seen places.now) }
+{
+    let mut count = 0;
+    for place in places {
+        count += mems_here(*place);
+    }
+    count
 }

@@ -1,12 +1,12 @@
 //! The shape of a sheet.
-ghost use Rattle.std.specs.Prelude.{◌≡◌, ◌≤◌, length, slice_get, slice_index_or, option_map, IfOk};
+ghost use Rattle.std.specs.Prelude.{◌≡◌, ◌≤◌, true, length, slice_get, slice_index_or, option_map, IfOk};
 ghost use Rattle.rc_play_model.specs.Shape.{team_at, face_at, holds_references};
 ghost use Rattle.rc_table.specs.Laid.{room_in};
 ghost use Rattle.rc_table.specs.Places.{place_seen};
-ghost use Rattle.rc_table.specs.Shape.{IsShape, shape_of_parts, face_numbers_of, face_or_none};
+ghost use Rattle.rc_table.specs.Shape.{IsShape, shape_of_parts, face_numbers_of, face_or_none, mems_among};
 
 use crate::faces::face_numbers_of;
-use crate::place::Place;
+use crate::place::{Place, mems_among};
 use rc_deck::{Face, Memory};
 use rc_names::LocKind;
 use std::alloc::Global;
@@ -33,6 +33,8 @@ pub struct Shape {
     // the number of each card's face
     face_numbers: Vec<u16>,
     home: Vec<u16>,
+    // how many locations hold references
+    mems: u16,
 }
 
 impl Model for Shape {
@@ -44,16 +46,19 @@ impl Model for Shape {
     ghost coded = { Prim.hlevel codes };
 
     ghost use Rattle.std.specs.Prelude.{◌≡◌};
-    ghost use Rattle.rc_table.specs.Shape.{IsShape, shape_of_parts, face_numbers_of};
+    ghost use Rattle.std.specs.Prelude.{map};
+    ghost use Rattle.rc_table.specs.Places.{place_seen};
+    ghost use Rattle.rc_table.specs.Shape.{IsShape, shape_of_parts, face_numbers_of, mems_among};
 
     ghost view = { λ s. shape_of_parts s.players s.team_of.items s.places.items s.numbers s.faces.items s.home.items };
 
     ghost invariant = { λ s. IsShape (shape_of_parts s.players s.team_of.items s.places.items s.numbers s.faces.items s.home.items)
-        × (s.face_numbers.items ≡ face_numbers_of s.faces.items) };
+        × (s.face_numbers.items ≡ face_numbers_of s.faces.items) × (s.mems ≡ mems_among (map place_seen s.places.items)) };
 }
 
 impl Shape {
-    /// A shape of these parts. It finds the number of each card's face, by which later calls tell faces.
+    /// A shape of these parts. It finds the number of each card's face, by which later calls tell faces, and how many locations hold
+    /// references.
     pub fn new(
         alloc: Global,
         players: u8,
@@ -67,6 +72,7 @@ impl Shape {
         ensures { IfOk result (λ shape. shape ≡ shape_of_parts players team_of.items places.items numbers faces.items home.items) }
     {
         let face_numbers = face_numbers_of(alloc, &faces)?;
+        let mems = mems_among(&places);
         Ok(Shape {
             players,
             team_of,
@@ -75,6 +81,7 @@ impl Shape {
             faces,
             face_numbers,
             home,
+            mems,
         })
     }
 
@@ -121,6 +128,15 @@ impl Shape {
                 ..
             })
         )
+    }
+
+    /// Whether the location is one of two at most that hold references.
+    #[inline(always)]
+    pub(crate) fn is_of_two(&self, loc: u16) -> bool
+        ensures holds { result ≡ true → holds_references (slice_get self.now.places loc) ≡ true }
+        ensures few { result ≡ true → mems_among self.now.places ≤ 2 }
+    {
+        self.mems <= 2 && self.holds_references(loc)
     }
 
     /// How many numbers there are.
