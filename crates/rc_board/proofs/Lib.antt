@@ -1,3 +1,4 @@
 pub mod UndoLemmas
 pub mod PastLemmas
 pub mod KeepsLemmas
+pub mod PiledLemmas

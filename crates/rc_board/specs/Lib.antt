@@ -3,3 +3,4 @@ pub mod Entry
 pub mod Past
 pub mod PastSeen
 pub mod Board
+pub mod Piled

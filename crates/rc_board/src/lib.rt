@@ -4,5 +4,6 @@
 mod board;
 mod entry;
 mod past;
+mod piling;
 
 pub use board::Board;

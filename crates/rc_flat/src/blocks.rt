@@ -21,7 +21,7 @@ ghost use Rattle.rc_code.specs.Serves.{IsSimple, AreSimple};
 ghost use Rattle.rc_board.specs.Undo.{Keeps};
 ghost use Rattle.rc_rules.specs.Dealer.{HasShuffled};
 
-use crate::everyone::{set_all, set_for_each};
+use crate::everyone::{gather_all, gather_for_each, set_all, set_for_each};
 use crate::scopes::one_more;
 use crate::simple::do_simple;
 use rc_ast::{CollExpr, Domain, IntExpr, Test};
@@ -266,7 +266,10 @@ fn for_each<D: Dealer>(
     match domain {
         Domain::Players => match set_for_each(context, inside) {
             Some(each) => set_all(context.about, each, board),
-            None => for_players(context, inside, board, frames, dealer),
+            None => match gather_for_each(context, inside) {
+                Some(each) => gather_all(context, each, board, &*frames),
+                None => for_players(context, inside, board, frames, dealer),
+            },
         },
         Domain::Coll(cards) => for_cards(context, cards, inside, board, frames, dealer),
         Domain::Parts(_, _) => unreachable!(),

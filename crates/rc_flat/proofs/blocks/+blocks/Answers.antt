@@ -1,20 +1,25 @@
-use Rattle.std.proofs.Common.{◌+◌, ◌*◌, ◌<◌, ◌++◌, ◌∷◌, [], length, drop, sym, ap, ◌∙◌, subst, arith}
+use Rattle.std.proofs.Common.{map, ◌+◌, ◌*◌, ◌<◌, ◌++◌, ◌∷◌, [], length, drop, sym, ap, ◌∙◌, subst, arith}
+use Rattle.std.specs.Prelude.{fold}
 use Rattle.std.proofs.lemmas.Grind.{common_steps}
 use Rattle.rc_model.specs.Numbers.{below}
 use Rattle.rc_sheet_model.specs.Sheet.{Sheet, for_each}
 use Rattle.rc_sheet_model.specs.WellFormed.{AreEffects}
-use Rattle.rc_play_model.specs.Value.{player_bound}
-use Rattle.rc_play_model.specs.Effects.{does, does_one}
+use Rattle.rc_play_model.specs.Value.{player_bound, loc_place}
+use Rattle.rc_play_model.specs.About.{scene_at}
+use Rattle.rc_play_model.specs.Effects.{with_table, if_some, does, does_one}
+use Rattle.rc_ast.specs.Names.{loc_seen}
 use Rattle.rc_ast.specs.Expressions.{domain_seen}
 use Rattle.rc_code.specs.Meaning.{effects_in, first_effects, passed_over}
 use Rattle.rc_code.specs.Seen.{instruction_seen, list_seen}
 use Rattle.rc_code.specs.Serves.{AreSimple}
 use Rattle.rc_code.proofs.MeaningLemmas.{are_first, does_first}
 use Rattle.rc_table.specs.Laid.{Laid}
+use Rattle.rc_rules.specs.Control.{frames_seen}
 use Rattle.rc_state.specs.Point.{point_of}
 use Rattle.rc_state.specs.Under.{AreEffectsUnder}
+use Rattle.rc_flat.specs.Everyone.{gather_for}
 use Rattle.rc_flat.proofs.EffectSteps.{one_player, no_player, once_more}
-use Rattle.rc_flat.proofs.EveryoneLemmas.{set_each}
+use Rattle.rc_flat.proofs.EveryoneLemmas.{gather_each, set_each}
 use Rattle.rc_board.proofs.KeepsLemmas.{keeps_then, on_ok}
 use Rattle.rc_flat.proofs.ShuffleLemmas.{shuffled_then}
 use Rattle.rc_flat.proofs.blocks.+blocks.Goals as goal
@@ -166,4 +171,25 @@ for_each-returns-in-Some-clause-does g t c =
     on_ok _ _ c.set_all.result c.set_all.ensures.leads (λ leads.
     ap (λ domain. does_one about dealing vars (for_each (domain_seen domain) c.args.bound effects) now) c.in-Players.is
     ∙ set_each about dealing vars c.in-Some.each.name c.in-Some.each.value effects (below about.sheet.players) now c.in-Some.ensures
+    ∙ ap (λ (laid : Laid). point_of laid frames state) (sym leads))
+
+pub for_each-returns-in-Some-gather_for_each-clause-does : goal.for_each-returns-in-Some-gather_for_each-clause-does
+for_each-returns-in-Some-gather_for_each-clause-does g t c =
+    let context = c.args.context.now in
+    let about = context.about.now in
+    let vars = context.scope.now in
+    let dealing = g.D.Dealer.dealing c.args.dealer.now in
+    let state = g.D.Dealer.state c.args.dealer.now in
+    let frames = c.args.frames.now.items in
+    let laid = c.args.board.now.laid in
+    let now = point_of laid frames state in
+    let effects = effects_in (list_seen c.args.inside.now) in
+    let each = c.in-Some-gather_for_each.each in
+    let are = c.in-Some-gather_for_each.ensures in
+    let place = loc_place (scene_at about laid.table (frames_seen frames)).known vars (loc_seen each.to.now) in
+    on_ok _ _ c.gather_all.result c.gather_all.ensures.leads (λ leads.
+    ap (λ domain. does_one about dealing vars (for_each (domain_seen domain) c.args.bound effects) now) c.in-Players.is
+    ∙ gather_each about dealing vars (loc_seen each.from.now) (loc_seen each.to.now) are.member are.apart effects (below about.sheet.players) now are.is
+    ∙ ap (λ shape. with_table now (if_some (λ to table. fold (gather_for about.sheet shape each.from.now.name to) table (map (λ n. player_bound n) (below about.sheet.players)))
+    place laid.table)) (sym c.requires.stands.0)
     ∙ ap (λ (laid : Laid). point_of laid frames state) (sym leads))

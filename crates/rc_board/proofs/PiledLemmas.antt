@@ -1,0 +1,63 @@
+-- References stay where they are, and cards go.
+use Rattle.std.proofs.Common.{◌≡◌, ℕ, zero, suc, ◌+◌, ◌<◌, ◌≤◌, true, false, List, [], ◌∷◌, length, take, drop, map, slice_get, All, inl, inr, refl, sym, ap, ◌∙◌, subst, arith}
+use Rattle.std.specs.Prelude.{fold, slice_index}
+use Rattle.std.proofs.lemmas.Bool.{cases_lt}
+use Rattle.std.proofs.lemmas.List.{get_or_past, length-map, take_all}
+use Rattle.std.proofs.lemmas.List.Elements.{All-from_recursion, All-get_or, recursion_from_All}
+use Rattle.rc_play_model.specs.Shape.{Shape, holds_references}
+use Rattle.rc_play_model.specs.Scene.{value_in}
+use Rattle.rc_play_model.specs.Table.{Table, IsSound, list_at, put_top}
+use Rattle.rc_play_model.specs.Value.{cut}
+use Rattle.rc_board.specs.Piled.{topped, piled}
+
+-- references stay
+noted_stay : (shape : Shape) (to loc n : ℕ) (t : Table) (ids : List ℕ) → topped shape to t (take n (map (value_in true loc) ids)) ≡ t
+noted_stay shape to loc zero t ids = refl
+noted_stay shape to loc (suc n) t [] = refl
+noted_stay shape to loc (suc n) t (id ∷ ids) = noted_stay shape to loc n t ids
+
+pub references_stay : (shape : Shape) (to from : ℕ) (t : Table) → holds_references (slice_get shape.places from) ≡ true →
+    piled shape to from t ≡ t
+references_stay shape to from t are =
+    ap (λ b. topped shape to t (cut (map (value_in b from) (list_at t from)))) are ∙ noted_stay shape to from 512 t (list_at t from)
+
+-- and cards go there
+held_go : (shape : Shape) (to loc : ℕ) (t : Table) (ids : List ℕ) →
+    topped shape to t (map (value_in false loc) ids) ≡ fold (λ table id. put_top shape id to table) t ids
+held_go shape to loc t [] = refl
+held_go shape to loc t (id ∷ ids) = held_go shape to loc (put_top shape id to t) ids
+
+pub cards_go : (shape : Shape) (to from : ℕ) (t : Table) → holds_references (slice_get shape.places from) ≡ false → length (list_at t from) ≤ 512 →
+    piled shape to from t ≡ fold (λ table id. put_top shape id to table) t (list_at t from)
+cards_go shape to from t are few =
+    let ids = list_at t from in
+    let long = length-map ids (value_in false from) in
+    ap (λ b. topped shape to t (cut (map (value_in b from) ids))) are
+    ∙ ap (topped shape to t) (take_all 512 (map (value_in false from) ids) (omega (arith, few, long)))
+    ∙ held_go shape to from t ids
+
+-- what stands in a location of a sound table are cards of the shape
+pub ids_there : (shape : Shape) (t : Table) (loc : ℕ) → IsSound shape t → All (λ id. id < length shape.faces) (list_at t loc)
+ids_there shape t loc sound = elim (cases_lt loc (length t.lists)) [
+  | inl within ↦ All-get_or (All (λ id. id < length shape.faces)) t.lists loc [] within sound.ids
+  | inr past ↦ subst (All (λ id. id < length shape.faces)) (sym (get_or_past t.lists loc [] past)) (All-from_recursion (λ id. id < length shape.faces) [] tt)
+]
+
+pub sole_there : (shape : Shape) (t : Table) (loc id : ℕ) → IsSound shape t → list_at t loc ≡ id ∷ [] → id < length shape.faces
+sole_there shape t loc id sound is =
+    (recursion_from_All (λ id. id < length shape.faces) (id ∷ []) (subst (All (λ id. id < length shape.faces)) is (ids_there shape t loc sound))).0
+
+-- one card more of those that go
+next_goes : (f : Table → ℕ → Table) (ids : List ℕ) (k : ℕ) (now mid last : Table) → k < length ids → f now (slice_index ids k) ≡ mid →
+    fold f now (drop k ids) ≡ last → fold f mid (drop (k + 1) ids) ≡ last
+next_goes f [] k now mid last lt one rest = absurd (omega (arith, lt))
+next_goes f (id ∷ ids) zero now mid last lt one rest = ap (λ t. fold f t ids) (sym one) ∙ rest
+next_goes f (id ∷ ids) (suc k) now mid last lt one rest =
+    let two : suc k + 1 ≡ suc (k + 1) = omega arith in
+    ap (λ m. fold f mid (drop m (id ∷ ids))) two ∙ next_goes f ids k now mid last (omega (arith, lt)) one rest
+
+pub one_goes : (shape shape' : Shape) (to : ℕ) (ids : List ℕ) (k : ℕ) (now mid last : Table) → k < length ids → shape' ≡ shape →
+    mid ≡ put_top shape' (slice_index ids k) to now → fold (λ table id. put_top shape id to table) now (drop k ids) ≡ last →
+    fold (λ table id. put_top shape id to table) mid (drop (k + 1) ids) ≡ last
+one_goes shape shape' to ids k now mid last lt same is rest =
+    next_goes (λ table id. put_top shape id to table) ids k now mid last lt (ap (λ s. put_top s (slice_index ids k) to now) (sym same) ∙ sym is) rest
