@@ -1,19 +1,15 @@
 //! Decisions: what a mover may pick, and what follows.
-ghost use Rattle.std.specs.Prelude.{◌≡◌, ℕ, ◌<◌, length, map, false, slice_get, Some, OnOk};
+ghost use Rattle.std.specs.Prelude.{◌≡◌, ℕ, ◌<◌, length, map, slice_get, slice_index_or, Some, OnOk};
 ghost use Rattle.rc_play_model.specs.Step.{goes};
 ghost use Rattle.rc_play_model.specs.Decision.{choose};
 ghost use Rattle.rc_ast.specs.Items.{alts_seen};
 ghost use Rattle.rc_rules.specs.Machine.{StandsAtDecision, menu_here};
-ghost use Rattle.rc_rules.specs.Menu.{item_seen};
-ghost use Rattle.rc_rules.specs.Control.{frames_seen};
-ghost use Rattle.rc_value.specs.Current.{IsCurrent};
 ghost use Rattle.rc_code.specs.Instruction.{offer};
 ghost use Rattle.rc_code.specs.Meaning.{block_in};
 ghost use Rattle.rc_code.specs.Seen.{block_seen, list_seen};
 ghost use Rattle.rc_board.specs.Undo.{Keeps};
 ghost use Rattle.rc_code.specs.Serves.{AreSimple, Serves};
-ghost use Rattle.rc_flat.specs.Flat.{IsInPlay, chosen_item};
-ghost use Rattle.rc_flat.specs.State.{IsReady, flat_of, config_at};
+ghost use Rattle.rc_flat.specs.State.{IsReady, config_at};
 ghost use Rattle.rc_rules.specs.Dealer.{HasShuffled};
 
 use crate::blocks::{behind, front, past};
@@ -23,11 +19,11 @@ use crate::there::choice_there;
 use rc_ast::Alt;
 use rc_code::{Block, Instruction};
 use rc_deck::Memory;
-use rc_rules::{About, Dealer, Item};
+use rc_rules::{About, Dealer, Item, Menu};
 use rc_state::count_decision;
 
 impl State {
-    /// Takes an item out of the menu of the decision that is next, and does its effects.
+    /// Takes an item of the menu of the decision that is next, and does its effects.
     #[tactic(auto, using(crate::proofs::ShuffleLemmas::not_shuffled))]
     pub fn apply<D: Dealer>(
         &mut self,
@@ -48,7 +44,7 @@ impl State {
         ensures dealing { D.dealing dealer.new ≡ D.dealing dealer.old }
     {
         let choice = choice_there(code, self.place.next());
-        self.take(
+        self.choose(
             about,
             code,
             choice.alts,
@@ -59,9 +55,9 @@ impl State {
         )
     }
 
-    /// Takes an item out of the menu at the choice that is next, and does its effects.
+    /// Takes an item of the menu at the choice that is next, and does its effects.
     #[tactic(auto, using(crate::proofs::ShuffleLemmas::not_shuffled))]
-    fn take<D: Dealer>(
+    fn choose<D: Dealer>(
         &mut self,
         about: &About,
         code: &[Instruction],
@@ -83,41 +79,10 @@ impl State {
         ensures shuffled { HasShuffled (D.dealing dealer.old) (D.state dealer.old) (D.state dealer.new) }
         ensures dealing { D.dealing dealer.new ≡ D.dealing dealer.old }
     {
-        let item = self.menu.swap_remove(item as usize);
-        self.choose(about, code, alts, blocks, inside, &item, dealer)
-    }
-
-    /// Takes this item of the menu at the choice that is next, and does its effects.
-    #[tactic(auto, using(crate::proofs::ShuffleLemmas::not_shuffled))]
-    fn choose<D: Dealer>(
-        &mut self,
-        about: &About,
-        code: &[Instruction],
-        alts: &[Alt],
-        blocks: &[Block],
-        inside: usize,
-        item: &Item,
-        dealer: &mut D,
-    ) -> Result<(), Memory>
-        requires serves { Serves about.now.sheet (list_seen code.now) }
-        requires laid { self.old.board.laid.shape ≡ about.now.shape }
-        requires current { IsCurrent about.now.sheet (frames_seen self.old.control.frames.items) self.old.current }
-        requires play { IsInPlay (flat_of about.now (list_seen code.now) self.old) }
-        requires round { self.old.place.at_round ≡ false }
-        requires here { (site : ℕ) × (slice_get (list_seen code.now) self.old.place.next ≡ Some (offer site (alts_seen alts.now) (map block_seen blocks.now) inside)) }
-        requires below { self.old.control.turn < about.now.turns }
-        requires offered { (x : ℕ) × (chosen_item (flat_of about.now (list_seen code.now) self.old) (alts_seen alts.now) x ≡ item_seen item.now) }
-        ensures leads { OnOk result ((x : ℕ) → chosen_item (flat_of about.now (list_seen code.now) self.old) (alts_seen alts.now) x ≡ item_seen item.now
-            → choose about.now (D.dealing dealer.old) (D.state dealer.old) x (config_at about.now (list_seen code.now) self.old)
-            ≡ goes (D.state dealer.new) (config_at about.now (list_seen code.now) self.new)) }
-        ensures ready { OnOk result (IsReady about.now (list_seen code.now) self.new) }
-        ensures keeps { Keeps self.old.board self.new.board }
-        ensures shuffled { HasShuffled (D.dealing dealer.old) (D.state dealer.old) (D.state dealer.new) }
-        ensures dealing { D.dealing dealer.new ≡ D.dealing dealer.old }
-    {
         let _turns = about.turns();
         let current = self.current;
         let next = self.place.next() + 1;
+        let item = item_at(&self.menu, item);
         let block = block_of(past(code, next), blocks, item.alt);
         match do_item(
             about,
@@ -136,6 +101,15 @@ impl State {
         self.place.go_to(behind(code, next, inside));
         Ok(())
     }
+}
+
+// The item at a place of a menu.
+#[inline(always)]
+fn item_at(menu: &Menu, place: u16) -> &Item
+    requires { place < length menu.now.items }
+    ensures { result.now ≡ slice_index_or menu.now.items place result.now }
+{
+    &menu.as_slice()[place as usize]
 }
 
 // The instructions of an alternative's effects, by its place.

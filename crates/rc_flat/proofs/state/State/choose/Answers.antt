@@ -1,4 +1,4 @@
-use Rattle.std.proofs.Common.{◌+◌, ◌≤◌, [], All, drop, map, ap, sym, ◌∙◌, subst, arith}
+use Rattle.std.proofs.Common.{◌+◌, ◌<◌, ◌≤◌, [], All, drop, map, ap, sym, ◌∙◌, subst, arith}
 use Rattle.rc_play_model.specs.About.{scene_at}
 use Rattle.rc_play_model.specs.Menu.{Item, alt_in, effects_of, bindings_of}
 use Rattle.rc_play_model.specs.Effects.{does}
@@ -11,28 +11,38 @@ use Rattle.rc_play_model.specs.Control.{Control}
 use Rattle.rc_flat.specs.Places.{went_to, IsPlace}
 use Rattle.rc_flat.proofs.PlayLemmas.{one_decision_counts}
 use Rattle.rc_flat.proofs.PlaceLemmas.{goes_on_behind, went_place}
+use Rattle.rc_flat.proofs.KeptLemmas.{so_many, item_kept, stands_here}
 use Rattle.rc_state.specs.Point.{point_of}
 use Rattle.rc_flat.specs.Flat.{config_of}
 use Rattle.rc_flat.specs.State.{flat_of}
 use Rattle.rc_flat.proofs.StepCases.{moved, choose_leads}
 use Rattle.rc_flat.proofs.state.State.choose.Goals as goal
 
+pub item_at-item-requires : goal.item_at-item-requires
+item_at-item-requires g c =
+    subst (λ n. c.args.item < n) (sym (so_many c.args.about.now (list_seen c.args.code.now) c.args.self.now c.requires.ready c.requires.decision)) c.requires.offered
+
 pub returns-clause-leads : goal.returns-clause-leads
 returns-clause-leads g c =
     let about = c.args.about.now in
-    let m = flat_of about (list_seen c.args.code.now) c.args.self.now in
+    let code = list_seen c.args.code.now in
+    let m = flat_of about code c.args.self.now in
     let alts = alts_seen c.args.alts.now in
+    let blocks = map block_seen c.args.blocks.now in
+    let here = c.requires.here in
     let dealing = g.D.Dealer.dealing c.args.dealer.now in
     let k = g.D.Dealer.state c.args.dealer.now in
     let seat = c.args.self.now.current.player in
     let before = point_of c.args.self.now.board.laid c.args.self.now.control.frames.items k in
     let after = point_of c.do_item.new.board.laid c.do_item.new.frames.items (g.D.Dealer.state c.do_item.new.dealer) in
     let scene = scene_at about m.table m.control.frames in
-    λ x chosen.
-    choose_leads m dealing k c.requires.here.0 alts (map block_seen c.args.blocks.now) c.args.inside c.requires.round c.requires.here.1
-    x seat c.behind.result after (c.behind.ensures ∙ ap (λ n. drop (n + 1 + c.args.inside) m.code) c.next-next.ensures)
+    let chosen = item_kept about code c.args.self.now c.requires.ready c.requires.decision here.0 alts blocks c.args.inside here.1
+    c.args.item c.requires.offered c.item_at-item.result.now c.item_at-item.ensures in
+    choose_leads m dealing k here.0 alts blocks c.args.inside
+    (stands_here about code c.args.self.now c.requires.ready c.requires.decision) here.1
+    c.args.item seat c.behind.result after (c.behind.ensures ∙ ap (λ n. drop (n + 1 + c.args.inside) m.code) c.next-next.ensures)
     (ap (λ (i : Item). does about dealing (bindings_of scene [] (alt_in alts i.alt) i.spots) (effects_of (alt_in alts i.alt)) before) chosen
-    ∙ c.in-Ok.ensures.does) c.requires.current.0
+    ∙ c.in-Ok.ensures.does) c.requires.ready.current.0
     ∙ ap (λ control. goes after.dealer (config_of (moved m (went_to c.behind.result m.place) after.table control))) (sym c.count_decision.ensures)
     ∙ ap (λ path. goes after.dealer (config_of (moved m path after.table (control_seen c.count_decision.new.control)))) (sym c.go_to.ensures)
 
@@ -40,17 +50,17 @@ pub returns-clause-ready : goal.returns-clause-ready
 returns-clause-ready g c =
     let about = c.args.about.now in
     let m = flat_of about (list_seen c.args.code.now) c.args.self.now in
-    let play = c.requires.play in
-    let below = c.requires.below in
+    let play = c.requires.ready.play in
+    let below = c.requires.decision.2.decision.below in
     record {
-      laid = c.in-Ok.ensures.keeps.shape ∙ c.requires.laid;
+      laid = c.in-Ok.ensures.keeps.shape ∙ c.requires.ready.laid;
       play = goes_on_behind m play c.go_to.new.self c.do_item.new.board.laid.table (control_seen c.count_decision.new.control)
-          (g.D.Dealer.dealing c.args.dealer.now) c.requires.offered.0 (g.D.Dealer.state c.args.dealer.now) (g.D.Dealer.state c.do_item.new.dealer)
+          (g.D.Dealer.dealing c.args.dealer.now) c.args.item (g.D.Dealer.state c.args.dealer.now) (g.D.Dealer.state c.do_item.new.dealer)
           (subst (IsPlace m.code) (sym c.go_to.ensures) (went_place m play c.behind.result))
           (subst (λ (control : Control). control.turn ≤ about.turns) (sym c.count_decision.ensures) (omega (arith, below)))
           (subst (λ (control : Control). All (λ n. n ≤ control.turn) control.made) (sym c.count_decision.ensures)
           (one_decision_counts m.control.turn c.args.self.now.current.player m.control.made play.counts))
-          (returns-clause-leads g c c.requires.offered.0 c.requires.offered.1);
+          (returns-clause-leads g c);
       current = subst (λ (control : Control). IsCurrent about.sheet control.frames c.args.self.now.current) (sym c.count_decision.ensures) c.in-Ok.ensures.current;
       kept = λ site is. absurd (let none = ap (λ (control : Control). control.site) c.count_decision.ensures in cc);
     }
