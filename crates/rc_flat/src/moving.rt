@@ -1,8 +1,8 @@
 //! Cards that go somewhere else.
-ghost use Rattle.std.specs.Prelude.{◌≡◌, ◌<◌, length, fold, All, OnOk};
+ghost use Rattle.std.specs.Prelude.{◌≡◌, fold, All, OnOk};
 ghost use Rattle.rc_sheet_model.specs.Sheet.{move, move_all as move_all_of};
 ghost use Rattle.rc_play_model.specs.Bound.{HoldsCards, IsCardOf};
-ghost use Rattle.rc_play_model.specs.Effects.{move_card, put as put_of};
+ghost use Rattle.rc_play_model.specs.Effects.{move_card};
 ghost use Rattle.rc_play_model.specs.Value.{coll_value};
 ghost use Rattle.rc_ast.specs.Names.{loc_seen};
 ghost use Rattle.rc_ast.specs.Expressions.{card_seen, coll_seen};
@@ -138,20 +138,10 @@ fn put(board: &mut Board, card: Card, end: End, at: u16) -> Result<(), Memory>
     ensures keeps { Keeps board.old board.new }
 {
     match card {
-        Card::Held(id) => put_card(board, id, end, at),
+        Card::Held(id) => match end {
+            End::Top => board.put_top(id, at),
+            End::Bottom => board.put_bottom(id, at),
+        },
         Card::Noted { .. } => Ok(()),
-    }
-}
-
-#[inline(always)]
-fn put_card(board: &mut Board, id: u16, end: End, at: u16) -> Result<(), Memory>
-    requires card { id < length board.old.laid.shape.faces }
-    requires holds { HoldsCards board.old.laid.shape at }
-    ensures leads { OnOk result (board.new.laid ≡ relaid board.old.laid (put_of board.old.laid.shape (end_seen end) id at board.old.laid.table)) }
-    ensures keeps { Keeps board.old board.new }
-{
-    match end {
-        End::Top => board.put_top(id, at),
-        End::Bottom => board.put_bottom(id, at),
     }
 }
