@@ -34,7 +34,7 @@ pub(crate) struct Suited {
 }
 
 /// What a test asks of the player that the innermost variable is to stand for, if it is such a comparison.
-#[inline(never)]
+#[inline(always)]
 pub(crate) fn suited_of(scene: &Scene, scope: &Bindings, test: &Test) -> Option<Suited>
     ensures { IfSome result (IsSuited (scene_seen scene.now) scope.now (test_seen test.now)) }
 {

@@ -131,6 +131,7 @@ fn offer_built(
 }
 
 #[cycle(menu)]
+#[inline(always)]
 fn offer_cards(
     scene: &Scene,
     scope: &Bindings,
