@@ -165,7 +165,7 @@ module _ (all_rows : List Row) (ids : Vec ℕ Global) (now : Lists) (view : rows
 
   module _ (held : Row) (is : held ≡ get_or all_rows at held) where
     pub lies : IsWithin held 0 (length ids.items)
-    lies = subst (λ row. IsWithin row 0 (length ids.items)) (sym is) (row_within all_rows 0 (length ids.items) are at held within)
+    lies = subst (λ held_row. IsWithin held_row 0 (length ids.items)) (sym is) (row_within all_rows 0 (length ids.items) are at held within)
 
     pub list_is : get_or now.all at [] ≡ list_in ids.items held
     list_is = sym (ap (λ (lists : Lists). get_or lists.all at []) view) ∙ list_of_row all_rows ids.items at held within ∙ ap (list_in ids.items) (sym is)
