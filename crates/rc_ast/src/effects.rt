@@ -14,7 +14,6 @@ pub enum End {
 }
 
 /// An effect. `Each` runs over players or cards; the number beside the domain is that of its variable's word.
-#[derive(Drop)]
 pub enum Effect {
     Move(CardExpr, End, Loc),
     MoveAll(CollExpr, End, Loc),
@@ -29,6 +28,27 @@ pub enum Effect {
     Each(Domain, u32, Vec<Effect>),
     Next(Who),
     Reverse,
+}
+
+// A derived drop is proved again in each crate that may drop a sheet, and this one once.
+impl Drop for Effect {
+    fn drop(self) {
+        match self {
+            Effect::Move(_card, _, _) => {}
+            Effect::MoveAll(_cards, _, _) => {}
+            Effect::Remember(_card, _, _) => {}
+            Effect::Forget(_card) => {}
+            Effect::Shuffle(_) => {}
+            Effect::Set(_, _value) => {}
+            Effect::Inc(_, _value) => {}
+            Effect::Dec(_, _value) => {}
+            Effect::If(_test, _effects) => {}
+            Effect::Repeat(_count, _effects) => {}
+            Effect::Each(_domain, _, _effects) => {}
+            Effect::Next(_) => {}
+            Effect::Reverse => {}
+        }
+    }
 }
 
 impl Effect {

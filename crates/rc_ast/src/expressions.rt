@@ -31,7 +31,6 @@ pub struct Num {
 
 /// A card, or nothing. `Max` and `Min` go by the points of a map.
 #[cycle(expressions)]
-#[derive(Drop)]
 pub enum CardExpr {
     Var(u8),
     Top(Box<CollExpr>),
@@ -42,7 +41,6 @@ pub enum CardExpr {
 
 /// A list of cards. The number beside a binder is that of its variable's word.
 #[cycle(expressions)]
-#[derive(Drop)]
 pub enum CollExpr {
     Var(u8),
     Loc(Loc),
@@ -52,7 +50,6 @@ pub enum CollExpr {
 
 /// A number.
 #[cycle(expressions)]
-#[derive(Drop)]
 pub enum IntExpr {
     Lit(i64),
     Num(Num),
@@ -66,7 +63,6 @@ pub enum IntExpr {
 
 /// A test. `All` and `Any` run over players or cards. `Ne` holds one of the four tests for equality.
 #[cycle(expressions)]
-#[derive(Drop)]
 pub enum Test {
     EqInt(Box<IntExpr>, Box<IntExpr>),
     EqCard(Box<CardExpr>, Box<CardExpr>),
@@ -87,11 +83,87 @@ pub enum Test {
 
 /// What a variable runs over: the players, the cards of a list, or the groups of its cards with equal values.
 #[cycle(expressions)]
-#[derive(Drop)]
 pub enum Domain {
     Players,
     Coll(CollExpr),
     Parts(CollExpr, u16),
+}
+
+// A derived drop is proved again in each crate that may drop a sheet, and these once.
+
+impl Drop for CardExpr {
+    #[cycle(drops)]
+    fn drop(self) {
+        match self {
+            CardExpr::Var(_) => {}
+            CardExpr::Top(_cards) => {}
+            CardExpr::Bottom(_cards) => {}
+            CardExpr::Max(_cards, _) => {}
+            CardExpr::Min(_cards, _) => {}
+        }
+    }
+}
+
+impl Drop for CollExpr {
+    #[cycle(drops)]
+    fn drop(self) {
+        match self {
+            CollExpr::Var(_) => {}
+            CollExpr::Loc(_) => {}
+            CollExpr::Filter(_cards, _, _test) => {}
+            CollExpr::Union(_parts) => {}
+        }
+    }
+}
+
+impl Drop for IntExpr {
+    #[cycle(drops)]
+    fn drop(self) {
+        match self {
+            IntExpr::Lit(_) => {}
+            IntExpr::Num(_) => {}
+            IntExpr::Size(_cards) => {}
+            IntExpr::Sum(_cards, _) => {}
+            IntExpr::Points(_card, _) => {}
+            IntExpr::Add(_one, _other) => {}
+            IntExpr::Sub(_one, _other) => {}
+            IntExpr::Mul(_one, _other) => {}
+        }
+    }
+}
+
+impl Drop for Test {
+    #[cycle(drops)]
+    fn drop(self) {
+        match self {
+            Test::EqInt(_one, _other) => {}
+            Test::EqCard(_one, _other) => {}
+            Test::EqAttr(_one, _, _other, _) => {}
+            Test::EqWho(_, _) => {}
+            Test::Ne(_test) => {}
+            Test::Less(_one, _other) => {}
+            Test::LessEq(_one, _other) => {}
+            Test::More(_one, _other) => {}
+            Test::MoreEq(_one, _other) => {}
+            Test::Is(_card, _, _) => {}
+            Test::And(_tests) => {}
+            Test::Or(_tests) => {}
+            Test::Not(_test) => {}
+            Test::All(_domain, _, _test) => {}
+            Test::Any(_domain, _, _test) => {}
+        }
+    }
+}
+
+impl Drop for Domain {
+    #[cycle(drops)]
+    fn drop(self) {
+        match self {
+            Domain::Players => {}
+            Domain::Coll(_cards) => {}
+            Domain::Parts(_cards, _) => {}
+        }
+    }
 }
 
 impl CollExpr {

@@ -7,7 +7,6 @@ ghost use Rattle.rc_ast.specs.Items.{item_seen, items_seen};
 use crate::{Class, Domain, Effect, Test};
 
 /// An alternative of a choice.
-#[derive(Drop)]
 pub enum Alt {
     Do(Vec<Effect>),
     If(Box<Test>, Vec<Effect>),
@@ -15,7 +14,6 @@ pub enum Alt {
 }
 
 /// A part of a game. Stages and choice sites are numbered in the order of the text.
-#[derive(Drop)]
 pub enum SheetItem {
     Do(Vec<Effect>),
     Stage {
@@ -28,6 +26,36 @@ pub enum SheetItem {
         site: u8,
         alts: Vec<Alt>,
     },
+}
+
+// A derived drop is proved again in each crate that may drop a sheet, and these once.
+
+impl Drop for Alt {
+    fn drop(self) {
+        match self {
+            Alt::Do(_effects) => {}
+            Alt::If(_test, _effects) => {}
+            Alt::Any(_domain, _, _alt) => {}
+        }
+    }
+}
+
+impl Drop for SheetItem {
+    fn drop(self) {
+        match self {
+            SheetItem::Do(_effects) => {}
+            SheetItem::Stage {
+                number: _,
+                class: _,
+                end: _end,
+                body: _body,
+            } => {}
+            SheetItem::Choice {
+                site: _,
+                alts: _alts,
+            } => {}
+        }
+    }
 }
 
 impl SheetItem {

@@ -3,7 +3,7 @@
 use rc_names::{Class, LocKind, Word};
 
 /// The words of a sheet, each of which is numbered by its place in its list.
-#[derive(Debug, Drop)]
+#[derive(Debug)]
 pub struct Names {
     pub attrs: Vec<Word>,
     pub values: Vec<Word>,
@@ -11,6 +11,20 @@ pub struct Names {
     pub locs: Vec<Word>,
     pub nums: Vec<Word>,
     pub vars: Vec<Word>,
+}
+
+// A derived drop is proved again in each crate that may drop a sheet, and this one once.
+impl Drop for Names {
+    fn drop(self) {
+        let Names {
+            attrs: _attrs,
+            values: _values,
+            maps: _maps,
+            locs: _locs,
+            nums: _nums,
+            vars: _vars,
+        } = self;
+    }
 }
 
 /// The locations of one name.

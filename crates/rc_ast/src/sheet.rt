@@ -25,7 +25,6 @@ pub struct DeckLine {
 }
 
 /// A game's sheet. Without teams each player is one alone.
-#[derive(Drop)]
 pub struct Sheet {
     pub players: u8,
     pub teams: Option<Teams>,
@@ -37,6 +36,24 @@ pub struct Sheet {
     pub items: Vec<SheetItem>,
     pub best: Best,
     pub score: IntExpr,
+}
+
+// A derived drop is proved again in each crate that may drop a sheet, and this one once.
+impl Drop for Sheet {
+    fn drop(self) {
+        let Sheet {
+            players: _,
+            teams: _teams,
+            names: _names,
+            decks: _decks,
+            points: _points,
+            locs: _locs,
+            nums: _nums,
+            items: _items,
+            best: _,
+            score: _score,
+        } = self;
+    }
 }
 
 /// Only the number of players stands there: a whole sheet is printed by `rc_print`.
