@@ -42,13 +42,25 @@ fn place_at(ranges: &[Range], name: u16, wanted: Class, owner: u8) -> Option<u16
 
 /// For each name of a location or number its places, for each stage its class, for each attribute the value of each card, and for
 /// each point map what each card is worth.
-#[derive(Drop)]
 pub struct Lookup {
     pub(crate) locs: Vec<Range>,
     pub(crate) nums: Vec<Range>,
     pub(crate) stages: Vec<Class>,
     pub(crate) values: Vec<Vec<Option<u16>>>,
     pub(crate) worths: Vec<Vec<i64>>,
+}
+
+// A derived drop is proved again in each crate that may drop an about, and this one once.
+impl Drop for Lookup {
+    fn drop(self) {
+        let Lookup {
+            locs: _locs,
+            nums: _nums,
+            stages: _stages,
+            values: _values,
+            worths: _worths,
+        } = self;
+    }
 }
 
 impl Lookup {

@@ -6,7 +6,7 @@ use rc_deck::Memory;
 use std::alloc::Global;
 
 /// How a seat chooses among the items of a menu.
-#[derive(Debug, Drop)]
+#[derive(Debug)]
 pub enum Strategy {
     /// The number for each of the seat's decisions in turn, modulo the size of the menu; behind the last number it is 0.
     Script(Vec<u16>),
@@ -24,11 +24,33 @@ pub struct Deal {
 }
 
 /// A strategy for each player, one match or more, and the most turns of a match.
-#[derive(Debug, Drop)]
+#[derive(Debug)]
 pub struct Plan {
     pub strategies: Vec<Strategy>,
     pub matches: Vec<Deal>,
     pub turns: u32,
+}
+
+// A derived drop is proved again in each crate that may drop a plan, and these once.
+
+impl Drop for Strategy {
+    fn drop(self) {
+        match self {
+            Strategy::Script(_numbers) => {}
+            Strategy::Random { key: _ } => {}
+            Strategy::Rollout { rounds: _, key: _ } => {}
+        }
+    }
+}
+
+impl Drop for Plan {
+    fn drop(self) {
+        let Plan {
+            strategies: _strategies,
+            matches: _matches,
+            turns: _,
+        } = self;
+    }
 }
 
 impl Strategy {
