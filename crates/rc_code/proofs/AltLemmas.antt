@@ -1,19 +1,13 @@
 -- The code of alternatives, one after the other.
 use Rattle.std.proofs.Common.{◌≡◌, ℕ, ◌+◌, ◌-◌, ◌<◌, ◌≤◌, List, [], ◌∷◌, ◌++◌, length, get_or, drop, map, refl, sym, ap, ap₂, ◌∙◌, arith, append_assoc}
-use Rattle.std.proofs.lemmas.List.{length-map, length-append, drop_more}
+use Rattle.std.proofs.lemmas.List.{drop_more}
 use Rattle.rc_play_model.specs.Menu.{effects_of}
 use Rattle.rc_ast.specs.declared.items.Alt.{Alt}
 use Rattle.rc_ast.specs.Items.{alt_seen, alts_seen}
 use Rattle.rc_code.specs.Instruction.{Block as PureBlock, Instruction as PureInstruction}
 use Rattle.rc_code.specs.declared.code.Block.{Block}
-use Rattle.rc_code.specs.declared.code.Instruction.{Instruction}
 use Rattle.rc_code.specs.Compiled.{effects_code, alts_code, blocks_from}
-use Rattle.rc_code.specs.Seen.{block_seen, instruction_seen, list_seen}
-
-pub grown : (old new : List Instruction) (code : List PureInstruction) → list_seen new ≡ list_seen old ++ code → length new ≡ length old + length code
-grown old new code is =
-    sym (length-map new instruction_seen) ∙ ap length is ∙ length-append (list_seen old) code
-    ∙ ap (λ n. n + length code) (length-map old instruction_seen)
+use Rattle.rc_code.specs.Seen.{block_seen}
 
 pub block_more : (blocks : List Block) (block : Block) → map block_seen (blocks ++ block ∷ []) ≡ map block_seen blocks ++ block_seen block ∷ []
 block_more [] block = refl

@@ -3,7 +3,7 @@ ghost use Rattle.std.specs.Prelude.{◌≡◌, map, IfOk};
 ghost use Rattle.rc_ast.specs.Effects.{effect_seen};
 ghost use Rattle.rc_ast.specs.Items.{alt_seen};
 
-use crate::copies::{copy_card, copy_coll, copy_domain, copy_int, copy_test};
+use crate::copies::{boxed_test, copy_card, copy_coll, copy_domain, copy_int, copy_test};
 use rc_ast::{Alt, Effect};
 use rc_deck::Memory;
 use std::alloc::Global;
@@ -67,20 +67,27 @@ pub(crate) fn copy_alts(alloc: Global, alts: &Vec<Alt>) -> Result<Vec<Alt>, Memo
     Ok(copies)
 }
 
+#[cycle(alts)]
 fn copy_alt(alloc: Global, alt: &Alt) -> Result<Alt, Memory>
     ensures { IfOk result (λ copy. alt_seen copy ≡ alt_seen alt.now) }
 {
     match alt {
         Alt::Do(effects) => Ok(Alt::Do(copy_effects(alloc, effects)?)),
         Alt::If(test, effects) => {
-            let effects = copy_effects(alloc, effects)?;
-            let test = copy_test(alloc, test)?;
-            Ok(Alt::If(Box::new(alloc, test)?, effects))
+            let test = boxed_test(alloc, test)?;
+            Ok(Alt::If(test, copy_effects(alloc, effects)?))
         }
         Alt::Any(domain, bound, inner) => {
-            let inner = copy_alt(alloc, inner)?;
-            let inner = Box::new(alloc, inner)?;
+            let inner = boxed_alt(alloc, inner)?;
             Ok(Alt::Any(copy_domain(alloc, domain)?, *bound, inner))
         }
     }
+}
+
+#[cycle(alts)]
+fn boxed_alt(alloc: Global, alt: &Alt) -> Result<Box<Alt>, Memory>
+    ensures { IfOk result (λ copy. alt_seen copy.value ≡ alt_seen alt.now) }
+{
+    let copy = copy_alt(alloc, alt)?;
+    Ok(Box::new(alloc, copy)?)
 }

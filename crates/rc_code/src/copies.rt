@@ -123,8 +123,9 @@ pub(crate) fn copy_test(alloc: Global, test: &Test) -> Result<Test, Memory>
     }
 }
 
+/// The same test once more, in a box.
 #[cycle(copies)]
-fn boxed_test(alloc: Global, test: &Test) -> Result<Box<Test>, Memory>
+pub(crate) fn boxed_test(alloc: Global, test: &Test) -> Result<Box<Test>, Memory>
     ensures { IfOk result (λ copy. test_seen copy.value ≡ test_seen test.now) }
 {
     let copy = copy_test(alloc, test)?;

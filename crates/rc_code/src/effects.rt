@@ -3,7 +3,7 @@ ghost use Rattle.std.specs.Prelude.{◌≡◌, ◌<◌, ◌++◌, ◌∷◌, [],
 ghost use Rattle.rc_sheet_model.specs.Sheet.{when, repeat as repeat_of, for_each as for_each_of};
 ghost use Rattle.rc_ast.specs.Expressions.{int_seen, test_seen, domain_seen};
 ghost use Rattle.rc_ast.specs.Effects.{effect_seen, effects_seen};
-ghost use Rattle.rc_code.specs.Instruction.{simple};
+ghost use Rattle.rc_code.specs.Instruction.{simple, end_body};
 ghost use Rattle.rc_code.specs.Compiled.{effect_code, effects_code};
 ghost use Rattle.rc_code.specs.Seen.{instruction_seen, list_seen};
 
@@ -84,6 +84,27 @@ fn push_simple(alloc: Global, effect: &Effect, list: &mut Vec<Instruction>) -> R
     }
 }
 
+// Holds the place of an instruction, puts the code of the effects inside it behind that, and says how long this is.
+#[cycle(compiling)]
+pub(crate) fn push_inside(
+    alloc: Global,
+    effects: &Vec<Effect>,
+    list: &mut Vec<Instruction>,
+) -> Result<usize, Memory>
+    ensures code { OnOk result (list_seen list.new.items ≡ list_seen list.old.items ++ end_body ∷ effects_code (effects_seen effects.now.items)) }
+    ensures inside { IfOk result (λ inside. inside ≡ length (effects_code (effects_seen effects.now.items))) }
+{
+    match push(list, Instruction::End) {
+        Ok(()) => {}
+        Err(Memory) => return Err(Memory),
+    }
+    let from = list.len();
+    match push_effects(alloc, effects, list) {
+        Ok(()) => Ok(list.len() - from),
+        Err(Memory) => Err(Memory),
+    }
+}
+
 #[cycle(compiling)]
 fn push_if(
     alloc: Global,
@@ -93,22 +114,18 @@ fn push_if(
 ) -> Result<(), Memory>
     ensures { OnOk result (list_seen list.new.items ≡ list_seen list.old.items ++ effect_code (when (test_seen test.now) (effects_seen effects.now.items))) }
 {
-    let test = match copy_test(alloc, test) {
-        Ok(test) => test,
+    let at = list.len();
+    let inside = match push_inside(alloc, effects, list) {
+        Ok(inside) => inside,
         Err(Memory) => return Err(Memory),
     };
-    let at = list.len();
-    match push(list, Instruction::End) {
-        Ok(()) => {}
-        Err(Memory) => return Err(Memory),
+    match copy_test(alloc, test) {
+        Ok(test) => {
+            write(list, at, Instruction::If(test, inside));
+            Ok(())
+        }
+        Err(Memory) => Err(Memory),
     }
-    match push_effects(alloc, effects, list) {
-        Ok(()) => {}
-        Err(Memory) => return Err(Memory),
-    }
-    let inside = list.len() - at - 1;
-    write(list, at, Instruction::If(test, inside));
-    Ok(())
 }
 
 #[cycle(compiling)]
@@ -120,22 +137,18 @@ fn push_repeat(
 ) -> Result<(), Memory>
     ensures { OnOk result (list_seen list.new.items ≡ list_seen list.old.items ++ effect_code (repeat_of (int_seen count.now) (effects_seen effects.now.items))) }
 {
-    let count = match copy_int(alloc, count) {
-        Ok(count) => count,
+    let at = list.len();
+    let inside = match push_inside(alloc, effects, list) {
+        Ok(inside) => inside,
         Err(Memory) => return Err(Memory),
     };
-    let at = list.len();
-    match push(list, Instruction::End) {
-        Ok(()) => {}
-        Err(Memory) => return Err(Memory),
+    match copy_int(alloc, count) {
+        Ok(count) => {
+            write(list, at, Instruction::Repeat(count, inside));
+            Ok(())
+        }
+        Err(Memory) => Err(Memory),
     }
-    match push_effects(alloc, effects, list) {
-        Ok(()) => {}
-        Err(Memory) => return Err(Memory),
-    }
-    let inside = list.len() - at - 1;
-    write(list, at, Instruction::Repeat(count, inside));
-    Ok(())
 }
 
 #[cycle(compiling)]
@@ -148,20 +161,16 @@ fn push_each(
 ) -> Result<(), Memory>
     ensures { OnOk result (list_seen list.new.items ≡ list_seen list.old.items ++ effect_code (for_each_of (domain_seen domain.now) bound (effects_seen effects.now.items))) }
 {
-    let domain = match copy_domain(alloc, domain) {
-        Ok(domain) => domain,
+    let at = list.len();
+    let inside = match push_inside(alloc, effects, list) {
+        Ok(inside) => inside,
         Err(Memory) => return Err(Memory),
     };
-    let at = list.len();
-    match push(list, Instruction::End) {
-        Ok(()) => {}
-        Err(Memory) => return Err(Memory),
+    match copy_domain(alloc, domain) {
+        Ok(domain) => {
+            write(list, at, Instruction::Each(domain, bound, inside));
+            Ok(())
+        }
+        Err(Memory) => Err(Memory),
     }
-    match push_effects(alloc, effects, list) {
-        Ok(()) => {}
-        Err(Memory) => return Err(Memory),
-    }
-    let inside = list.len() - at - 1;
-    write(list, at, Instruction::Each(domain, bound, inside));
-    Ok(())
 }

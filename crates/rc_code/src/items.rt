@@ -1,17 +1,18 @@
 //! Code of items, and the places of the choices in it.
-ghost use Rattle.std.specs.Prelude.{◌≡◌, ◌≤◌, ◌<◌, ◌+◌, ◌-◌, [], ◌∷◌, ◌++◌, length, map, OnOk};
+ghost use Rattle.std.specs.Prelude.{◌≡◌, ◌≤◌, ◌<◌, ◌+◌, ◌-◌, [], ◌∷◌, ◌++◌, length, map, OnOk, IfOk};
 ghost use Rattle.rc_sheet_model.specs.Sheet.{do_item, stage as stage_of, choice as choice_of};
 ghost use Rattle.rc_play_model.specs.Menu.{effects_of};
 ghost use Rattle.rc_ast.specs.Expressions.{test_seen};
 ghost use Rattle.rc_ast.specs.Effects.{effects_seen};
 ghost use Rattle.rc_ast.specs.Items.{alt_seen, alts_seen, item_seen, items_seen};
+ghost use Rattle.rc_code.specs.Instruction.{end_body};
 ghost use Rattle.rc_code.specs.Compiled.{effects_code, alts_code, blocks_from, item_code, items_code, item_sites, items_sites};
 ghost use Rattle.rc_code.specs.Seen.{block_seen, list_seen, place_seen};
 
 use crate::code::{Block, Instruction, SitePlace};
 use crate::copied_effects::copy_alts;
 use crate::copies::copy_test;
-use crate::effects::{push, push_effects, write};
+use crate::effects::{push, push_effects, push_inside, write};
 use rc_ast::{Alt, Class, Effect, SheetItem, Test};
 use rc_deck::Memory;
 use std::alloc::Global;
@@ -67,17 +68,13 @@ fn push_do(alloc: Global, effects: &Vec<Effect>, list: &mut Vec<Instruction>) ->
     ensures { OnOk result (list_seen list.new.items ≡ list_seen list.old.items ++ item_code (do_item (effects_seen effects.now.items))) }
 {
     let at = list.len();
-    match push(list, Instruction::End) {
-        Ok(()) => {}
-        Err(Memory) => return Err(Memory),
+    match push_inside(alloc, effects, list) {
+        Ok(inside) => {
+            write(list, at, Instruction::Do(inside));
+            Ok(())
+        }
+        Err(Memory) => Err(Memory),
     }
-    match push_effects(alloc, effects, list) {
-        Ok(()) => {}
-        Err(Memory) => return Err(Memory),
-    }
-    let inside = list.len() - at - 1;
-    write(list, at, Instruction::Do(inside));
-    Ok(())
 }
 
 #[cycle(items)]
@@ -95,15 +92,48 @@ fn push_stage(
     ensures places { OnOk result (map place_seen sites.new.items ≡ map place_seen sites.old.items ++ items_sites (outer.old.items ++ length list.old.items ∷ []) (length list.old.items + 1) (items_seen body.now.items)) }
     ensures outer { OnOk result (outer.new.items ≡ outer.old.items) }
 {
-    let end = match copy_test(alloc, end) {
-        Ok(end) => end,
+    let at = list.len();
+    let inside = match push_inside_stage(alloc, body, list, outer, sites) {
+        Ok(inside) => inside,
         Err(Memory) => return Err(Memory),
     };
-    let at = list.len();
+    match copy_test(alloc, end) {
+        Ok(end) => {
+            write(
+                list,
+                at,
+                Instruction::Stage {
+                    number,
+                    class,
+                    end,
+                    inside,
+                },
+            );
+            Ok(())
+        }
+        Err(Memory) => Err(Memory),
+    }
+}
+
+// Holds the place of a stage, puts the code of its body and the body's end behind that, and says how long these are.
+#[cycle(items)]
+fn push_inside_stage(
+    alloc: Global,
+    body: &Vec<SheetItem>,
+    list: &mut Vec<Instruction>,
+    outer: &mut Vec<usize>,
+    sites: &mut Vec<SitePlace>,
+) -> Result<usize, Memory>
+    ensures code { OnOk result (list_seen list.new.items ≡ list_seen list.old.items ++ end_body ∷ (items_code (items_seen body.now.items) ++ end_body ∷ [])) }
+    ensures inside { IfOk result (λ inside. inside ≡ length (items_code (items_seen body.now.items)) + 1) }
+    ensures places { OnOk result (map place_seen sites.new.items ≡ map place_seen sites.old.items ++ items_sites (outer.old.items ++ length list.old.items ∷ []) (length list.old.items + 1) (items_seen body.now.items)) }
+    ensures outer { OnOk result (outer.new.items ≡ outer.old.items) }
+{
     match push(list, Instruction::End) {
         Ok(()) => {}
         Err(Memory) => return Err(Memory),
     }
+    let from = list.len();
     match push_body(alloc, body, list, outer, sites) {
         Ok(()) => {}
         Err(Memory) => return Err(Memory),
@@ -112,18 +142,7 @@ fn push_stage(
         Ok(()) => {}
         Err(Memory) => return Err(Memory),
     }
-    let inside = list.len() - at - 1;
-    write(
-        list,
-        at,
-        Instruction::Stage {
-            number,
-            class,
-            end,
-            inside,
-        },
-    );
-    Ok(())
+    Ok(list.len() - from)
 }
 
 // Puts the code of a stage's body behind the others. The stage begins at the last place.
@@ -199,32 +218,48 @@ fn push_offer(
 ) -> Result<(), Memory>
     ensures { OnOk result (list_seen list.new.items ≡ list_seen list.old.items ++ item_code (choice_of site (alts_seen alts.now.items))) }
 {
-    let copy = match copy_alts(alloc, alts) {
-        Ok(copy) => copy,
+    let at = list.len();
+    let blocks = match push_inside_choice(alloc, alts, list) {
+        Ok(blocks) => blocks,
         Err(Memory) => return Err(Memory),
     };
-    let at = list.len();
+    let inside = list.len() - at - 1;
+    match copy_alts(alloc, alts) {
+        Ok(alts) => {
+            write(
+                list,
+                at,
+                Instruction::Choice {
+                    site,
+                    alts,
+                    blocks,
+                    inside,
+                },
+            );
+            Ok(())
+        }
+        Err(Memory) => Err(Memory),
+    }
+}
+
+// Holds the place of a choice, puts the effects of its alternatives behind that, and says where each one's lie.
+fn push_inside_choice(
+    alloc: Global,
+    alts: &Vec<Alt>,
+    list: &mut Vec<Instruction>,
+) -> Result<Vec<Block>, Memory>
+    ensures code { OnOk result (list_seen list.new.items ≡ list_seen list.old.items ++ end_body ∷ alts_code (alts_seen alts.now.items)) }
+    ensures blocks { IfOk result (λ blocks. map block_seen blocks.items ≡ blocks_from 0 (alts_seen alts.now.items)) }
+{
     match push(list, Instruction::End) {
         Ok(()) => {}
         Err(Memory) => return Err(Memory),
     }
     let mut blocks = Vec::new(alloc);
     match push_alts(alloc, alts, list, &mut blocks) {
-        Ok(()) => {}
-        Err(Memory) => return Err(Memory),
+        Ok(()) => Ok(blocks),
+        Err(Memory) => Err(Memory),
     }
-    let inside = list.len() - at - 1;
-    write(
-        list,
-        at,
-        Instruction::Choice {
-            site,
-            alts: copy,
-            blocks,
-            inside,
-        },
-    );
-    Ok(())
 }
 
 // Puts the effects of alternatives behind the others, and where each one's lie, counted from here, behind the blocks.

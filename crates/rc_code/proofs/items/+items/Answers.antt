@@ -1,4 +1,4 @@
-use Rattle.std.proofs.Common.{◌≡◌, ◌+◌, ◌-◌, ◌++◌, ◌∷◌, [], length, map, drop, sym, ap, ap₂, ◌∙◌, subst, append_assoc, arith}
+use Rattle.std.proofs.Common.{◌≡◌, ◌+◌, ◌-◌, ◌++◌, ◌∷◌, [], length, map, drop, sym, ap, ap₂, ◌∙◌, subst, arith}
 use Rattle.std.specs.Prelude.{OnOk}
 use Rattle.std.proofs.lemmas.List.{length-append}
 use Rattle.rc_ast.specs.Items.{item_seen, items_seen}
@@ -6,9 +6,8 @@ use Rattle.rc_ast.proofs.ViewLemmas.{stage_seen}
 use Rattle.rc_code.specs.Instruction.{begin_stage, end_body}
 use Rattle.rc_code.specs.Compiled.{item_code, items_code, item_sites, items_sites}
 use Rattle.rc_code.specs.Seen.{list_seen, place_seen}
-use Rattle.rc_code.proofs.AltLemmas.{grown}
 use Rattle.rc_code.proofs.ItemLemmas.{one_item, one_more_places}
-use Rattle.rc_code.proofs.ListLemmas.{behind, filled}
+use Rattle.rc_code.proofs.ListLemmas.{grown, behind, enclosed, filled, with_end}
 use Rattle.rc_code.proofs.items.+items.Goals as goal
 
 pub push_item-returns-in-Stage-clause-code : goal.push_item-returns-in-Stage-clause-code
@@ -25,32 +24,40 @@ push_item-returns-in-Stage-clause-places t c =
     subst (λ i. OnOk c.push_stage.result
     (map place_seen c.push_stage.new.sites.items ≡ map place_seen c.args.sites.now.items ++ item_sites outer at i)) (sym is) c.push_stage.ensures.places
 
-pub push_stage-returns-clause-code : goal.push_stage-returns-clause-code
-push_stage-returns-clause-code t c =
+pub push_inside_stage-returns-clause-code : goal.push_inside_stage-returns-clause-code
+push_inside_stage-returns-clause-code t c =
     let old = c.args.list.now.items in
     let pushed = c.push.new.list.items in
-    let more = c.push-2.new.list.items in
     let body = items_code (items_seen c.args.body.now.items) in
-    let code = body ++ end_body ∷ [] in
-    let at = c.len-at.result in
-    let here = c.len-at.ensures ∙ c.args.list.now.ok.0 in
-    let all =
-    c.in-Ok-push-2.ensures ∙ ap (λ list. list ++ end_body ∷ []) c.in-Ok-push_body.ensures.code ∙ append_assoc (list_seen pushed) body (end_body ∷ []) in
-    let inside = behind old pushed more code end_body at c.in-Ok-push.ensures all here in
-    let one =
-    ap₂ (λ test n. begin_stage c.args.number c.args.class test n) c.in-Ok.ensures
-    (ap (λ n. n - at - 1) (c.len.ensures ∙ c.push-2.new.list.ok.0) ∙ inside ∙ length-append body (end_body ∷ [])) in
-    filled old pushed more code end_body at c.in-Ok-push.ensures all here c.write.new.list.items _ _ c.write.ensures one
+    let all = with_end pushed c.push_body.new.list.items c.push-2.new.list.items body c.in-Ok-push_body.ensures.code c.in-Ok-push.ensures in
+    enclosed old pushed c.push-2.new.list.items (body ++ end_body ∷ []) end_body c.in-Ok.ensures all
 
-pub push_stage-returns-clause-places : goal.push_stage-returns-clause-places
-push_stage-returns-clause-places t c =
+pub push_inside_stage-returns-clause-inside : goal.push_inside_stage-returns-clause-inside
+push_inside_stage-returns-clause-inside t c =
+    let pushed = c.push.new.list.items in
+    let body = items_code (items_seen c.args.body.now.items) in
+    let all = with_end pushed c.push_body.new.list.items c.push-2.new.list.items body c.in-Ok-push_body.ensures.code c.in-Ok-push.ensures in
+    behind pushed c.push-2.new.list.items (body ++ end_body ∷ []) _ _ all (c.len-from.ensures ∙ c.push.new.list.ok.0)
+    (c.len.ensures ∙ c.push-2.new.list.ok.0)
+    ∙ length-append body (end_body ∷ [])
+
+pub push_inside_stage-returns-clause-places : goal.push_inside_stage-returns-clause-places
+push_inside_stage-returns-clause-places t c =
     let old = c.args.list.now.items in
     let pushed = c.push.new.list.items in
     let body = items_seen c.args.body.now.items in
-    let next : length pushed ≡ length old + 1 = grown old pushed (end_body ∷ []) c.in-Ok-push.ensures in
+    let next : length pushed ≡ length old + 1 = grown old pushed (end_body ∷ []) c.in-Ok.ensures in
     let begin : length pushed - 1 ≡ length old = omega (arith, next) in
     c.in-Ok-push_body.ensures.places
     ∙ ap₂ (λ from to. map place_seen c.args.sites.now.items ++ items_sites (c.args.outer.now.items ++ from ∷ []) to body) begin next
+
+pub push_stage-returns-in-Ok-copy_test-clause-code : goal.push_stage-returns-in-Ok-copy_test-clause-code
+push_stage-returns-in-Ok-copy_test-clause-code t c =
+    let body = items_code (items_seen c.args.body.now.items) in
+    let here = c.len-at.ensures ∙ c.args.list.now.ok.0 in
+    let one = ap₂ (λ test n. begin_stage c.args.number c.args.class test n) c.in-Ok-copy_test.ensures c.in-Ok.ensures.inside in
+    filled c.args.list.now.items c.push_inside_stage.new.list.items c.write.new.list.items (body ++ end_body ∷ []) end_body _ _ c.len-at.result c.in-Ok.ensures.code
+    here c.write.ensures one
 
 pub push_items-loop-item-preserved : goal.push_items-loop-item-preserved
 push_items-loop-item-preserved t c =

@@ -3,7 +3,8 @@ use Rattle.rc_play_model.specs.Menu.{effects_of}
 use Rattle.rc_ast.specs.Items.{alt_seen}
 use Rattle.rc_code.specs.Compiled.{effects_code}
 use Rattle.rc_code.specs.Seen.{block_seen, list_seen}
-use Rattle.rc_code.proofs.AltLemmas.{grown, block_more, one_alt, one_block}
+use Rattle.rc_code.proofs.AltLemmas.{block_more, one_alt, one_block}
+use Rattle.rc_code.proofs.ListLemmas.{grown}
 use Rattle.rc_code.proofs.items.push_alts.Goals as goal
 
 pub loop-alt-preserved : goal.loop-alt-preserved

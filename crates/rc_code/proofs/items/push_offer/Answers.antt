@@ -1,22 +1,18 @@
-use Rattle.std.proofs.Common.{◌-◌, ◌++◌, map, ap, ap₂, ◌∙◌}
+use Rattle.std.proofs.Common.{◌≡◌, ◌-◌, ◌∷◌, length, ◌∙◌, arith}
 use Rattle.rc_ast.specs.Items.{alts_seen}
-use Rattle.rc_code.specs.Instruction.{offer, end_body}
-use Rattle.rc_code.specs.Compiled.{alts_code, blocks_from}
-use Rattle.rc_code.specs.Seen.{block_seen}
-use Rattle.rc_code.proofs.ListLemmas.{behind, filled}
+use Rattle.rc_code.specs.Instruction.{end_body}
+use Rattle.rc_code.specs.Compiled.{alts_code}
+use Rattle.rc_code.proofs.ListLemmas.{grown, filled, same_offer}
 use Rattle.rc_code.proofs.items.push_offer.Goals as goal
 
-pub returns : goal.returns
-returns c =
+pub returns-in-Ok-copy_alts : goal.returns-in-Ok-copy_alts
+returns-in-Ok-copy_alts c =
     let old = c.args.list.now.items in
-    let pushed = c.push.new.list.items in
-    let more = c.push_alts.new.list.items in
-    let alts = alts_seen c.args.alts.now.items in
-    let at = c.len-at.result in
+    let more = c.push_inside_choice.new.list.items in
+    let code = alts_code (alts_seen c.args.alts.now.items) in
     let here = c.len-at.ensures ∙ c.args.list.now.ok.0 in
-    let inside = behind old pushed more (alts_code alts) end_body at c.in-Ok-push.ensures c.in-Ok-push_alts.ensures.code here in
-    let blocks = c.in-Ok-push_alts.ensures.blocks ∙ ap (λ bs. map block_seen bs ++ blocks_from 0 alts) c.new-blocks.ensures.items in
-    let one =
-    ap (λ a. offer c.args.site a (map block_seen c.push_alts.new.blocks.items) (c.len.result - at - 1)) c.in-Ok.ensures
-    ∙ ap₂ (λ b n. offer c.args.site alts b n) blocks (ap (λ n. n - at - 1) (c.len.ensures ∙ c.push_alts.new.list.ok.0) ∙ inside) in
-    filled old pushed more (alts_code alts) end_body at c.in-Ok-push.ensures c.in-Ok-push_alts.ensures.code here c.write.new.list.items _ _ c.write.ensures one
+    let there = c.len.ensures ∙ c.push_inside_choice.new.list.ok.0 in
+    let many = grown old more (end_body ∷ code) c.in-Ok.ensures.code in
+    let inside : c.len.result - c.len-at.result - 1 ≡ length code = omega (arith, many, here, there) in
+    let one = same_offer c.args.site _ _ _ _ _ _ c.in-Ok-copy_alts.ensures c.in-Ok.ensures.blocks inside in
+    filled old more c.write.new.list.items code end_body _ _ c.len-at.result c.in-Ok.ensures.code here c.write.ensures one
