@@ -1,9 +1,10 @@
 //! The texts of options, read by `clap`.
-ghost use Rattle.std.specs.Prelude.{◌≡◌, map, string_bytes, option_map, IfOk, IsSomeAnd};
-ghost use Rattle.clap.specs.Words.{app_of};
+ghost use Rattle.std.specs.Prelude.{◌≡◌, false, map, string_bytes, option_map, IfOk, IsSomeAnd};
+ghost use Rattle.clap.specs.Words.{app_of, with_rule};
+ghost use Rattle.clap.specs.Walk.{rule_of};
 ghost use Rattle.rc_command.specs.declared.options.Options.{Options};
 ghost use Rattle.rc_command.specs.Words.{GivesOptions, HasOptions};
-ghost use Rattle.rc_command.specs.Reader.{options_app};
+ghost use Rattle.rc_command.specs.Reader.{bare_app, option_rule, options_app};
 
 use clap::error::ErrorKind;
 use clap::{Arg, ArgAction};
@@ -46,16 +47,35 @@ pub(crate) fn texts_of<'a>(
 fn reader_of<'a>(alloc: Global, command: &'a str) -> Result<clap::Command<'a>, AllocError>
     ensures { IfOk result (λ reader. app_of reader ≡ options_app command.now) }
 {
-    let workers = Arg::new(alloc, "workers")
-        .long("workers")
-        .action(ArgAction::Set);
-    let cache = Arg::new(alloc, "cache")
-        .long("cache")
-        .action(ArgAction::Set);
+    let reader = with_option(alloc, bare_reader(alloc, command), "workers")?;
+    with_option(alloc, reader, "cache")
+}
+
+/// A reader of nothing.
+fn bare_reader<'a>(alloc: Global, command: &'a str) -> clap::Command<'a>
+    ensures { app_of result ≡ bare_app command.now }
+{
     clap::Command::new(alloc, command)
         .no_binary_name(true)
         .disable_help_flag(true)
         .disable_version_flag(true)
-        .arg(workers)?
-        .arg(cache)
+}
+
+/// The reader with an option more, which has one text.
+fn with_option<'a>(
+    alloc: Global,
+    reader: clap::Command<'a>,
+    name: &'a str,
+) -> Result<clap::Command<'a>, AllocError>
+    ensures { IfOk result (λ more. app_of more ≡ with_rule (app_of reader.entry) (option_rule name.now)) }
+{
+    reader.arg(option_named(alloc, name))
+}
+
+/// An option with one text.
+fn option_named<'a>(alloc: Global, name: &'a str) -> Arg<'a>
+    ensures rule { rule_of result ≡ option_rule name.now }
+    ensures local { result.global ≡ false }
+{
+    Arg::new(alloc, name).long(name).action(ArgAction::Set)
 }
