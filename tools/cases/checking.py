@@ -7,6 +7,7 @@ from concurrent.futures import ThreadPoolExecutor
 from pathlib import Path
 
 from cases.bench import TRICKS, read_bench
+from cases.cuts import read_bytes, read_cuts
 from cases.lengths import FIRST, read_longest
 from cases.language import PAGES, read_page
 from cases.plays import read_plays
@@ -17,6 +18,7 @@ from cases.texts import read_texts
 from cases.words import read_words
 
 HERE = ROOT / "cases"
+BYTES = ROOT / "docs/FORMATS.md"
 OTHER_FILES = {"frames", "source", "text"}
 SUFFIXES = {".cases", ".plays", ".texts"}
 
@@ -40,7 +42,8 @@ def read_all() -> dict[Path, list[Case]]:
     frames = read_frames(HERE / "language")
     cases = {page: list(read_page(page, frames)) for page in PAGES}
     cases[TRICKS] = list(read_bench(TRICKS))
-    cases[FIRST] = list(read_longest(FIRST))
+    cases[FIRST] = [*read_longest(FIRST), *read_cuts(FIRST)]
+    cases[BYTES] = list(read_bytes(BYTES))
     cases[HERE / "words.rows"] = list(read_words(HERE / "words.rows"))
     for folder in sorted(path for path in HERE.iterdir() if path.is_dir()):
         cases.update(read_folder(folder))
