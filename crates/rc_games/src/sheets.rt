@@ -34,7 +34,7 @@ impl From<Memory> for NoGame {
 }
 
 /// The sheet of a form that was read.
-pub fn sheet_of_form(alloc: Global, form: &Form) -> Result<Sheet, NoGame>
+fn sheet_of_form(alloc: Global, form: &Form) -> Result<Sheet, NoGame>
     requires placed { (size : ℕ) × IsPlaced size (tree_of form.now) }
     requires printable { IsPrintable (tree_of form.now) }
     requires of_atoms { IsOfAtoms (tree_of form.now) }
@@ -60,7 +60,7 @@ pub fn checked_of_form(alloc: Global, form: &Form) -> Result<Checked, NoGame>
 }
 
 /// The sheet of a text, which is its first list.
-pub fn sheet_in(alloc: Global, text: &[u8]) -> Result<Sheet, NoGame>
+pub(crate) fn sheet_in(alloc: Global, text: &[u8]) -> Result<Sheet, NoGame>
     ensures { IfOk result (λ sheet. IsWellFormed (sheet_seen sheet)) }
 {
     if text.len() > LONGEST_TEXT {

@@ -1,6 +1,4 @@
-//! A game, its plan and its play.
-use crate::ports::End;
-use rc_house::Status;
+//! A game, its plan and the text of its play.
 
 /// Two players with two cards each who choose the first one each time, of which the last dealt is worth least, with the plan. The sheet
 /// has 463 bytes with its line feed, and the plan 61.
@@ -34,9 +32,3 @@ score 1 3 0
 standing 1 strategy 0 points 2
 standing 2 strategy 1 points 0
 ";
-
-pub const PLAYED: End<'static> = End {
-    status: Status::Done,
-    written: TEXT,
-    noted: b"cache looks 0 hits 0\n",
-};

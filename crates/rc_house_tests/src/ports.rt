@@ -24,25 +24,21 @@ pub struct End<'a> {
 pub struct Writes {
     pub room: usize,
     pub chunk: usize,
-    pub failing: Option<u64>,
+    pub failing: u64,
 }
+
+/// The number of a read or a write that never comes.
+pub const NEVER: u64 = u64::MAX;
 
 /// Takes any text of these tests.
 pub const WIDE: Writes = Writes {
     room: 4096,
     chunk: 4096,
-    failing: None,
+    failing: NEVER,
 };
 
-fn fails_of(alloc: Global, writes: Writes) -> Result<Vec<u64>, AllocError> {
-    let Some(call) = writes.failing else {
-        return Ok(Vec::new(alloc));
-    };
-    Ok(vec![in alloc; call]?)
-}
-
 fn room_of(alloc: Global, writes: Writes) -> Result<Room, Fail> {
-    let fails = fails_of(alloc, writes)?;
+    let fails = vec![in alloc; writes.failing]?;
     Ok(Room::new(alloc, writes.room, writes.chunk.max(1), fails)?)
 }
 
@@ -116,26 +112,4 @@ pub fn expect_end(
     expect_same(rt, sinks.out.written(), end.written);
     expect_same(rt, sinks.notes.written(), end.noted);
     Ok(())
-}
-
-/// Fails unless a command of one word ends so on a text, of which no read fails, and these sinks.
-pub fn expect_sinks(
-    rt: &(impl AllocGlobal + Abort),
-    word: &str,
-    text: &[u8],
-    writes: (Writes, Writes),
-    end: End<'_>,
-) -> Result<(), Fail> {
-    let mut source = pieces(rt.alloc(), text, 4096, u64::MAX)?;
-    expect_end(rt, &[word], &mut source, writes, end)
-}
-
-/// Fails unless a command of one word ends so on a text, where no read and no write fails.
-pub fn expect_text(
-    rt: &(impl AllocGlobal + Abort),
-    word: &str,
-    text: &[u8],
-    end: End<'_>,
-) -> Result<(), Fail> {
-    expect_sinks(rt, word, text, (WIDE, WIDE), end)
 }

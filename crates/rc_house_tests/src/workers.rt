@@ -34,10 +34,6 @@ impl Held {
         }
     }
 
-    fn was_in_time(&self) -> bool {
-        self.in_time.load(Ordering::SeqCst) == 1
-    }
-
     /// Waits for the other match.
     fn hold(&self) {
         for _ in 0..TURNS {
@@ -60,13 +56,11 @@ impl Gate for Held {
     }
 }
 
-const TWICE: &[u8] =
-    b"(plan (seats (rollout 4 9) (rollout 4 9)) (matches (0 7) (0 7)) (turns 100))";
-
-const THRICE: &[u8] =
+/// A plan of three matches of the game.
+const PLAN: &[u8] =
     b"(plan (seats (rollout 4 9) (rollout 4 9)) (matches (0 7) (0 7) (0 7)) (turns 100))";
 
-/// The text of the first plan. Both cards of a player are played in any case, so all items do as well, and the first one is taken.
+/// The text of that plan. Both cards of a player are played in any case, so all items do as well, and the first one is taken.
 const TEXT: &[u8] = b"\
 house 1
 match 0 deal 0 seats 7
@@ -85,31 +79,35 @@ choose 1 0 0 1
 end done 8
 score 0 7 2
 score 1 3 0
-standing 1 strategy 0 points 2
-standing 1 strategy 1 points 2
+match 2 deal 0 seats 7
+choose 0 0 0 2
+choose 1 0 0 2
+choose 0 0 0 1
+choose 1 0 0 1
+end done 8
+score 0 7 2
+score 1 3 0
+standing 1 strategy 0 points 4
+standing 2 strategy 1 points 2
 ";
 
-const WORDS: &[&str] = &["play", "--workers", "2"];
+const WORDS: &[&str] = &["play", "--workers", "2", "--cache", "65536"];
 
-const WORDS_WITH_CACHE: &[&str] = &["play", "--workers", "2", "--cache", "65536"];
-
-/// The game with a plan.
-fn source_of(alloc: Global, plan: &[u8]) -> Result<Plain, Fail> {
+/// The game with the plan.
+fn source_of(alloc: Global) -> Result<Plain, Fail> {
     let sheet = SOURCE.get(..SHEET).ok_or("the source is long enough")?;
     let mut text = sheet.to_vec(alloc)?;
-    text.extend_from_slice(plan)?;
+    text.extend_from_slice(PLAN)?;
     Ok(Plain::new(text))
 }
 
 fn run_words<R: AllocGlobal + Threads + Wait + Sync>(
     rt: &R,
-    words: &[&str],
-    plan: &[u8],
     sinks: &mut Sinks,
     gate: &Held,
 ) -> Result<Status, Fail> {
-    let words = owned(rt.alloc(), words)?;
-    let mut source = source_of(rt.alloc(), plan)?;
+    let words = owned(rt.alloc(), WORDS)?;
+    let mut source = source_of(rt.alloc())?;
     let Sinks { out, notes } = sinks;
     Ok(run(
         rt.alloc(),
@@ -122,26 +120,26 @@ fn run_words<R: AllocGlobal + Threads + Wait + Sync>(
     ))
 }
 
-/// What two workers write and note who play a plan behind a gate. Fails unless the gate lets a match enter in time.
+/// What two workers write and note who play the plan behind a gate. Fails unless the gate lets a match enter in time, and the text is
+/// right.
 fn played<R: AllocGlobal + Abort + Threads + Wait + Sync>(
     rt: &R,
-    words: &[&str],
-    plan: &[u8],
     gate: &Held,
 ) -> Result<Sinks, Fail> {
     let mut sinks = sinks_of(rt.alloc(), (WIDE, WIDE))?;
-    let status = run_words(rt, words, plan, &mut sinks, gate)?;
+    let status = run_words(rt, &mut sinks, gate)?;
     expect_same(rt, status, Status::Done);
-    assert!(rt; gate.was_in_time());
+    expect_same(rt, gate.in_time.load(Ordering::SeqCst), 1);
+    expect_same(rt, sinks.out.written(), TEXT);
     Ok(sinks)
 }
 
-/// Workers that play one behind the other, in whatever order, let none of the two enter while the other is held.
+/// Workers that play one behind the other, in whatever order, let none of the two enter while the other is held. Where each worker
+/// played every second match, match 2 would come behind match 0.
 #[test]
-fn either_of_two_matches_enters_while_the_other_is_held(rt: HostRuntime) -> Result<(), Fail> {
-    for (held, until) in [(0, 1), (1, 0)] {
-        let sinks = played(&rt, WORDS, TWICE, &Held::new(held, until))?;
-        expect_same(&rt, sinks.out.written(), TEXT);
+fn other_matches_enter_while_one_is_held(rt: HostRuntime) -> Result<(), Fail> {
+    for (held, until) in [(0, 1), (1, 0), (0, 2)] {
+        played(&rt, &Held::new(held, until))?;
     }
     Ok(())
 }
@@ -149,18 +147,11 @@ fn either_of_two_matches_enters_while_the_other_is_held(rt: HostRuntime) -> Resu
 /// Match 1 is held until match 2 enters, which it does behind all of match 0. So both find the four totals that match 0 left.
 #[test]
 fn matches_find_the_totals_of_one_that_is_over(rt: HostRuntime) -> Result<(), Fail> {
-    let sinks = played(&rt, WORDS_WITH_CACHE, THRICE, &Held::new(1, 2))?;
+    let sinks = played(&rt, &Held::new(1, 2))?;
     expect_same(
         &rt,
         sinks.notes.written(),
         b"cache looks 12 hits 8\n".as_slice(),
     );
-    Ok(())
-}
-
-/// Where each worker played every second match, match 2 would come behind match 0.
-#[test]
-fn the_matches_behind_a_held_one_are_played(rt: HostRuntime) -> Result<(), Fail> {
-    played(&rt, WORDS_WITH_CACHE, THRICE, &Held::new(0, 2))?;
     Ok(())
 }

@@ -1,24 +1,9 @@
-//! Keys, and the orders that they give.
-ghost use Rattle.std.specs.Prelude.{◌≤◌, length};
-
+//! What keys pick.
 use crate::expect::expect_same;
-use rand::RngExt;
 use rand_chacha::ChaCha8Rng;
-use rand_core::SeedableRng;
-use rc_draw::{key32, pick_by, shuffle_by};
-use rc_rules::{Dealer, MatchDealer};
-use std::alloc::{AllocError, Global};
+use rand_core::{Rng, SeedableRng};
+use rc_draw::{key32, pick_by};
 use std::process::Abort;
-use std::test::Fail;
-
-#[test]
-fn a_key_has_its_numbers_with_the_lowest_bytes_first(rt: HostRuntime) {
-    let expected = [
-        0u8, 0, 0, 0, 0, 0, 0, 0, 1, 0, 0, 0, 0, 0, 0, 0, 2, 0, 0, 0, 0, 0, 0, 0, 0, 0, 0, 0, 0, 0,
-        0, 0,
-    ];
-    expect_same(&rt, key32(0, 1, 2, 0), expected);
-}
 
 /// Four numbers of a key, a number of items, and the item that the key picks. With w the first word of the key, that is w * n / 2^32.
 /// The words were made by a ChaCha8 written apart from this program.
@@ -33,73 +18,33 @@ const PICKS: [([u64; 4], u32, u32); 8] = [
     ([9, 258, 7, 3], 1, 0), // 1,637,302,776
 ];
 
-/// Fails unless the key of these numbers picks this item of so many.
-fn expect_pick(rt: &impl Abort, key: [u64; 4], size: u32, item: u32) {
-    let [a, b, c, d] = key;
-    assert!(rt; 0 < size);
-    expect_same(rt, pick_by(&key32(a, b, c, d), size), item);
-}
-
 #[test]
 fn a_key_picks_by_its_first_word(rt: HostRuntime) {
-    for (key, size, item) in PICKS {
-        expect_pick(&rt, key, size, item);
+    for ([a, b, c, d], size, item) in PICKS {
+        assert!(rt; 0 < size);
+        expect_same(&rt, pick_by(&key32(a, b, c, d), size), item);
     }
 }
 
-/// So many numbers, from 0 on.
-fn numbered(alloc: Global, size: u16) -> Result<Vec<u16>, AllocError> {
-    let mut list = Vec::new(alloc);
-    for item in 0..size {
-        list.push(item)?;
-    }
-    Ok(list)
-}
-
-/// A list as a key with this first number shuffles it, and then sorted.
-fn sorted_again(alloc: Global, initial: &[u16], first: u64) -> Result<Vec<u16>, AllocError>
-    requires { length initial.now ≤ 512 }
-{
-    let mut list = initial.to_vec(alloc)?;
-    shuffle_by(&key32(first, 0, 0, 0), &mut list);
-    list.sort()?;
-    Ok(list)
-}
-
-/// Fails unless a key with this first number permutes a list of so many numbers.
-fn expect_permutation(rt: &(impl AllocGlobal + Abort), first: u64, size: u16) -> Result<(), Fail> {
-    let initial = numbered(rt.alloc(), size)?;
-    assert!(rt; initial.len() <= 512);
-    let list = sorted_again(rt.alloc(), &initial, first)?;
-    assert_eq!(rt; list.as_slice(), initial.as_slice(), "{first} {size}");
-    Ok(())
+/// Fails unless a key picks out of so many by the first word that the generator of `rand_chacha` makes of it. That is other code than
+/// what makes the word of `pick_by`.
+fn expect_pick(rt: &impl Abort, key: [u8; 32], size: u32) {
+    assert!(rt; 0 < size);
+    let word = u64::from(ChaCha8Rng::from_seed(key).next_u32());
+    let item = (word * u64::from(size)) >> 32;
+    expect_same(rt, u64::from(pick_by(&key, size)), item);
 }
 
 #[test]
-fn keys_permute_lists_of_all_lengths(rt: HostRuntime) -> Result<(), Fail> {
-    let mut rng = ChaCha8Rng::from_seed(key32(0, 0, 0, 0));
+fn a_key_picks_as_the_generator_does(rt: HostRuntime) {
+    let mut numbers = ChaCha8Rng::from_seed([0; 32]);
     for _ in 0..100u8 {
-        let first = rng.random_range(0u64..1_000_000_000_000_000_000);
-        let size = rng.random_range(0u16..513);
-        expect_permutation(&rt, first, size)?;
+        let key = key32(
+            numbers.next_u64(),
+            numbers.next_u64(),
+            numbers.next_u64(),
+            0,
+        );
+        expect_pick(&rt, key, numbers.next_u32() | 1);
     }
-    Ok(())
-}
-
-/// The next order of eight items.
-fn next_order<D: Dealer>(dealer: &mut D) -> [u16; 8] {
-    let mut list = [0u16, 1, 2, 3, 4, 5, 6, 7];
-    dealer.shuffle(&mut list);
-    list
-}
-
-/// The orders were made by a ChaCha8 written apart from this program.
-#[test]
-fn a_match_has_an_order_for_each_shuffle(rt: HostRuntime) {
-    let mut dealer = MatchDealer::new(7);
-    expect_same(&rt, dealer.count(), 0);
-    expect_same(&rt, next_order(&mut dealer), [2, 1, 3, 4, 5, 7, 6, 0]);
-    expect_same(&rt, next_order(&mut dealer), [3, 2, 1, 6, 7, 0, 5, 4]);
-    expect_same(&rt, next_order(&mut dealer), [0, 4, 3, 2, 1, 5, 6, 7]);
-    expect_same(&rt, dealer.count(), 3);
 }

@@ -1,16 +1,20 @@
 //! The largest sheet: 512 cards, 256 locations and 256 numbers, and in a match as many references as there may be.
 ghost use Rattle.std.specs.Prelude.{◌≡◌, IfOk};
 ghost use Rattle.rc_play_model.specs.Shape.{shape_of as shape_for};
+ghost use Rattle.rc_play_model.specs.Step.{start};
+ghost use Rattle.rc_rules.specs.Machine.{CanDecide};
+ghost use Rattle.rc_plain.specs.Plain.{config_of};
 
 use crate::expect::expect_same;
-use crate::plain::made_at_first;
-use crate::view::{copied_key, decided_on, go_on, seen_by};
+use crate::matches::{copied_key, go_on, seen_by};
 use rc_games::{Basis, basis_in, largest};
 use rc_plain::PlainMachine;
-use rc_rules::{Machine, MatchDealer};
+use rc_play_model::controls_fit_their_sites;
+use rc_rules::{About, Machine, MatchDealer, Stop};
 use rc_table::Table;
 use std::alloc::Global;
 use std::process::Abort;
+use std::sync::Arc;
 use std::test::Fail;
 
 /// What matches of it share.
@@ -19,6 +23,70 @@ fn largest_basis(alloc: Global) -> Result<Basis, Fail>
 {
     let text = largest(alloc)?;
     Ok(basis_in(alloc, &text)?)
+}
+
+/// A match at its start goes on to its first decision.
+fn decide_first(
+    about: &About,
+    machine: &mut PlainMachine,
+    dealer: &mut MatchDealer,
+) -> Result<(), Fail>
+    requires about { machine.old.about ≡ about.now }
+    requires start { config_of machine.old ≡ start about.now }
+    ensures decides { IfOk result (λ _. CanDecide about.now (config_of machine.new).table (config_of machine.new).control) }
+    ensures same { machine.new.about ≡ about.now }
+{
+    controls_fit_their_sites();
+    // what an about keeps
+    let _sheet = about.sheet();
+    match machine.advance(dealer) {
+        Ok(Stop::Decide { .. }) => Ok(()),
+        _ => Err("somebody decides".into()),
+    }
+}
+
+/// What the matches are played by, with a turn limit of 100.
+fn about_on(alloc: Global, basis: &Basis) -> Result<About, Fail>
+    requires { basis.now.shape.value ≡ shape_for basis.now.checked.value }
+    ensures { IfOk result (λ about. about ≡ record { sheet = basis.now.checked.value; shape = basis.now.shape.value; turns = 100 }) }
+{
+    let checked = Arc::try_clone(&basis.checked)?;
+    let shape = Arc::try_clone(&basis.shape)?;
+    Ok(About::new(alloc, checked, shape, 100)?)
+}
+
+/// A match at its first decision.
+fn first_on(alloc: Global, about: &About, dealer: &mut MatchDealer) -> Result<PlainMachine, Fail>
+    ensures about { IfOk result (λ m. m.about ≡ about.now) }
+    ensures decides { IfOk result (λ m. CanDecide about.now (config_of m).table (config_of m).control) }
+{
+    let mut machine = PlainMachine::start_of(alloc, about)?;
+    decide_first(about, &mut machine, dealer)?;
+    Ok(machine)
+}
+
+/// A machine that is made where another one stands, at a decision.
+fn made_there(alloc: Global, basis: &Basis, machine: &PlainMachine) -> Result<PlainMachine, Fail>
+    requires shape { basis.now.shape.value ≡ shape_for basis.now.checked.value }
+    requires about { machine.now.about ≡ record { sheet = basis.now.checked.value; shape = basis.now.shape.value; turns = 100 } }
+    requires decides { CanDecide machine.now.about (config_of machine.now).table (config_of machine.now).control }
+{
+    let table = machine.table().copy(alloc)?;
+    let control = machine.control().copy();
+    Ok(PlainMachine::at(alloc, &basis.checked, &basis.shape, 100, table, control)?)
+}
+
+/// A machine that is made at the first decision of a match.
+fn made_at_first(
+    alloc: Global,
+    basis: &Basis,
+    dealer: &mut MatchDealer,
+) -> Result<PlainMachine, Fail>
+    requires { basis.now.shape.value ≡ shape_for basis.now.checked.value }
+{
+    let about = about_on(alloc, basis)?;
+    let machine = first_on(alloc, &about, dealer)?;
+    made_there(alloc, basis, &machine)
 }
 
 /// Fails unless a table has all cards, and players the number 1.
@@ -48,24 +116,17 @@ fn expect_key(
     Ok(())
 }
 
+/// It is made anew at its first decision, with a copied table. That goes on, and each seat's view is made, copied and told in bytes.
 #[test]
-fn the_largest_table_is_copied_and_seen(rt: HostRuntime) -> Result<(), Fail> {
-    let basis = largest_basis(rt.alloc())?;
-    let machine = decided_on(rt.alloc(), &basis, &mut MatchDealer::new(0))?;
-    let copy = machine.table().copy(rt.alloc())?;
-    expect_full(&rt, &copy);
-    for seat in 0..8u8 {
-        expect_key(&rt, &machine, seat)?;
-    }
-    Ok(())
-}
-
-#[test]
-fn a_machine_is_made_at_a_decision_of_the_largest_sheet(rt: HostRuntime) -> Result<(), Fail> {
+fn the_largest_sheet_is_played_copied_and_seen(rt: HostRuntime) -> Result<(), Fail> {
     let basis = largest_basis(rt.alloc())?;
     let mut dealer = MatchDealer::new(0);
     let mut made = made_at_first(rt.alloc(), &basis, &mut dealer)?;
+    expect_full(&rt, made.table());
     go_on(&mut made, &mut dealer)?;
     expect_same(&rt, made.menu().len(), 256);
+    for seat in 0..8u8 {
+        expect_key(&rt, &made, seat)?;
+    }
     Ok(())
 }

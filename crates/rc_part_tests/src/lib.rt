@@ -1,36 +1,26 @@
-//! Tests of calls that remember no playouts: decks, forms, draws, the lines of a match and what stands outside; names, tables, views and
-//! redrawn deals; the tree machine, and the two machines side by side with the flat one's way back; and how workers claim matches.
+//! Tests of calls below the commands: readers and writers of std, draws, claims, the largest sheet, a dealer whose orders are stated, the
+//! bytes of views, and what matches remember, in a house over events and in the book that workers share.
 #![tactic(auto)]
 
 #[cfg(test)]
-mod claims;
+mod book;
 #[cfg(test)]
-mod deck;
+mod claims;
 #[cfg(test)]
 mod draw;
 #[cfg(test)]
 mod expect;
 #[cfg(test)]
-mod flat;
-#[cfg(test)]
-mod form;
-#[cfg(test)]
-mod lanes;
-#[cfg(test)]
 mod largest;
 #[cfg(test)]
-mod names;
+mod matches;
 #[cfg(test)]
 mod outside;
 #[cfg(test)]
-mod plain;
-#[cfg(test)]
-mod redraw;
-#[cfg(test)]
 mod stated;
 #[cfg(test)]
-mod table;
+mod turns;
 #[cfg(test)]
-mod text;
+mod twice;
 #[cfg(test)]
 mod view;

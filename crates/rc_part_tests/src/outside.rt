@@ -1,27 +1,11 @@
-//! Sources, sinks and a gate.
+//! Readers and writers of std as sources and sinks, and how a piece is written on where a write takes a part of it.
 use crate::expect::expect_same;
-use rc_outside::{
-    Bytes, Gate, OpenGate, ReadFail, Room, StdSink, StdSource, WriteFault, read_all, write_all,
-};
+use rc_outside::{ReadFail, Room, StdSink, StdSource, WriteFault, read_all, write_all};
 use std::alloc::Global;
 use std::io::{self, Read};
 use std::test::Fail;
 
 const TEXT: &[u8] = b"twenty bytes of text";
-
-/// What is read of the text in pieces of 3 bytes.
-fn read_in_pieces(alloc: Global) -> Result<Vec<u8>, Fail> {
-    let text = TEXT.to_vec(alloc)?;
-    let mut source = Bytes::new(text, 3, Vec::new(alloc));
-    Ok(read_all(alloc, &mut source, 20)?)
-}
-
-#[test]
-fn read_all_joins_pieces(rt: HostRuntime) -> Result<(), Fail> {
-    let all = read_in_pieces(rt.alloc())?;
-    expect_same(&rt, all.as_slice(), TEXT);
-    Ok(())
-}
 
 /// A sink with room for the text, which takes 8 bytes at once and whose third write fails.
 fn failing_sink(alloc: Global) -> Result<Room, Fail> {
@@ -56,20 +40,16 @@ impl Read for Torn {
 }
 
 #[test]
-fn std_source_reads_a_reader(rt: HostRuntime) -> Result<(), Fail> {
+fn std_source_reads_a_reader_and_counts_its_errors(rt: HostRuntime) -> Result<(), Fail> {
     let mut source = StdSource::new(TEXT);
     let all = read_all(rt.alloc(), &mut source, 20)?;
     expect_same(&rt, all.as_slice(), TEXT);
     expect_same(&rt, source.faults(), 0);
-    Ok(())
-}
-
-#[test]
-fn std_source_counts_the_errors_of_its_reader(rt: HostRuntime) {
-    let mut source = StdSource::new(Torn { is_first: true });
-    let fail = read_all(rt.alloc(), &mut source, 20).err();
+    let mut torn = StdSource::new(Torn { is_first: true });
+    let fail = read_all(rt.alloc(), &mut torn, 20).err();
     expect_same(&rt, fail, Some(ReadFail::ReadFault));
-    expect_same(&rt, source.faults(), 1);
+    expect_same(&rt, torn.faults(), 1);
+    Ok(())
 }
 
 /// How the text is written to a buffer, and how many writes fail.
@@ -87,14 +67,4 @@ fn std_sink_writes_a_writer_and_counts_a_write_of_nothing(rt: HostRuntime) {
     let mut small = [0; 8];
     expect_same(&rt, written_to(&mut small), (Err(WriteFault), 1));
     expect_same(&rt, small, *b"twenty b");
-}
-
-fn enter_twice<G: Gate>(gate: &G) {
-    gate.enter(0);
-    gate.enter(1);
-}
-
-#[test]
-fn open_gate_lets_everybody_in() {
-    enter_twice(&OpenGate);
 }

@@ -4,8 +4,7 @@ ghost use Rattle.rc_play_model.specs.Table.{taken};
 ghost use Rattle.rc_part_tests.specs.Stated.{stated, after_first};
 
 use crate::expect::expect_same;
-use crate::table::expect_lists;
-use crate::view::start_of;
+use crate::matches::{expect_lists, start_of};
 use rc_games::ROWS;
 use rc_rules::{Dealer, Machine, Stop};
 use std::test::Fail;

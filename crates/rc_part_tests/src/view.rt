@@ -1,165 +1,11 @@
-//! What a seat sees of a match, and the bytes by which a view is known.
-ghost use Rattle.std.specs.Prelude.{◌≡◌, IfOk};
-ghost use Rattle.rc_play_model.specs.Shape.{shape_of as shape_for};
-ghost use Rattle.rc_plain.specs.Plain.{config_of};
-ghost use Rattle.rc_rules.specs.Machine.{StandsAtDecision};
-ghost use Rattle.rc_view.specs.Key.{HasKey};
-ghost use Rattle.rc_view.specs.Seen.{view_seen};
-
+//! The bytes by which what a seat sees of a match is known.
 use crate::expect::expect_same;
-use rc_games::{Basis, OPEN_CARD, TRICKS, are_same_controls, are_same_menus, basis_in};
+use crate::matches::{copied_key, go_on, seen_by, start_of};
+use rc_games::OPEN_CARD;
 use rc_plain::PlainMachine;
-use rc_rules::{Machine, MatchDealer, Menu, Stop};
-use rc_view::{Sight, View, key_bytes, view_of};
-use std::alloc::Global;
+use rc_rules::{Machine, MatchDealer};
 use std::process::Abort;
 use std::test::Fail;
-
-/// A match at its start, with a turn limit of 64.
-fn start_on(alloc: Global, basis: &Basis) -> Result<PlainMachine, Fail>
-    requires { basis.now.shape.value ≡ shape_for basis.now.checked.value }
-    ensures { IfOk result (λ m. m.about ≡ record { sheet = basis.now.checked.value; shape = basis.now.shape.value; turns = 64 }) }
-{
-    Ok(PlainMachine::start(alloc, &basis.checked, &basis.shape, 64)?)
-}
-
-/// A match of the sheet in a text, at its start.
-pub fn start_of(alloc: Global, text: &[u8]) -> Result<PlainMachine, Fail> {
-    let basis = basis_in(alloc, text)?;
-    start_on(alloc, &basis)
-}
-
-/// A match at its first decision, with a turn limit of 64.
-pub fn decided_on(
-    alloc: Global,
-    basis: &Basis,
-    dealer: &mut MatchDealer,
-) -> Result<PlainMachine, Fail>
-    requires { basis.now.shape.value ≡ shape_for basis.now.checked.value }
-    ensures decision { IfOk result (λ m. StandsAtDecision m.about (config_of m)) }
-    ensures about { IfOk result (λ m. m.about ≡ record { sheet = basis.now.checked.value; shape = basis.now.shape.value; turns = 64 }) }
-{
-    let mut machine = start_on(alloc, basis)?;
-    go_on(&mut machine, dealer)?;
-    Ok(machine)
-}
-
-/// A match of the sheet in a text, at its first decision.
-pub fn first_decision(
-    alloc: Global,
-    text: &[u8],
-    dealer: &mut MatchDealer,
-) -> Result<PlainMachine, Fail>
-    ensures { IfOk result (λ m. StandsAtDecision m.about (config_of m)) }
-{
-    let basis = basis_in(alloc, text)?;
-    decided_on(alloc, &basis, dealer)
-}
-
-/// The match at its next decision.
-pub fn go_on(machine: &mut PlainMachine, dealer: &mut MatchDealer) -> Result<(), Fail>
-    ensures decision { IfOk result (λ _. StandsAtDecision machine.new.about (config_of machine.new)) }
-    ensures same { machine.new.about ≡ machine.old.about }
-{
-    match machine.advance(dealer) {
-        Ok(Stop::Decide { .. }) => Ok(()),
-        _ => Err("somebody decides".into()),
-    }
-}
-
-/// What a seat sees of a match.
-pub fn seen_by(
-    rt: &(impl AllocGlobal + Abort),
-    machine: &PlainMachine,
-    seat: u8,
-) -> Result<View, Fail>
-    ensures { IfOk result (λ view. HasKey (view_seen view)) }
-{
-    let table = machine.table();
-    assert!(rt; seat < table.shape().players());
-    Ok(view_of(rt.alloc(), table.shape(), table, machine.control(), seat)?)
-}
-
-/// What a seat may choose from, what it sees, and the bytes by which that is known.
-#[derive(Drop)]
-struct Decision {
-    menu: Menu,
-    view: View,
-    key: Vec<u8>,
-}
-
-/// The decision at which a match stands, and what the first seat sees of it.
-fn decision_of(rt: &(impl AllocGlobal + Abort), machine: &PlainMachine) -> Result<Decision, Fail>
-    requires { StandsAtDecision machine.now.about (config_of machine.now) }
-{
-    let view = seen_by(rt, machine, 0)?;
-    let key = key_bytes(rt.alloc(), &view)?;
-    let menu = machine.menu();
-    Ok(Decision { menu, view, key })
-}
-
-/// The first decision of a match of the trick game, where the first two seats hold these cards, from bottom to top.
-fn dealt(
-    rt: &(impl AllocGlobal + Abort),
-    deal: u64,
-    first: &[u16],
-    second: &[u16],
-) -> Result<Decision, Fail> {
-    let machine = first_decision(rt.alloc(), TRICKS, &mut MatchDealer::new(deal))?;
-    expect_same(rt, machine.table().list(1), first);
-    expect_same(rt, machine.table().list(2), second);
-    decision_of(rt, &machine)
-}
-
-fn are_same_sights(one: &[Sight], other: &[Sight]) -> bool {
-    for pair in one.iter().zip(other) {
-        let same = match pair {
-            (Sight::Faces(one), Sight::Faces(other)) => one.as_slice() == other.as_slice(),
-            (Sight::Length(one), Sight::Length(other)) => one == other,
-            _ => false,
-        };
-        if !same {
-            return false;
-        }
-    }
-    one.len() == other.len()
-}
-
-fn are_same_views(one: &View, other: &View) -> bool {
-    one.seat == other.seat
-        && are_same_controls(&one.control, &other.control)
-        && one.numbers.as_slice() == other.numbers.as_slice()
-        && are_same_sights(&one.sights, &other.sights)
-}
-
-/// The hand of the first seat in the first two deals.
-const HAND: &[u16] = &[23, 20, 25, 12, 34, 32];
-
-/// Fails unless all is the same in a deal that differs only in cards which the first seat doesn't see.
-fn expect_alike(rt: &(impl AllocGlobal + Abort), one: &Decision) -> Result<(), Fail> {
-    let alike = dealt(rt, 904_383, HAND, &[10, 27, 9, 22, 16, 33])?;
-    assert!(rt; are_same_menus(&one.menu, &alike.menu));
-    assert!(rt; are_same_views(&one.view, &alike.view));
-    expect_same(rt, one.key.as_slice(), alike.key.as_slice());
-    Ok(())
-}
-
-/// Fails unless the view is another one in a deal that differs in a card of the first seat's own.
-fn expect_other(rt: &(impl AllocGlobal + Abort), one: &Decision) -> Result<(), Fail> {
-    let other = dealt(rt, 17_525, &[23, 20, 25, 12, 2, 32], &[28, 3, 13, 10, 5, 6])?;
-    assert!(rt; !are_same_views(&one.view, &other.view));
-    assert!(rt; one.key.as_slice() != other.key.as_slice());
-    Ok(())
-}
-
-/// The hands were made by a ChaCha8 written apart from this program.
-#[test]
-fn a_seat_sees_its_own_cards_alone(rt: HostRuntime) -> Result<(), Fail> {
-    let one = dealt(&rt, 37_085, HAND, &[8, 16, 22, 31, 14, 13])?;
-    expect_same(&rt, one.menu.len(), 6);
-    expect_alike(&rt, &one)?;
-    expect_other(&rt, &one)
-}
 
 /// What the last seat of the game with an open card sees before the match begins.
 const KEY_AT_START: &[u8] = &[
@@ -207,14 +53,6 @@ const KEY_AT_DECISION: &[u8] = &[
     1, 0, // references in MARK
     1, 0, // the face
 ];
-
-/// The bytes of a copied view.
-pub fn copied_key(alloc: Global, view: &View) -> Result<Vec<u8>, Fail>
-    requires { HasKey (view_seen view.now) }
-{
-    let copy = view.copy(alloc)?;
-    Ok(key_bytes(alloc, &copy)?)
-}
 
 /// Fails unless these are the bytes of what the last seat sees of a match.
 fn expect_key(

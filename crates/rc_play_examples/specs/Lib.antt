@@ -8,3 +8,4 @@ pub mod Effects
 pub mod Menus
 pub mod Draws
 pub mod Rollouts
+pub mod Names

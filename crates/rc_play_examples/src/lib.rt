@@ -1,5 +1,5 @@
 //! House texts of whole sources, computed: the sheet is read off the form that the source's tokens spell, and played by the plan
-//! behind it. No function here does anything.
+//! behind it. And the names of sheets, numbered. No function here does anything.
 #![tactic(auto)]
 
 mod collections;
@@ -8,6 +8,7 @@ mod draws;
 mod effects;
 mod four_cards;
 mod menus;
+mod names;
 mod references;
 mod rollouts;
 mod scores;
@@ -35,6 +36,7 @@ pub use menus::{
     first_items_of_a_large_pile, guards_are_asked_once, items_are_counted_over_alternatives,
     outer_domains_vary_slowest,
 };
+pub use names::{first_mentions_tell_owners, names_are_numbered_by_their_first_mention};
 pub use references::{
     all_places_are_full, one_place_is_full, own_place_forgets, topmost_goes,
     variables_keep_references,

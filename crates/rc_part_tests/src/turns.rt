@@ -1,10 +1,11 @@
-//! Matches that take turns in a house over events.
+//! Matches that take turns in a house over events, in which what they keep may be lost.
 use crate::expect::expect_same;
 use crate::twice::{about_in, plan_in};
 use rc_core::{Event, House, run_core};
 use rc_match::Phase;
 use rc_redraw::Key;
 use rc_text::write_record;
+use std::alloc::Global;
 use std::process::Abort;
 use std::sync::Arc;
 use std::test::Fail;
@@ -48,16 +49,6 @@ enum Turn {
     Stays,
 }
 
-use Turn::{Ends, Hits, Keeps, Misses, Stays};
-
-/// The turns of a match with four choices, where nothing was kept for it.
-const ALONE: [Turn; 9] = [
-    Misses, Keeps, Misses, Keeps, Misses, Keeps, Misses, Keeps, Ends,
-];
-
-/// And where all was kept.
-const BEHIND: [Turn; 5] = [Hits, Hits, Hits, Hits, Ends];
-
 /// A house for both matches, before the first event.
 fn opened(rt: &(impl AllocGlobal + Abort)) -> Result<House, Fail> {
     let about = about_in(rt.alloc())?;
@@ -87,11 +78,11 @@ fn phase_in<'a>(rt: &impl Abort, house: &'a House, m: u32) -> &'a Phase {
 /// What a turn comes to, by what the match waits for behind its look.
 fn turn_to(phase: &Phase) -> Turn {
     match phase {
-        Phase::Missed(_) => Misses,
-        Phase::Holds(..) => Keeps,
-        Phase::Ready(_) => Hits,
-        Phase::Over => Ends,
-        _ => Stays,
+        Phase::Missed(_) => Turn::Misses,
+        Phase::Holds(..) => Turn::Keeps,
+        Phase::Ready(_) => Turn::Hits,
+        Phase::Over => Turn::Ends,
+        _ => Turn::Stays,
     }
 }
 
@@ -121,50 +112,40 @@ fn take_turn(
     Ok(turn)
 }
 
-/// The turns of a match, until it is over.
-fn turns_of(
+/// Fails unless a match with four choices finds what it asks at these, and is recorded so. Where it finds nothing it keeps what it played
+/// out, and loses it or not.
+fn expect_match(
     rt: &(impl AllocGlobal + Abort),
     house: &mut House,
     m: u32,
-    loses: bool,
-) -> Result<Vec<Turn>, Fail> {
-    let mut turns = Vec::new(rt.alloc());
-    for _ in 0..20u8 {
-        let turn = take_turn(rt, house, m, loses)?;
-        turns.push(turn)?;
-        if turn == Ends {
-            break;
+    choices: [(bool, bool); 4],
+    record: &[u8],
+) -> Result<(), Fail> {
+    for (is_found, is_lost) in choices {
+        if is_found {
+            expect_same(rt, take_turn(rt, house, m, false)?, Turn::Hits);
+        } else {
+            expect_same(rt, take_turn(rt, house, m, false)?, Turn::Misses);
+            expect_same(rt, take_turn(rt, house, m, is_lost)?, Turn::Keeps);
         }
     }
-    Ok(turns)
-}
-
-/// Fails unless a match takes these turns and is recorded so.
-fn expect_turns(
-    rt: &(impl AllocGlobal + Abort),
-    house: &mut House,
-    m: u32,
-    loses: bool,
-    expected: (&[Turn], &[u8]),
-) -> Result<(), Fail> {
-    let turns = turns_of(rt, house, m, loses)?;
-    expect_same(rt, turns.as_slice(), expected.0);
+    expect_same(rt, take_turn(rt, house, m, false)?, Turn::Ends);
     assert!(rt; (m as usize) < house.matches());
     let written = write_record(rt.alloc(), house.notes_of(m))?;
-    expect_same(rt, written.as_slice(), expected.1);
+    expect_same(rt, written.as_slice(), record);
     Ok(())
 }
 
+/// The first match finds nothing, and the second one what the first one kept, where that isn't lost. Each of the four entries is, or not.
 #[test]
-fn a_second_match_finds_what_the_first_one_kept(rt: HostRuntime) -> Result<(), Fail> {
-    let mut house = opened(&rt)?;
-    expect_turns(&rt, &mut house, 0, false, (&ALONE, FIRST))?;
-    expect_turns(&rt, &mut house, 1, false, (&BEHIND, SECOND))
-}
-
-#[test]
-fn matches_are_the_same_where_all_is_lost(rt: HostRuntime) -> Result<(), Fail> {
-    let mut house = opened(&rt)?;
-    expect_turns(&rt, &mut house, 0, true, (&ALONE, FIRST))?;
-    expect_turns(&rt, &mut house, 1, true, (&ALONE, SECOND))
+fn matches_are_the_same_whatever_is_lost(rt: HostRuntime) -> Result<(), Fail> {
+    for lost in 0..16u8 {
+        let [a, b, c, d] = [lost & 1 != 0, lost & 2 != 0, lost & 4 != 0, lost & 8 != 0];
+        let mut house = opened(&rt)?;
+        let losing = [(false, a), (false, b), (false, c), (false, d)];
+        expect_match(&rt, &mut house, 0, losing, FIRST)?;
+        let finding = [(!a, false), (!b, false), (!c, false), (!d, false)];
+        expect_match(&rt, &mut house, 1, finding, SECOND)?;
+    }
+    Ok(())
 }

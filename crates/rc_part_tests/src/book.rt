@@ -3,7 +3,7 @@ ghost use Rattle.std.specs.Prelude.{◌≡◌, length};
 
 use crate::expect::expect_same;
 use crate::twice::{about_in, plan_in};
-use rc_cache::{Book, Call, Fresh, Lane, Naming, SharedBook, same_ask};
+use rc_cache::{Book, Call, Fresh, Lane, Naming, SharedBook};
 use rc_outside::OpenGate;
 use rc_redraw::Ask;
 use rc_rules::{About, Plan};
@@ -58,62 +58,29 @@ fn is_asked_at(ask: &Ask, seat: u8, made: [u32; 2]) -> bool {
         && view.control.made.as_slice() == made.as_slice()
 }
 
-/// What was looked up, call by call.
-fn looked_up(alloc: Global, calls: &[Call]) -> Result<Vec<&Ask>, AllocError> {
-    let mut asks = Vec::new(alloc);
+/// How many calls look up what is asked at this decision.
+fn looks_at(calls: &[Call], seat: u8, made: [u32; 2]) -> usize {
+    let mut looks = 0usize;
     for call in calls {
         if let Call::Looked { key, .. } = call {
-            asks.push(&*key.ask)?;
+            if is_asked_at(&key.ask, seat, made) {
+                looks = looks.saturating_add(1);
+            }
         }
     }
-    Ok(asks)
+    looks
 }
 
-/// Fails unless this decision of each match asked, and both the same.
-fn expect_asked_twice(
-    rt: &(impl AllocGlobal + Abort),
-    asks: &[&Ask],
-    seat: u8,
-    made: [u32; 2],
-) -> Result<(), Fail> {
-    let mut found = Vec::new(rt.alloc());
-    for ask in asks {
-        if is_asked_at(ask, seat, made) {
-            found.push(*ask)?;
-        }
-    }
-    let [one, other] = found.as_slice() else {
-        return Err("a decision asks in both matches".into());
-    };
-    assert!(rt; same_ask(one, other));
-    Ok(())
-}
-
-/// How many calls keep totals.
-fn kept(calls: &[Call]) -> usize {
-    calls
+/// Fails unless the calls look up what is asked at each decision of both matches, and nothing else.
+fn expect_calls(rt: &impl Abort, calls: &[Call]) {
+    let looks = calls
         .iter()
-        .filter(|call| matches!(call, Call::Kept { .. }))
-        .count()
-}
-
-/// How many looks miss.
-fn missed(calls: &[Call]) -> usize {
-    calls
-        .iter()
-        .filter(|call| matches!(call, Call::Looked { hit: false, .. }))
-        .count()
-}
-
-/// Fails unless each decision of both matches looked up once what it asks, and each miss was followed by a keep.
-fn expect_calls(rt: &(impl AllocGlobal + Abort), calls: &[Call]) -> Result<(), Fail> {
-    let asks = looked_up(rt.alloc(), calls)?;
-    expect_same(rt, asks.len(), 8);
+        .filter(|call| matches!(call, Call::Looked { .. }))
+        .count();
+    expect_same(rt, looks, 8);
     for (seat, made) in DECISIONS {
-        expect_asked_twice(rt, asks.as_slice(), seat, made)?;
+        expect_same(rt, looks_at(calls, seat, made), 2);
     }
-    expect_same(rt, kept(calls), missed(calls));
-    Ok(())
 }
 
 /// Fails unless a new book has these calls behind the matches of the plan.
@@ -132,7 +99,8 @@ fn expect_book<N: Naming + Send + Sync, R: AllocGlobal + Abort + Threads + Wait 
     let (book, lanes) = Book::<N>::new(rt.alloc(), fresh, about, 65536, 2)?;
     let book = Mutex::new(book);
     play_over(rt, &book, lanes, about, plan)?;
-    expect_calls(rt, book.into_inner().journal())
+    expect_calls(rt, book.into_inner().journal());
+    Ok(())
 }
 
 #[test]

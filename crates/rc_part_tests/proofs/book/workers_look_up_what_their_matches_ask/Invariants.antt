@@ -1,4 +1,4 @@
-use Rattle.rc_play_tests.proofs.book.workers_look_up_what_their_matches_ask.Given as goal
+use Rattle.rc_part_tests.proofs.book.workers_look_up_what_their_matches_ask.Given as goal
 
 abbrev pub ghosts-expect_book : goal.ghosts-expect_book
 ghosts-expect_book g a =

@@ -3,7 +3,7 @@ use Rattle.rc_play_model.specs.Keyed.{dealing_of}
 use Rattle.rc_rules.specs.Control.{stop_seen}
 use Rattle.rc_plain.specs.Plain.{config_of}
 use Rattle.rc_part_tests.proofs.Decided.{first_decides}
-use Rattle.rc_part_tests.proofs.plain.decide_first.Goals as goal
+use Rattle.rc_part_tests.proofs.largest.decide_first.Goals as goal
 
 pub returns-in-Ok-Decide-clause-decides : goal.returns-in-Ok-Decide-clause-decides
 returns-in-Ok-Decide-clause-decides c =
