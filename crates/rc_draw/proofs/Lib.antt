@@ -1,2 +1,4 @@
 mod ShuffleSteps
 mod RowLemmas
+mod KeyLemmas
+mod LaneLemmas

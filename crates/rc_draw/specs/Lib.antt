@@ -1,2 +1,5 @@
 pub mod Purposes
 pub mod Rows
+pub mod Kept
+pub mod Neighbours
+pub mod Series

@@ -1,10 +1,13 @@
 //! Draws: keys made of four numbers, and the picks and the shuffles that a key decides.
 //!
-//! A key has a sequence of words of 32 bits, those of the generator ChaCha8. What is drawn by a key depends on the key alone.
+//! A key has a sequence of words of 32 bits, those of the generator ChaCha8. What is drawn by a key depends on the key alone. Of
+//! numbered keys the words are generated four at a time, side by side in the lanes of vectors.
 #![tactic(auto)]
 
+mod lanes;
 mod purpose;
 mod rounds;
+mod series;
 mod word;
 
 ghost use Rattle.std.specs.Prelude.{◌≡◌, ◌<◌, ◌≤◌, length};
@@ -13,6 +16,7 @@ ghost use Rattle.rc_play_model.specs.Draws as draws;
 
 use crate::word::first_word;
 pub use purpose::Purpose;
+pub use series::KeySeries;
 use rand_chacha::ChaCha8Rng;
 use rand_core::SeedableRng;
 use rand_core::utils::NextWord;

@@ -1,7 +1,7 @@
 use Rattle.std.proofs.Common.{◌≡◌, refl, sym, ap, ap₂, slice_index, ◌∙◌, arith, add-one}
 use Rattle.rand_chacha.specs.Block.{add32, column_round, diagonal_round, double_rounds, block_word}
-use Rattle.rc_lanes.proofs.LaneLemmas.{slice_index-lane}
-use Rattle.rc_lanes.proofs.lanes.first_words.Goals as goal
+use Rattle.rc_draw.proofs.LaneLemmas.{slice_index-lane}
+use Rattle.rc_draw.proofs.lanes.first_words.Goals as goal
 
 pub rounds-init : goal.rounds-init
 unfolding double_rounds

@@ -1,7 +1,7 @@
 -- What a series keeps of its words.
 use Rattle.std.specs.Prelude.{◌≤◌}
-use Rattle.rc_lanes.specs.Series.{Series, AreFirstWords}
-use Rattle.rc_lanes.specs.declared.series.KeySeries.TheInside.{Inside}
+use Rattle.rc_draw.specs.Series.{Series, AreFirstWords}
+use Rattle.rc_draw.specs.declared.series.KeySeries.TheInside.{Inside}
 
 abbrev pub series_seen : Inside → Series
 series_seen s = record { a = s.a; b = s.b; c = s.c; upper = s.upper }

@@ -1,5 +1,5 @@
 use Rattle.rand_chacha.specs.Block.{diagonal_round}
-use Rattle.rc_lanes.proofs.lanes.diagonal_round.Goals as goal
+use Rattle.rc_draw.proofs.lanes.diagonal_round.Goals as goal
 
 pub returns : goal.returns
 unfolding diagonal_round

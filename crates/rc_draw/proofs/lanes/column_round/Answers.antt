@@ -1,5 +1,5 @@
 use Rattle.rand_chacha.specs.Block.{column_round}
-use Rattle.rc_lanes.proofs.lanes.column_round.Goals as goal
+use Rattle.rc_draw.proofs.lanes.column_round.Goals as goal
 
 pub returns : goal.returns
 unfolding column_round

@@ -1,6 +1,6 @@
 use Rattle.std.proofs.Common.{refl}
 use Rattle.rand_chacha.specs.Block.{quarter_round}
-use Rattle.rc_lanes.proofs.lanes.quarter_round.Goals as goal
+use Rattle.rc_draw.proofs.lanes.quarter_round.Goals as goal
 
 pub returns : goal.returns
 unfolding quarter_round

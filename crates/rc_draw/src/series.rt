@@ -1,7 +1,7 @@
 //! Picks by keys of four numbers that differ in the lower half of the last.
 ghost use Rattle.std.specs.Prelude.{◌≡◌, ◌<◌};
 ghost use Rattle.rc_play_model.specs.Draws as draws;
-ghost use Rattle.rc_lanes.specs.Series.{AreFirstWords, key_at};
+ghost use Rattle.rc_draw.specs.Series.{AreFirstWords, key_at};
 
 use crate::lanes::first_words;
 use rc_play_model::keys_pick_and_permute;
@@ -21,11 +21,11 @@ pub struct KeySeries {
 }
 
 impl Model for KeySeries {
-    ghost use Rattle.rc_lanes.specs.Series.{Series};
+    ghost use Rattle.rc_draw.specs.Series.{Series};
 
     ghost Value = { Series };
 
-    ghost use Rattle.rc_lanes.specs.Kept.{series_seen, KeepsWords};
+    ghost use Rattle.rc_draw.specs.Kept.{series_seen, KeepsWords};
 
     ghost view = { series_seen };
 

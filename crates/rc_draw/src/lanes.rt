@@ -3,7 +3,7 @@
 ghost use Rattle.std.specs.Prelude.{◌≡◌, ℕ, ◌+◌, ◌*◌, ◌/◌, ◌%◌, ◌^◌, ◌<◌, slice_index};
 ghost use Rattle.rand_chacha.specs.Block.{add32, xor_rotate, quarter_round, column_round, diagonal_round, initial_state};
 ghost use Rattle.rand_chacha.specs.ChaCha.{word_at};
-ghost use Rattle.rc_lanes.specs.Neighbours.{neighbour};
+ghost use Rattle.rc_draw.specs.Neighbours.{neighbour};
 ghost use Rattle.rand_chacha.specs.Lanes.{lane};
 
 use std::simd::u32x4;
