@@ -10,8 +10,8 @@ use Rattle.rc_play_model.specs.Keyed.{dealing_of}
 use Rattle.rc_rules.specs.Plan.{plan_seen}
 use Rattle.rc_text_model.specs.HouseText.{HouseText}
 use Rattle.rc_text_model.specs.Reading.{read_text}
-use Rattle.rc_judge_model.specs.Why.{Illegal}
-use Rattle.rc_judge_model.specs.Judged.{first_illegal}
+use Rattle.rc_text_model.specs.Why.{Illegal}
+use Rattle.rc_text_model.specs.Judged.{first_illegal}
 use Rattle.rc_series.specs.Series.{looks_of}
 use Rattle.rc_outside.specs.Source.{Gave, IsAtEnd, longest_read}
 use Rattle.rc_outside.specs.declared.errors.ReadFail.{ReadFail}

@@ -5,10 +5,10 @@ use Rattle.rc_model.specs.Tree.{Tree}
 use Rattle.rc_play_model.specs.About.{About, about_of}
 use Rattle.rc_play_model.specs.Keyed.{keyed_house}
 use Rattle.rc_text_model.specs.Reading.{read_text}
-use Rattle.rc_judge_model.specs.PlayedLaws.{played_text}
-use Rattle.rc_played_laws.specs.Laws.{IsPlayable}
-use Rattle.rc_played_laws.proofs.Behind.{dropped_behind, spelled_behind}
-use Rattle.rc_played_laws.proofs.Judged.{read_back, judged_legal}
+use Rattle.rc_text_model.specs.PlayedLaws.{played_text}
+use Rattle.rc_text_model.specs.PlayedBack.{IsPlayable}
+use Rattle.rc_text_model.proofs.Behind.{dropped_behind, spelled_behind}
+use Rattle.rc_text_model.proofs.Judged.{read_back, judged_legal}
 use Rattle.rc_house.specs.declared.task.Task.TheVariants.{Play, Check}
 use Rattle.rc_house.specs.Task.{wanted}
 use Rattle.rc_house.specs.Reading.{Reading, IsAcceptedWith}

@@ -9,8 +9,8 @@ use Rattle.rc_play_model.specs.Plan.{Plan}
 use Rattle.rc_play_model.specs.Keyed.{keyed_house, dealing_of}
 use Rattle.rc_text_model.specs.HouseText.{HouseText}
 use Rattle.rc_text_model.specs.Reading.{read_text}
-use Rattle.rc_judge_model.specs.Why.{Illegal}
-use Rattle.rc_judge_model.specs.Judged.{first_illegal}
+use Rattle.rc_text_model.specs.Why.{Illegal}
+use Rattle.rc_text_model.specs.Judged.{first_illegal}
 use Rattle.rc_series.specs.Series.{looks_of}
 use Rattle.rc_sheet_model.specs.Sheet as sheet
 use Rattle.rc_sheet_model.specs.Printing.{printed_sheet}

@@ -11,7 +11,7 @@ use Rattle.rc_plan_model.specs.declared.fault.PlanKind.{PlanKind}
 use Rattle.rc_plan_model.specs.declared.fault.PlanKind.TheVariants as plan
 use Rattle.rc_judge.specs.declared.verdict.Why.{Why}
 use Rattle.rc_judge.specs.declared.verdict.Why.TheVariants as whys
-use Rattle.rc_judge_model.specs.Why.{Why as PureWhy, by_match, by_shuffle, by_seat, by_menu, by_item, by_end, by_score, by_standing}
+use Rattle.rc_text_model.specs.Why.{Why as PureWhy, by_match, by_shuffle, by_seat, by_menu, by_item, by_end, by_score, by_standing}
 use Rattle.rc_house.specs.declared.refusal.Refusal.{Refusal}
 use Rattle.rc_house.specs.declared.refusal.Refusal.TheVariants as refusal
 use Rattle.rc_house.specs.declared.status.SourceKind.{SourceKind}

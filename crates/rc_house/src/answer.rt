@@ -10,7 +10,7 @@ ghost use Rattle.rc_play_model.specs.About.{about_of};
 ghost use Rattle.rc_play_model.specs.Keyed.{dealing_of};
 ghost use Rattle.rc_text_model.specs.HouseText.{IsHouseText, lines_of};
 ghost use Rattle.rc_text.specs.House.{house_seen};
-ghost use Rattle.rc_judge_model.specs.Judged.{first_illegal};
+ghost use Rattle.rc_text_model.specs.Judged.{first_illegal};
 ghost use Rattle.rc_rules.specs.Plan.{plan_seen};
 ghost use Rattle.rc_house.specs.declared.refusal.Refusal.TheVariants as refusal;
 ghost use Rattle.rc_house.specs.declared.status.SourceKind.TheVariants.{Shape};

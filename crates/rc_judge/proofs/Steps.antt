@@ -10,11 +10,11 @@ use Rattle.rc_play_model.specs.Decision.{choose}
 use Rattle.rc_play_model.specs.Play.{stop_behind}
 use Rattle.rc_play_model.specs.Plan.{Plan, deal_at}
 use Rattle.rc_play_model.specs.Keyed.{dealing_of}
-use Rattle.rc_judge_model.specs.Why.{Why as PureWhy, Illegal as PureIllegal}
-use Rattle.rc_judge_model.specs.Rows.{◌or◌, lacking_row, decision_row, chosen_row, shuffled_row, further_row, further_row}
-use Rattle.rc_judge_model.specs.Judged.{at_line}
-use Rattle.rc_judge_model.specs.Along.{Judging, on_row, and_then, told_along, standings_along, next_stop, picks_along, record_along, matches_along}
-use Rattle.rc_judge_model.proofs.LegalLemmas.{on_row_none, and_on, made_forth, made_goes_on, some_is}
+use Rattle.rc_text_model.specs.Why.{Why as PureWhy, Illegal as PureIllegal}
+use Rattle.rc_text_model.specs.Rows.{◌or◌, lacking_row, decision_row, chosen_row, shuffled_row, further_row, further_row}
+use Rattle.rc_text_model.specs.Judged.{at_line}
+use Rattle.rc_text_model.specs.Along.{Judging, on_row, and_then, told_along, standings_along, next_stop, picks_along, record_along, matches_along}
+use Rattle.rc_text_model.proofs.LegalLemmas.{on_row_none, and_on, made_forth, made_goes_on, some_is}
 use Rattle.rc_rules.specs.declared.record.Pick.{Pick as Pick'}
 use Rattle.rc_rules.specs.Record.{pick_seen}
 use Rattle.rc_judge.specs.declared.verdict.Halt.{Halt}

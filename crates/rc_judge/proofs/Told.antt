@@ -6,7 +6,7 @@ use Rattle.rc_model.specs.Numbers.{below}
 use Rattle.rc_play_model.specs.About.{About}
 use Rattle.rc_play_model.specs.Step.{Config}
 use Rattle.rc_play_model.specs.Scores.{rank_points, scores_of, score_at}
-use Rattle.rc_judge_model.specs.Rows.{scores_at}
+use Rattle.rc_text_model.specs.Rows.{scores_at}
 
 in_range : {X : Type 0} (f : ℕ → X) (a n k : ℕ) → k < n → slice_get (map f (range_with_len a n)) k ≡ Some (f (a + k))
 in_range f a zero k lt = absurd (omega (arith, lt))

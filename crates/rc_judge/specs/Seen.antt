@@ -7,8 +7,8 @@ use Rattle.rc_rules.specs.declared.record.MatchRecord.{MatchRecord}
 use Rattle.rc_rules.specs.Control.{stop_seen}
 use Rattle.rc_rules.specs.Record.{record_seen}
 use Rattle.rc_text_model.specs.HouseText.{record_lines}
-use Rattle.rc_judge_model.specs.Why.{Why as PureWhy, by_match, by_shuffle, by_seat, by_menu, by_item, by_end, by_score, by_standing, Illegal as PureIllegal}
-use Rattle.rc_judge_model.specs.Along.{Judging}
+use Rattle.rc_text_model.specs.Why.{Why as PureWhy, by_match, by_shuffle, by_seat, by_menu, by_item, by_end, by_score, by_standing, Illegal as PureIllegal}
+use Rattle.rc_text_model.specs.Along.{Judging}
 use Rattle.rc_judge.specs.declared.verdict.Why.{Why}
 use Rattle.rc_judge.specs.declared.verdict.Why.TheVariants.{Match, Shuffle, Seat, Menu, Item, End, Score, Standing}
 use Rattle.rc_judge.specs.declared.verdict.Verdict.{Verdict}

@@ -1,7 +1,7 @@
 use Rattle.std.proofs.Common.{subst}
 use Rattle.rc_play_model.specs.Keyed.{dealing_of}
-use Rattle.rc_judge_model.specs.Judged.{first_illegal}
-use Rattle.rc_judge_model.specs.Legal.{IsLegal}
+use Rattle.rc_text_model.specs.Judged.{first_illegal}
+use Rattle.rc_text_model.specs.Legal.{IsLegal}
 use Rattle.rc_rules.specs.Plan.{plan_seen}
 use Rattle.rc_text.specs.House.{house_seen}
 use Rattle.rc_judge.specs.Seen.{Finds}

@@ -2,8 +2,8 @@ use Rattle.std.proofs.Common.{◌≡◌, ◌+◌, ◌<◌, map, drop, length, So
 use Rattle.rc_model.specs.Numbers.{below}
 use Rattle.rc_sheet_model.specs.Sheet.{Sheet}
 use Rattle.rc_play_model.specs.Scores.{scores_of, rank_points}
-use Rattle.rc_judge_model.specs.Along as along
-use Rattle.rc_judge_model.proofs.LegalLemmas.{on_row_none}
+use Rattle.rc_text_model.specs.Along as along
+use Rattle.rc_text_model.proofs.LegalLemmas.{on_row_none}
 use Rattle.rc_rules.specs.Record.{score_seen}
 use Rattle.rc_judge.specs.Seen.{row_seen, stands_at}
 use Rattle.rc_judge.proofs.Steps.{dropped, halts, hands_on}

@@ -1,5 +1,5 @@
 use Rattle.std.proofs.Common.{◌≡◌, ℕ, ◌+◌, ◌≤◌, map, drop, Some}
-use Rattle.rc_judge_model.specs.Along as along
+use Rattle.rc_text_model.specs.Along as along
 use Rattle.rc_rules.specs.declared.control.Stop.{Stop}
 use Rattle.rc_rules.specs.Record.{score_seen}
 use Rattle.rc_judge.specs.Seen.{stands_at}

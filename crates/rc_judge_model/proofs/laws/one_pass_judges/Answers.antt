@@ -1,5 +1,0 @@
-use Rattle.rc_judge_model.proofs.AlongLemmas.{one_pass}
-use Rattle.rc_judge_model.proofs.laws.one_pass_judges.Goals as goal
-
-pub returns : goal.returns
-returns c = λ about dealing plan t is. one_pass about dealing plan t is

@@ -1,7 +1,0 @@
-mod Dealt
-mod Picked
-mod Scored
-mod Ranked
-mod Played
-pub mod Judged
-pub mod Behind

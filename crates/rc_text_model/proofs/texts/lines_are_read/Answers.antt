@@ -1,0 +1,8 @@
+use Rattle.rc_text_model.proofs.LineLemmas.{line-only, line-again}
+use Rattle.rc_text_model.proofs.texts.lines_are_read.Goals as goal
+
+pub returns-clause-again : goal.returns-clause-again
+returns-clause-again c = λ l is. line-again l is
+
+pub returns-clause-only : goal.returns-clause-only
+returns-clause-only c = λ bytes l e. line-only bytes l e

@@ -1,0 +1,69 @@
+-- The first illegal line of a house text. For each line the play of its match is started anew.
+use Rattle.std.specs.Prelude.{ℕ, ◌+◌, List, [], ◌∷◌, ◌++◌, length, Option, Some, None}
+use Rattle.rc_model.specs.Transcript.{Pick}
+use Rattle.rc_text_model.specs.Fields.{◌>>=◌}
+use Rattle.rc_text_model.specs.Lines.{Line, opening, chosen, shuffled, ending, scored, ranked}
+use Rattle.rc_text_model.specs.HouseText.{HouseText, lines_of}
+use Rattle.rc_text_model.specs.Reading.{Place, outside, headed, playing, told, stopped, scoring, ranking}
+use Rattle.rc_text_model.specs.Grammar.{run}
+use Rattle.rc_play_model.specs.About.{About}
+use Rattle.rc_play_model.specs.Effects.{Dealing}
+use Rattle.rc_play_model.specs.Stop.{Stopped}
+use Rattle.rc_play_model.specs.Play.{items_of, reached}
+use Rattle.rc_play_model.specs.Plan.{Plan, deal_at}
+use Rattle.rc_text_model.specs.Why.{Why, Illegal}
+use Rattle.rc_text_model.specs.Rows.{◌or◌, lacking_row, opening_row, chosen_row, shuffled_row, ending_row, scored_row, ranked_row, end_row}
+
+-- the n-th line where a row applies to it, else what is found later
+abbrev pub at_line : ℕ → Option Why → Option Illegal → Option Illegal
+at_line n None later = later
+at_line n (Some why) later = Some (record { line = n; why = why })
+
+-- the row of the end of a text
+abbrev pub end_at : Plan → Place → Option Why
+end_at plan (ranking matches standings) = end_row plan matches (length standings)
+end_at plan _ = None
+
+abbrev pub end_of : Plan → List Line → Option Why
+end_of plan front = run outside front >>= end_at plan
+
+module _ (about : About) (dealing : ℕ → Dealing ℕ) (plan : Plan) where
+  -- the play of match m after these choices
+  abbrev pub play_after : ℕ → List Pick → Option (Stopped ℕ)
+  play_after m picks = reached about (dealing (deal_at plan m).deal) (items_of picks) 0
+
+  -- the play of the match in which a place is
+  abbrev pub play_at : Place → Option (Stopped ℕ)
+  play_at (playing before r) = play_after (length before) r.picks
+  play_at (told before r) = play_after (length before) r.picks
+  play_at (stopped before r) = play_after (length before) r.picks
+  play_at (scoring before r) = play_after (length before) r.picks
+  play_at _ = None
+
+  -- The row that applies to a line at a place, where the play stands at a stop. The table has no rows for lines that can't stand
+  -- there by the grammar.
+  abbrev pub row_at : Place → Option (Stopped ℕ) → Line → Option Why
+  row_at headed at (opening n deal seats) = opening_row plan 0 n deal seats
+  row_at (scoring before r) at (opening n deal seats) = lacking_row about r or opening_row plan (length before + 1) n deal seats
+  row_at (playing before r) at (chosen p) = chosen_row about at p
+  row_at (playing before r) at (shuffled n) = shuffled_row at n
+  row_at (playing before r) at (ending e turn) = ending_row at r.shuffles e turn
+  row_at (told before r) at (ending e turn) = ending_row at r.shuffles e turn
+  row_at (stopped before r) at (scored s) = scored_row about at (length r.scores) s
+  row_at (scoring before r) at (scored s) = scored_row about at (length r.scores) s
+  row_at (scoring before r) at (ranked s) = lacking_row about r or ranked_row plan (before ++ r ∷ []) 0 s
+  row_at (ranking matches standings) at (ranked s) = ranked_row plan matches (length standings) s
+  row_at _ at _ = None
+
+  -- the row that applies to a line behind these lines
+  abbrev pub row_of : List Line → Line → Option Why
+  row_of front l = run outside front >>= λ place. row_at place (play_at place) l
+
+  -- the first line from the n-th on, behind the lines before it, to which a row applies
+  abbrev pub first_from : ℕ → List Line → List Line → Option Illegal
+  first_from n front [] = at_line n (end_of plan front) None
+  first_from n front (l ∷ lines) = at_line n (row_of front l) (first_from (n + 1) (front ++ l ∷ []) lines)
+
+  -- The first illegal line of a text. There is none exactly where the text is legal, by the law LegalExactly of Laws.antt.
+  abbrev pub first_illegal : HouseText → Option Illegal
+  first_illegal t = first_from 1 [] (lines_of t)

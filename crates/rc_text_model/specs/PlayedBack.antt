@@ -1,0 +1,47 @@
+-- Statements of laws: what a plan's keys make of its matches is a house text, is read back off its bytes, and is legal.
+use Rattle.std.specs.Prelude.{◌≡◌, ℕ, ◌+◌, List, ◌∷◌, ◌++◌, length, drop, None, Ok}
+use Rattle.rc_model.specs.Spelled.{Spelled}
+use Rattle.rc_model.specs.Tree.{Tree}
+use Rattle.rc_sheet_model.specs.Sight.{IsInSight}
+use Rattle.rc_sheet_model.specs.WellFormed.{IsWellFormed}
+use Rattle.rc_play_model.specs.Shape.{shape_of}
+use Rattle.rc_play_model.specs.About.{About}
+use Rattle.rc_play_model.specs.Plan.{Plan}
+use Rattle.rc_play_model.specs.Keyed.{dealing_of, keyed_house}
+use Rattle.rc_plan_model.specs.Limits.{IsWithinLimits}
+use Rattle.rc_text_model.specs.HouseText.{HouseText, IsHouseText}
+use Rattle.rc_text_model.specs.Reading.{read_text}
+use Rattle.rc_text_model.specs.Judged.{first_illegal}
+use Rattle.rc_text_model.specs.Legal.{IsLegal}
+use Rattle.rc_text_model.specs.PlayedLaws.{played_text}
+
+-- A well formed sheet that keeps the sight rule, and a plan within the limits that has a strategy for each of its players.
+pub record IsPlayable (about : About) (plan : Plan) : Type 0 where
+  pub shape : about.shape ≡ shape_of about.sheet
+  pub well : IsWellFormed about.sheet
+  pub sight : IsInSight about.sheet
+  pub turns : about.turns ≡ plan.turns
+  pub within : IsWithinLimits plan
+  pub seats : length plan.strategies ≡ about.sheet.players
+
+-- what is played is in the ranges of house texts
+abbrev pub PlayedIsHouseText : Type 0
+PlayedIsHouseText = (about : About) (plan : Plan) → IsPlayable about plan → IsHouseText (played_text about plan)
+
+-- and is read back off its bytes
+abbrev pub PlayedIsRead : Type 0
+PlayedIsRead = (about : About) (plan : Plan) → IsPlayable about plan → read_text (keyed_house about plan) ≡ Ok (played_text about plan)
+
+-- What is read off the bytes of a plan's house text is legal, and no line of it is illegal.
+abbrev pub PlayedIsJudgedLegal : Type 0
+PlayedIsJudgedLegal =
+    (about : About) (plan : Plan) → IsPlayable about plan → (t : HouseText) → read_text (keyed_house about plan) ≡ Ok t →
+    IsLegal about dealing_of plan t × (first_illegal about dealing_of plan t ≡ None)
+
+-- A source of so many forms and nothing else, with an LF and a house text behind it, is read as the same forms, and its rest is that
+-- house text.
+abbrev pub PlayedStandsBehind : Type 0
+PlayedStandsBehind =
+    (about : About) (plan : Plan) (source : List ℕ) (want : ℕ) (forms : List Tree) → Spelled source want forms (length source) → length forms ≡ want →
+    Spelled (source ++ 10 ∷ keyed_house about plan) want forms (length source + 1)
+    × (drop (length source + 1) (source ++ 10 ∷ keyed_house about plan) ≡ keyed_house about plan)
