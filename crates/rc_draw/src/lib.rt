@@ -16,11 +16,11 @@ ghost use Rattle.rc_play_model.specs.Draws as draws;
 
 use crate::word::first_word;
 pub use purpose::Purpose;
-pub use series::KeySeries;
 use rand_chacha::ChaCha8Rng;
 use rand_core::SeedableRng;
 use rand_core::utils::NextWord;
 use rc_play_model::keys_pick_and_permute;
+pub use series::KeySeries;
 
 /// The key of four numbers, one behind the other with their lowest bytes first.
 pub fn key32(a: u64, b: u64, c: u64, d: u64) -> [u8; 32]

@@ -1,3 +1,4 @@
 pub mod LeastLemmas
 pub mod RowLemmas
 pub mod FirstOffset
+pub mod Unread

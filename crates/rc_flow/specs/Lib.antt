@@ -1,3 +1,5 @@
 pub mod Least
 pub mod Checked
 pub mod Codes
+pub mod Reads
+pub mod UnreadLaws

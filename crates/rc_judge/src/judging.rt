@@ -22,9 +22,9 @@ use crate::playing::record_along;
 use crate::rows::ranked_row;
 use crate::verdict::{Halt, Verdict, Why, on_row};
 use rc_deck::Memory;
-use rc_text_model::{legal_exactly, one_pass_judges};
 use rc_rules::{About, MatchRecord, Plan, Standing};
 use rc_text::{HouseText, standings};
+use rc_text_model::{legal_exactly, one_pass_judges};
 use std::alloc::Global;
 
 /// Judges a house text by what its matches are played by and a plan: `Legal`, or the first illegal line and why. The plan is within

@@ -7,8 +7,8 @@ use Rattle.rc_sheet_model.specs.Sheet.{Test as PureTest}
 use Rattle.rc_play_model.specs.Scene.{CardValue, id_of}
 use Rattle.rc_play_model.specs.Value.{Scene as PureScene, Bind as PureBind, card_bound, player_bound, test_value, tests_value}
 use Rattle.rc_play_model.specs.Menu.{Item as PureItem}
-use Rattle.rc_reads.specs.Reads.{reads_test}
-use Rattle.rc_reads.proofs.Unread.{unread_test}
+use Rattle.rc_flow.specs.Reads.{reads_test}
+use Rattle.rc_flow.proofs.Unread.{unread_test}
 use Rattle.rc_rules.proofs.Elements.{drop_here}
 use Rattle.rc_value.specs.declared.asks.Ask.{Ask}
 use Rattle.rc_value.specs.declared.asks.Ask.TheVariants.{Value, Wish, Whole}

@@ -10,7 +10,7 @@ use Rattle.rc_play_model.specs.Owners.{place_among}
 use Rattle.rc_play_model.specs.Shape.{team_at}
 use Rattle.rc_play_model.specs.Scene.{CardValue}
 use Rattle.rc_play_model.specs.Value.{Scene as PureScene, Bind as PureBind, Known, player_bound, player_of, who_value, num_place, number_there, int_value, test_value}
-use Rattle.rc_reads.specs.Reads.{reads_who}
+use Rattle.rc_flow.specs.Reads.{reads_who}
 use Rattle.rc_value.specs.declared.comparing.Comparison.{Comparison}
 use Rattle.rc_value.specs.declared.comparing.Suited.{Suited}
 use Rattle.rc_value.specs.Comparing.{compare, number_held, suits, ArePaired, IsHisNumber, IsSameForAll, IsSuited}

@@ -9,8 +9,8 @@ use Rattle.rc_sheet_model.specs.Naming.{class_of}
 use Rattle.rc_play_model.specs.Owners.{place_among}
 use Rattle.rc_play_model.specs.Scene.{CardValue}
 use Rattle.rc_play_model.specs.Value.{Scene as PureScene, Bind as PureBind, card_bound, player_bound, both, nat_same, card_of, attr_of_any, cards_there, cut, last_of, card_value, coll_value, test_value}
-use Rattle.rc_reads.specs.Reads.{reads_card}
-use Rattle.rc_reads.proofs.Unread.{unread_card}
+use Rattle.rc_flow.specs.Reads.{reads_card}
+use Rattle.rc_flow.proofs.Unread.{unread_card}
 use Rattle.rc_value.specs.declared.wanted.Wanted.{Wanted}
 use Rattle.rc_value.specs.Wanted.{wanted_value, IsFixed, IsFixedCollection, IsFixedOwner, IsWanted, IsWantedAt}
 use Rattle.rc_value.proofs.Steps.{all-map, any-map}

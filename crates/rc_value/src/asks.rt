@@ -20,7 +20,7 @@ use crate::scope::{Bind, Bindings};
 use crate::wanted::{Wanted, is_so};
 use arrayvec::ArrayVec;
 use rc_ast::Test;
-use rc_reads::test_reads;
+use rc_flow::test_reads;
 
 /// What is asked of each card that the innermost variable stands for. Most guards ask for values, which stand apart from other wishes:
 /// for a value, or as a value is to be or not to be, in the row of all cards' values for an attribute.

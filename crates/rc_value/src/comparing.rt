@@ -6,7 +6,7 @@ ghost use Rattle.rc_model.specs.Numbers.{below};
 ghost use Rattle.rc_sheet_model.specs.Sheet.{who_var};
 ghost use Rattle.rc_ast.specs.Names.{num_seen, who_seen};
 ghost use Rattle.rc_ast.specs.Expressions.{int_seen, test_seen};
-ghost use Rattle.rc_reads.specs.Reads.{reads_who};
+ghost use Rattle.rc_flow.specs.Reads.{reads_who};
 ghost use Rattle.rc_value.specs.Comparing.{compare, number_held, suits, turned, ArePaired, IsHisNumber, IsSameForAll, IsSuited};
 ghost use Rattle.rc_value.specs.Scene.{scene_seen};
 

@@ -4,7 +4,7 @@ ghost use Rattle.std.specs.List.{list_any, list_all};
 ghost use Rattle.rc_sheet_model.specs.Sheet.{card_var};
 ghost use Rattle.rc_ast.specs.Names.{who_seen};
 ghost use Rattle.rc_ast.specs.Expressions.{card_seen, coll_seen, test_seen};
-ghost use Rattle.rc_reads.specs.Reads.{reads_card};
+ghost use Rattle.rc_flow.specs.Reads.{reads_card};
 ghost use Rattle.rc_value.specs.Cards.{value_seen, values_seen};
 ghost use Rattle.rc_value.specs.Scene.{scene_seen};
 ghost use Rattle.rc_value.specs.Wanted.{compares, meets, wanted_value, turned, IsFixed, IsFixedCollection, IsFixedOwner, IsWanted, IsWantedAt};
@@ -17,7 +17,7 @@ use crate::scene::Scene;
 use crate::scope::Bindings;
 use crate::{Card, Cards};
 use rc_ast::{CardExpr, CollExpr, Test, Who};
-use rc_reads::card_reads;
+use rc_flow::card_reads;
 
 /// A value for an attribute that a card is to have, or not to have.
 #[derive(Clone, Copy)]

@@ -1,6 +1,6 @@
 use Rattle.std.proofs.Common.{refl, ap, sym, subst, ◌∙◌}
 use Rattle.rc_ast.specs.Expressions.{test_seen}
-use Rattle.rc_reads.specs.Reads.{reads_test}
+use Rattle.rc_flow.specs.Reads.{reads_test}
 use Rattle.rc_value.specs.Asks.{AllFit}
 use Rattle.rc_value.specs.Scene.{scene_seen}
 use Rattle.rc_value.proofs.AskLemmas.{all_fit_more, joined_asked, joined_once}

@@ -14,7 +14,7 @@ use Rattle.rc_rules.proofs.Elements.{below_length}
 use Rattle.rc_value.proofs.Steps.{players_are, all_stop, all_on, all_end, any_stop, any_on, any_end, player_here, union_on, union_end, colls_here, tests_here, and_here, or_here, union_here, and_depth, or_depth, union_depth, inner_is, tests_on, tests_off, count_on, count_end}
 use Rattle.rc_ast.specs.declared.expressions.CardExpr.TheFolds
 use Rattle.rc_value.proofs.WantedLemmas.{all_wanted, any_wanted, keep_wanted, against_is, against_turned, value_is}
-use Rattle.rc_reads.specs.Reads.{reads_card}
+use Rattle.rc_flow.specs.Reads.{reads_card}
 use Rattle.rc_value.proofs.expressions.+values.Goals as goal
 
 pub test_of-returns-in-And : goal.test_of-returns-in-And

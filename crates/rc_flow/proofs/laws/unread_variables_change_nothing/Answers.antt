@@ -1,5 +1,5 @@
-use Rattle.rc_reads.proofs.Unread.{unread_test, unread_card}
-use Rattle.rc_reads.proofs.laws.unread_variables_change_nothing.Goals as goal
+use Rattle.rc_flow.proofs.Unread.{unread_test, unread_card}
+use Rattle.rc_flow.proofs.laws.unread_variables_change_nothing.Goals as goal
 
 pub returns-clause-tests : goal.returns-clause-tests
 returns-clause-tests c = λ scene outer inner m m' t unread. unread_test scene outer m m' inner t unread

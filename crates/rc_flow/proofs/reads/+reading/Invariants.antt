@@ -1,7 +1,7 @@
 use Rattle.std.proofs.Common.{◌≡◌, drop}
 use Rattle.rc_ast.specs.Expressions.{colls_seen, tests_seen}
-use Rattle.rc_reads.specs.Reads.{reads_colls, reads_tests}
-use Rattle.rc_reads.proofs.expressions.+reading.Given as goal
+use Rattle.rc_flow.specs.Reads.{reads_colls, reads_tests}
+use Rattle.rc_flow.proofs.reads.+reading.Given as goal
 
 abbrev pub invariant-some_part_reads-loop-part : goal.invariant-some_part_reads-loop-part
 invariant-some_part_reads-loop-part l =

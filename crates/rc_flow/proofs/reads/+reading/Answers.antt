@@ -1,8 +1,8 @@
 use Rattle.std.proofs.Common.{ap, sym, ◌∙◌}
 use Rattle.rc_ast.specs.Expressions.{coll_seen, test_seen}
 use Rattle.rc_ast.proofs.ViewLemmas.{union_seen, and_seen, or_seen}
-use Rattle.rc_reads.specs.Reads.{reads_coll, reads_test}
-use Rattle.rc_reads.proofs.expressions.+reading.Goals as goal
+use Rattle.rc_flow.specs.Reads.{reads_coll, reads_test}
+use Rattle.rc_flow.proofs.reads.+reading.Goals as goal
 
 pub gathered_read-returns-in-Union : goal.gathered_read-returns-in-Union
 gathered_read-returns-in-Union t c =

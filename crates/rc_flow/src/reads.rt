@@ -2,7 +2,7 @@
 ghost use Rattle.std.specs.Prelude.{◌≡◌};
 ghost use Rattle.rc_ast.specs.Names.{who_seen};
 ghost use Rattle.rc_ast.specs.Expressions.{card_seen, coll_seen, colls_seen, int_seen, test_seen, tests_seen, domain_seen};
-ghost use Rattle.rc_reads.specs.Reads.{reads_who, reads_card, reads_coll, reads_colls, reads_int, reads_test, reads_tests, reads_domain};
+ghost use Rattle.rc_flow.specs.Reads.{reads_who, reads_card, reads_coll, reads_colls, reads_int, reads_test, reads_tests, reads_domain};
 
 use rc_ast::{CardExpr, CollExpr, Domain, IntExpr, Test, Who};
 

@@ -3,7 +3,7 @@ use Rattle.std.specs.Prelude.{◌≡◌, false, List, ◌∷◌, ◌++◌, lengt
 use Rattle.rc_sheet_model.specs.Sheet.{Test, CardExpr}
 use Rattle.rc_play_model.specs.Value.{Scene, Bind, test_value, card_value}
 use Rattle.rc_play_model.specs.Scene.{CardValue}
-use Rattle.rc_reads.specs.Reads.{reads_test, reads_card}
+use Rattle.rc_flow.specs.Reads.{reads_test, reads_card}
 
 abbrev pub UnreadInTests : Type 0
 UnreadInTests =

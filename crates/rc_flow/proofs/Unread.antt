@@ -11,7 +11,7 @@ use Rattle.rc_sheet_model.specs.Naming.{class_of}
 use Rattle.rc_play_model.specs.Owners.{place_among}
 use Rattle.rc_play_model.specs.Ends.{first_of, last_of}
 use Rattle.rc_play_model.specs.Value.{Scene, Bind, card_bound, group_bound, cut, both, nat_same, best_of, int_more, player_of, card_of, group_of, who_value, loc_place, num_place, number_there, cards_there, worth, sum_worth, worth_of_any, attr_of_any, groups_by, card_value, coll_value, colls_value, int_value, test_value, tests_value, members}
-use Rattle.rc_reads.specs.Reads.{reads_who, reads_card, reads_coll, reads_colls, reads_int, reads_test, reads_tests, reads_domain}
+use Rattle.rc_flow.specs.Reads.{reads_who, reads_card, reads_coll, reads_colls, reads_int, reads_test, reads_tests, reads_domain}
 
 left : (a b : Bool) → (a || b) ≡ false → a ≡ false
 left false b e = refl
