@@ -18,8 +18,8 @@ ghost use Rattle.rc_flat.specs.Marks.{IsMark};
 use crate::machine::{FlatMachine, Mark};
 use crate::stand::{Stand, write_menu};
 use rc_deck::Memory;
+use rc_menu::copy_menu;
 use rc_rules::{Control, Dealer, Machine, Menu, Scores, Stop};
-use rc_state::copy_menu;
 use rc_table::Table;
 
 impl FlatMachine {

@@ -22,9 +22,10 @@ use crate::there::stage_there;
 use rc_ast::{Alt, Class, Test};
 use rc_code::Instruction;
 use rc_deck::Memory;
+use rc_menu::fill_menu_by;
 use rc_play_model::stops_stay;
 use rc_rules::{About, Dealer, Stop};
-use rc_state::{close_frame, fill_menu_by, member_count, open_frame_by, pass_frame_by};
+use rc_state::{close_frame, member_count, open_frame_by, pass_frame_by};
 
 impl State {
     /// Does the effects that are next, so many instructions.

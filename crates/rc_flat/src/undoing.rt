@@ -14,8 +14,8 @@ use crate::machine::Mark;
 use crate::state::State;
 use crate::there::choice_there;
 use rc_code::Instruction;
+use rc_menu::fill_menu_by;
 use rc_rules::About;
-use rc_state::fill_menu_by;
 
 impl State {
     /// Where it stands.

@@ -14,9 +14,10 @@ ghost use Rattle.rc_plain.specs.State.{KeepsMenu, IsReady, config_at, next_seen,
 use crate::state::State;
 use rc_ast::{Alt, Class, Effect, SheetItem, Test};
 use rc_effects::do_effects;
+use rc_menu::fill_menu_at;
 use rc_play_model::{sites_fix_choices, stops_stay};
 use rc_rules::{About, Dealer, Stop};
-use rc_state::{close_frame, fill_menu_at, has_ended, member_count, open_frame, pass_frame};
+use rc_state::{close_frame, has_ended, member_count, open_frame, pass_frame};
 use rc_value::{Bindings, current_of};
 
 impl State {

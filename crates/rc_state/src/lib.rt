@@ -1,5 +1,5 @@
 //! What a machine reads of a match, and changes in it, whatever it plays on: what expressions stand for now, the members of domains,
-//! the frames of open stages, menus, scores and the counts of a control.
+//! the frames of open stages, scores and the counts of a control.
 //!
 //! Nothing here takes memory.
 #![tactic(auto)]
@@ -11,7 +11,6 @@ mod cycling;
 mod few;
 mod frames;
 mod members;
-mod menus;
 mod reading;
 mod scoring;
 mod shuffles;
@@ -24,7 +23,6 @@ pub use cycling::{name_next, turn_round};
 pub use few::{FewCards, few_cards_now, sole_card_now};
 pub use frames::{close_frame, open_frame, open_frame_by, pass_frame, pass_frame_by};
 pub use members::{Member, bare_bind_at, bind_of, member_at};
-pub use menus::{copy_menu, fill_menu_at, fill_menu_by};
 pub use reading::{card_now, cards_now, int_now, loc_now, num_now, test_now};
 pub use scoring::{has_ended, has_ended_by, scores_now};
 pub use shuffles::places;

@@ -5,12 +5,8 @@ pub mod Passing
 pub mod Faces
 pub mod Best
 pub mod Firsts
-pub mod Offers
 pub mod WantedLemmas
-pub mod AskLemmas
 pub mod RowLemmas
-pub mod RowOffers
 pub mod HoldingLemmas
 pub mod ComparingLemmas
-pub mod KnownLemmas
 pub mod CurrentLemmas

@@ -6,11 +6,7 @@ pub mod Readable
 pub mod Scene
 pub mod Picks
 pub mod Groups
-pub mod Menu
-pub mod AlikeMenus
 pub mod Current
 pub mod Wanted
-pub mod Asks
 pub mod Holding
 pub mod Comparing
-pub mod Known

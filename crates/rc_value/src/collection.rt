@@ -72,7 +72,7 @@ impl<'s> Collection<'s> {
 
     /// Their ids, where they stand in a location.
     #[inline(always)]
-    pub(crate) fn ids(&self) -> Option<&[u16]>
+    pub fn ids(&self) -> Option<&[u16]>
         ensures is { IfSome result (λ ids. ids.now ≡ map id_of self.now) }
         ensures few { IfSome result (λ ids. length ids.now ≤ 512) }
     {

@@ -485,15 +485,10 @@ fn over_cards(scene: &Scene, scope: &Bindings, expr: &Test) -> bool
     }
 }
 
-// A test of the innermost variable's card as a value that the card is to have, if it is one. What the card's value is compared with
-// doesn't read the variable: so it is taken once for all cards.
+/// A test of the innermost variable's card as a value that the card is to have, if it is one. What the card's value is compared with
+/// doesn't read the variable: so it is taken once for all cards.
 #[cycle(values)]
-pub(crate) fn wanted_of(
-    scene: &Scene,
-    scope: &Bindings,
-    inside: &Bindings,
-    test: &Test,
-) -> Option<Wanted>
+pub fn wanted_of(scene: &Scene, scope: &Bindings, inside: &Bindings, test: &Test) -> Option<Wanted>
     requires inside { inside.now ≡ scope.now ++ player_bound 0 ∷ [] }
     requires fits { length scope.now + (1 + test_depth (test_seen test.now)) ≤ 5 }
     ensures { IfSome result (IsWanted (scene_seen scene.now) scope.now (test_seen test.now)) }

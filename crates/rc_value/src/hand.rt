@@ -31,7 +31,7 @@ pub fn bare<'a>(scene: &'a Scene, scope: &'a Bindings, expr: &CollExpr) -> Optio
 
 /// The number that an expression stands for, if it is at hand.
 #[inline(always)]
-pub(crate) fn number_at_hand(scene: &Scene, scope: &Bindings, expr: &IntExpr) -> Option<i64>
+pub fn number_at_hand(scene: &Scene, scope: &Bindings, expr: &IntExpr) -> Option<i64>
     ensures { IfSome result (λ n. n ≡ int_value (scene_seen scene.now) scope.now (int_seen expr.now)) }
 {
     match expr {

@@ -100,7 +100,7 @@ fn pairs_value(shape: &Shape, id: u16, name: u16) -> Option<u16>
 
 /// The value of the card with this id in the row of an attribute; what isn't a card has none.
 #[inline(always)]
-pub(crate) fn value_in(row: &[Option<u16>], id: u16) -> Option<u16>
+pub fn value_in(row: &[Option<u16>], id: u16) -> Option<u16>
     ensures { result ≡ slice_index_or row.now id None }
 {
     match row.get(id as usize) {

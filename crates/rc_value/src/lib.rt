@@ -2,7 +2,6 @@
 #![tactic(auto)]
 
 mod arithmetic;
-mod asks;
 mod binding;
 mod cards;
 mod collection;
@@ -11,11 +10,8 @@ mod current;
 mod expressions;
 mod groups;
 mod hand;
-mod known;
 mod leaves;
 mod loops;
-mod menu;
-mod offering;
 mod places;
 mod players;
 mod rows;
@@ -28,11 +24,16 @@ pub use binding::expressions_bind_few;
 pub use cards::{Card, Cards};
 pub use collection::Collection;
 pub use current::{Current, current_inside, current_of};
-pub use expressions::{card_of, coll_of, int_of, test_of};
+pub use expressions::{card_of, coll_of, int_of, test_of, wanted_of};
 pub use groups::{Values, note_values, regroup, value_at};
-pub use hand::bare;
-pub use menu::{fill_menu, menu_of};
+pub use hand::{bare, number_at_hand};
+pub use leaves::{cards_of, value_in};
 pub use places::{loc_at, num_at, who_of};
 pub use players::players_test;
+pub use rows::ids_of;
 pub use scene::Scene;
 pub use scope::{Bind, Bindings};
+pub use wanted::{
+    Wanted, all_met_in, all_one_by_one, equal_at, is_fixed_collection, is_fixed_owner, is_so,
+    some_met_in, some_one_by_one, wanted_at,
+};

@@ -14,8 +14,8 @@ use rc_table::Table;
 /// What expressions are read in: a well formed sheet, a table, the open stages, and who is current in them.
 #[derive(Drop)]
 pub struct Scene<'s> {
-    pub(crate) sheet: &'s Sheet,
-    pub(crate) lookup: &'s Lookup,
+    pub sheet: &'s Sheet,
+    pub lookup: &'s Lookup,
     pub(crate) table: &'s Table,
     pub(crate) frames: &'s [Frame],
     pub(crate) current: Current,

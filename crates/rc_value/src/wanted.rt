@@ -21,15 +21,15 @@ use rc_flow::card_reads;
 
 /// A value for an attribute that a card is to have, or not to have.
 #[derive(Clone, Copy)]
-pub(crate) struct Wanted {
-    pub(crate) name: u16,
-    pub(crate) value: Option<u16>,
-    pub(crate) equal: bool,
+pub struct Wanted {
+    pub name: u16,
+    pub value: Option<u16>,
+    pub equal: bool,
 }
 
 /// Whether a value is the one that is wanted, or isn't.
 #[inline(always)]
-pub(crate) fn is_so(equal: bool, wanted: Option<u16>, value: Option<u16>) -> bool
+pub fn is_so(equal: bool, wanted: Option<u16>, value: Option<u16>) -> bool
     ensures { result ≡ compares equal wanted value }
 {
     if equal {
@@ -77,7 +77,7 @@ pub(crate) fn all_as_wanted(scene: &Scene, wanted: Wanted, cards: &Collection) -
 
 /// Whether all of the cards with these ids are so, by the row of the attribute's values.
 #[inline(always)]
-pub(crate) fn all_met_in(row: &[Option<u16>], wanted: Wanted, ids: &[u16]) -> bool
+pub fn all_met_in(row: &[Option<u16>], wanted: Wanted, ids: &[u16]) -> bool
     ensures { result ≡ list_all (λ id. meets wanted (slice_index_or row.now id None)) ids.now }
 {
     for place in 0..ids.len() {
@@ -90,7 +90,7 @@ pub(crate) fn all_met_in(row: &[Option<u16>], wanted: Wanted, ids: &[u16]) -> bo
 
 /// The same, card by card.
 #[inline(never)]
-pub(crate) fn all_one_by_one(scene: &Scene, wanted: Wanted, cards: &Collection) -> bool
+pub fn all_one_by_one(scene: &Scene, wanted: Wanted, cards: &Collection) -> bool
     ensures { result ≡ list_all (wanted_value (scene_seen scene.now) wanted) cards.now }
 {
     for place in 0..cards.len() {
@@ -115,7 +115,7 @@ pub(crate) fn some_as_wanted(scene: &Scene, wanted: Wanted, cards: &Collection) 
 
 /// Whether one of the cards with these ids is so, by the row of the attribute's values.
 #[inline(always)]
-pub(crate) fn some_met_in(row: &[Option<u16>], wanted: Wanted, ids: &[u16]) -> bool
+pub fn some_met_in(row: &[Option<u16>], wanted: Wanted, ids: &[u16]) -> bool
     ensures { result ≡ list_any (λ id. meets wanted (slice_index_or row.now id None)) ids.now }
 {
     for place in 0..ids.len() {
@@ -128,7 +128,7 @@ pub(crate) fn some_met_in(row: &[Option<u16>], wanted: Wanted, ids: &[u16]) -> b
 
 /// The same, card by card.
 #[inline(never)]
-pub(crate) fn some_one_by_one(scene: &Scene, wanted: Wanted, cards: &Collection) -> bool
+pub fn some_one_by_one(scene: &Scene, wanted: Wanted, cards: &Collection) -> bool
     ensures { result ≡ list_any (wanted_value (scene_seen scene.now) wanted) cards.now }
 {
     for place in 0..cards.len() {
@@ -209,7 +209,7 @@ pub(crate) fn keep_as_wanted(scene: &Scene, wanted: Wanted, cards: &mut Cards)
 
 /// Whether an owner is the same whatever variables stand for.
 #[inline(always)]
-pub(crate) fn is_fixed_owner(who: Who) -> bool
+pub fn is_fixed_owner(who: Who) -> bool
     ensures { result ≡ true → IsFixedOwner (who_seen who) }
 {
     match who {
@@ -223,7 +223,7 @@ pub(crate) fn is_fixed_owner(who: Who) -> bool
 
 /// Whether a collection is a location that no variable owns.
 #[inline(always)]
-pub(crate) fn is_fixed_collection(expr: &CollExpr) -> bool
+pub fn is_fixed_collection(expr: &CollExpr) -> bool
     ensures { result ≡ true → IsFixedCollection (coll_seen expr.now) }
 {
     match expr {
@@ -263,12 +263,7 @@ pub(crate) fn wanted_at_hand(scene: &Scene, scope: &Bindings, test: &Test) -> Op
 
 /// The same of the variable at a place, in any scope that ends before it.
 #[inline(always)]
-pub(crate) fn wanted_at(
-    scene: &Scene,
-    scope: &Bindings,
-    place: usize,
-    test: &Test,
-) -> Option<Wanted>
+pub fn wanted_at(scene: &Scene, scope: &Bindings, place: usize, test: &Test) -> Option<Wanted>
     ensures { IfSome result (IsWantedAt (scene_seen scene.now) place (test_seen test.now)) }
 {
     match test {
@@ -280,7 +275,7 @@ pub(crate) fn wanted_at(
 
 /// The same, but for opposites.
 #[inline(always)]
-pub(crate) fn equal_at(scene: &Scene, scope: &Bindings, place: usize, test: &Test) -> Option<Wanted>
+pub fn equal_at(scene: &Scene, scope: &Bindings, place: usize, test: &Test) -> Option<Wanted>
     ensures { IfSome result (IsWantedAt (scene_seen scene.now) place (test_seen test.now)) }
 {
     match test {

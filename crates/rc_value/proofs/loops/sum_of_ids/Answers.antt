@@ -3,7 +3,7 @@ use Rattle.std.proofs.lemmas.Int.{ints, clamps}
 use Rattle.rc_play_model.specs.Scene.{held}
 use Rattle.rc_play_model.specs.Value.{worth}
 use Rattle.rc_value.specs.Scene.{scene_seen}
-use Rattle.rc_value.proofs.AskLemmas.{here_is}
+use Rattle.rc_value.proofs.Lists.{here_is}
 use Rattle.rc_value.proofs.Best.{sum_more, sum_all}
 use Rattle.rc_value.proofs.loops.sum_of_ids.Goals as goal
 

@@ -1,0 +1,4 @@
+pub mod Offers
+pub mod AskLemmas
+pub mod RowOffers
+pub mod KnownLemmas

@@ -1,0 +1,154 @@
+use Rattle.std.proofs.Common.{◌≡◌, ◌<◌, ◌++◌, ◌∷◌, [], cond, length, map, take, arith, ap, sym, ◌∙◌}
+use Rattle.std.proofs.lemmas.List.{length-map}
+use Rattle.rc_model.specs.Numbers.{below}
+use Rattle.rc_sheet_model.specs.Sheet.{any_alt, each_player, each_card, each_group}
+use Rattle.rc_play_model.specs.Value.{card_bound, player_bound, group_bound, coll_value, groups_by}
+use Rattle.rc_play_model.specs.Menu.{spots_of, from_each}
+use Rattle.rc_ast.specs.Expressions.{domain_seen, coll_seen, test_seen}
+use Rattle.rc_ast.specs.Items.{alt_seen}
+use Rattle.rc_value.specs.Cards.{value_seen, values_seen}
+use Rattle.rc_value.specs.Scene.{scene_seen}
+use Rattle.rc_value.specs.Groups.{with_value}
+use Rattle.rc_rules.specs.Menu.{item_seen, menu_seen}
+use Rattle.rc_menu.specs.Menu.{extended}
+use Rattle.rc_menu.specs.Asks.{told_of}
+use Rattle.rc_rules.proofs.Elements.{map_here, below_length}
+use Rattle.rc_value.proofs.Steps.{players_are, player_here}
+use Rattle.rc_menu.proofs.Offers.{offered_do, offered_if, offered, offered_all, offered_full, cut_few, full_is, bound_count}
+use Rattle.rc_menu.proofs.menu.+menu.Goals as goal
+
+pub offer_each-loop-place-preserved : goal.offer_each-loop-place-preserved
+offer_each-loop-place-preserved t c =
+    let n = length-map c.args.cards.now (λ x. card_bound x) in
+    let grown : menu_seen c.offer.new.menu.items ≡ take 256 (menu_seen c.loop-place.menu.items ++ map (extended (item_seen c.with_spot.result)) (spots_of (scene_seen c.args.scene.now) (c.args.scope.now ++ card_bound (value_seen c.at.result) ∷ []) (alt_seen c.args.inner.now))) =
+    c.offer.ensures
+    ∙ ap (λ v. take 256 (menu_seen c.loop-place.menu.items ++ map (extended (item_seen c.with_spot.result)) (spots_of (scene_seen c.args.scene.now) v (alt_seen c.args.inner.now)))) c.with.ensures in
+    let few = cut_few (menu_seen c.offer.new.menu.items) _ grown in
+    let count = length-map c.offer.new.menu.items item_seen in
+    record {
+      few = omega arith;
+      told =
+          offered (λ m. spots_of (scene_seen c.args.scene.now) (c.args.scope.now ++ m ∷ []) (alt_seen c.args.inner.now)) (item_seen c.args.item.now) (item_seen c.with_spot.result) (menu_seen c.loop-place.menu.items) (menu_seen c.offer.new.menu.items)
+          (take 256 (menu_seen c.args.menu.now.items ++ map (extended (item_seen c.args.item.now)) (from_each (λ m. spots_of (scene_seen c.args.scene.now) (c.args.scope.now ++ m ∷ []) (alt_seen c.args.inner.now)) 0 (map (λ x. card_bound x) c.args.cards.now))))
+          (map (λ x. card_bound x) c.args.cards.now) c.loop-place.place (card_bound (value_seen c.at.result)) (omega (arith, c.len-place-end.ensures.is)) (map_here (λ x. card_bound x) c.args.cards.now c.loop-place.place (value_seen c.at.result) (omega (arith, c.len-place-end.ensures.is)) c.at.ensures) c.with_spot.ensures grown c.loop-place.invariant.told;
+    }
+
+pub offer_each-returns-then-is_full : goal.offer_each-returns-then-is_full
+offer_each-returns-then-is_full t c =
+    let n = length-map c.loop-place.menu.items item_seen in
+    offered_full (menu_seen c.loop-place.menu.items) _ _ (n ∙ full_is _ _ c.is_full.ensures.value c.if-is_full.true) c.loop-place.invariant.told
+
+pub offer_each-returns : goal.offer_each-returns
+offer_each-returns t c =
+    let n = length-map c.args.cards.now (λ x. card_bound x) in
+    let count = length-map c.loop-place.menu.items item_seen in
+    offered_all (λ m. spots_of (scene_seen c.args.scene.now) (c.args.scope.now ++ m ∷ []) (alt_seen c.args.inner.now)) (item_seen c.args.item.now) (menu_seen c.loop-place.menu.items) _
+    (map (λ x. card_bound x) c.args.cards.now) c.loop-place.place (omega arith) (omega arith) c.loop-place.invariant.told
+
+pub offer_players-loop-player-preserved : goal.offer_players-loop-player-preserved
+offer_players-loop-player-preserved t c =
+    let n = bound_count c.args.scene.now.sheet.now.players in
+    let grown : menu_seen c.offer.new.menu.items ≡ take 256 (menu_seen c.loop-player.menu.items ++ map (extended (item_seen c.with_spot.result)) (spots_of (scene_seen c.args.scene.now) (c.args.scope.now ++ player_bound c.loop-player.player ∷ []) (alt_seen c.args.inner.now))) =
+    c.offer.ensures
+    ∙ ap (λ v. take 256 (menu_seen c.loop-player.menu.items ++ map (extended (item_seen c.with_spot.result)) (spots_of (scene_seen c.args.scene.now) v (alt_seen c.args.inner.now)))) c.with.ensures in
+    let few = cut_few (menu_seen c.offer.new.menu.items) _ grown in
+    let count = length-map c.offer.new.menu.items item_seen in
+    record {
+      few = omega arith;
+      told =
+          offered (λ m. spots_of (scene_seen c.args.scene.now) (c.args.scope.now ++ m ∷ []) (alt_seen c.args.inner.now)) (item_seen c.args.item.now) (item_seen c.with_spot.result) (menu_seen c.loop-player.menu.items) (menu_seen c.offer.new.menu.items)
+          (take 256 (menu_seen c.args.menu.now.items ++ map (extended (item_seen c.args.item.now)) (from_each (λ m. spots_of (scene_seen c.args.scene.now) (c.args.scope.now ++ m ∷ []) (alt_seen c.args.inner.now)) 0 (map (λ x. player_bound x) (below c.args.scene.now.sheet.now.players)))))
+          (map (λ x. player_bound x) (below c.args.scene.now.sheet.now.players)) c.loop-player.player (player_bound c.loop-player.player) (omega (arith, below_length c.args.scene.now.sheet.now.players)) (map_here (λ x. player_bound x) (below c.args.scene.now.sheet.now.players) c.loop-player.player c.loop-player.player (omega (arith, below_length c.args.scene.now.sheet.now.players)) (player_here c.args.scene.now.sheet.now.players c.loop-player.player c.loop-player-test.true)) c.with_spot.ensures grown c.loop-player.invariant.told;
+    }
+
+pub offer_players-returns-then-is_full : goal.offer_players-returns-then-is_full
+offer_players-returns-then-is_full t c =
+    let n = length-map c.loop-player.menu.items item_seen in
+    offered_full (menu_seen c.loop-player.menu.items) _ _ (n ∙ full_is _ _ c.is_full.ensures.value c.if-is_full.true) c.loop-player.invariant.told
+    ∙ ap (λ k. take 256 (menu_seen c.args.menu.now.items ++ map (extended (item_seen c.args.item.now)) (from_each (λ m. spots_of (scene_seen c.args.scene.now) (c.args.scope.now ++ m ∷ []) (alt_seen c.args.inner.now)) 0 (map (λ x. player_bound x) (below k))))) (sym (players_are c.args.scene.now))
+
+pub offer_players-returns : goal.offer_players-returns
+offer_players-returns t c =
+    let n = bound_count c.args.scene.now.sheet.now.players in
+    let count = length-map c.loop-player.menu.items item_seen in
+    offered_all (λ m. spots_of (scene_seen c.args.scene.now) (c.args.scope.now ++ m ∷ []) (alt_seen c.args.inner.now)) (item_seen c.args.item.now) (menu_seen c.loop-player.menu.items) _
+    (map (λ x. player_bound x) (below c.args.scene.now.sheet.now.players)) c.loop-player.player (omega arith) (omega arith) c.loop-player.invariant.told
+    ∙ ap (λ k. take 256 (menu_seen c.args.menu.now.items ++ map (extended (item_seen c.args.item.now)) (from_each (λ m. spots_of (scene_seen c.args.scene.now) (c.args.scope.now ++ m ∷ []) (alt_seen c.args.inner.now)) 0 (map (λ x. player_bound x) (below k))))) (sym (players_are c.args.scene.now))
+
+pub offer-returns-in-Players : goal.offer-returns-in-Players
+offer-returns-in-Players t c =
+    let e : alt_seen c.args.alt.now ≡ any_alt each_player c.in-Any.field-1 (alt_seen c.in-Any.inner.value) =
+    ap alt_seen c.in-Any.is ∙ ap (λ x. any_alt (domain_seen x) c.in-Any.field-1 (alt_seen c.in-Any.inner.value)) c.in-Players.is in
+    c.offer_players.ensures
+    ∙ ap (λ x. take 256 (menu_seen c.args.menu.now.items ++ map (extended (item_seen c.args.item.now)) (from_each (λ m. spots_of (scene_seen c.args.scene.now) (c.args.scope.now ++ m ∷ []) (alt_seen x)) 0 (map (λ k. player_bound k) (below (scene_seen c.args.scene.now).known.sheet.players))))) c.deref-in-Players.ensures
+    ∙ ap (λ a. take 256 (menu_seen c.args.menu.now.items ++ map (extended (item_seen c.args.item.now)) (spots_of (scene_seen c.args.scene.now) c.args.scope.now a))) (sym e)
+
+pub offer-returns-in-Coll : goal.offer-returns-in-Coll
+offer-returns-in-Coll t c =
+    let e : alt_seen c.args.alt.now ≡ any_alt (each_card (coll_seen c.in-Coll.cards)) c.in-Any.field-1 (alt_seen c.in-Any.inner.value) =
+    ap alt_seen c.in-Any.is ∙ ap (λ x. any_alt (domain_seen x) c.in-Any.field-1 (alt_seen c.in-Any.inner.value)) c.in-Coll.is in
+    c.offer_over.ensures
+    ∙ ap (λ x. take 256 (menu_seen c.args.menu.now.items ++ map (extended (item_seen c.args.item.now)) (from_each (λ m. spots_of (scene_seen c.args.scene.now) (c.args.scope.now ++ m ∷ []) (alt_seen x)) 0 (map (λ k. card_bound k) (coll_value (scene_seen c.args.scene.now) c.args.scope.now (coll_seen c.in-Coll.cards)))))) c.deref-in-Coll.ensures
+    ∙ ap (λ a. take 256 (menu_seen c.args.menu.now.items ++ map (extended (item_seen c.args.item.now)) (spots_of (scene_seen c.args.scene.now) c.args.scope.now a))) (sym e)
+
+pub offer-returns-in-Parts : goal.offer-returns-in-Parts
+offer-returns-in-Parts t c =
+    let e : alt_seen c.args.alt.now ≡ any_alt (each_group (coll_seen c.in-Parts.cards) c.in-Parts.name) c.in-Any.field-1 (alt_seen c.in-Any.inner.value) =
+    ap alt_seen c.in-Any.is ∙ ap (λ x. any_alt (domain_seen x) c.in-Any.field-1 (alt_seen c.in-Any.inner.value)) c.in-Parts.is in
+    c.offer_parts.ensures
+    ∙ ap (λ x. take 256 (menu_seen c.args.menu.now.items ++ map (extended (item_seen c.args.item.now)) (from_each (λ m. spots_of (scene_seen c.args.scene.now) (c.args.scope.now ++ m ∷ []) (alt_seen x)) 0 (map (λ k. group_bound k) (groups_by (scene_seen c.args.scene.now) c.in-Parts.name (coll_value (scene_seen c.args.scene.now) c.args.scope.now (coll_seen c.in-Parts.cards))))))) c.deref-in-Parts.ensures
+    ∙ ap (λ a. take 256 (menu_seen c.args.menu.now.items ++ map (extended (item_seen c.args.item.now)) (spots_of (scene_seen c.args.scene.now) c.args.scope.now a))) (sym e)
+
+pub offer_parts-loop-place-preserved : goal.offer_parts-loop-place-preserved
+offer_parts-loop-place-preserved t c =
+    let k = length-map c.note_values.new.values.items (with_value (scene_seen c.args.scene.now) c.args.name c.built-all.result) in
+    let n = length-map (map (with_value (scene_seen c.args.scene.now) c.args.name c.built-all.result) c.note_values.new.values.items) (λ x. group_bound x) in
+    let grown : menu_seen c.offer_group.new.menu.items ≡ take 256 (menu_seen c.loop-place.menu.items ++ map (extended (item_seen c.with_spot.result)) (spots_of (scene_seen c.args.scene.now) (c.args.scope.now ++ group_bound ((with_value (scene_seen c.args.scene.now) c.args.name c.built-all.result) c.value_at.result) ∷ []) (alt_seen c.args.inner.now))) =
+    c.offer_group.ensures
+    ∙ ap (λ xs. take 256 (menu_seen c.loop-place.menu.items ++ map (extended (item_seen c.with_spot.result)) (spots_of (scene_seen c.args.scene.now) (c.args.scope.now ++ group_bound xs ∷ []) (alt_seen c.args.inner.now)))) c.regroup.ensures in
+    let few = cut_few (menu_seen c.offer_group.new.menu.items) _ grown in
+    let count = length-map c.offer_group.new.menu.items item_seen in
+    let lt : c.loop-place.place < length c.note_values.new.values.items = omega (arith, c.len-place-end.ensures.value) in
+    record {
+      few = omega arith;
+      told =
+          offered (λ m. spots_of (scene_seen c.args.scene.now) (c.args.scope.now ++ m ∷ []) (alt_seen c.args.inner.now)) (item_seen c.args.item.now) (item_seen c.with_spot.result) (menu_seen c.loop-place.menu.items) (menu_seen c.offer_group.new.menu.items)
+          (take 256 (menu_seen c.args.menu.now.items ++ map (extended (item_seen c.args.item.now)) (from_each (λ m. spots_of (scene_seen c.args.scene.now) (c.args.scope.now ++ m ∷ []) (alt_seen c.args.inner.now)) 0 (map (λ x. group_bound x) (map (with_value (scene_seen c.args.scene.now) c.args.name c.built-all.result) c.note_values.new.values.items)))))
+          (map (λ x. group_bound x) (map (with_value (scene_seen c.args.scene.now) c.args.name c.built-all.result) c.note_values.new.values.items)) c.loop-place.place (group_bound ((with_value (scene_seen c.args.scene.now) c.args.name c.built-all.result) c.value_at.result)) (omega arith)
+          (map_here (λ x. group_bound x) (map (with_value (scene_seen c.args.scene.now) c.args.name c.built-all.result) c.note_values.new.values.items) c.loop-place.place ((with_value (scene_seen c.args.scene.now) c.args.name c.built-all.result) c.value_at.result) (omega arith)
+          (map_here (with_value (scene_seen c.args.scene.now) c.args.name c.built-all.result) c.note_values.new.values.items c.loop-place.place c.value_at.result lt c.value_at.ensures)) c.with_spot.ensures grown c.loop-place.invariant.told;
+    }
+
+pub offer_parts-returns-then-is_full : goal.offer_parts-returns-then-is_full
+offer_parts-returns-then-is_full t c =
+    let n = length-map c.loop-place.menu.items item_seen in
+    let b : c.built-all.result ≡ coll_value (scene_seen c.args.scene.now) c.args.scope.now (coll_seen c.args.cards.now) =
+    c.built-all.ensures ∙ ap values_seen c.as_slice.ensures.value ∙ c.coll_of.ensures in
+    offered_full (menu_seen c.loop-place.menu.items) _ _ (n ∙ full_is _ _ c.is_full.ensures.value c.if-is_full.true) c.loop-place.invariant.told
+    ∙ ap (λ xs. take 256 (menu_seen c.args.menu.now.items ++ map (extended (item_seen c.args.item.now)) (from_each (λ m. spots_of (scene_seen c.args.scene.now) (c.args.scope.now ++ m ∷ []) (alt_seen c.args.inner.now)) 0 (map (λ x. group_bound x) (map (with_value (scene_seen c.args.scene.now) c.args.name c.built-all.result) xs))))) c.note_values.ensures
+    ∙ ap (λ xs. take 256 (menu_seen c.args.menu.now.items ++ map (extended (item_seen c.args.item.now)) (from_each (λ m. spots_of (scene_seen c.args.scene.now) (c.args.scope.now ++ m ∷ []) (alt_seen c.args.inner.now)) 0 (map (λ x. group_bound x) (groups_by (scene_seen c.args.scene.now) c.args.name xs))))) b
+
+pub offer_parts-returns : goal.offer_parts-returns
+offer_parts-returns t c =
+    let k = length-map c.note_values.new.values.items (with_value (scene_seen c.args.scene.now) c.args.name c.built-all.result) in
+    let n = length-map (map (with_value (scene_seen c.args.scene.now) c.args.name c.built-all.result) c.note_values.new.values.items) (λ x. group_bound x) in
+    let count = length-map c.loop-place.menu.items item_seen in
+    let b : c.built-all.result ≡ coll_value (scene_seen c.args.scene.now) c.args.scope.now (coll_seen c.args.cards.now) =
+    c.built-all.ensures ∙ ap values_seen c.as_slice.ensures.value ∙ c.coll_of.ensures in
+    offered_all (λ m. spots_of (scene_seen c.args.scene.now) (c.args.scope.now ++ m ∷ []) (alt_seen c.args.inner.now)) (item_seen c.args.item.now) (menu_seen c.loop-place.menu.items) _
+    (map (λ x. group_bound x) (map (with_value (scene_seen c.args.scene.now) c.args.name c.built-all.result) c.note_values.new.values.items)) c.loop-place.place (omega (arith, c.len-place-end.ensures.value)) (omega arith) c.loop-place.invariant.told
+    ∙ ap (λ xs. take 256 (menu_seen c.args.menu.now.items ++ map (extended (item_seen c.args.item.now)) (from_each (λ m. spots_of (scene_seen c.args.scene.now) (c.args.scope.now ++ m ∷ []) (alt_seen c.args.inner.now)) 0 (map (λ x. group_bound x) (map (with_value (scene_seen c.args.scene.now) c.args.name c.built-all.result) xs))))) c.note_values.ensures
+    ∙ ap (λ xs. take 256 (menu_seen c.args.menu.now.items ++ map (extended (item_seen c.args.item.now)) (from_each (λ m. spots_of (scene_seen c.args.scene.now) (c.args.scope.now ++ m ∷ []) (alt_seen c.args.inner.now)) 0 (map (λ x. group_bound x) (groups_by (scene_seen c.args.scene.now) c.args.name xs))))) b
+
+pub offer_cards-returns-in-Do : goal.offer_cards-returns-in-Do
+offer_cards-returns-in-Do t c =
+    c.offer_every.ensures
+    ∙ ap (λ ps. take 256 (menu_seen c.args.menu.now.items ++ map (extended (item_seen c.args.item.now)) ps))
+    (offered_do (scene_seen c.args.scene.now) c.args.scope.now (alt_seen c.args.inner.now) _ c.args.cards.now (ap alt_seen c.in-Do.is))
+
+pub offer_cards-returns-in-If : goal.offer_cards-returns-in-If
+offer_cards-returns-in-If t c =
+    c.offer_guarded.ensures
+    ∙ ap (λ x. take 256 (menu_seen c.args.menu.now.items ++ map (extended (item_seen c.args.item.now)) (from_each (λ k. cond (told_of (scene_seen c.args.scene.now) c.args.scope.now (test_seen x) k) ([] ∷ []) []) 0 c.args.cards.now))) c.deref.ensures
+    ∙ ap (λ ps. take 256 (menu_seen c.args.menu.now.items ++ map (extended (item_seen c.args.item.now)) ps))
+    (offered_if (scene_seen c.args.scene.now) c.args.scope.now (alt_seen c.args.inner.now) _ _ c.args.cards.now (ap alt_seen c.in-If.is))

@@ -1,0 +1,13 @@
+use Rattle.std.proofs.Common.{◌++◌, ◌∷◌, [], if◌then◌else◌, take, arith, ap, sym, ◌∙◌}
+use Rattle.std.proofs.lemmas.List.{length-map}
+use Rattle.rc_rules.specs.Menu.{item_seen, menu_seen}
+use Rattle.rc_menu.specs.Menu.{extended}
+use Rattle.rc_menu.proofs.Offers.{put_nothing}
+use Rattle.rc_menu.proofs.menu.put_if.Goals as goal
+
+pub returns-else-passes : goal.returns-else-passes
+returns-else-passes c =
+    let n = length-map c.args.menu.now.items item_seen in
+    put_nothing (menu_seen c.args.menu.now.items) (omega (arith, c.len-count.ensures.value, c.len-count.ensures.fits))
+    ∙ ap (λ b. take 256 (menu_seen c.args.menu.now.items ++ (if b then extended (item_seen c.args.item.now) [] ∷ [] else [])))
+    (sym c.if-passes.false)

@@ -1,0 +1,4 @@
+pub mod Menu
+pub mod AlikeMenus
+pub mod Asks
+pub mod Known

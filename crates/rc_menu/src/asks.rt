@@ -1,0 +1,369 @@
+//! Guards of one domain, in parts: what doesn't read the variable that runs over it is asked once.
+ghost use Rattle.std.specs.Prelude.{◌≡◌, ◌+◌, ◌<◌, ◌≤◌, ◌++◌, ◌∷◌, [], length, map, slice_index_or, if◌then◌else◌, IfSome, Some, None, true, ℕ};
+ghost use Rattle.std.specs.List.{list_all};
+ghost use Rattle.rc_play_model.specs.Value.{card_bound, both, nat_same, tests_value};
+ghost use Rattle.rc_play_model.specs.Scene.{CardValue};
+ghost use Rattle.rc_ast.specs.Expressions.{test_seen, tests_seen};
+ghost use Rattle.rc_menu.specs.Asks.{ask_value, asks_value, met_value, ask_depth, AllFit, joined, told_of, IsJoined, IsInParts};
+ghost use Rattle.rc_menu.specs.declared.asks.Ask.TheVariants.{Whole};
+ghost use Rattle.rc_value.specs.Cards.{value_seen};
+ghost use Rattle.rc_value.specs.Depth.{test_depth, tests_depth};
+ghost use Rattle.rc_value.specs.Scene.{scene_seen};
+ghost use Rattle.rc_value.specs.Wanted.{meets, IsWanted};
+
+use crate::known::{AtHand, at_hand};
+use arrayvec::ArrayVec;
+use rc_ast::Test;
+use rc_flow::test_reads;
+use rc_value::{Bind, Bindings, Card, Scene, Wanted, is_so, test_of, value_in, wanted_of};
+
+/// What is asked of each card that the innermost variable stands for. Most guards ask for values, which stand apart from other wishes:
+/// for a value, or as a value is to be or not to be, in the row of all cards' values for an attribute.
+#[derive(Clone, Copy)]
+pub(crate) enum Ask<'t> {
+    Value {
+        value: u16,
+        row: &'t [Option<u16>],
+    },
+    Wish {
+        equal: bool,
+        value: Option<u16>,
+        row: &'t [Option<u16>],
+    },
+    Whole(&'t Test),
+}
+
+impl<'t> Default for Ask<'t> {
+    fn default() -> Ask<'t> {
+        Ask::Value { value: 0, row: &[] }
+    }
+}
+
+/// What a guard asks of each card.
+pub(crate) type Asks<'t> = ArrayVec<Ask<'t>, 4>;
+
+/// What is known of a guard for all cards: whether it is settled, and, where it isn't, whether one yes is enough. Where it is settled,
+/// the second says which way.
+#[derive(Clone, Copy)]
+pub(crate) struct Parts {
+    pub(crate) settled: bool,
+    pub(crate) any: bool,
+}
+
+// How a value is wanted, asked by the row of all cards' values.
+#[inline(always)]
+fn ask_in<'t>(row: &'t [Option<u16>], wanted: Wanted) -> Ask<'t>
+    ensures is { (id : ℕ) → met_value id result ≡ meets wanted (slice_index_or row.now id None) }
+    ensures by_row { asks_value result ≡ true }
+{
+    match wanted.value {
+        Some(value) if wanted.equal => Ask::Value { value, row },
+        value => Ask::Wish {
+            equal: wanted.equal,
+            value,
+            row,
+        },
+    }
+}
+
+// A test of which it is known which value the cards are to have. It is asked by the row of their values, and as a test if there is none.
+#[inline(always)]
+fn ask_by<'t>(scene: &'t Scene, scope: &Bindings, wanted: Wanted, test: &'t Test) -> Ask<'t>
+    requires wanted { IsWanted (scene_seen scene.now) scope.now (test_seen test.now) wanted }
+    requires deep { length scope.now + (1 + test_depth (test_seen test.now)) ≤ 5 }
+    ensures is { (c : CardValue) → told_of (scene_seen scene.now) scope.now (test_seen test.now) c ≡ ask_value (scene_seen scene.now) scope.now c result }
+    ensures fits { length scope.now + ask_depth result ≤ 5 }
+{
+    match scene.lookup.values(wanted.name) {
+        Some(row) => ask_in(row, wanted),
+        None => Ask::Whole(test),
+    }
+}
+
+fn ask_of<'t>(scene: &'t Scene, scope: &Bindings, test: &'t Test) -> Ask<'t>
+    requires deep { length scope.now + (1 + test_depth (test_seen test.now)) ≤ 5 }
+    ensures is { (c : CardValue) → told_of (scene_seen scene.now) scope.now (test_seen test.now) c ≡ ask_value (scene_seen scene.now) scope.now c result }
+    ensures fits { length scope.now + ask_depth result ≤ 5 }
+{
+    match wanted_of(scene, scope, &scope.with(Bind::Player(0)), test) {
+        Some(wanted) => ask_by(scene, scope, wanted, test),
+        None => Ask::Whole(test),
+    }
+}
+
+#[inline(always)]
+fn has_value(row: &[Option<u16>], value: u16, id: u16) -> bool
+    ensures { result ≡ both nat_same (slice_index_or row.now id None) (Some value) }
+{
+    value_in(row, id) == Some(value)
+}
+
+// The answer for a card.
+#[inline(always)]
+fn answer(scene: &Scene, scope: &Bindings, ask: &Ask, card: Card) -> bool
+    requires fits { length scope.now + ask_depth ask.now ≤ 5 }
+    ensures { result ≡ ask_value (scene_seen scene.now) scope.now (value_seen card) ask.now }
+{
+    match ask {
+        Ask::Value { value, row } => has_value(*row, *value, card.id()),
+        Ask::Wish { equal, value, row } => is_so(*equal, *value, value_in(*row, card.id())),
+        Ask::Whole(test) => holds_for(scene, scope, *test, card),
+    }
+}
+
+// Whether a test holds for a card. It stands apart from the loop over the cards, which mostly asks for values.
+#[inline(never)]
+fn holds_for(scene: &Scene, scope: &Bindings, test: &Test, card: Card) -> bool
+    requires fits { length scope.now + (1 + test_depth (test_seen test.now)) ≤ 5 }
+    ensures { result ≡ told_of (scene_seen scene.now) scope.now (test_seen test.now) (value_seen card) }
+{
+    test_of(scene, &scope.with(Bind::Card(card)), test)
+}
+
+/// All the answers for a card in one.
+#[inline(always)]
+pub(crate) fn joined_answer(
+    scene: &Scene,
+    scope: &Bindings,
+    asks: &[Ask],
+    any: bool,
+    card: Card,
+) -> bool
+    requires fits { AllFit scope.now asks.now }
+    ensures { result ≡ joined any (map (ask_value (scene_seen scene.now) scope.now (value_seen card)) asks.now) }
+{
+    for place in 0..asks.len() {
+        if answer(scene, scope, &asks[place], card) == any {
+            return any;
+        }
+    }
+    !any
+}
+
+// Joins a test to what is asked. Where it doesn't read the variable, it is asked at once, with anything in the variable's place, and
+// then it may settle all.
+#[inline(always)]
+fn settles<'t>(
+    scene: &'t Scene,
+    scope: &Bindings,
+    test: &'t Test,
+    any: bool,
+    asks: &mut Asks<'t>,
+) -> bool
+    requires deep { length scope.now + (1 + test_depth (test_seen test.now)) ≤ 5 }
+    requires room { length asks.old.items < 4 }
+    requires fit { AllFit scope.now asks.old.items }
+    ensures is { IsJoined (scene_seen scene.now) scope.now (test_seen test.now) any result asks.old.items asks.new.items }
+    ensures count { length asks.new.items ≤ length asks.old.items + 1 }
+    ensures fit { AllFit scope.now asks.new.items }
+{
+    match at_hand(scene, scope, test) {
+        AtHand::Wished(wanted) => {
+            asks.push(ask_by(scene, scope, wanted, test));
+            false
+        }
+        AtHand::Holds(holds) => holds == any,
+        AtHand::Unclear => settles_whole(scene, scope, test, any, asks),
+    }
+}
+
+// The same with a test of which nothing is at hand.
+#[inline(never)]
+fn settles_whole<'t>(
+    scene: &'t Scene,
+    scope: &Bindings,
+    test: &'t Test,
+    any: bool,
+    asks: &mut Asks<'t>,
+) -> bool
+    requires deep { length scope.now + (1 + test_depth (test_seen test.now)) ≤ 5 }
+    requires room { length asks.old.items < 4 }
+    requires fit { AllFit scope.now asks.old.items }
+    ensures is { IsJoined (scene_seen scene.now) scope.now (test_seen test.now) any result asks.old.items asks.new.items }
+    ensures count { length asks.new.items ≤ length asks.old.items + 1 }
+    ensures fit { AllFit scope.now asks.new.items }
+{
+    if test_reads(test, scope.len()) {
+        asks.push(ask_of(scene, scope, test));
+        return false;
+    }
+    test_of(scene, &scope.with(Bind::Player(0)), test) == any
+}
+
+// The same with all tests of a list.
+#[inline(never)]
+fn all_settle<'t>(
+    scene: &'t Scene,
+    scope: &Bindings,
+    tests: &'t Vec<Test>,
+    any: bool,
+    asks: &mut Asks<'t>,
+) -> bool
+    requires few { length tests.now.items ≤ 4 }
+    requires deep { length scope.now + (1 + tests_depth (tests_seen tests.now.items)) ≤ 5 }
+    requires empty { asks.old.items ≡ [] }
+    ensures is { (c : CardValue) → joined any (tests_value (scene_seen scene.now) (scope.now ++ card_bound c ∷ []) (tests_seen tests.now.items))
+        ≡ (if result then any else joined any (map (ask_value (scene_seen scene.now) scope.now c) asks.new.items)) }
+    ensures fit { AllFit scope.now asks.new.items }
+{
+    for test in tests {
+        if settles(scene, scope, test, any, asks) {
+            return true;
+        }
+    }
+    false
+}
+
+// A guard that is no list of tests, or a long one.
+#[inline(never)]
+fn single_part<'t>(
+    scene: &'t Scene,
+    scope: &Bindings,
+    guard: &'t Test,
+    asks: &mut Asks<'t>,
+) -> Parts
+    requires deep { length scope.now + (1 + test_depth (test_seen guard.now)) ≤ 5 }
+    requires empty { asks.old.items ≡ [] }
+    ensures is { IsInParts (scene_seen scene.now) scope.now (test_seen guard.now) result asks.new.items }
+    ensures fit { AllFit scope.now asks.new.items }
+{
+    Parts {
+        settled: settles(scene, scope, guard, true, asks),
+        any: true,
+    }
+}
+
+// The outer parts of a guard.
+fn outer_parts<'t>(
+    scene: &'t Scene,
+    scope: &Bindings,
+    guard: &'t Test,
+    asks: &mut Asks<'t>,
+) -> Parts
+    requires deep { length scope.now + (1 + test_depth (test_seen guard.now)) ≤ 5 }
+    requires empty { asks.old.items ≡ [] }
+    ensures is { IsInParts (scene_seen scene.now) scope.now (test_seen guard.now) result asks.new.items }
+    ensures fit { AllFit scope.now asks.new.items }
+{
+    match guard {
+        Test::Or(tests) => {
+            if tests.len() <= 4 {
+                return Parts {
+                    settled: all_settle(scene, scope, tests, true, asks),
+                    any: true,
+                };
+            }
+            single_part(scene, scope, guard, asks)
+        }
+        Test::And(tests) => {
+            if tests.len() <= 4 {
+                return Parts {
+                    settled: all_settle(scene, scope, tests, false, asks),
+                    any: false,
+                };
+            }
+            single_part(scene, scope, guard, asks)
+        }
+        _ => single_part(scene, scope, guard, asks),
+    }
+}
+
+/// Whether values are all that is asked.
+pub(crate) fn are_sought(asks: &[Ask]) -> bool
+    ensures { result ≡ list_all asks_value asks.now }
+{
+    for place in 0..asks.len() {
+        if !is_sought(&asks[place]) {
+            return false;
+        }
+    }
+    true
+}
+
+#[inline(always)]
+fn is_sought(ask: &Ask) -> bool
+    ensures { result ≡ asks_value ask.now }
+{
+    match ask {
+        Ask::Value { value: _, row: _ } => true,
+        Ask::Wish {
+            equal: _,
+            value: _,
+            row: _,
+        } => true,
+        Ask::Whole(_) => false,
+    }
+}
+
+/// All the answers for the card with an id in one, where values are all that is asked.
+#[inline(always)]
+pub(crate) fn joined_met(asks: &[Ask], any: bool, id: u16) -> bool
+    ensures { result ≡ joined any (map (met_value id) asks.now) }
+{
+    for place in 0..asks.len() {
+        if is_met(&asks[place], id) == any {
+            return any;
+        }
+    }
+    !any
+}
+
+#[inline(always)]
+fn is_met(ask: &Ask, id: u16) -> bool
+    ensures { result ≡ met_value id ask.now }
+{
+    match ask {
+        Ask::Value { value, row } => has_value(*row, *value, id),
+        Ask::Wish { equal, value, row } => is_so(*equal, *value, value_in(*row, id)),
+        Ask::Whole(_) => false,
+    }
+}
+
+// The test, where one list of tests is all that is asked.
+fn sole_list<'t>(asks: &Asks<'t>) -> Option<&'t Test>
+    ensures { IfSome result (λ test. asks.now.items ≡ Whole test ∷ []) }
+{
+    if asks.len() != 1 {
+        return None;
+    }
+    match asks[0] {
+        Ask::Whole(test) => listed(test),
+        _ => None,
+    }
+}
+
+// The test, if it is a list of tests.
+fn listed<'t>(test: &'t Test) -> Option<&'t Test>
+    ensures { IfSome result (λ same. same ≡ test.entry) }
+{
+    match test {
+        Test::And(_) => Some(test),
+        Test::Or(_) => Some(test),
+        _ => None,
+    }
+}
+
+/// A guard in parts, of which those that read the variable are written into an empty list.
+pub(crate) fn parts_of<'t>(
+    scene: &'t Scene,
+    scope: &Bindings,
+    guard: &'t Test,
+    asks: &mut Asks<'t>,
+) -> Parts
+    requires deep { length scope.now + (1 + test_depth (test_seen guard.now)) ≤ 5 }
+    requires empty { asks.old.items ≡ [] }
+    ensures is { IsInParts (scene_seen scene.now) scope.now (test_seen guard.now) result asks.new.items }
+    ensures fit { AllFit scope.now asks.new.items }
+{
+    let parts = outer_parts(scene, scope, guard, asks);
+    if parts.settled {
+        return parts;
+    }
+    match sole_list(&*asks) {
+        Some(inner) => {
+            asks.clear();
+            outer_parts(scene, scope, inner, asks)
+        }
+        None => parts,
+    }
+}

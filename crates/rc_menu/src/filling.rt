@@ -1,0 +1,68 @@
+//! Menus of decisions.
+ghost use Rattle.std.specs.Prelude.{◌≡◌};
+ghost use Rattle.rc_play_model.specs.Menu.{alts_at};
+ghost use Rattle.rc_play_model.specs.About.{menu_at};
+ghost use Rattle.rc_ast.specs.Items.{alts_seen};
+ghost use Rattle.rc_rules.specs.Control.{control_seen, frames_seen};
+ghost use Rattle.rc_rules.specs.Menu.{menu_seen};
+ghost use Rattle.rc_value.specs.Current.{IsCurrent};
+
+use crate::menu::fill_menu;
+use rc_ast::Alt;
+use rc_rules::{About, Control, Menu};
+use rc_table::Table;
+use rc_value::{Current, Scene, current_of};
+
+/// Writes what the choice with this site offers, whose alternatives these are, into a menu, whatever it held before.
+pub fn fill_menu_at(
+    about: &About,
+    table: &Table,
+    control: &Control,
+    site: u8,
+    alts: &[Alt],
+    menu: &mut Menu,
+)
+    requires laid { table.now.shape ≡ about.now.shape }
+    requires alts { alts_seen alts.now ≡ alts_at about.now.sheet site }
+    ensures { menu_seen menu.new.items ≡ menu_at about.now site table.now.table (control_seen control.now) }
+{
+    let current = current_of(about.sheet(), about.lookup(), control.frames.as_slice());
+    fill_menu_by(about, current, table, control, site, alts, menu);
+}
+
+/// The same where it is known who is current.
+pub fn fill_menu_by(
+    about: &About,
+    current: Current,
+    table: &Table,
+    control: &Control,
+    site: u8,
+    alts: &[Alt],
+    menu: &mut Menu,
+)
+    requires laid { table.now.shape ≡ about.now.shape }
+    requires current { IsCurrent about.now.sheet (frames_seen control.now.frames.items) current }
+    requires alts { alts_seen alts.now ≡ alts_at about.now.sheet site }
+    ensures { menu_seen menu.new.items ≡ menu_at about.now site table.now.table (control_seen control.now) }
+{
+    let scene = Scene::with_current(
+        about.sheet(),
+        about.lookup(),
+        table,
+        control.frames.as_slice(),
+        current,
+    );
+    fill_menu(&scene, site, alts, menu);
+}
+
+/// The same menu once more.
+pub fn copy_menu(menu: &Menu) -> Menu
+    ensures { menu_seen result.items ≡ menu_seen menu.now.items }
+{
+    let mut copy = Menu::new();
+    let _fits = menu.len();
+    for item in menu.as_slice() {
+        copy.push(item.copy());
+    }
+    copy
+}

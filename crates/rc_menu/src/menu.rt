@@ -1,0 +1,319 @@
+//! What a choice offers.
+ghost use Rattle.std.specs.Prelude.{◌≡◌, ◌+◌, ◌<◌, ◌≤◌, ◌++◌, ◌∷◌, [], length, map, take, if◌then◌else◌, All};
+ghost use Rattle.rc_model.specs.Numbers.{below};
+ghost use Rattle.rc_play_model.specs.Value.{card_bound, player_bound, group_bound, coll_value, groups_by};
+ghost use Rattle.rc_play_model.specs.Menu.{spots_of, from_each, alts_at, menu_of as pure_menu_of, menu_from as pure_menu_from};
+ghost use Rattle.rc_ast.specs.Expressions.{coll_seen};
+ghost use Rattle.rc_ast.specs.Items.{alt_seen, alts_seen};
+ghost use Rattle.rc_rules.specs.Menu.{item_seen, menu_seen};
+ghost use Rattle.rc_value.specs.Cards.{values_seen};
+ghost use Rattle.rc_value.specs.Scene.{scene_seen};
+ghost use Rattle.rc_value.specs.Depth.{coll_depth};
+ghost use Rattle.rc_value.specs.Binding.{BindsFew, alt_depth, domains_in};
+ghost use Rattle.rc_menu.specs.AlikeMenus.{EqualAtAlike};
+ghost use Rattle.rc_menu.specs.Menu.{extended};
+
+use crate::offering::{offer_every, offer_guarded, with_spot};
+use rc_ast::{Alt, CollExpr, Domain};
+use rc_play_model::alike_states_have_equal_menus;
+use rc_rules::{Item, Menu, Spots};
+use rc_value::{
+    Bind, Bindings, Cards, Collection, Scene, Values, cards_of, coll_of, note_values, regroup,
+    test_of, value_at,
+};
+
+// Puts an item behind the others, where there is room.
+#[inline(never)]
+fn put(menu: &mut Menu, item: &Item)
+    ensures { menu_seen menu.new.items ≡ take 256 (menu_seen menu.old.items ++ extended (item_seen item.now) [] ∷ []) }
+{
+    if !menu.is_full() {
+        menu.push(item.copy());
+    }
+}
+
+// The same where it passes.
+#[inline(never)]
+fn put_if(menu: &mut Menu, item: &Item, passes: bool)
+    ensures { menu_seen menu.new.items ≡ take 256 (menu_seen menu.old.items ++ (if passes then extended (item_seen item.now) [] ∷ [] else [])) }
+{
+    let _count = menu.len();
+    if passes {
+        put(menu, item);
+    }
+}
+
+// The items that an alternative offers behind the positions that are bound so far.
+#[cycle(menu)]
+fn offer(scene: &Scene, scope: &Bindings, alt: &Alt, item: &Item, menu: &mut Menu)
+    requires fits { length scope.now + alt_depth (alt_seen alt.now) ≤ 5 }
+    requires room { length item.now.spots.items + domains_in (alt_seen alt.now) ≤ 4 }
+    ensures { menu_seen menu.new.items ≡ take 256 (menu_seen menu.old.items
+        ++ map (extended (item_seen item.now)) (spots_of (scene_seen scene.now) scope.now (alt_seen alt.now))) }
+{
+    match alt {
+        Alt::Do(_) => put(menu, item),
+        Alt::If(guard, _) => put_if(menu, item, test_of(scene, scope, guard)),
+        Alt::Any(domain, _, inner) => match domain {
+            Domain::Players => offer_players(scene, scope, inner, item, menu),
+            Domain::Coll(cards) => offer_over(scene, scope, inner, cards, item, menu),
+            Domain::Parts(cards, name) => offer_parts(
+                scene, scope, inner, cards, *name, item, menu,
+            ),
+        },
+    }
+}
+
+// The same with the cards of an expression.
+#[cycle(menu)]
+fn offer_over(
+    scene: &Scene,
+    scope: &Bindings,
+    inner: &Alt,
+    cards: &CollExpr,
+    item: &Item,
+    menu: &mut Menu,
+)
+    requires domain { length scope.now + coll_depth (coll_seen cards.now) ≤ 5 }
+    requires fits { length scope.now + (1 + alt_depth (alt_seen inner.now)) ≤ 5 }
+    requires room { length item.now.spots.items + (1 + domains_in (alt_seen inner.now)) ≤ 4 }
+    ensures { menu_seen menu.new.items ≡ take 256 (menu_seen menu.old.items
+        ++ map (extended (item_seen item.now)) (from_each (λ m. spots_of (scene_seen scene.now) (scope.now ++ m ∷ []) (alt_seen inner.now)) 0
+        (map (λ c. card_bound c) (coll_value (scene_seen scene.now) scope.now (coll_seen cards.now))))) }
+{
+    match cards {
+        CollExpr::Var(var) => offer_cards(scene, scope, &scope.group(*var), inner, item, menu),
+        CollExpr::Loc(loc) => {
+            offer_cards(
+                scene,
+                scope,
+                &cards_of(scene, scope, loc),
+                inner,
+                item,
+                menu,
+            )
+        }
+        _ => offer_built(scene, scope, inner, cards, item, menu),
+    }
+}
+
+// The same with cards that need a list of their own.
+#[cycle(menu)]
+#[inline(never)]
+fn offer_built(
+    scene: &Scene,
+    scope: &Bindings,
+    inner: &Alt,
+    cards: &CollExpr,
+    item: &Item,
+    menu: &mut Menu,
+)
+    requires domain { length scope.now + coll_depth (coll_seen cards.now) ≤ 5 }
+    requires fits { length scope.now + (1 + alt_depth (alt_seen inner.now)) ≤ 5 }
+    requires room { length item.now.spots.items + (1 + domains_in (alt_seen inner.now)) ≤ 4 }
+    ensures { menu_seen menu.new.items ≡ take 256 (menu_seen menu.old.items
+        ++ map (extended (item_seen item.now)) (from_each (λ m. spots_of (scene_seen scene.now) (scope.now ++ m ∷ []) (alt_seen inner.now)) 0
+        (map (λ c. card_bound c) (coll_value (scene_seen scene.now) scope.now (coll_seen cards.now))))) }
+{
+    let mut room = Cards::new();
+    coll_of(scene, scope, cards, &mut room);
+    offer_cards(
+        scene,
+        scope,
+        &Collection::built(room.as_slice()),
+        inner,
+        item,
+        menu,
+    );
+}
+
+#[cycle(menu)]
+#[inline(always)]
+fn offer_cards(
+    scene: &Scene,
+    scope: &Bindings,
+    cards: &Collection,
+    inner: &Alt,
+    item: &Item,
+    menu: &mut Menu,
+)
+    requires fits { length scope.now + (1 + alt_depth (alt_seen inner.now)) ≤ 5 }
+    requires room { length item.now.spots.items + (1 + domains_in (alt_seen inner.now)) ≤ 4 }
+    ensures { menu_seen menu.new.items ≡ take 256 (menu_seen menu.old.items
+        ++ map (extended (item_seen item.now)) (from_each (λ m. spots_of (scene_seen scene.now) (scope.now ++ m ∷ []) (alt_seen inner.now)) 0
+        (map (λ c. card_bound c) cards.now))) }
+{
+    match inner {
+        Alt::Do(_) => offer_every(cards, item, menu),
+        Alt::If(guard, _) => offer_guarded(&*scene, scope, cards, guard, item, menu),
+        Alt::Any(_, _, _) => offer_each(scene, scope, cards, inner, item, menu),
+    }
+}
+
+// The same, one card after the other.
+#[cycle(menu)]
+#[inline(never)]
+fn offer_each(
+    scene: &Scene,
+    scope: &Bindings,
+    cards: &Collection,
+    inner: &Alt,
+    item: &Item,
+    menu: &mut Menu,
+)
+    requires fits { length scope.now + (1 + alt_depth (alt_seen inner.now)) ≤ 5 }
+    requires room { length item.now.spots.items + (1 + domains_in (alt_seen inner.now)) ≤ 4 }
+    ensures { menu_seen menu.new.items ≡ take 256 (menu_seen menu.old.items
+        ++ map (extended (item_seen item.now)) (from_each (λ m. spots_of (scene_seen scene.now) (scope.now ++ m ∷ []) (alt_seen inner.now)) 0
+        (map (λ c. card_bound c) cards.now))) }
+{
+    let _count = menu.len();
+    for place in 0..cards.len() {
+        if menu.is_full() {
+            return;
+        }
+        offer(
+            scene,
+            &scope.with(Bind::Card(cards.at(place))),
+            inner,
+            &with_spot(item, place as u16),
+            menu,
+        );
+    }
+}
+
+#[cycle(menu)]
+#[inline(never)]
+fn offer_players(scene: &Scene, scope: &Bindings, inner: &Alt, item: &Item, menu: &mut Menu)
+    requires fits { length scope.now + (1 + alt_depth (alt_seen inner.now)) ≤ 5 }
+    requires room { length item.now.spots.items + (1 + domains_in (alt_seen inner.now)) ≤ 4 }
+    ensures { menu_seen menu.new.items ≡ take 256 (menu_seen menu.old.items
+        ++ map (extended (item_seen item.now)) (from_each (λ m. spots_of (scene_seen scene.now) (scope.now ++ m ∷ []) (alt_seen inner.now)) 0
+        (map (λ n. player_bound n) (below (scene_seen scene.now).known.sheet.players)))) }
+{
+    let _count = menu.len();
+    for player in 0..scene.sheet.players {
+        if menu.is_full() {
+            return;
+        }
+        offer(
+            scene,
+            &scope.with(Bind::Player(player)),
+            inner,
+            &with_spot(item, player as u16),
+            menu,
+        );
+    }
+}
+
+// The same with the groups of the cards.
+#[cycle(menu)]
+#[inline(never)]
+fn offer_parts(
+    scene: &Scene,
+    scope: &Bindings,
+    inner: &Alt,
+    cards: &CollExpr,
+    name: u16,
+    item: &Item,
+    menu: &mut Menu,
+)
+    requires domain { length scope.now + coll_depth (coll_seen cards.now) ≤ 5 }
+    requires fits { length scope.now + (1 + alt_depth (alt_seen inner.now)) ≤ 5 }
+    requires room { length item.now.spots.items + (1 + domains_in (alt_seen inner.now)) ≤ 4 }
+    ensures { menu_seen menu.new.items ≡ take 256 (menu_seen menu.old.items
+        ++ map (extended (item_seen item.now)) (from_each (λ m. spots_of (scene_seen scene.now) (scope.now ++ m ∷ []) (alt_seen inner.now)) 0
+        (map (λ g. group_bound g) (groups_by (scene_seen scene.now) name (coll_value (scene_seen scene.now) scope.now (coll_seen cards.now)))))) }
+{
+    let _count = menu.len();
+    let mut room = Cards::new();
+    coll_of(scene, scope, cards, &mut room);
+    let all = Collection::built(room.as_slice());
+    let mut values = Values::new();
+    note_values(scene, &all, name, &mut values);
+    let mut group = Cards::new();
+    for place in 0..values.len() {
+        if menu.is_full() {
+            return;
+        }
+        regroup(scene, &all, name, value_at(&values, place), &mut group);
+        offer_group(
+            scene,
+            scope,
+            inner,
+            &group,
+            &with_spot(item, place as u16),
+            menu,
+        );
+    }
+}
+
+// The same with one group.
+#[cycle(menu)]
+fn offer_group(
+    scene: &Scene,
+    scope: &Bindings,
+    inner: &Alt,
+    group: &Cards,
+    item: &Item,
+    menu: &mut Menu,
+)
+    requires fits { length scope.now + (1 + alt_depth (alt_seen inner.now)) ≤ 5 }
+    requires room { length item.now.spots.items + domains_in (alt_seen inner.now) ≤ 4 }
+    ensures { menu_seen menu.new.items ≡ take 256 (menu_seen menu.old.items
+        ++ map (extended (item_seen item.now)) (spots_of (scene_seen scene.now) (scope.now ++ group_bound (values_seen group.now.items) ∷ []) (alt_seen inner.now))) }
+{
+    offer(
+        scene,
+        &(&*scope).with(Bind::Group(group)),
+        inner,
+        item,
+        menu,
+    );
+}
+
+/// The menu of a choice site with these alternatives: the first 256 items that they offer.
+///
+/// At states that are alike to the mover the menus are equal.
+pub fn menu_of(scene: &Scene, site: u8, alts: &[Alt]) -> Menu
+    requires site { alts_seen alts.now ≡ alts_at (scene_seen scene.now).known.sheet site }
+    ensures is { menu_seen result.items ≡ pure_menu_of (scene_seen scene.now) site }
+    ensures alike { EqualAtAlike scene.now site (menu_seen result.items) }
+{
+    let mut menu = Menu::new();
+    fill_menu(scene, site, alts, &mut menu);
+    menu
+}
+
+/// The same, written into a menu, whatever it held before.
+pub fn fill_menu(scene: &Scene, site: u8, alts: &[Alt], menu: &mut Menu)
+    requires site { alts_seen alts.now ≡ alts_at (scene_seen scene.now).known.sheet site }
+    ensures is { menu_seen menu.new.items ≡ pure_menu_of (scene_seen scene.now) site }
+    ensures alike { EqualAtAlike scene.now site (menu_seen menu.new.items) }
+{
+    alike_states_have_equal_menus();
+    menu.clear();
+    offer_all(scene, alts, menu);
+}
+
+// Puts what alternatives offer into an empty menu.
+fn offer_all(scene: &Scene, alts: &[Alt], menu: &mut Menu)
+    requires few { All (BindsFew 0) (alts_seen alts.now) }
+    requires empty { menu.old.items ≡ [] }
+    ensures { menu_seen menu.new.items ≡ pure_menu_from (scene_seen scene.now) (alts_seen alts.now) }
+{
+    let scope = Bindings::empty();
+    for number in 0..alts.len() {
+        offer(scene, &scope, &alts[number], &first_item(number), menu);
+    }
+}
+
+// An alternative that binds nothing yet.
+fn first_item(alt: usize) -> Item
+    ensures { item_seen result ≡ record { alt = alt; spots = [] } }
+{
+    Item {
+        alt,
+        spots: Spots::new(),
+    }
+}
