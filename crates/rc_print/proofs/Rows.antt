@@ -1,5 +1,5 @@
 -- A row that is printed in several steps: a space, a head behind a parenthesis that opens, parts, and a parenthesis that closes.
-use Rattle.std.proofs.Common.{◌≡◌, ℕ, List, [], ◌∷◌, ◌++◌, Result, OnOk, sym, ap, ◌∙◌, append_assoc, append-nil}
+use Rattle.std.proofs.Common.{◌≡◌, ℕ, List, [], ◌∷◌, ◌++◌, Result, OnOk, refl, sym, ap, ◌∙◌, append_assoc, append-nil}
 use Rattle.rc_model.specs.Tree.{Tree, printed, printed_behind}
 use Rattle.rc_sheet_model.specs.Printing.{packed, atom, row}
 use Rattle.rc_print.proofs.Added.{on_ok}
@@ -49,3 +49,26 @@ pub printed_as : {A E : Type 0} (old newer : List ℕ) (result : Result A E) (fo
     → OnOk result (newer ≡ old ++ 32 ∷ printed form) → other ≡ form → OnOk result (newer ≡ old ++ 32 ∷ printed other)
 printed_as old newer result form other ends same =
     on_ok result ends (λ is. is ∙ ap (λ tree. old ++ 32 ∷ printed tree) (sym same))
+
+-- a head and two parts, of which the last one is printed with the end
+pub both : {A E : Type 0} {new : List ℕ} (old head : List ℕ) (first second : Tree) (newer : List ℕ) (result : Result A E)
+    (form : Tree) → new ≡ (old ++ 32 ∷ 40 ∷ head) ++ 32 ∷ printed first
+    → OnOk result (newer ≡ (new ++ 32 ∷ printed second) ++ 41 ∷ [])
+    → form ≡ row (atom head ∷ first ∷ second ∷ []) → OnOk result (newer ≡ old ++ 32 ∷ printed form)
+both {new = new} old head first second newer result form is ends same =
+    let begun : Begins old (old ++ 32 ∷ 40 ∷ head) head [] = opened refl in
+    let one : Begins old new head (first ∷ []) = with_part first begun is in
+    let two : Begins old (new ++ 32 ∷ printed second) head (first ∷ second ∷ []) = with_part second one refl in
+    closed newer result form two ends same
+
+-- and three parts
+pub three : {A E : Type 0} {new : List ℕ} (old head : List ℕ) (first second third : Tree) (newer : List ℕ) (result : Result A E)
+    (form : Tree) → new ≡ ((old ++ 32 ∷ 40 ∷ head) ++ 32 ∷ printed first) ++ 32 ∷ printed second
+    → OnOk result (newer ≡ (new ++ 32 ∷ printed third) ++ 41 ∷ [])
+    → form ≡ row (atom head ∷ first ∷ second ∷ third ∷ []) → OnOk result (newer ≡ old ++ 32 ∷ printed form)
+three {new = new} old head first second third newer result form is ends same =
+    let begun : Begins old (old ++ 32 ∷ 40 ∷ head) head [] = opened refl in
+    let one : Begins old ((old ++ 32 ∷ 40 ∷ head) ++ 32 ∷ printed first) head (first ∷ []) = with_part first begun refl in
+    let two : Begins old new head (first ∷ second ∷ []) = with_part second one is in
+    let all : Begins old (new ++ 32 ∷ printed third) head (first ∷ second ∷ third ∷ []) = with_part third two refl in
+    closed newer result form all ends same

@@ -1,17 +1,34 @@
 //! Prints effects, each with a space before it.
 ghost use Rattle.std.specs.Prelude.{◌≡◌, ◌∷◌, ◌++◌, [], OnOk};
 ghost use Rattle.rc_model.specs.Tree.{printed, printed_behind};
-ghost use Rattle.rc_sheet_model.specs.Printing.{packed, atom, keyword, row, named, binding, card_form, num_form, int_form, test_form, domain_form, spot_form, effect_form, effect_forms};
-ghost use Rattle.rc_ast.specs.Names.{loc_seen, num_seen};
-ghost use Rattle.rc_ast.specs.Expressions.{card_seen, int_seen, test_seen, domain_seen};
+ghost use Rattle.rc_sheet_model.specs.Printing.{packed, atom, keyword, row, named, binding, who_form, card_form, coll_form, loc_form, num_form, int_form, test_form, domain_form, spot_form, effect_form, effect_forms};
+ghost use Rattle.rc_ast.specs.Names.{who_seen, loc_seen, num_seen};
+ghost use Rattle.rc_ast.specs.Expressions.{card_seen, coll_seen, int_seen, test_seen, domain_seen};
 ghost use Rattle.rc_ast.specs.Effects.{end_seen, effect_seen, effects_seen};
 ghost use Rattle.rc_print.specs.Printing.{naming_seen, bound_seen};
 
 use crate::expressions::{push_card, push_coll, push_domain, push_int, push_test};
 use crate::printer::Printer;
-use crate::words::{Variable, behind, push_binder, push_loc, push_num, push_who};
-use rc_ast::{CardExpr, Domain, Effect, End, IntExpr, Loc, Num, Sheet, Test};
+use crate::words::{Variable, behind, push_binder, push_loc, push_num, push_part_who};
+use rc_ast::{CardExpr, CollExpr, Domain, Effect, End, IntExpr, Loc, Num, Sheet, Test, Who};
 use std::alloc::AllocError;
+
+/// Adds what is told of a location.
+fn push_at(
+    out: &mut Printer,
+    sheet: &Sheet,
+    bound: &[Variable],
+    head: &str,
+    loc: &Loc,
+) -> Result<(), AllocError>
+    ensures { OnOk result (out.new.bytes.items ≡ out.old.bytes.items
+        ++ 32 ∷ printed (row (atom head.now
+        ∷ loc_form (naming_seen sheet.now) (bound_seen sheet.now bound.now) (loc_seen loc.now) ∷ []))) }
+{
+    out.open_part(head)?;
+    push_loc(out, sheet, bound, loc)?;
+    out.close()
+}
 
 /// Adds an end of a location.
 fn push_spot(
@@ -25,16 +42,8 @@ fn push_spot(
         ++ 32 ∷ printed (spot_form (naming_seen sheet.now) (bound_seen sheet.now bound.now) (end_seen end) (loc_seen loc.now))) }
 {
     match end {
-        End::Top => {
-            out.open_part("top")?;
-            push_loc(out, sheet, bound, loc)?;
-            out.close()
-        }
-        End::Bottom => {
-            out.open_part("bottom")?;
-            push_loc(out, sheet, bound, loc)?;
-            out.close()
-        }
+        End::Top => push_at(out, sheet, bound, "top", loc),
+        End::Bottom => push_at(out, sheet, bound, "bottom", loc),
     }
 }
 
@@ -56,6 +65,58 @@ fn push_placed(
     out.open_part(head)?;
     push_card(out, sheet, bound, card)?;
     push_spot(out, sheet, bound, end, loc)?;
+    out.close()
+}
+
+/// Adds what happens to all of some cards.
+fn push_moved(
+    out: &mut Printer,
+    sheet: &Sheet,
+    bound: &[Variable],
+    cards: &CollExpr,
+    end: End,
+    loc: &Loc,
+) -> Result<(), AllocError>
+    ensures { OnOk result (out.new.bytes.items ≡ out.old.bytes.items
+        ++ 32 ∷ printed (row (keyword "move" ∷ keyword "all"
+        ∷ coll_form (naming_seen sheet.now) (bound_seen sheet.now bound.now) (coll_seen cards.now)
+        ∷ spot_form (naming_seen sheet.now) (bound_seen sheet.now bound.now) (end_seen end) (loc_seen loc.now) ∷ []))) }
+{
+    out.open_part("move all")?;
+    push_coll(out, sheet, bound, cards)?;
+    push_spot(out, sheet, bound, end, loc)?;
+    out.close()
+}
+
+/// Adds that a card is forgotten.
+fn push_forgotten(
+    out: &mut Printer,
+    sheet: &Sheet,
+    bound: &[Variable],
+    card: &CardExpr,
+) -> Result<(), AllocError>
+    ensures { OnOk result (out.new.bytes.items ≡ out.old.bytes.items
+        ++ 32 ∷ printed (row (keyword "forget"
+        ∷ card_form (naming_seen sheet.now) (bound_seen sheet.now bound.now) (card_seen card.now) ∷ []))) }
+{
+    out.open_part("forget")?;
+    push_card(out, sheet, bound, card)?;
+    out.close()
+}
+
+/// Adds who is next.
+fn push_next(
+    out: &mut Printer,
+    sheet: &Sheet,
+    bound: &[Variable],
+    who: Who,
+) -> Result<(), AllocError>
+    ensures { OnOk result (out.new.bytes.items ≡ out.old.bytes.items
+        ++ 32 ∷ printed (row (keyword "cycle" ∷ keyword "next"
+        ∷ who_form (bound_seen sheet.now bound.now) (who_seen who) ∷ []))) }
+{
+    out.open_part("cycle next")?;
+    push_part_who(out, sheet, bound, who)?;
     out.close()
 }
 
@@ -91,37 +152,19 @@ fn push_effect(
 {
     match effect {
         Effect::Move(card, end, loc) => push_placed(out, sheet, bound, "move", card, *end, loc),
-        Effect::MoveAll(cards, end, loc) => {
-            out.open_part("move all")?;
-            push_coll(out, sheet, bound, cards)?;
-            push_spot(out, sheet, bound, *end, loc)?;
-            out.close()
-        }
+        Effect::MoveAll(cards, end, loc) => push_moved(out, sheet, bound, cards, *end, loc),
         Effect::Remember(card, end, loc) => {
             push_placed(out, sheet, bound, "remember", card, *end, loc)
         }
-        Effect::Forget(card) => {
-            out.open_part("forget")?;
-            push_card(out, sheet, bound, card)?;
-            out.close()
-        }
-        Effect::Shuffle(loc) => {
-            out.open_part("shuffle")?;
-            push_loc(out, sheet, bound, loc)?;
-            out.close()
-        }
+        Effect::Forget(card) => push_forgotten(out, sheet, bound, card),
+        Effect::Shuffle(loc) => push_at(out, sheet, bound, "shuffle", loc),
         Effect::Set(num, value) => push_change(out, sheet, bound, "set", num, value),
         Effect::Inc(num, value) => push_change(out, sheet, bound, "inc", num, value),
         Effect::Dec(num, value) => push_change(out, sheet, bound, "dec", num, value),
         Effect::If(test, effects) => push_guarded(out, sheet, bound, effects, test),
         Effect::Repeat(times, effects) => push_repeated(out, sheet, bound, effects, times),
         Effect::Each(domain, var, effects) => push_each(out, sheet, bound, effects, domain, *var),
-        Effect::Next(who) => {
-            out.open_part("cycle next")?;
-            out.space()?;
-            push_who(out, sheet, bound, *who)?;
-            out.close()
-        }
+        Effect::Next(who) => push_next(out, sheet, bound, *who),
         Effect::Reverse => out.keyword(" (cycle reverse)"),
     }
 }

@@ -1,14 +1,14 @@
 //! Prints expressions and tests, each with a space before it.
-ghost use Rattle.std.specs.Prelude.{◌≡◌, ◌∷◌, ◌++◌, [], OnOk};
+ghost use Rattle.std.specs.Prelude.{◌≡◌, ◌∷◌, ◌++◌, [], codes, OnOk};
 ghost use Rattle.rc_model.specs.Tree.{printed, printed_behind};
-ghost use Rattle.rc_sheet_model.specs.Printing.{packed, atom, keyword, row, named, binding, who_form, attr_form, card_form, coll_form, coll_forms, int_form, test_form, test_forms, sides, domain_form};
+ghost use Rattle.rc_sheet_model.specs.Printing.{packed, atom, keyword, row, named, number_form, binding, who_form, attr_form, card_form, coll_form, coll_forms, int_form, test_form, test_forms, sides, domain_form};
 ghost use Rattle.rc_ast.specs.Names.{who_seen};
 ghost use Rattle.rc_ast.specs.Expressions.{card_seen, coll_seen, colls_seen, int_seen, test_seen, tests_seen, domain_seen};
 ghost use Rattle.rc_print.specs.Printing.{naming_seen, bound_seen};
 
 use crate::printer::Printer;
 use crate::words::{
-    Variable, behind, push_binder, push_loc, push_num, push_variable, push_who, push_word,
+    Variable, behind, push_binder, push_loc, push_num, push_part_variable, push_part_who, push_word,
 };
 use rc_ast::{CardExpr, CollExpr, Domain, IntExpr, Sheet, Test, Who};
 use std::alloc::AllocError;
@@ -52,10 +52,24 @@ fn push_owners(
         ∷ who_form (bound_seen sheet.now bound.now) (who_seen second) ∷ []))) }
 {
     out.open_part(head)?;
+    push_part_who(out, sheet, bound, first)?;
+    push_part_who(out, sheet, bound, second)?;
+    out.close()
+}
+
+/// Adds a number.
+fn push_number(out: &mut Printer, value: i64) -> Result<(), AllocError>
+    ensures { OnOk result (out.new.bytes.items ≡ out.old.bytes.items ++ 32 ∷ printed (number_form value)) }
+{
     out.space()?;
-    push_who(out, sheet, bound, first)?;
-    out.space()?;
-    push_who(out, sheet, bound, second)?;
+    out.number(value)
+}
+
+/// Adds a list of an atom alone.
+fn push_bare(out: &mut Printer, head: &str) -> Result<(), AllocError>
+    ensures { OnOk result (out.new.bytes.items ≡ out.old.bytes.items ++ 32 ∷ printed (row (atom head.now ∷ []))) }
+{
+    out.open_part(head)?;
     out.close()
 }
 
@@ -70,23 +84,30 @@ pub fn push_card(
         ++ 32 ∷ printed (card_form (naming_seen sheet.now) (bound_seen sheet.now bound.now) (card_seen card.now))) }
 {
     match card {
-        CardExpr::Var(var) => {
-            out.space()?;
-            push_variable(out, sheet, bound, *var)
-        }
-        CardExpr::Top(cards) => {
-            out.open_part("top")?;
-            push_coll(out, sheet, bound, cards)?;
-            out.close()
-        }
-        CardExpr::Bottom(cards) => {
-            out.open_part("bottom")?;
-            push_coll(out, sheet, bound, cards)?;
-            out.close()
-        }
+        CardExpr::Var(var) => push_part_variable(out, sheet, bound, *var),
+        CardExpr::Top(cards) => push_of(out, sheet, bound, "top", cards),
+        CardExpr::Bottom(cards) => push_of(out, sheet, bound, "bottom", cards),
         CardExpr::Max(cards, map) => push_by_map(out, sheet, bound, "max", cards, *map),
         CardExpr::Min(cards, map) => push_by_map(out, sheet, bound, "min", cards, *map),
     }
+}
+
+/// Adds what is told of cards.
+#[cycle(expressions)]
+fn push_of(
+    out: &mut Printer,
+    sheet: &Sheet,
+    bound: &[Variable],
+    head: &str,
+    cards: &CollExpr,
+) -> Result<(), AllocError>
+    ensures { OnOk result (out.new.bytes.items ≡ out.old.bytes.items
+        ++ 32 ∷ printed (row (atom head.now
+        ∷ coll_form (naming_seen sheet.now) (bound_seen sheet.now bound.now) (coll_seen cards.now) ∷ []))) }
+{
+    out.open_part(head)?;
+    push_coll(out, sheet, bound, cards)?;
+    out.close()
 }
 
 /// Adds what is told of cards by the points of a map.
@@ -120,19 +141,32 @@ pub fn push_coll(
         ++ 32 ∷ printed (coll_form (naming_seen sheet.now) (bound_seen sheet.now bound.now) (coll_seen cards.now))) }
 {
     match cards {
-        CollExpr::Var(var) => {
-            out.space()?;
-            push_variable(out, sheet, bound, *var)
-        }
+        CollExpr::Var(var) => push_part_variable(out, sheet, bound, *var),
         CollExpr::Loc(loc) => push_loc(out, sheet, bound, loc),
         CollExpr::Filter(inner, var, test) => {
-            out.open_part("filter")?;
-            push_coll(out, sheet, bound, inner)?;
-            push_binder(out, sheet, *var)?;
+            open_filter(out, sheet, bound, inner, *var)?;
             close_within(out, sheet, bound, *var, test)
         }
         CollExpr::Union(parts) => push_union(out, sheet, bound, parts),
     }
+}
+
+/// Opens the cards that a test holds of, with a variable behind those that it runs over.
+#[cycle(expressions)]
+fn open_filter(
+    out: &mut Printer,
+    sheet: &Sheet,
+    bound: &[Variable],
+    cards: &CollExpr,
+    var: u32,
+) -> Result<(), AllocError>
+    ensures { OnOk result (out.new.bytes.items ≡ out.old.bytes.items ++ 32 ∷ 40 ∷ codes "filter"
+        ++ 32 ∷ printed (coll_form (naming_seen sheet.now) (bound_seen sheet.now bound.now) (coll_seen cards.now))
+        ++ 32 ∷ printed (named (naming_seen sheet.now).names.vars var)) }
+{
+    out.open_part("filter")?;
+    push_coll(out, sheet, bound, cards)?;
+    push_binder(out, sheet, var)
 }
 
 #[cycle(expressions)]
@@ -163,23 +197,11 @@ pub fn push_int(
         ++ 32 ∷ printed (int_form (naming_seen sheet.now) (bound_seen sheet.now bound.now) (int_seen int.now))) }
 {
     match int {
-        IntExpr::Lit(value) => {
-            out.space()?;
-            out.number(*value)
-        }
+        IntExpr::Lit(value) => push_number(out, *value),
         IntExpr::Num(num) => push_num(out, sheet, bound, num),
-        IntExpr::Size(cards) => {
-            out.open_part("size")?;
-            push_coll(out, sheet, bound, cards)?;
-            out.close()
-        }
+        IntExpr::Size(cards) => push_of(out, sheet, bound, "size", cards),
         IntExpr::Sum(cards, map) => push_by_map(out, sheet, bound, "sum", cards, *map),
-        IntExpr::Points(card, map) => {
-            out.open_part("points")?;
-            push_card(out, sheet, bound, card)?;
-            push_map(out, sheet, *map)?;
-            out.close()
-        }
+        IntExpr::Points(card, map) => push_points(out, sheet, bound, card, *map),
         IntExpr::Add(a, b) => {
             open_with_int(out, sheet, bound, "+", a)?;
             close_with_int(out, sheet, bound, b)
@@ -193,6 +215,25 @@ pub fn push_int(
             close_with_int(out, sheet, bound, b)
         }
     }
+}
+
+/// Adds what a card is worth by the points of a map.
+#[cycle(expressions)]
+fn push_points(
+    out: &mut Printer,
+    sheet: &Sheet,
+    bound: &[Variable],
+    card: &CardExpr,
+    map: u16,
+) -> Result<(), AllocError>
+    ensures { OnOk result (out.new.bytes.items ≡ out.old.bytes.items
+        ++ 32 ∷ printed (row (keyword "points" ∷ card_form (naming_seen sheet.now) (bound_seen sheet.now bound.now) (card_seen card.now)
+        ∷ keyword "using" ∷ named (naming_seen sheet.now).names.maps map ∷ []))) }
+{
+    out.open_part("points")?;
+    push_card(out, sheet, bound, card)?;
+    push_map(out, sheet, map)?;
+    out.close()
 }
 
 /// Opens a list that begins with an atom and a number.
@@ -257,20 +298,10 @@ pub fn push_test(
             open_with_int(out, sheet, bound, ">=", a)?;
             close_with_int(out, sheet, bound, b)
         }
-        Test::Is(card, attr, value) => {
-            out.open_part("is")?;
-            push_card(out, sheet, bound, card)?;
-            push_attr(out, sheet, *attr)?;
-            push_value(out, sheet, *value)?;
-            out.close()
-        }
+        Test::Is(card, attr, value) => push_is(out, sheet, bound, card, *attr, *value),
         Test::And(tests) => push_tests(out, sheet, bound, "and", tests),
         Test::Or(tests) => push_tests(out, sheet, bound, "or", tests),
-        Test::Not(inner) => {
-            out.open_part("not")?;
-            push_test(out, sheet, bound, inner)?;
-            out.close()
-        }
+        Test::Not(inner) => push_not(out, sheet, bound, inner),
         Test::All(domain, var, inner) => {
             open_over(out, sheet, bound, "all", domain, *var)?;
             close_within(out, sheet, bound, *var, inner)
@@ -280,6 +311,43 @@ pub fn push_test(
             close_within(out, sheet, bound, *var, inner)
         }
     }
+}
+
+/// Adds the test of a card's attribute.
+#[cycle(expressions)]
+fn push_is(
+    out: &mut Printer,
+    sheet: &Sheet,
+    bound: &[Variable],
+    card: &CardExpr,
+    attr: u16,
+    value: u16,
+) -> Result<(), AllocError>
+    ensures { OnOk result (out.new.bytes.items ≡ out.old.bytes.items
+        ++ 32 ∷ printed (row (keyword "is" ∷ card_form (naming_seen sheet.now) (bound_seen sheet.now bound.now) (card_seen card.now)
+        ∷ named (naming_seen sheet.now).names.attrs attr ∷ named (naming_seen sheet.now).names.values value ∷ []))) }
+{
+    out.open_part("is")?;
+    push_card(out, sheet, bound, card)?;
+    push_attr(out, sheet, attr)?;
+    push_value(out, sheet, value)?;
+    out.close()
+}
+
+/// Adds a test turned round.
+#[cycle(expressions)]
+fn push_not(
+    out: &mut Printer,
+    sheet: &Sheet,
+    bound: &[Variable],
+    test: &Test,
+) -> Result<(), AllocError>
+    ensures { OnOk result (out.new.bytes.items ≡ out.old.bytes.items
+        ++ 32 ∷ printed (row (keyword "not" ∷ test_form (naming_seen sheet.now) (bound_seen sheet.now bound.now) (test_seen test.now) ∷ []))) }
+{
+    out.open_part("not")?;
+    push_test(out, sheet, bound, test)?;
+    out.close()
 }
 
 /// Adds what a test for equality compares, behind a head.
@@ -312,10 +380,7 @@ fn push_sides(
             out.close()
         }
         Test::EqWho(a, b) => push_owners(out, sheet, bound, head, *a, *b),
-        _ => {
-            out.open_part(head)?;
-            out.close()
-        }
+        _ => push_bare(out, head),
     }
 }
 
@@ -406,11 +471,25 @@ pub fn push_domain(
     match domain {
         Domain::Players => out.keyword(" player"),
         Domain::Coll(cards) => push_coll(out, sheet, bound, cards),
-        Domain::Parts(cards, attr) => {
-            out.open_part("partition")?;
-            push_coll(out, sheet, bound, cards)?;
-            push_attr(out, sheet, *attr)?;
-            out.close()
-        }
+        Domain::Parts(cards, attr) => push_parts(out, sheet, bound, cards, *attr),
     }
+}
+
+/// Adds cards as they are parted by an attribute.
+#[cycle(expressions)]
+fn push_parts(
+    out: &mut Printer,
+    sheet: &Sheet,
+    bound: &[Variable],
+    cards: &CollExpr,
+    attr: u16,
+) -> Result<(), AllocError>
+    ensures { OnOk result (out.new.bytes.items ≡ out.old.bytes.items
+        ++ 32 ∷ printed (row (keyword "partition" ∷ coll_form (naming_seen sheet.now) (bound_seen sheet.now bound.now) (coll_seen cards.now)
+        ∷ named (naming_seen sheet.now).names.attrs attr ∷ []))) }
+{
+    out.open_part("partition")?;
+    push_coll(out, sheet, bound, cards)?;
+    push_attr(out, sheet, attr)?;
+    out.close()
 }

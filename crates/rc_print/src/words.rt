@@ -69,6 +69,20 @@ pub fn push_variable(
     }
 }
 
+/// Adds a space and the word of the variable in this place of the scope.
+pub fn push_part_variable(
+    out: &mut Printer,
+    sheet: &Sheet,
+    bound: &[Variable],
+    place: u8,
+) -> Result<(), AllocError>
+    ensures { OnOk result (out.new.bytes.items ≡ out.old.bytes.items
+        ++ 32 ∷ printed (named (bound_seen sheet.now bound.now) place)) }
+{
+    out.space()?;
+    push_variable(out, sheet, bound, place)
+}
+
 /// Adds a space and the word of a variable where it is bound.
 pub fn push_binder(out: &mut Printer, sheet: &Sheet, var: u32) -> Result<(), AllocError>
     ensures { OnOk result (out.new.bytes.items ≡ out.old.bytes.items
@@ -98,6 +112,20 @@ pub fn push_who(
         }
         Who::Var(var) => push_variable(out, sheet, bound, var),
     }
+}
+
+/// Adds a space and an owner.
+pub fn push_part_who(
+    out: &mut Printer,
+    sheet: &Sheet,
+    bound: &[Variable],
+    who: Who,
+) -> Result<(), AllocError>
+    ensures { OnOk result (out.new.bytes.items ≡ out.old.bytes.items
+        ++ 32 ∷ printed (who_form (bound_seen sheet.now bound.now) (who_seen who))) }
+{
+    out.space()?;
+    push_who(out, sheet, bound, who)
 }
 
 /// Adds the word of the kind that the locations of this name have.
