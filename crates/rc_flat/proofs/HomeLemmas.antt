@@ -14,14 +14,14 @@ use Rattle.rc_code.specs.Instruction.{Code, Instruction}
 use Rattle.rc_code.specs.Laws.{SitesArePlaced}
 use Rattle.rc_code.specs.Stands.{StandsFor}
 use Rattle.rc_board.specs.Undo.{Kept, gone_home}
-use Rattle.rc_flat.specs.Flat.{Flat, config_of, flat_from, IsInPlay, IsOffered}
-use Rattle.rc_flat.specs.State.{IsReady, flat_of}
-use Rattle.rc_flat.specs.Moments.{IsInMatch}
+use Rattle.rc_stand.specs.Flat.{Flat, config_of, flat_from, IsInPlay, IsOffered}
+use Rattle.rc_stand.specs.State.{IsReady, flat_of}
+use Rattle.rc_stand.specs.Moments.{IsInMatch}
 use Rattle.rc_flat.specs.Machine.{Machine}
 use Rattle.rc_flat.specs.Home.{config_at_home, IsAtSite, IsHome}
-use Rattle.rc_flat.specs.declared.stand.Stand.{Stand}
-use Rattle.rc_flat.specs.declared.state.State.{State}
-use Rattle.rc_flat.proofs.SitePlaceLemmas.{IsPlaceOf, decision_match}
+use Rattle.rc_stand.specs.declared.stand.Stand.{Stand}
+use Rattle.rc_stand.specs.declared.state.State.{State}
+use Rattle.rc_stand.proofs.SitePlaceLemmas.{IsPlaceOf, decision_match}
 
 -- BACK AT HOME
 

@@ -1,17 +1,2 @@
-pub mod EffectSteps
-pub mod StepCases
-pub mod PlayLemmas
-pub mod ShallowLemmas
-pub mod PlaceLemmas
-pub mod ListLemmas
-pub mod ShuffleLemmas
-pub mod OfferedLemmas
-pub mod KeptLemmas
-pub mod NumberLemmas
-pub mod MomentLemmas
 pub mod MarkLemmas
-pub mod MachineLemmas
-pub mod SitePlaceLemmas
 pub mod HomeLemmas
-pub mod EveryoneLemmas
-pub mod SoleLemmas

@@ -10,9 +10,9 @@ use Rattle.rc_rules.specs.Control.{control_seen}
 use Rattle.rc_rules.specs.Machine.{CanDecide}
 use Rattle.rc_rules.specs.Menu.{menu_seen}
 use Rattle.rc_code.specs.Instruction.{Instruction}
-use Rattle.rc_flat.specs.Flat.{config_of, flat_from}
-use Rattle.rc_flat.specs.Moments.{IsInMatch}
-use Rattle.rc_flat.specs.declared.stand.Stand.{Stand}
+use Rattle.rc_stand.specs.Flat.{config_of, flat_from}
+use Rattle.rc_stand.specs.Moments.{IsInMatch}
+use Rattle.rc_stand.specs.declared.stand.Stand.{Stand}
 
 -- what a match is played by, where it stands, where it stood at home, and whether memory was lacking
 pub record Homing : Type 0 where

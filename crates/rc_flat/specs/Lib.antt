@@ -1,12 +1,6 @@
-pub mod Places
-pub mod Shallow
-pub mod Flat
-pub mod State
-pub mod Moments
 pub mod Machine
 pub mod Marks
 pub mod Codes
 pub mod MachineSeen
 pub mod Home
 pub mod HomeSeen
-pub mod Everyone

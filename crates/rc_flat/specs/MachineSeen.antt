@@ -1,7 +1,11 @@
 -- A machine as the definitions of play have it.
+use Rattle.std.specs.Prelude.{◌≡◌, Bool, false, List}
+use Rattle.rc_play_model.specs.About.{About}
+use Rattle.rc_code.specs.Instruction.{Instruction}
 use Rattle.rc_code.specs.Seen.{list_seen}
-use Rattle.rc_flat.specs.State.{config_at}
-use Rattle.rc_flat.specs.Moments.{IsMachine}
+use Rattle.rc_code.specs.Serves.{Serves}
+use Rattle.rc_stand.specs.State.{config_at, IsReady}
+use Rattle.rc_stand.specs.declared.state.State.{State}
 use Rattle.rc_flat.specs.Machine.{Machine}
 use Rattle.rc_flat.specs.declared.machine.FlatMachine.TheInside.{Inside}
 
@@ -16,6 +20,12 @@ machine_seen m =
       home = m.state.board.home;
       spent = m.spent;
     }
+
+-- What a machine keeps: its code serves the sheet, its table is laid for the shape, and where it isn't spent a match stands there.
+pub record IsMachine (about : About) (code : List Instruction) (state : State) (spent : Bool) : Type 0 where
+  pub serves : Serves about.sheet code
+  pub laid : state.board.laid.shape ≡ about.shape
+  pub ready : spent ≡ false → IsReady about code state
 
 abbrev pub KeepsMachine : Inside → Type 0
 KeepsMachine m = IsMachine m.about (list_seen m.code.value.list.items) m.state m.spent

@@ -9,17 +9,20 @@ ghost use Rattle.rc_rules.specs.Control.{control_seen, stop_seen};
 ghost use Rattle.rc_rules.specs.Dealer.{HasShuffled};
 ghost use Rattle.rc_rules.specs.Machine.{StandsAtDecision, StandsWhereItStops, menu_here};
 ghost use Rattle.rc_rules.specs.Menu.{menu_seen};
-ghost use Rattle.rc_flat.specs.Flat.{config_of, flat_from};
-ghost use Rattle.rc_flat.specs.Moments.{IsInMatch};
+ghost use Rattle.rc_stand.specs.Flat.{config_of, flat_from};
+ghost use Rattle.rc_stand.specs.Moments.{IsInMatch};
 ghost use Rattle.rc_flat.specs.Home.{config_at_home, IsHome};
 ghost use Rattle.rc_flat.specs.Machine.{KeepsTables, tables_of};
 ghost use Rattle.rc_flat.specs.Marks.{IsMark};
 
-use crate::machine::{FlatMachine, Mark};
-use crate::stand::{Stand, write_menu};
+use crate::decisions::apply;
+use crate::machine::FlatMachine;
+use crate::steps::advance;
+use crate::undoing::refill;
 use rc_deck::Memory;
 use rc_menu::copy_menu;
 use rc_rules::{Control, Dealer, Machine, Menu, Scores, Stop};
+use rc_stand::{Mark, Stand, write_menu};
 use rc_table::Table;
 
 impl FlatMachine {
@@ -46,7 +49,7 @@ impl FlatMachine {
         ensures home { self.new.home ≡ self.old.home }
     {
         self.state.go_back(mark);
-        self.state.refill(&self.about, &self.code.list);
+        refill(&mut self.state, &self.about, &self.code.list);
         self.spent = false;
     }
 
@@ -76,7 +79,7 @@ impl FlatMachine {
         ensures fresh { self.new.spent ≡ false }
     {
         self.state.move_home(table, stand);
-        self.state.refill(&self.about, &self.code.list);
+        refill(&mut self.state, &self.about, &self.code.list);
         self.spent = false;
     }
 
@@ -97,7 +100,7 @@ impl Machine for FlatMachine {
 
     ghost spent = { λ m. m.spent };
 
-    #[tactic(auto, using(crate::proofs::ShuffleLemmas::not_shuffled))]
+    #[tactic(auto, using(rc_doing::proofs::ShuffleLemmas::not_shuffled))]
     fn advance<D: Dealer>(&mut self, dealer: &mut D) -> Result<Stop, Memory>
         ensures leads { IfOk result
             (λ stop. stop_of self.old.about (D.dealing dealer.old) (D.state dealer.old) self.old.config
@@ -114,7 +117,7 @@ impl Machine for FlatMachine {
         if self.spent {
             return Err(Memory);
         }
-        match self.state.advance(&self.about, &self.code.list, dealer) {
+        match advance(&mut self.state, &self.about, &self.code.list, dealer) {
             Ok(stop) => Ok(stop),
             Err(Memory) => {
                 self.spent = true;
@@ -136,7 +139,7 @@ impl Machine for FlatMachine {
         self.state.menu.len()
     }
 
-    #[tactic(auto, using(crate::proofs::ShuffleLemmas::not_shuffled))]
+    #[tactic(auto, using(rc_doing::proofs::ShuffleLemmas::not_shuffled))]
     fn apply<D: Dealer>(&mut self, item: u16, dealer: &mut D) -> Result<(), Memory>
         requires decision { self.old.spent ≡ false → StandsAtDecision self.old.about self.old.config }
         requires offered { self.old.spent ≡ false → item < length (menu_here self.old.about self.old.config) }
@@ -154,7 +157,7 @@ impl Machine for FlatMachine {
         if self.spent {
             return Err(Memory);
         }
-        match self.state.apply(&self.about, &self.code.list, item, dealer) {
+        match apply(&mut self.state, &self.about, &self.code.list, item, dealer) {
             Ok(()) => Ok(()),
             Err(Memory) => {
                 self.spent = true;

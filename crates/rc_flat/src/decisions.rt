@@ -9,98 +9,95 @@ ghost use Rattle.rc_code.specs.Meaning.{block_in};
 ghost use Rattle.rc_code.specs.Seen.{block_seen, list_seen};
 ghost use Rattle.rc_board.specs.Undo.{Keeps};
 ghost use Rattle.rc_code.specs.Serves.{AreSimple, Serves};
-ghost use Rattle.rc_flat.specs.State.{IsReady, config_at};
+ghost use Rattle.rc_stand.specs.State.{IsReady, config_at};
 ghost use Rattle.rc_rules.specs.Dealer.{HasShuffled};
 
-use crate::blocks::{behind, front, past};
-use crate::items::do_item;
-use crate::state::State;
-use crate::there::choice_there;
 use rc_ast::Alt;
 use rc_code::{Block, Instruction};
 use rc_deck::Memory;
+use rc_doing::{do_item, front, past};
 use rc_rules::{About, Dealer, Item, Menu};
+use rc_stand::{State, behind, choice_there};
 use rc_state::count_decision;
 
-impl State {
-    /// Takes an item of the menu of the decision that is next, and does its effects.
-    #[tactic(auto, using(crate::proofs::ShuffleLemmas::not_shuffled))]
-    pub fn apply<D: Dealer>(
-        &mut self,
-        about: &About,
-        code: &[Instruction],
-        item: u16,
-        dealer: &mut D,
-    ) -> Result<(), Memory>
-        requires serves { Serves about.now.sheet (list_seen code.now) }
-        requires ready { IsReady about.now (list_seen code.now) self.old }
-        requires decision { StandsAtDecision about.now (config_at about.now (list_seen code.now) self.old) }
-        requires offered { item < length (menu_here about.now (config_at about.now (list_seen code.now) self.old)) }
-        ensures leads { OnOk result (choose about.now (D.dealing dealer.old) (D.state dealer.old) item (config_at about.now (list_seen code.now) self.old)
-            ≡ goes (D.state dealer.new) (config_at about.now (list_seen code.now) self.new)) }
-        ensures ready { OnOk result (IsReady about.now (list_seen code.now) self.new) }
-        ensures keeps { Keeps self.old.board self.new.board }
-        ensures shuffled { HasShuffled (D.dealing dealer.old) (D.state dealer.old) (D.state dealer.new) }
-        ensures dealing { D.dealing dealer.new ≡ D.dealing dealer.old }
-    {
-        let choice = choice_there(code, self.place.next());
-        self.choose(
-            about,
-            code,
-            choice.alts,
-            choice.blocks,
-            choice.inside,
-            item,
-            dealer,
-        )
-    }
+/// Takes an item of the menu of the decision that is next, and does its effects.
+#[tactic(auto, using(rc_doing::proofs::ShuffleLemmas::not_shuffled))]
+pub fn apply<D: Dealer>(
+    state: &mut State,
+    about: &About,
+    code: &[Instruction],
+    item: u16,
+    dealer: &mut D,
+) -> Result<(), Memory>
+    requires serves { Serves about.now.sheet (list_seen code.now) }
+    requires ready { IsReady about.now (list_seen code.now) state.old }
+    requires decision { StandsAtDecision about.now (config_at about.now (list_seen code.now) state.old) }
+    requires offered { item < length (menu_here about.now (config_at about.now (list_seen code.now) state.old)) }
+    ensures leads { OnOk result (choose about.now (D.dealing dealer.old) (D.state dealer.old) item (config_at about.now (list_seen code.now) state.old)
+        ≡ goes (D.state dealer.new) (config_at about.now (list_seen code.now) state.new)) }
+    ensures ready { OnOk result (IsReady about.now (list_seen code.now) state.new) }
+    ensures keeps { Keeps state.old.board state.new.board }
+    ensures shuffled { HasShuffled (D.dealing dealer.old) (D.state dealer.old) (D.state dealer.new) }
+    ensures dealing { D.dealing dealer.new ≡ D.dealing dealer.old }
+{
+    let choice = choice_there(code, state.place.next());
+    take_item(
+        state,
+        about,
+        code,
+        choice.alts,
+        choice.blocks,
+        choice.inside,
+        item,
+        dealer,
+    )
+}
 
-    /// Takes an item of the menu at the choice that is next, and does its effects.
-    #[tactic(auto, using(crate::proofs::ShuffleLemmas::not_shuffled))]
-    fn choose<D: Dealer>(
-        &mut self,
-        about: &About,
-        code: &[Instruction],
-        alts: &[Alt],
-        blocks: &[Block],
-        inside: usize,
-        item: u16,
-        dealer: &mut D,
-    ) -> Result<(), Memory>
-        requires serves { Serves about.now.sheet (list_seen code.now) }
-        requires ready { IsReady about.now (list_seen code.now) self.old }
-        requires here { (site : ℕ) × (slice_get (list_seen code.now) self.old.place.next ≡ Some (offer site (alts_seen alts.now) (map block_seen blocks.now) inside)) }
-        requires decision { StandsAtDecision about.now (config_at about.now (list_seen code.now) self.old) }
-        requires offered { item < length (menu_here about.now (config_at about.now (list_seen code.now) self.old)) }
-        ensures leads { OnOk result (choose about.now (D.dealing dealer.old) (D.state dealer.old) item (config_at about.now (list_seen code.now) self.old)
-            ≡ goes (D.state dealer.new) (config_at about.now (list_seen code.now) self.new)) }
-        ensures ready { OnOk result (IsReady about.now (list_seen code.now) self.new) }
-        ensures keeps { Keeps self.old.board self.new.board }
-        ensures shuffled { HasShuffled (D.dealing dealer.old) (D.state dealer.old) (D.state dealer.new) }
-        ensures dealing { D.dealing dealer.new ≡ D.dealing dealer.old }
-    {
-        let _turns = about.turns();
-        let current = self.current;
-        let next = self.place.next() + 1;
-        let item = item_at(&self.menu, item);
-        let block = block_of(past(code, next), blocks, item.alt);
-        match do_item(
-            about,
-            current,
-            alts,
-            block,
-            item,
-            &mut self.board,
-            &mut self.control.frames,
-            dealer,
-        ) {
-            Ok(()) => {}
-            Err(Memory) => return Err(Memory),
-        }
-        count_decision(&mut self.control, current.player);
-        self.place.go_to(behind(code, next, inside));
-        Ok(())
+// Takes an item of the menu at the choice that is next, and does its effects.
+#[tactic(auto, using(rc_doing::proofs::ShuffleLemmas::not_shuffled))]
+fn take_item<D: Dealer>(
+    state: &mut State,
+    about: &About,
+    code: &[Instruction],
+    alts: &[Alt],
+    blocks: &[Block],
+    inside: usize,
+    item: u16,
+    dealer: &mut D,
+) -> Result<(), Memory>
+    requires serves { Serves about.now.sheet (list_seen code.now) }
+    requires ready { IsReady about.now (list_seen code.now) state.old }
+    requires here { (site : ℕ) × (slice_get (list_seen code.now) state.old.place.next ≡ Some (offer site (alts_seen alts.now) (map block_seen blocks.now) inside)) }
+    requires decision { StandsAtDecision about.now (config_at about.now (list_seen code.now) state.old) }
+    requires offered { item < length (menu_here about.now (config_at about.now (list_seen code.now) state.old)) }
+    ensures leads { OnOk result (choose about.now (D.dealing dealer.old) (D.state dealer.old) item (config_at about.now (list_seen code.now) state.old)
+        ≡ goes (D.state dealer.new) (config_at about.now (list_seen code.now) state.new)) }
+    ensures ready { OnOk result (IsReady about.now (list_seen code.now) state.new) }
+    ensures keeps { Keeps state.old.board state.new.board }
+    ensures shuffled { HasShuffled (D.dealing dealer.old) (D.state dealer.old) (D.state dealer.new) }
+    ensures dealing { D.dealing dealer.new ≡ D.dealing dealer.old }
+{
+    let _turns = about.turns();
+    let current = state.current;
+    let next = state.place.next() + 1;
+    let item = item_at(&state.menu, item);
+    let block = block_of(past(code, next), blocks, item.alt);
+    match do_item(
+        about,
+        current,
+        alts,
+        block,
+        item,
+        &mut state.board,
+        &mut state.control.frames,
+        dealer,
+    ) {
+        Ok(()) => {}
+        Err(Memory) => return Err(Memory),
     }
+    count_decision(&mut state.control, current.player);
+    state.place.go_to(behind(code, next, inside));
+    Ok(())
 }
 
 // The item at a place of a menu.

@@ -10,12 +10,11 @@ ghost use Rattle.rc_code.specs.Seen.{code_seen};
 ghost use Rattle.rc_code.specs.Stands.{StandsFor};
 
 use crate::machine::FlatMachine;
-use crate::site::{place_of, site_of};
-use crate::stand::Stand;
 use rc_board::Board;
 use rc_code::{Code, sites_are_placed};
 use rc_deck::Memory;
 use rc_rules::{About, Control, Dealer, Machine, Menu, Scores, Stop};
+use rc_stand::{Stand, place_of, site_of};
 use rc_table::Table;
 use std::alloc::Global;
 use std::marker::Model;

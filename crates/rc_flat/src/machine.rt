@@ -1,9 +1,8 @@
 //! The machine.
 
-use crate::place::Position;
-use crate::state::State;
 use rc_code::Code;
-use rc_rules::{About, Control};
+use rc_rules::About;
+use rc_stand::State;
 use std::marker::Model;
 use std::sync::Arc;
 
@@ -32,12 +31,4 @@ impl Model for FlatMachine {
     ghost view = { machine_seen };
 
     ghost invariant = { KeepsMachine };
-}
-
-/// A moment of a machine: where its match stood beside its table, in the code, and after how many edits of its table.
-#[derive(Drop)]
-pub struct Mark {
-    pub(crate) control: Control,
-    pub(crate) place: Position,
-    pub(crate) edits: usize,
 }

@@ -8,18 +8,17 @@ ghost use Rattle.rc_rules.specs.Control.{control_seen};
 ghost use Rattle.rc_rules.specs.Machine.{CanDecide};
 ghost use Rattle.rc_code.specs.Seen.{list_seen, code_seen};
 ghost use Rattle.rc_code.specs.Stands.{StandsFor};
-ghost use Rattle.rc_flat.specs.Flat.{flat_from, config_of};
-ghost use Rattle.rc_flat.specs.Moments.{IsInMatch};
+ghost use Rattle.rc_stand.specs.Flat.{flat_from, config_of};
+ghost use Rattle.rc_stand.specs.Moments.{IsInMatch};
 
 use crate::machine::FlatMachine;
-use crate::place::Position;
-use crate::site::{place_of, site_of};
-use crate::state::State;
+use crate::undoing::refill;
 use rc_board::Board;
 use rc_code::{Code, sites_are_placed, standing_code_serves};
 use rc_deck::Memory;
 use rc_flow::Checked;
 use rc_rules::{About, Control, Menu};
+use rc_stand::{Position, State, place_of, site_of};
 use rc_state::new_control;
 use rc_table::{Shape, Table};
 use rc_value::Current;
@@ -195,7 +194,7 @@ impl FlatMachine {
             // any, until it is filled
             current: Current { player: 0, team: 0 },
         };
-        state.refill(&about, &code.list);
+        refill(&mut state, &about, &code.list);
         FlatMachine {
             about,
             code,

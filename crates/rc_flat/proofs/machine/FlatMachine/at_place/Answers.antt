@@ -1,7 +1,7 @@
 use Rattle.std.proofs.Common.{◌≡◌, rules, sym, subst}
 use Rattle.rc_code.specs.Seen.{list_seen, code_seen}
 use Rattle.rc_code.specs.Serves.{Serves}
-use Rattle.rc_flat.specs.State.{IsReady}
+use Rattle.rc_stand.specs.State.{IsReady}
 use Rattle.rc_flat.proofs.machine.FlatMachine.at_place.Goals as goal
 
 pub refill-requires-clause-serves : goal.refill-requires-clause-serves
@@ -18,5 +18,5 @@ invariant_of-result c =
     record {
       serves = c.standing_code_serves.ensures about.sheet (code_seen c.args.code.value) c.requires.stands c.sheet-sheet.ensures.well;
       laid = c.refill.ensures.ready.laid;
-      ready = λ fresh. subst (λ list. IsReady about (list_seen list) c.refill.new.self) same c.refill.ensures.ready;
+      ready = λ fresh. subst (λ list. IsReady about (list_seen list) c.refill.new.state) same c.refill.ensures.ready;
     }

@@ -1,11 +1,11 @@
 use Rattle.std.proofs.Common.{◌≡◌, rules, sym, ap, ◌∙◌, subst}
 use Rattle.rc_rules.specs.Control.{control_seen}
 use Rattle.rc_code.specs.Seen.{list_seen}
-use Rattle.rc_flat.specs.Flat.{config_of, flat_from}
-use Rattle.rc_flat.specs.State.{flat_of}
-use Rattle.rc_flat.specs.Moments.{IsInMatch}
+use Rattle.rc_stand.specs.Flat.{config_of, flat_from}
+use Rattle.rc_stand.specs.State.{flat_of}
+use Rattle.rc_stand.specs.Moments.{IsInMatch}
 use Rattle.rc_flat.specs.Machine.{Machine}
-use Rattle.rc_flat.proofs.MomentLemmas.{config_same}
+use Rattle.rc_stand.proofs.MomentLemmas.{config_same}
 use Rattle.rc_flat.proofs.machine.FlatMachine.move_home.Goals as goal
 
 pub refill-requires-clause-on : goal.refill-requires-clause-on
@@ -25,6 +25,6 @@ returns-clause-at c =
     let code = list_seen m.code.value.list.items in
     let stand = c.args.stand.now in
     let filled = c.refill.ensures in
-    config_same m.about code c.move_home.new.self c.refill.new.self filled.board filled.control filled.place
+    config_same m.about code c.move_home.new.self c.refill.new.state filled.board filled.control filled.place
     ∙ ap config_of (c.move_home.ensures.there m.about code)
     ∙ ap (λ (m : Machine). config_of (flat_from m.about m.code stand.place c.args.table.now.table (control_seen stand.control))) c.self.view_is

@@ -5,7 +5,7 @@ use Rattle.rc_rules.specs.Control.{control_seen}
 use Rattle.rc_value.specs.Current.{IsCurrent}
 use Rattle.rc_code.specs.Seen.{list_seen, code_seen}
 use Rattle.rc_code.specs.Serves.{Serves}
-use Rattle.rc_flat.proofs.MachineLemmas.{start_ready}
+use Rattle.rc_stand.proofs.StartLemmas.{start_ready}
 use Rattle.rc_flat.proofs.machine.FlatMachine.with_opening.Goals as goal
 
 pub invariant_of-result : goal.invariant_of-result

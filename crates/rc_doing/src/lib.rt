@@ -1,0 +1,15 @@
+//! What the effects of code do to a board and to the open stages, and what the effects of a chosen item do.
+#![tactic(auto)]
+
+mod blocks;
+mod everyone;
+mod items;
+mod moving;
+mod numbers;
+mod references;
+mod scopes;
+mod shuffling;
+mod simple;
+
+pub use blocks::{do_outside, front, past};
+pub use items::do_item;

@@ -1,0 +1,5 @@
+pub mod Places
+pub mod Shallow
+pub mod Flat
+pub mod State
+pub mod Moments
