@@ -5,6 +5,7 @@ mod Forms
 mod InTurn
 mod ItemLemmas
 mod Lists
+mod MadeLemmas
 mod Parts
 mod Numbers
 mod Places

@@ -1,7 +1,6 @@
 -- What is read off a list, by the form that it has, and the parts of lists.
 use denote.Param.Weighed.{most}
 use Rattle.std.proofs.Common.{◌≡◌, ℕ, max, ◌+◌, ◌-◌, ◌<◌, ◌≤◌, List, [], ◌∷◌, length, get_or, take, drop, Vec, Option, Some, Result, Ok, Err, sym, ap, ◌∙◌, arith}
-use Rattle.std.specs.Prelude.{option_map}
 use Rattle.std.proofs.lemmas.List.{take_all}
 use Rattle.std.specs.Global.{Global}
 use Rattle.rc_model.specs.Tree.{Tree, list, Trees, nil, cons}
@@ -12,13 +11,9 @@ use Rattle.rc_form.specs.declared.form.Form.TheViews.{sized-List}
 use Rattle.rc_form.proofs.form.Form.TheLaws.{the_size}
 use Rattle.rc_form.specs.declared.form.Span.{Span}
 use Rattle.rc_setup.proofs.FormLemmas.{tree_of_list}
-use Rattle.rc_sheet_model.specs.Sheet.{card_sort, CollExpr, filtered, Test, Domain}
-use Rattle.rc_sheet_model.specs.Naming.{Naming, Scope, bind, sort_of}
 use Rattle.rc_grammar.specs.declared.grammar.Place.{Place}
 use Rattle.rc_grammar.specs.declared.grammar.Rule.{Rule}
-use Rattle.rc_reading.specs.ReadNames.{◌>>=◌, rule_at, binder_at}
-use Rattle.rc_reading.specs.ReadExpressions.{coll_at, test_at, range_at}
-use Rattle.rc_reading.specs.ReadParts.{filter_parts, quantified}
+use Rattle.rc_reading.specs.ReadNames.{◌>>=◌, rule_at}
 use Rattle.rc_reading.specs.Gives.{Gives}
 use Rattle.rc_reading.specs.declared.fail.Unread.{Unread}
 use Rattle.rc_reading.specs.declared.fail.Unread.TheVariants.{Meaningless, Memory}
@@ -87,37 +82,6 @@ four_parts (a ∷ b' ∷ []) b c d most least b_is c_is d_is = absurd (omega ari
 four_parts (a ∷ b' ∷ c' ∷ []) b c d most least b_is c_is d_is = absurd (omega arith)
 four_parts (a ∷ b' ∷ c' ∷ d' ∷ []) b c d most least b_is c_is d_is = cc
 four_parts (a ∷ b' ∷ c' ∷ d' ∷ e ∷ forms) b c d most least b_is c_is d_is = absurd (omega arith)
-
--- the cards that pass a test
-pub filter_said : (naming : Naming) (scope inner : Scope) (forms : List Form) (cards variable t : Form) (found : CollExpr)
-    (bound : ℕ) (passes : Test) → 4 ≤ length forms → length forms < 5
-    → cards ≡ get_or forms 1 cards → variable ≡ get_or forms 2 variable → t ≡ get_or forms 3 t
-    → coll_at naming scope (tree_of cards) ≡ Some found → binder_at naming.names.vars scope (tree_of variable) ≡ Some bound
-    → inner ≡ bind naming scope bound card_sort → test_at naming inner (tree_of t) ≡ Some passes
-    → filter_parts naming scope (packed (trees_of forms)) ≡ Some (filtered found bound passes)
-filter_said naming scope inner forms cards variable t found bound passes most least cards_is variable_is t_is has binds is says =
-    let last : CollExpr → ℕ → Option CollExpr =
-    λ cards bound. option_map (λ t. filtered cards bound t) (test_at naming (bind naming scope bound card_sort) (tree_of t)) in
-    ap (filter_parts naming scope) (four_parts forms cards variable t most least cards_is variable_is t_is)
-    ∙ ap (λ cards. cards >>= λ cards. binder_at naming.names.vars scope (tree_of variable) >>= last cards) has
-    ∙ ap (λ bound. bound >>= last found) binds
-    ∙ ap (option_map (λ t. filtered found bound t)) (ap (λ scope. test_at naming scope (tree_of t)) (sym is) ∙ says)
-
--- a test for each of a domain
-pub quantified_said : (naming : Naming) (scope inner : Scope) (forms : List Form) (range variable t : Form) (domain : Domain)
-    (bound : ℕ) (holds : Test) → 4 ≤ length forms → length forms < 5
-    → range ≡ get_or forms 1 range → variable ≡ get_or forms 2 variable → t ≡ get_or forms 3 t
-    → range_at naming scope (tree_of range) ≡ Some domain → binder_at naming.names.vars scope (tree_of variable) ≡ Some bound
-    → inner ≡ bind naming scope bound (sort_of domain) → test_at naming inner (tree_of t) ≡ Some holds
-    → quantified naming scope (packed (trees_of forms)) ≡ Some (domain, bound, holds)
-quantified_said naming scope inner forms range v t domain bound holds most least range_is v_is t_is has binds is says =
-    let said = test_at naming in
-    let last : Domain → ℕ → Option (Domain × ℕ × Test) =
-    λ domain bound. option_map (λ t. (domain, bound, t)) (said (bind naming scope bound (sort_of domain)) (tree_of t)) in
-    ap (quantified naming scope) (four_parts forms range v t most least range_is v_is t_is)
-    ∙ ap (λ domain. domain >>= λ domain. binder_at naming.names.vars scope (tree_of v) >>= last domain) has
-    ∙ ap (λ bound. bound >>= last domain) binds
-    ∙ ap (option_map (λ t. (domain, bound, t))) (ap (λ scope. said scope (tree_of t)) (sym is) ∙ says)
 
 -- what is read off the parts behind a head
 pub behind_head : {Y : Type 0} (reading all : Trees → Option Y)

@@ -1,11 +1,13 @@
 -- What the parts of a list say, by how many there are and what they are, and what a list of each form makes of its parts: the
 -- readings of expressions and tests again, cut as the readers are. The two are one (`rc_sheet/proofs/Forms.antt`).
-use Rattle.std.specs.Prelude.{ℕ, Option, Some, None, option_map}
+use Rattle.std.specs.Prelude.{ℕ, if◌then◌else◌, Option, Some, None, option_map}
 use Rattle.rc_model.specs.Tree.{Tree, Trees, nil, cons}
-use Rattle.rc_sheet_model.specs.Sheet.{card_sort, CardExpr, top_card, bottom_card, max_card, min_card, CollExpr, cards_in, filtered, union_of, CollExprs, IntExpr, number, size_of, sum_of, worth_of, add, subtract, multiply, Test, ne, less, less_eq, more, more_eq, has_value, and_of, or_of, not_of, all_of, any_of, Tests, Domain}
-use Rattle.rc_sheet_model.specs.Naming.{Naming, Scope, bind, sort_of}
+use Rattle.rc_sheet_model.specs.Sheet.{Sort, player_sort, card_sort, CardExpr, top_card, bottom_card, max_card, min_card, CollExpr, cards_in, filtered, union_of, CollExprs, IntExpr, number, size_of, sum_of, worth_of, add, subtract, multiply, Test, ne, less, less_eq, more, more_eq, has_value, and_of, or_of, not_of, all_of, any_of, Tests, Domain}
+use Rattle.rc_sheet_model.specs.Naming.{Naming, Scope, bind}
 use Rattle.rc_reading.specs.ReadNames.{◌>>=◌, both, name_at, binder_at, owner_rule, loc_parts, num_parts, map_at}
 use Rattle.rc_reading.specs.ReadExpressions.{Side, side_by, equal_test, card_at, coll_at, colls_at, int_at, side_at, test_at, tests_at, range_at}
+use Rattle.rc_grammar.specs.Faults.{is_form_word}
+use Rattle.rc_grammar.specs.declared.keyword.Keyword.TheVariants as keyword
 use Rattle.rc_grammar.specs.declared.grammar.Rule.{Rule}
 use Rattle.rc_grammar.specs.declared.grammar.Rule.TheVariants as rule
 
@@ -44,12 +46,16 @@ abbrev pub tests_behind : Naming → Scope → Trees → Option Tests
 tests_behind naming scope (cons head parts) = tests_at naming scope parts
 tests_behind naming scope nil = None
 
+-- a variable of this sort, and a test that it is bound in
+abbrev pub bound_test : Naming → Scope → Tree → Sort → Tree → Option (ℕ × Test)
+bound_test naming scope variable sort t =
+    binder_at naming.names.vars scope variable >>= λ bound. both (Some bound) (test_at naming (bind naming scope bound sort) t)
+
 -- `(filter COLL VARIABLE BOOL)`
 abbrev pub filter_parts : Naming → Scope → Trees → Option CollExpr
 filter_parts naming scope (cons head (cons cards (cons variable (cons t nil)))) =
-    coll_at naming scope cards >>= λ cards.
-    binder_at naming.names.vars scope variable >>= λ bound.
-    option_map (λ t. filtered cards bound t) (test_at naming (bind naming scope bound card_sort) t)
+    option_map (λ p. filtered p.0 p.1.0 p.1.1)
+    (both (coll_at naming scope cards) (bound_test naming scope variable card_sort t))
 filter_parts naming scope parts = None
 
 -- the equality of the two sides behind a head
@@ -58,16 +64,14 @@ equality naming scope (cons head (cons a (cons b nil))) =
     both (side_at naming scope a) (side_at naming scope b) >>= λ p. equal_test p.0 p.1
 equality naming scope parts = None
 
--- whether a card has a value of an attribute
-abbrev pub is_of : Naming → Scope → Tree → Tree → Tree → Option Test
-is_of naming scope card attr value =
-    card_at naming scope card >>= λ card.
-    name_at naming.names.attrs attr >>= λ attr.
-    option_map (λ value. has_value card attr value) (name_at naming.names.values value)
+-- an attribute and a value
+abbrev pub face_at : Naming → Tree → Tree → Option (ℕ × ℕ)
+face_at naming attr value = both (name_at naming.names.attrs attr) (name_at naming.names.values value)
 
 -- `(is CARD ATTR VALUE)`
 abbrev pub is_parts : Naming → Scope → Trees → Option Test
-is_parts naming scope (cons head (cons card (cons attr (cons value nil)))) = is_of naming scope card attr value
+is_parts naming scope (cons head (cons card (cons attr (cons value nil)))) =
+    option_map (λ p. has_value p.0 p.1.0 p.1.1) (both (card_at naming scope card) (face_at naming attr value))
 is_parts naming scope parts = None
 
 -- one test behind a head
@@ -75,12 +79,14 @@ abbrev pub one_test : Naming → Scope → Trees → Option Test
 one_test naming scope (cons head (cons t nil)) = test_at naming scope t
 one_test naming scope parts = None
 
+-- what a variable stands for that runs over the players, or over cards
+abbrev pub range_sort : Tree → Sort
+range_sort range = if is_form_word keyword.Player range then player_sort else card_sort
+
 -- what a variable runs over, the variable, and a test that it is bound in
-abbrev pub quantified : Naming → Scope → Trees → Option (Domain × ℕ × Test)
+abbrev pub quantified : Naming → Scope → Trees → Option (Domain × (ℕ × Test))
 quantified naming scope (cons head (cons range (cons variable (cons t nil)))) =
-    range_at naming scope range >>= λ domain.
-    binder_at naming.names.vars scope variable >>= λ bound.
-    option_map (λ t. (domain, bound, t)) (test_at naming (bind naming scope bound (sort_of domain)) t)
+    both (range_at naming scope range) (bound_test naming scope variable (range_sort range) t)
 quantified naming scope parts = None
 
 -- a list of each form
@@ -131,6 +137,6 @@ test_form naming scope rule.Is parts = is_parts naming scope parts
 test_form naming scope rule.And parts = option_map and_of (tests_behind naming scope parts)
 test_form naming scope rule.Or parts = option_map or_of (tests_behind naming scope parts)
 test_form naming scope rule.Not parts = option_map not_of (one_test naming scope parts)
-test_form naming scope rule.ForAll parts = option_map (λ q. all_of q.0 q.1 q.2) (quantified naming scope parts)
-test_form naming scope rule.ForAny parts = option_map (λ q. any_of q.0 q.1 q.2) (quantified naming scope parts)
+test_form naming scope rule.ForAll parts = option_map (λ q. all_of q.0 q.1.0 q.1.1) (quantified naming scope parts)
+test_form naming scope rule.ForAny parts = option_map (λ q. any_of q.0 q.1.0 q.1.1) (quantified naming scope parts)
 test_form naming scope rule parts = None

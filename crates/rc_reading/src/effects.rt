@@ -3,22 +3,26 @@ ghost use Rattle.std.specs.Prelude.{◌≡◌, IsTrue, IfOk, Option, length, opt
 ghost use Rattle.rc_form.specs.Form.{tree_of, trees_of, packed};
 ghost use Rattle.rc_sheet_model.specs.Sheet.{when, repeat, for_each, Effects};
 ghost use Rattle.rc_sheet_model.specs.Naming as model;
-ghost use Rattle.rc_ast.specs.Names.{loc_seen};
-ghost use Rattle.rc_ast.specs.Expressions.{domain_seen};
+ghost use Rattle.rc_ast.specs.Names.{loc_seen, num_seen};
+ghost use Rattle.rc_ast.specs.Expressions.{card_seen, coll_seen, int_seen, domain_seen};
 ghost use Rattle.rc_ast.specs.Effects.{end_seen, effect_seen, effects_seen};
 ghost use Rattle.rc_grammar.specs.Faults.{fits};
-ghost use Rattle.rc_reading.specs.ReadNames.{both, binder_at};
-ghost use Rattle.rc_reading.specs.ReadExpressions.{int_at, test_at, range_at};
+ghost use Rattle.rc_reading.specs.ReadNames.{both, binder_at, num_at};
+ghost use Rattle.rc_reading.specs.ReadExpressions.{card_at, coll_at, int_at, test_at, range_at};
 ghost use Rattle.rc_reading.specs.ReadEffects as reading;
 ghost use Rattle.rc_reading.specs.Gives.{Gives};
 
 use crate::expressions::sort_of;
 use crate::fail::Unread;
+use crate::made::{
+    both_read, decrease_read, forget_read, increase_read, move_all_read, move_read, remember_read,
+    set_read, shuffle_read,
+};
 use crate::names::rule_at;
 use crate::owners::owner_at;
 use crate::reader::Reader;
 use crate::scope::Scope;
-use rc_ast::{Domain, Effect, End, Loc};
+use rc_ast::{CardExpr, CollExpr, Domain, Effect, End, IntExpr, Loc, Num};
 use rc_form::Form;
 use rc_grammar::{Place, Rule};
 use std::alloc::Global;
@@ -57,6 +61,22 @@ impl Reader {
         }
     }
 
+    /// A stored number, and a value.
+    fn counter_and_value(
+        &self,
+        alloc: Global,
+        scope: &Scope,
+        num: &Form,
+        value: &Form,
+    ) -> Result<(Num, IntExpr), Unread>
+        ensures { Gives (λ two. (num_seen two.0, int_seen two.1)) result
+            (both (num_at self.now scope.now (tree_of num.now)) (int_at self.now scope.now (tree_of value.now))) }
+    {
+        let num = self.counter(scope, num);
+        let value = self.integer(alloc, scope, value);
+        both_read(num, value)
+    }
+
     /// The effect on numbers or on stages that a list of this form says.
     fn number_effect(
         &self,
@@ -69,20 +89,12 @@ impl Reader {
         ensures { Gives effect_seen result (reading.number_rule self.now scope.now rule (packed (trees_of parts.now))) }
     {
         match rule {
-            Rule::Set => {
-                let num = self.counter(scope, &parts[1])?;
-                let value = self.integer(alloc, scope, &parts[2])?;
-                Ok(Effect::Set(num, value))
-            }
+            Rule::Set => set_read(self.counter_and_value(alloc, scope, &parts[1], &parts[2])),
             Rule::Increase => {
-                let num = self.counter(scope, &parts[1])?;
-                let value = self.integer(alloc, scope, &parts[2])?;
-                Ok(Effect::Inc(num, value))
+                increase_read(self.counter_and_value(alloc, scope, &parts[1], &parts[2]))
             }
             Rule::Decrease => {
-                let num = self.counter(scope, &parts[1])?;
-                let value = self.integer(alloc, scope, &parts[2])?;
-                Ok(Effect::Dec(num, value))
+                decrease_read(self.counter_and_value(alloc, scope, &parts[1], &parts[2]))
             }
             Rule::Next => {
                 let who = owner_at(scope, &parts[2])?;
@@ -91,6 +103,38 @@ impl Reader {
             Rule::Reverse => Ok(Effect::Reverse),
             _ => Err(Unread::Meaningless),
         }
+    }
+
+    /// A card, and an end of a location.
+    fn card_and_spot(
+        &self,
+        alloc: Global,
+        scope: &Scope,
+        card: &Form,
+        spot: &Form,
+    ) -> Result<(CardExpr, (End, Loc)), Unread>
+        ensures { Gives (λ two. (card_seen two.0, (end_seen two.1.0, loc_seen two.1.1))) result
+            (both (card_at self.now scope.now (tree_of card.now)) (reading.spot_at self.now scope.now (tree_of spot.now))) }
+    {
+        let card = self.card(alloc, scope, card);
+        let spot = self.spot(scope, spot);
+        both_read(card, spot)
+    }
+
+    /// A list of cards, and an end of a location.
+    fn cards_and_spot(
+        &self,
+        alloc: Global,
+        scope: &Scope,
+        cards: &Form,
+        spot: &Form,
+    ) -> Result<(CollExpr, (End, Loc)), Unread>
+        ensures { Gives (λ two. (coll_seen two.0, (end_seen two.1.0, loc_seen two.1.1))) result
+            (both (coll_at self.now scope.now (tree_of cards.now)) (reading.spot_at self.now scope.now (tree_of spot.now))) }
+    {
+        let cards = self.collection(alloc, scope, cards);
+        let spot = self.spot(scope, spot);
+        both_read(cards, spot)
     }
 
     /// The effect that a list of this form says, which has no effects in it.
@@ -105,29 +149,15 @@ impl Reader {
         ensures { Gives effect_seen result (reading.plain_rule self.now scope.now rule (packed (trees_of parts.now))) }
     {
         match rule {
-            Rule::Move => {
-                let card = self.card(alloc, scope, &parts[1])?;
-                let (end, loc) = self.spot(scope, &parts[2])?;
-                Ok(Effect::Move(card, end, loc))
-            }
+            Rule::Move => move_read(self.card_and_spot(alloc, scope, &parts[1], &parts[2])),
             Rule::MoveAll => {
-                let cards = self.collection(alloc, scope, &parts[2])?;
-                let (end, loc) = self.spot(scope, &parts[3])?;
-                Ok(Effect::MoveAll(cards, end, loc))
+                move_all_read(self.cards_and_spot(alloc, scope, &parts[2], &parts[3]))
             }
             Rule::Remember => {
-                let card = self.card(alloc, scope, &parts[1])?;
-                let (end, loc) = self.spot(scope, &parts[2])?;
-                Ok(Effect::Remember(card, end, loc))
+                remember_read(self.card_and_spot(alloc, scope, &parts[1], &parts[2]))
             }
-            Rule::Forget => {
-                let card = self.card(alloc, scope, &parts[1])?;
-                Ok(Effect::Forget(card))
-            }
-            Rule::Shuffle => {
-                let loc = self.location(scope, &parts[1])?;
-                Ok(Effect::Shuffle(loc))
-            }
+            Rule::Forget => forget_read(self.card(alloc, scope, &parts[1])),
+            Rule::Shuffle => shuffle_read(self.location(scope, &parts[1])),
             _ => self.number_effect(alloc, scope, rule, parts),
         }
     }

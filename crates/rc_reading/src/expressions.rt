@@ -3,7 +3,6 @@ ghost use Rattle.std.specs.Prelude.{◌≡◌, ◌≤◌, IsTrue, length};
 ghost use Rattle.rc_form.specs.Form.{tree_of, trees_of, packed};
 ghost use Rattle.rc_ast.specs.Expressions.{card_seen, coll_seen, colls_seen, int_seen, test_seen, tests_seen, domain_seen};
 ghost use Rattle.rc_grammar.specs.Faults.{fits};
-ghost use Rattle.rc_reading.specs.ReadNames.{both, map_at, name_at};
 ghost use Rattle.rc_reading.specs.ReadExpressions as reading;
 ghost use Rattle.rc_reading.specs.ReadParts as behind;
 ghost use Rattle.rc_reading.specs.Sides.{side_seen};
@@ -11,11 +10,12 @@ ghost use Rattle.rc_reading.specs.Gives.{Gives};
 ghost use Rattle.rc_sheet_model.specs.Naming as model;
 
 use crate::fail::Unread;
+use crate::made::{both_read, box_read, filter_read, value_read};
 use crate::names::rule_at;
 use crate::owners::owner_rule;
 use crate::reader::Reader;
 use crate::scope::Scope;
-use crate::sides::{Side, boxed, equal_test, side_word};
+use crate::sides::{Side, equal_read, side_word};
 use rc_ast::{CardExpr, CollExpr, Domain, IntExpr, Sort, Test};
 use rc_form::{Form, integer};
 use rc_grammar::{Keyword, Place, Rule, is_form_word};
@@ -73,7 +73,7 @@ impl Reader {
         }
     }
 
-    /// The card behind a head, and a point map.
+    /// The card behind a head, and a point map behind the word `using`.
     #[cycle(reading)]
     fn card_and_map(
         &self,
@@ -88,26 +88,18 @@ impl Reader {
         let [_, card, keyword, map] = parts else {
             return Err(Unread::Meaningless);
         };
-        self.mapped_card(alloc, scope, card, keyword, map)
+        let card = self.boxed_card(alloc, scope, card);
+        let map = self.map(keyword, map);
+        both_read(card, map)
     }
 
-    /// A card, and a point map behind the word `using`.
+    /// A card in a box.
     #[cycle(reading)]
-    fn mapped_card(
-        &self,
-        alloc: Global,
-        scope: &Scope,
-        card: &Form,
-        keyword: &Form,
-        map: &Form,
-    ) -> Result<(Box<CardExpr>, u16), Unread>
-        ensures { Gives (λ two. (card_seen two.0.value, two.1)) result
-            (both (reading.card_at self.now scope.now (tree_of card.now))
-            (map_at self.now (tree_of keyword.now) (tree_of map.now))) }
+    fn boxed_card(&self, alloc: Global, scope: &Scope, form: &Form) -> Result<Box<CardExpr>, Unread>
+        ensures { Gives (λ card. card_seen card.value) result (reading.card_at self.now scope.now (tree_of form.now)) }
     {
-        let card = self.card(alloc, scope, card)?;
-        let map = self.map(keyword, map)?;
-        Ok((Box::new(alloc, card)?, map))
+        let card = self.card(alloc, scope, form);
+        box_read(alloc, card)
     }
 
     /// The card behind a head, and an attribute.
@@ -125,25 +117,9 @@ impl Reader {
         let [_, card, attr] = parts else {
             return Err(Unread::Meaningless);
         };
-        self.card_with_attr(alloc, scope, card, attr)
-    }
-
-    /// A card, and an attribute.
-    #[cycle(reading)]
-    fn card_with_attr(
-        &self,
-        alloc: Global,
-        scope: &Scope,
-        card: &Form,
-        attr: &Form,
-    ) -> Result<(CardExpr, u16), Unread>
-        ensures { Gives (λ two. (card_seen two.0, two.1)) result
-            (both (reading.card_at self.now scope.now (tree_of card.now))
-            (name_at self.now.names.attrs (tree_of attr.now))) }
-    {
-        let card = self.card(alloc, scope, card)?;
-        let attr = self.attr(attr)?;
-        Ok((card, attr))
+        let card = self.card(alloc, scope, card);
+        let attr = self.attr(attr);
+        both_read(card, attr)
     }
 
     /// A list of cards.
@@ -240,11 +216,11 @@ impl Reader {
     ) -> Result<Box<CollExpr>, Unread>
         ensures { Gives (λ cards. coll_seen cards.value) result (reading.coll_at self.now scope.now (tree_of form.now)) }
     {
-        let cards = self.collection(alloc, scope, form)?;
-        Ok(Box::new(alloc, cards)?)
+        let cards = self.collection(alloc, scope, form);
+        box_read(alloc, cards)
     }
 
-    /// The cards behind a head, and a point map.
+    /// The cards behind a head, and a point map behind the word `using`.
     #[cycle(reading)]
     fn collection_and_map(
         &self,
@@ -259,26 +235,9 @@ impl Reader {
         let [_, cards, keyword, map] = parts else {
             return Err(Unread::Meaningless);
         };
-        self.mapped_collection(alloc, scope, cards, keyword, map)
-    }
-
-    /// A list of cards, and a point map behind the word `using`.
-    #[cycle(reading)]
-    fn mapped_collection(
-        &self,
-        alloc: Global,
-        scope: &Scope,
-        cards: &Form,
-        keyword: &Form,
-        map: &Form,
-    ) -> Result<(Box<CollExpr>, u16), Unread>
-        ensures { Gives (λ two. (coll_seen two.0.value, two.1)) result
-            (both (reading.coll_at self.now scope.now (tree_of cards.now))
-            (map_at self.now (tree_of keyword.now) (tree_of map.now))) }
-    {
-        let cards = self.collection(alloc, scope, cards)?;
-        let map = self.map(keyword, map)?;
-        Ok((Box::new(alloc, cards)?, map))
+        let cards = self.boxed_collection(alloc, scope, cards);
+        let map = self.map(keyword, map);
+        both_read(cards, map)
     }
 
     /// The cards behind a head that pass a test.
@@ -290,11 +249,9 @@ impl Reader {
         let [_, cards, variable, test] = parts else {
             return Err(Unread::Meaningless);
         };
-        let cards = self.collection(alloc, scope, cards)?;
-        let (bound, inner) = self.bind(alloc, scope, variable, Sort::Card)?;
-        let test = self.test(alloc, &inner, test)?;
-        let (cards, test) = boxed(alloc, cards, test)?;
-        Ok(CollExpr::Filter(cards, bound, test))
+        let cards = self.boxed_collection(alloc, scope, cards);
+        let passes = self.bound_test(alloc, scope, test, variable, Sort::Card);
+        filter_read(both_read(cards, passes))
     }
 
     /// The lists of cards behind a head.
@@ -399,9 +356,23 @@ impl Reader {
         let [_, a, b] = parts else {
             return Err(Unread::Meaningless);
         };
-        let a = self.integer(alloc, scope, a)?;
-        let b = self.integer(alloc, scope, b)?;
-        boxed(alloc, a, b)
+        let a = self.boxed_integer(alloc, scope, a);
+        let b = self.boxed_integer(alloc, scope, b);
+        both_read(a, b)
+    }
+
+    /// A number in a box.
+    #[cycle(reading)]
+    fn boxed_integer(
+        &self,
+        alloc: Global,
+        scope: &Scope,
+        form: &Form,
+    ) -> Result<Box<IntExpr>, Unread>
+        ensures { Gives (λ value. int_seen value.value) result (reading.int_at self.now scope.now (tree_of form.now)) }
+    {
+        let value = self.integer(alloc, scope, form);
+        box_read(alloc, value)
     }
 
     /// A test.
@@ -449,11 +420,11 @@ impl Reader {
                 Ok(Test::Not(test))
             }
             Rule::ForAll => {
-                let (domain, bound, test) = self.quantified(alloc, scope, parts)?;
+                let (domain, (bound, test)) = self.quantified(alloc, scope, parts)?;
                 Ok(Test::All(domain, bound, test))
             }
             Rule::ForAny => {
-                let (domain, bound, test) = self.quantified(alloc, scope, parts)?;
+                let (domain, (bound, test)) = self.quantified(alloc, scope, parts)?;
                 Ok(Test::Any(domain, bound, test))
             }
             _ => Err(Unread::Meaningless),
@@ -469,26 +440,9 @@ impl Reader {
         let [_, card, attr, value] = parts else {
             return Err(Unread::Meaningless);
         };
-        self.has_value(alloc, scope, card, attr, value)
-    }
-
-    /// Whether a card has a value of an attribute.
-    #[cycle(reading)]
-    fn has_value(
-        &self,
-        alloc: Global,
-        scope: &Scope,
-        card: &Form,
-        attr: &Form,
-        value: &Form,
-    ) -> Result<Test, Unread>
-        ensures { Gives test_seen result
-            (behind.is_of self.now scope.now (tree_of card.now) (tree_of attr.now) (tree_of value.now)) }
-    {
-        let card = self.card(alloc, scope, card)?;
-        let attr = self.attr(attr)?;
-        let value = self.value(value)?;
-        Ok(Test::Is(Box::new(alloc, card)?, attr, value))
+        let card = self.boxed_card(alloc, scope, card);
+        let face = self.face(attr, value);
+        value_read(both_read(card, face))
     }
 
     /// The test behind a head.
@@ -509,8 +463,30 @@ impl Reader {
     fn boxed_test(&self, alloc: Global, scope: &Scope, form: &Form) -> Result<Box<Test>, Unread>
         ensures { Gives (λ test. test_seen test.value) result (reading.test_at self.now scope.now (tree_of form.now)) }
     {
-        let test = self.test(alloc, scope, form)?;
-        Ok(Box::new(alloc, test)?)
+        let test = self.test(alloc, scope, form);
+        box_read(alloc, test)
+    }
+
+    /// The number of a binder's variable, and a test in which it is bound.
+    #[cycle(reading)]
+    fn bound_test(
+        &self,
+        alloc: Global,
+        scope: &Scope,
+        test: &Form,
+        variable: &Form,
+        sort: Sort,
+    ) -> Result<(u32, Box<Test>), Unread>
+        ensures { Gives (λ two. (two.0, test_seen two.1.value)) result
+            (behind.bound_test self.now scope.now (tree_of variable.now) sort (tree_of test.now)) }
+    {
+        match self.bind(alloc, scope, variable, sort) {
+            Ok((bound, inner)) => {
+                let test = self.boxed_test(alloc, &inner, test);
+                both_read(Ok(bound), test)
+            }
+            Err(why) => Err(why),
+        }
     }
 
     /// The tests behind a head.
@@ -537,18 +513,17 @@ impl Reader {
         alloc: Global,
         scope: &Scope,
         parts: &[Form],
-    ) -> Result<(Domain, u32, Box<Test>), Unread>
+    ) -> Result<(Domain, (u32, Box<Test>)), Unread>
         requires { length parts.now ≡ 4 }
-        ensures { Gives (λ found. (domain_seen found.0, found.1, test_seen found.2.value)) result
+        ensures { Gives (λ found. (domain_seen found.0, (found.1.0, test_seen found.1.1.value))) result
             (behind.quantified self.now scope.now (packed (trees_of parts.now))) }
     {
         let [_, range, variable, test] = parts else {
             return Err(Unread::Meaningless);
         };
-        let domain = self.range(alloc, scope, range)?;
-        let (bound, inner) = self.bind(alloc, scope, variable, sort_of(&domain))?;
-        let test = self.test(alloc, &inner, test)?;
-        Ok((domain, bound, Box::new(alloc, test)?))
+        let holds = self.bound_test(alloc, scope, test, variable, range_sort(range));
+        let domain = self.range(alloc, scope, range);
+        both_read(domain, holds)
     }
 
     /// The players, or cards.
@@ -572,9 +547,9 @@ impl Reader {
         let [_, a, b] = parts else {
             return Err(Unread::Meaningless);
         };
-        let a = self.side(alloc, scope, a)?;
-        let b = self.side(alloc, scope, b)?;
-        equal_test(alloc, a, b)
+        let a = self.side(alloc, scope, a);
+        let b = self.side(alloc, scope, b);
+        equal_read(alloc, both_read(a, b))
     }
 
     /// A side of an equation.
@@ -636,6 +611,16 @@ fn order_test(rule: Rule, a: Box<IntExpr>, b: Box<IntExpr>) -> Result<Test, Unre
         Rule::MoreOrEqual => Ok(Test::MoreEq(a, b)),
         _ => Err(Unread::Meaningless),
     }
+}
+
+/// What a variable stands for that runs over the players, or over cards.
+fn range_sort(form: &Form) -> Sort
+    ensures { result ≡ behind.range_sort (tree_of form.now) }
+{
+    if is_form_word(Keyword::Player, form) {
+        return Sort::Player;
+    }
+    Sort::Card
 }
 
 /// What a variable stands for that runs over this domain.

@@ -11,6 +11,7 @@ mod expressions;
 mod fail;
 mod items;
 mod locations;
+mod made;
 mod names;
 mod owners;
 mod players;

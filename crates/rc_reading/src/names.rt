@@ -4,9 +4,11 @@ ghost use Rattle.rc_form.specs.Form.{tree_of, trees_of, packed};
 ghost use Rattle.rc_grammar.specs.Faults.{fits};
 ghost use Rattle.rc_sheet_model.specs.Naming as model;
 ghost use Rattle.rc_reading.specs.ReadNames as reading;
+ghost use Rattle.rc_reading.specs.ReadParts.{face_at};
 ghost use Rattle.rc_reading.specs.Gives.{Gives};
 
 use crate::fail::Unread;
+use crate::made::both_read;
 use crate::reader::Reader;
 use crate::scope::Scope;
 use rc_ast::{Sort, Word};
@@ -75,6 +77,15 @@ impl Reader {
         ensures { Gives (λ number. number) result (reading.name_at self.now.names.values (tree_of form.now)) }
     {
         name_at(&self.names.values, form)
+    }
+
+    /// The numbers of an attribute and of a value.
+    pub(crate) fn face(&self, attr: &Form, value: &Form) -> Result<(u16, u16), Unread>
+        ensures { Gives (λ two. (two.0, two.1)) result (face_at self.now (tree_of attr.now) (tree_of value.now)) }
+    {
+        let attr = self.attr(attr);
+        let value = self.value(value);
+        both_read(attr, value)
     }
 
     /// The number of a point map behind the word `using`.

@@ -1,8 +1,10 @@
 //! Sides of equations.
-ghost use Rattle.std.specs.Prelude.{◌≡◌, Err, IfOk, OnErr};
+ghost use Rattle.std.specs.Prelude.{◌≡◌, Option, Err, IfOk, OnErr};
 ghost use Rattle.rc_ast.specs.Names.{who_seen};
 ghost use Rattle.rc_ast.specs.Expressions.{card_seen, int_seen, test_seen};
 ghost use Rattle.rc_reading.specs.ReadExpressions as reading;
+ghost use Rattle.rc_reading.specs.ReadExpressions.{Side as PureSide};
+ghost use Rattle.rc_reading.specs.ReadNames.{◌>>=◌ as and_then};
 ghost use Rattle.rc_reading.specs.ReadExpressions.{number_side, card_side, value_side, owner_side};
 ghost use Rattle.rc_reading.specs.declared.fail.Unread.TheVariants.{Memory};
 ghost use Rattle.rc_reading.specs.Sides.{side_seen};
@@ -46,8 +48,19 @@ pub fn side_word(scope: &Scope, word: &[u8]) -> Result<Side, Unread>
     }
 }
 
+/// What two sides of one sort make, where they were read.
+pub fn equal_read(alloc: Global, read: Result<(Side, Side), Unread>) -> Result<Test, Unread>
+    ensures { (said : Option (PureSide × PureSide)) → Gives (λ p. (side_seen p.0, side_seen p.1)) read said
+        → Gives test_seen result (and_then said (λ p. reading.equal_test p.0 p.1)) }
+{
+    match read {
+        Ok((a, b)) => equal_test(alloc, a, b),
+        Err(why) => Err(why),
+    }
+}
+
 /// What two sides of one sort make.
-pub fn equal_test(alloc: Global, a: Side, b: Side) -> Result<Test, Unread>
+fn equal_test(alloc: Global, a: Side, b: Side) -> Result<Test, Unread>
     ensures { Gives test_seen result (reading.equal_test (side_seen a) (side_seen b)) }
 {
     match a {
@@ -105,7 +118,7 @@ fn equal_owners(a: Who, b: Side) -> Result<Test, Unread>
 }
 
 /// Two values, each in a box.
-pub fn boxed<A: Drop, B: Drop>(alloc: Global, a: A, b: B) -> Result<(Box<A>, Box<B>), Unread>
+fn boxed<A: Drop, B: Drop>(alloc: Global, a: A, b: B) -> Result<(Box<A>, Box<B>), Unread>
     ensures first { IfOk result (λ boxes. boxes.0.value ≡ a) }
     ensures second { IfOk result (λ boxes. boxes.1.value ≡ b) }
     ensures memory { OnErr result (result ≡ Err Memory) }
