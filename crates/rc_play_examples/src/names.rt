@@ -9,14 +9,14 @@ ghost use Rattle.rc_play_examples.specs.Names.{words, loc, num, decks_first, lin
 
 /// The words of each kind are numbered by their first mention. No text that the program writes shows these numbers.
 pub fn names_are_numbered_by_their_first_mention()
-    ensures decks_first { names_of (form_of decks_first) ≡ record { attrs = words "A B"; values = words "x y"; maps = words "M"; locs = words "S"; nums = []; vars = []; } }
-    ensures lines_in_order { names_of (form_of lines_in_order) ≡ record { attrs = words "B A C D"; values = words "y x z w"; maps = words "M L"; locs = words "S R"; nums = []; vars = []; } }
-    ensures branches_in_order { names_of (form_of branches_in_order) ≡ record { attrs = words "A B C D"; values = words "x y z w v u t"; maps = []; locs = words "S"; nums = []; vars = []; } }
-    ensures words_once { names_of (form_of words_once) ≡ record { attrs = words "A B C"; values = words "x y z w q"; maps = words "M"; locs = words "S"; nums = []; vars = []; } }
-    ensures kinds_apart { names_of (form_of kinds_apart) ≡ record { attrs = words "B A"; values = words "A B"; maps = words "A"; locs = words "A"; nums = words "A"; vars = []; } }
-    ensures fixed_words { names_of (form_of fixed_words) ≡ record { attrs = words "deck game"; values = words "deck setup"; maps = words "points"; locs = words "deck"; nums = []; vars = []; } }
-    ensures stages_and_owners { names_of (form_of stages_and_owners) ≡ record { attrs = words "A"; values = words "x"; maps = []; locs = words "S B A C D E"; nums = words "M O N"; vars = words "'P"; } }
-    ensures domains_first { names_of (form_of domains_first) ≡ record { attrs = words "A"; values = words "x"; maps = words "L"; locs = words "S T R"; nums = words "N M"; vars = words "'A 'B 'D 'E"; } }
+    ensures decks_first { names_of (form_of decks_first) ≡ record { attrs = words "A B"; values = words "x y"; maps = words "M"; locs = words "S"; nums = []; vars = [] } }
+    ensures lines_in_order { names_of (form_of lines_in_order) ≡ record { attrs = words "B A C D"; values = words "y x z w"; maps = words "M L"; locs = words "S R"; nums = []; vars = [] } }
+    ensures branches_in_order { names_of (form_of branches_in_order) ≡ record { attrs = words "A B C D"; values = words "x y z w v u t"; maps = []; locs = words "S"; nums = []; vars = [] } }
+    ensures words_once { names_of (form_of words_once) ≡ record { attrs = words "A B C"; values = words "x y z w q"; maps = words "M"; locs = words "S"; nums = []; vars = [] } }
+    ensures kinds_apart { names_of (form_of kinds_apart) ≡ record { attrs = words "B A"; values = words "A B"; maps = words "A"; locs = words "A"; nums = words "A"; vars = [] } }
+    ensures fixed_words { names_of (form_of fixed_words) ≡ record { attrs = words "deck game"; values = words "deck setup"; maps = words "points"; locs = words "deck"; nums = []; vars = [] } }
+    ensures stages_and_owners { names_of (form_of stages_and_owners) ≡ record { attrs = words "A"; values = words "x"; maps = []; locs = words "S B A C D E"; nums = words "M O N"; vars = words "'P" } }
+    ensures domains_first { names_of (form_of domains_first) ≡ record { attrs = words "A"; values = words "x"; maps = words "L"; locs = words "S T R"; nums = words "N M"; vars = words "'A 'B 'D 'E" } }
 {}
 
 /// The first mention of a location says its kind and its owner, and that of a number its owner.
