@@ -9,7 +9,7 @@ use rc_names::limits::{LARGEST_SEED, MOST_TURNS};
 use rc_rules::{Ended, Pick, Score, Standing};
 
 /// A line of a house text.
-#[derive(Clone, Copy, Debug)]
+#[derive(Clone, Copy)]
 pub enum Line {
     /// The format's line.
     Header,

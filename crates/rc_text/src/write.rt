@@ -1,7 +1,7 @@
 //! The lines of a house text. Every line ends with LF.
 ghost use Rattle.std.specs.Prelude.{◌≡◌, ◌<◌, ◌++◌, codes, decimal, string_bytes, map, flat_map, OnOk};
 ghost use Rattle.std.specs.Fmt.{signed_decimal};
-ghost use Rattle.rc_model.specs.Transcript.{match_line, choose_line, shuffles_line, end_line, score_line, standing_line};
+ghost use Rattle.rc_model.specs.Transcript.{match_line, choose_line, shuffles_line, end_line, ending_word, score_line, standing_line};
 ghost use Rattle.rc_rules.specs.Record.{pick_seen, ending_seen, score_seen, record_seen, standing_seen};
 
 use rc_rules::{Ended, MatchRecord, Pick, Score, Standing};
@@ -12,14 +12,10 @@ use std::fmt::Write;
 pub(crate) fn write_match_line(out: &mut Vec<u8>, played: &MatchRecord) -> Result<(), AllocError>
     ensures { OnOk result (out.new.items ≡ out.old.items ++ match_line (record_seen played.now)) }
 {
-    out.extend_from_slice(b"match ")?;
-    write_number(out, u64::from(played.number))?;
-    out.extend_from_slice(b" deal ")?;
-    write_number(out, played.deal)?;
-    out.extend_from_slice(b" seats ")?;
-    write_number(out, played.seats)?;
-    out.push(b'\n')?;
-    Ok(())
+    write_named(out, b"match ", u64::from(played.number))?;
+    write_named(out, b" deal ", played.deal)?;
+    write_named(out, b" seats ", played.seats)?;
+    end_the_line(out)
 }
 
 /// Adds a line for each choice.
@@ -70,13 +66,11 @@ fn short_line(seat: u8, site: u8, item: u8, size: u8) -> [u8; 15]
 fn write_numbers(out: &mut Vec<u8>, pick: Pick) -> Result<(), AllocError>
     ensures { OnOk result (out.new.items ≡ out.old.items ++ choose_line (pick_seen pick)) }
 {
-    out.extend_from_slice(b"choose ")?;
-    write_number(out, u64::from(pick.seat))?;
+    write_named(out, b"choose ", u64::from(pick.seat))?;
     write_next(out, u64::from(pick.site))?;
     write_next(out, u64::from(pick.item))?;
     write_next(out, u64::from(pick.size))?;
-    out.push(b'\n')?;
-    Ok(())
+    end_the_line(out)
 }
 
 /// Adds a line for the shuffles, where there were any.
@@ -86,23 +80,26 @@ pub(crate) fn write_shuffles(out: &mut Vec<u8>, shuffles: u32) -> Result<(), All
     if shuffles == 0 {
         return Ok(());
     }
-    out.extend_from_slice(b"shuffles ")?;
-    write_number(out, u64::from(shuffles))?;
-    out.push(b'\n')?;
-    Ok(())
+    write_named(out, b"shuffles ", u64::from(shuffles))?;
+    end_the_line(out)
 }
 
 /// Adds the line that tells how a match ended, and in which turn.
 pub(crate) fn write_end(out: &mut Vec<u8>, stop: Ended, turn: u32) -> Result<(), AllocError>
     ensures { OnOk result (out.new.items ≡ out.old.items ++ end_line (ending_seen stop) turn) }
 {
+    write_named(out, end_words(stop), u64::from(turn))?;
+    end_the_line(out)
+}
+
+// The words that tell how a match ended, with the spaces around the last.
+fn end_words(stop: Ended) -> &'static [u8]
+    ensures { result.now ≡ codes "end " ++ ending_word (ending_seen stop) ++ codes " " }
+{
     match stop {
-        Ended::Done => out.extend_from_slice(b"end done ")?,
-        Ended::Limit => out.extend_from_slice(b"end limit ")?,
+        Ended::Done => b"end done ",
+        Ended::Limit => b"end limit ",
     }
-    write_number(out, u64::from(turn))?;
-    out.push(b'\n')?;
-    Ok(())
 }
 
 /// Adds a line for each player's score.
@@ -118,13 +115,28 @@ pub(crate) fn write_scores(out: &mut Vec<u8>, scores: &[Score]) -> Result<(), Al
 fn write_score(out: &mut Vec<u8>, score: Score) -> Result<(), AllocError>
     ensures { OnOk result (out.new.items ≡ out.old.items ++ score_line (score_seen score)) }
 {
-    out.extend_from_slice(b"score ")?;
-    write_number(out, u64::from(score.player))?;
-    out.push(b' ')?;
+    write_named(out, b"score ", u64::from(score.player))?;
     write_integer(out, score.score)?;
     write_next(out, u64::from(score.points))?;
+    end_the_line(out)
+}
+
+// Adds LF.
+#[inline(always)]
+fn end_the_line(out: &mut Vec<u8>) -> Result<(), AllocError>
+    ensures { OnOk result (out.new.items ≡ out.old.items ++ codes "\n") }
+{
     out.push(b'\n')?;
     Ok(())
+}
+
+// Adds words, and a number behind them.
+#[inline(always)]
+fn write_named(out: &mut Vec<u8>, words: &[u8], number: u64) -> Result<(), AllocError>
+    ensures { OnOk result (out.new.items ≡ out.old.items ++ words.now ++ decimal number) }
+{
+    out.extend_from_slice(words)?;
+    write_number(out, number)
 }
 
 // Adds a space and a number.
@@ -147,10 +159,11 @@ fn write_number(out: &mut Vec<u8>, number: u64) -> Result<(), AllocError>
     out.extend_from_slice(digits.format(number).as_bytes())
 }
 
-// Adds a number in decimal digits, with `-` before it where it is below 0.
+// Adds a space and a number in decimal digits, with `-` before it where it is below 0.
 fn write_integer(out: &mut Vec<u8>, number: i64) -> Result<(), AllocError>
-    ensures { OnOk result (out.new.items ≡ out.old.items ++ signed_decimal number) }
+    ensures { OnOk result (out.new.items ≡ out.old.items ++ codes " " ++ signed_decimal number) }
 {
+    out.push(b' ')?;
     let mut digits = itoa::Buffer::new();
     out.extend_from_slice(digits.format(number).as_bytes())
 }
