@@ -5,7 +5,7 @@ use Rattle.rc_model.specs.Tree.{Tree}
 use Rattle.rc_play_model.specs.About.{about_of}
 use Rattle.rc_play_model.specs.House.{standings_of}
 use Rattle.rc_play_model.specs.Plan.{Plan}
-use Rattle.rc_series.specs.Series.{matches_of, looks_of}
+use Rattle.rc_records.specs.Series.{matches_of, looks_of}
 use Rattle.rc_faults.specs.SecondFaults.{sheet_fault}
 use Rattle.rc_sheet_laws.specs.Accepted.{IsSheetOf}
 use Rattle.rc_sheet_model.specs.Sheet.{Sheet}

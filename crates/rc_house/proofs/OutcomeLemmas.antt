@@ -12,7 +12,7 @@ use Rattle.rc_text_model.specs.HouseText.{HouseText}
 use Rattle.rc_text_model.specs.Reading.{read_text}
 use Rattle.rc_text_model.specs.Why.{Illegal}
 use Rattle.rc_text_model.specs.Judged.{first_illegal}
-use Rattle.rc_series.specs.Series.{looks_of}
+use Rattle.rc_records.specs.Series.{looks_of}
 use Rattle.rc_outside.specs.Source.{Gave, IsAtEnd, longest_read}
 use Rattle.rc_outside.specs.declared.errors.ReadFail.{ReadFail}
 use Rattle.rc_outside.specs.declared.errors.ReadFail.TheVariants as fails

@@ -7,8 +7,8 @@ use Rattle.rc_play_model.specs.About.{about_of}
 use Rattle.rc_play_model.specs.Keyed.{keyed_house}
 use Rattle.rc_play_model.specs.Plan.{Plan}
 use Rattle.rc_trick.specs.Bench.{bench_plan, bench_text}
-use Rattle.rc_series.specs.Series.{looks_of, matches_of}
-use Rattle.rc_series.specs.declared.plays.Series.{Series}
+use Rattle.rc_records.specs.Series.{looks_of, matches_of}
+use Rattle.rc_records.specs.declared.series.Series.{Series}
 use Rattle.rc_rules.specs.Plan.{plan_seen}
 use Rattle.rc_rules.specs.Record.{record_seen, standing_seen}
 use Rattle.rc_text.specs.House.{text_of}

@@ -18,7 +18,7 @@ use Rattle.rc_play_model.specs.About.{about_of}
 use Rattle.rc_text_model.specs.Reading.{read_text}
 use Rattle.rc_redraw.specs.Asking.{Key}
 use Rattle.rc_cache.specs.Hits.{hits}
-use Rattle.rc_series.specs.Series.{looks_of}
+use Rattle.rc_records.specs.Series.{looks_of}
 use Rattle.rc_command.specs.declared.options.Options.{Options}
 use Rattle.rc_house.specs.declared.task.Task.{Task}
 use Rattle.rc_house.specs.declared.task.Task.TheVariants.{Play, Check, Sheet}

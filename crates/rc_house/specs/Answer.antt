@@ -11,7 +11,7 @@ use Rattle.rc_text_model.specs.HouseText.{HouseText}
 use Rattle.rc_text_model.specs.Reading.{read_text}
 use Rattle.rc_text_model.specs.Why.{Illegal}
 use Rattle.rc_text_model.specs.Judged.{first_illegal}
-use Rattle.rc_series.specs.Series.{looks_of}
+use Rattle.rc_records.specs.Series.{looks_of}
 use Rattle.rc_sheet_model.specs.Sheet as sheet
 use Rattle.rc_sheet_model.specs.Printing.{printed_sheet}
 use Rattle.rc_plan_model.specs.Limits.{IsWithinLimits}

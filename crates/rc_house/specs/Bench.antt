@@ -3,7 +3,7 @@ use Rattle.std.specs.Prelude.{◌≡◌, ℕ, ◌+◌, ◌≤◌, List, length}
 use Rattle.rc_play_model.specs.About.{About, about_of}
 use Rattle.rc_play_model.specs.House.{standings_of}
 use Rattle.rc_play_model.specs.Plan.{Plan}
-use Rattle.rc_series.specs.Series.{matches_of, looks_of}
+use Rattle.rc_records.specs.Series.{matches_of, looks_of}
 use Rattle.rc_sheet_model.specs.Sheet.{Sheet}
 use Rattle.rc_trick.specs.Bench.{bench_plan, bench_text}
 use Rattle.rc_trick.specs.Trick.{IsTrickGame}

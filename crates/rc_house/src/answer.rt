@@ -35,7 +35,7 @@ use rc_form::{FormFail, FormFault, Forms, read_forms};
 use rc_judge::{Verdict, judge};
 use rc_plan::PlanFail;
 use rc_rules::Plan;
-use rc_series::shared_about;
+use rc_records::shared_about;
 use rc_text::{HouseText, TextFail, read_house};
 use std::alloc::Global;
 

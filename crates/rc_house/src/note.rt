@@ -5,7 +5,7 @@ ghost use Rattle.rc_house.specs.Note.{looks_line, note_line};
 
 use crate::status::LINE;
 use arrayvec::ArrayString;
-use rc_series::Series;
+use rc_records::Series;
 
 /// What goes to the notes behind a text.
 #[derive(Clone, Copy, Debug, PartialEq, Eq, Hash)]

@@ -21,7 +21,7 @@ use rc_command::{Command, command_of};
 use rc_deck::Memory;
 use rc_outside::{Gate, Sink, Source, read_all};
 use rc_play_model::alike_decisions_have_one_item;
-use rc_series::Series;
+use rc_records::Series;
 use rc_steps::Steps;
 use rc_text::write_house;
 use rc_trick::summary;

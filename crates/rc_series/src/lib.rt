@@ -1,6 +1,6 @@
-//! The matches of a plan in order, and their standings.
+//! The matches of a plan in order, played by one worker, and their standings.
 #![tactic(auto)]
 
 mod plays;
 
-pub use plays::{Series, record_of, series_of, shared_about};
+pub use plays::series_of;

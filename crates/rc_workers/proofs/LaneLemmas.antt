@@ -1,8 +1,8 @@
 -- What lanes have together.
 use Rattle.std.proofs.Common.{◌≡◌, ℕ, zero, suc, ◌+◌, ◌<◌, List, [], ◌∷◌, ◌++◌, length, length-append, map, All, refl, sym, ap, ◌∙◌, arith}
 use Rattle.std.specs.List.{AllByRecursion, sum_by}
-use Rattle.std.proofs.lemmas.List.{map-append}
-use Rattle.std.proofs.lemmas.List.Elements.{All-from_recursion}
+use Rattle.std.proofs.lemmas.List.{map-append, append_assoc}
+use Rattle.std.proofs.lemmas.List.Elements.{All-from_recursion, recursion_from_All}
 use Rattle.std.proofs.lemmas.List.Sums.{sum_by-cons, sum_by_push}
 use Rattle.rc_model.specs.Numbers.{below}
 use Rattle.rc_rules.proofs.PointLemmas.{below_push}
@@ -10,15 +10,27 @@ use Rattle.rc_redraw.specs.Counts.{Counts}
 use Rattle.rc_cache.specs.Memos.{shared_counts}
 use Rattle.rc_cache.specs.Sums.{Lane, idle, idle_lanes}
 use Rattle.rc_cache.specs.Sums as lane
-use Rattle.rc_workers.specs.Gathered.{RiseTogether}
+use Rattle.rc_turns.specs.Gathered.{RiseTogether}
 
--- what holds of every value holds of all that are listed
-pub all_alike : {X : Type 0} (P : X → Type 0) → ((x : X) → P x) → (xs : List X) → All P xs
-all_alike {X} P every xs = All-from_recursion P xs (by xs)
+-- what follows for each value follows for all that are listed
+pub all_so : {X : Type 0} (P Q : X → Type 0) → ((x : X) → P x → Q x) → (xs : List X) → All P xs → All Q xs
+all_so {X} P Q so xs all = All-from_recursion Q xs (by xs (recursion_from_All P xs all))
   where
-    by : (l : List X) → AllByRecursion P l
-    by [] = tt
-    by (x ∷ l) = (every x, by l)
+    by : (l : List X) → AllByRecursion P l → AllByRecursion Q l
+    by [] are = tt
+    by (x ∷ l) are = (so x are.0, by l are.1)
+
+-- what is made of all values in two steps
+pub map_twice : {X Y Z : Type 0} (f : X → Y) (h : Y → Z) (xs : List X) → map (λ x. h (f x)) xs ≡ map h (map f xs)
+map_twice f h [] = refl
+map_twice f h (x ∷ xs) = ap (λ l. h (f x) ∷ l) (map_twice f h xs)
+
+-- The next value is taken off a list, and what has it is pushed: these and what is left are the same values as before.
+pub moved_over : {X Y : Type 0} (f : X → Y) (done more : List X) (left rest all : List Y) (x : X) (y : Y) →
+    more ≡ done ++ x ∷ [] → left ≡ y ∷ rest → f x ≡ y → map f done ++ left ≡ all → map f more ++ rest ≡ all
+moved_over f done more left rest all x y pushed split made so_far =
+    ap (λ l. map f l ++ rest) pushed ∙ ap (λ l. l ++ rest) (map-append f done (x ∷ [])) ∙ append_assoc (map f done) (f x ∷ []) rest
+    ∙ ap (λ z. map f done ++ z ∷ rest) made ∙ ap (λ l. map f done ++ l) (sym split) ∙ so_far
 
 sum_map : {X Y : Type 0} (f : X → Y) (h : Y → ℕ) (xs : List X) → sum_by h (map f xs) ≡ sum_by (λ x. h (f x)) xs
 sum_map f h [] = refl

@@ -1,8 +1,2 @@
-mod NumberLemmas
-mod GatherLemmas
-mod WorkLemmas
-mod FinishLemmas
 mod LaneLemmas
-mod CaptureLemmas
-mod Threaded
 mod SharedBooks

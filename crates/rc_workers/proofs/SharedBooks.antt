@@ -1,4 +1,4 @@
--- A lane to a shared book may be sent to a thread.
+-- A lane to a shared book may be sent to a thread, and so what chooses by it.
 use denote.Param.Send.{IsSend, IsSync, sendable, recorded_send, shr_send, struct_send, view_send}
 use denote.Ref.{NamedLft}
 use denote.RattleType.{RattleType}
@@ -20,7 +20,8 @@ use Rattle.rc_cache.specs.contracts.calls.Call
 use Rattle.rc_cache.specs.contracts.shared.SharedBook
 use Rattle.rc_cache.specs.contracts.shared.SharedBook.TheInside as InMemo
 use Rattle.rc_cache.specs.declared.naming.Naming
-use Rattle.rc_workers.proofs.Threaded.{about_sync, about_send}
+use Rattle.rc_rollout.specs.contracts.choices.Choices
+use Rattle.rc_turns.proofs.Threaded.{about_sync, about_send, code_sync, code_send}
 
 call_send : IsSend Call.the_row
 call_send = search (about_sync, about_send, Asks.the_sync, Asks.the_send, Crossing.crosses, sendable) depth 20
@@ -46,3 +47,9 @@ module _ (N : RattleType) (g : Naming.Ghosts N.Denot) where
       (recorded_send (InMemo.the_field a N R g).row _ _ (InMemo.the_type a N R g).to_one
       (struct_send (Declared.shape (InMemo.the_type a N R g))
       (shr_send _ _ R s, (shr_send _ _ (Mutex.the_row (Book.the_row N g)) (Locks.the_sync (Book.the_row N g) book_send), (Lanes.the_send N g, tt)))))
+
+-- the code and what remembers
+pub choices_send : (M : RattleType) → IsSend M → IsSend (Choices.the_row M)
+choices_send M s =
+    recorded_send (Choices.the_field M).row _ _ (Choices.the_type M).to_one
+    (struct_send (Declared.shape (Choices.the_type M)) (search (code_sync, code_send, Crossing.crosses, sendable) depth 20, (s, tt)))

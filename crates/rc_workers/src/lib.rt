@@ -1,13 +1,8 @@
-//! The matches of a plan, played by several workers at one time. Each worker claims matches until none is left. Which worker plays
-//! which match decides nothing about the records.
+//! The matches of a plan, played by several workers at one time over one book, and their standings.
 #![tactic(auto)]
 
-mod gathering;
-mod playing;
 mod series;
 mod sharing;
-mod turn;
 
-pub use playing::play_claimed;
 pub use series::series_by_workers;
 pub use sharing::play_shared;

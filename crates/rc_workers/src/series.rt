@@ -6,16 +6,15 @@ ghost use Rattle.rc_play_model.specs.House.{standings_of};
 ghost use Rattle.rc_plan_model.specs.Limits.{IsWithinLimits};
 ghost use Rattle.rc_rules.specs.Plan.{plan_seen};
 ghost use Rattle.rc_rules.specs.Record.{record_seen, standing_seen};
-ghost use Rattle.rc_series.specs.Series.{looks_of, matches_of};
+ghost use Rattle.rc_records.specs.Series.{looks_of, matches_of};
 
 use crate::sharing::{memos_of, play_shared};
 use rc_cache::{Book, Fresh, Naming, close};
 use rc_deck::Memory;
 use rc_flow::Checked;
 use rc_outside::Gate;
+use rc_records::{Series, shared_about, told};
 use rc_rules::{About, Plan};
-use rc_series::{Series, shared_about};
-use rc_text::{HouseText, standings};
 use std::alloc::Global;
 use std::marker::Brand;
 use std::sync::{Arc, Mutex, Wait};
@@ -105,13 +104,10 @@ fn played<N: Naming + Send + Sync, R: Threads + Wait + Sync, G: Gate>(
         Ok(played) => played,
         Err(Memory) => return Err(Memory),
     };
-    let standings = match standings(alloc, plan, &matches) {
-        Ok(standings) => standings,
+    let totals = close(book.into_inner(), lanes);
+    let series = match told(alloc, plan, matches, totals) {
+        Ok(series) => series,
         Err(Memory) => return Err(Memory),
     };
-    let totals = close(book.into_inner(), lanes);
-    Ok(Series {
-        text: HouseText { matches, standings },
-        totals,
-    })
+    Ok(series)
 }

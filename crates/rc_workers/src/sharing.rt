@@ -4,15 +4,16 @@ ghost use Rattle.rc_model.specs.Limits.{most_matches, most_workers};
 ghost use Rattle.rc_rules.specs.Plan.{plan_seen};
 ghost use Rattle.rc_rules.specs.Record.{record_seen};
 ghost use Rattle.rc_cache.specs.Memos.{shared_counts};
-ghost use Rattle.rc_series.specs.Series.{looks_of, matches_of};
-ghost use Rattle.rc_workers.specs.Gathered.{RiseTogether};
+ghost use Rattle.rc_records.specs.Series.{looks_of, matches_of};
+ghost use Rattle.rc_turns.specs.Gathered.{RiseTogether};
 
-use crate::playing::play_claimed;
 use rc_cache::{Book, Lane, Naming, SharedBook};
+use rc_code::Code;
 use rc_deck::Memory;
 use rc_outside::Gate;
-use rc_rollout::shared_code;
+use rc_rollout::{Choices, shared_code};
 use rc_rules::{About, MatchRecord, Plan};
+use rc_turns::play_claimed;
 use std::alloc::Global;
 use std::sync::{Arc, Mutex, Wait};
 use std::thread::Threads;
@@ -43,27 +44,56 @@ pub fn play_shared<'a, N: Naming + Send + Sync, R: Threads + Wait + Sync, G: Gat
         Ok(code) => code,
         Err(Memory) => return Err(Memory),
     };
-    let (records, memos) = match play_claimed(rt, alloc, about, plan, &code, memos, gate) {
+    let choosers = match choosers_of(alloc, &code, memos) {
+        Ok(choosers) => choosers,
+        Err(Memory) => return Err(Memory),
+    };
+    let (records, choosers) = match play_claimed(rt, alloc, about, plan, &code, choosers, gate) {
         Ok(played) => played,
         Err(Memory) => return Err(Memory),
     };
-    match lanes_of(alloc, memos) {
-        Ok(lanes) => Ok((records, lanes)),
-        Err(Memory) => Err(Memory),
-    }
+    let lanes = match lanes_of(alloc, choosers) {
+        Ok(lanes) => lanes,
+        Err(Memory) => return Err(Memory),
+    };
+    Ok((records, lanes))
 }
 
-// The lanes of memos, in their order.
-fn lanes_of<'a, N: Naming, R: Wait>(
+// Choices by each of these memos on this code, in their order.
+fn choosers_of<'a, N: Naming, R: Wait>(
     alloc: Global,
+    code: &Arc<Code>,
     memos: Vec<SharedBook<'a, N, R>>,
-) -> Result<Vec<Lane<N>>, Memory>
-    ensures { IfOk result (λ lanes. lanes.items ≡ memos.entry.items) }
+) -> Result<Vec<Choices<SharedBook<'a, N, R>>>, Memory>
+    ensures memos { IfOk result (λ choosers. map (λ c. c.memo) choosers.items ≡ memos.entry.items) }
+    ensures code { IfOk result (λ choosers. All (λ c. c.code.value ≡ code.now.value) choosers.items) }
 {
-    let mut lanes = Vec::new(alloc);
+    let mut choosers = Vec::new(alloc);
     let mut memos = memos;
     while !memos.is_empty() {
-        match lanes.push(memos.remove(0).lane()) {
+        let code = match Arc::try_clone(code) {
+            Ok(code) => code,
+            Err(_) => return Err(Memory),
+        };
+        match choosers.push(Choices::new(code, memos.remove(0))) {
+            Ok(()) => {}
+            Err(_) => return Err(Memory),
+        }
+    }
+    Ok(choosers)
+}
+
+// The lanes of choosers, in their order.
+fn lanes_of<'a, N: Naming, R: Wait>(
+    alloc: Global,
+    choosers: Vec<Choices<SharedBook<'a, N, R>>>,
+) -> Result<Vec<Lane<N>>, Memory>
+    ensures { IfOk result (λ lanes. lanes.items ≡ map (λ c. c.memo) choosers.entry.items) }
+{
+    let mut lanes = Vec::new(alloc);
+    let mut choosers = choosers;
+    while !choosers.is_empty() {
+        match lanes.push(choosers.remove(0).into_memo().lane()) {
             Ok(()) => {}
             Err(_) => return Err(Memory),
         }

@@ -1,6 +1,6 @@
 use Rattle.std.proofs.Common.{subst, ◌≤◌, ◌+◌}
 use Rattle.rc_play_model.specs.About.{about_of}
-use Rattle.rc_series.specs.Series.{looks_of}
+use Rattle.rc_records.specs.Series.{looks_of}
 use Rattle.rc_rules.specs.Plan.{plan_seen}
 use Rattle.rc_house.specs.declared.answer.Prepared.TheVariants.{Playing}
 use Rattle.rc_house.specs.Players.{counted_playouts}

@@ -1,8 +1,8 @@
-use Rattle.std.proofs.Common.{length, map, sym, ap, ◌∙◌, subst, arith}
+use Rattle.std.proofs.Common.{◌<◌, ◌≤◌, length, map, sym, ap, ◌∙◌, subst, arith}
 use Rattle.rc_rules.specs.Plan.{plan_seen}
 use Rattle.rc_cache.specs.Memos.{shared_counts}
-use Rattle.rc_series.specs.Series.{looks_of}
-use Rattle.rc_workers.specs.Gathered.{RiseTogether}
+use Rattle.rc_records.specs.Series.{looks_of}
+use Rattle.rc_turns.specs.Gathered.{RiseTogether}
 use Rattle.rc_workers.proofs.LaneLemmas.{idle_count, all_looked, all_answered, some_missed}
 use Rattle.rc_workers.proofs.series.played.Goals as goal
 
@@ -18,14 +18,18 @@ close-totals-requires g c =
     record { all = c.in-Ok-play_shared.ensures.lanes ∙ ap length (c.in-Ok-memos_of.ensures ∙ c.in-Ok.ensures.lanes) ∙ idle_count c.args.workers ∙ c.requires.name.2 }
 
 pub returns-clause-book : goal.returns-clause-book
-returns-clause-book g c = (c.close-totals.ensures.book.0 ∙ sym c.requires.name.1, c.close-totals.ensures.book.1 ∙ sym c.requires.name.2)
+returns-clause-book g c =
+    let same = c.in-Ok-told.ensures.totals in (
+      ap (λ t. t.capacity) same ∙ c.close-totals.ensures.book.0 ∙ sym c.requires.name.1,
+      ap (λ t. t.lanes) same ∙ c.close-totals.ensures.book.1 ∙ sym c.requires.name.2,
+    )
 
 pub returns-clause-looks : goal.returns-clause-looks
 returns-clause-looks g c =
     let looks = length (looks_of c.args.about.now.value (plan_seen c.args.plan.now.value)) in
     let lanes = c.in-Ok-play_shared.played.1.items in
     let rise = subst (λ memos. RiseTogether looks (map shared_counts memos) (map shared_counts lanes)) (c.in-Ok-memos_of.ensures ∙ c.in-Ok.ensures.lanes) c.in-Ok-play_shared.ensures.rise in
-    c.close-totals.ensures.looks.1 ∙ all_looked looks c.args.workers lanes rise
+    ap (λ t. t.looks) c.in-Ok-told.ensures.totals ∙ c.close-totals.ensures.looks.1 ∙ all_looked looks c.args.workers lanes rise
 
 pub returns-clause-hits : goal.returns-clause-hits
 returns-clause-hits g c =
@@ -35,7 +39,7 @@ returns-clause-hits g c =
     let looked = c.close-totals.ensures.looks.1 ∙ all_looked looks c.args.workers lanes rise in
     let answered = all_answered looks c.args.workers lanes rise in
     let hits = c.close-totals.ensures.hits.1 in
-    omega (arith, looked, answered, hits)
+    subst (λ t. t.hits ≤ t.looks) (sym c.in-Ok-told.ensures.totals) (omega (arith, looked, answered, hits))
 
 pub returns-clause-missed : goal.returns-clause-missed
 returns-clause-missed g c =
@@ -46,4 +50,5 @@ returns-clause-missed g c =
     let answered = all_answered looks c.args.workers lanes rise in
     let hits = c.close-totals.ensures.hits.1 in
     let keeps = c.close-totals.ensures.keeps.1 in
-    some_missed c.close-totals.result.looks c.close-totals.result.hits c.close-totals.result.keeps (omega (arith, looked, answered, hits, keeps)) c.close-totals.ensures.unkept
+    subst (λ t. 0 < t.looks → t.hits < t.looks) (sym c.in-Ok-told.ensures.totals)
+    (some_missed c.close-totals.result.looks c.close-totals.result.hits c.close-totals.result.keeps (omega (arith, looked, answered, hits, keeps)) c.close-totals.ensures.unkept)

@@ -1,0 +1,48 @@
+use Rattle.std.proofs.Common.{◌≡◌, ◌≤◌, ◌+◌, Some, IfOk, OnOk, OnErr, ap, subst}
+use Rattle.rc_redraw.specs.Choosing.{AsksAll, AsksSome, all_costs}
+use Rattle.rc_rules.specs.Plan.{plan_seen}
+use Rattle.rc_rules.specs.Record.{record_seen}
+use Rattle.rc_match.specs.Asks.{asks_of}
+use Rattle.rc_match.proofs.AskLemmas.{anyway, none_asked}
+use Rattle.rc_records.proofs.SeriesLemmas.{asked_alike, match_alike}
+use Rattle.rc_records.proofs.records.record_of.Goals as goal
+
+pub returns-clause-is : goal.returns-clause-is
+returns-clause-is g c =
+    let job = c.in_ok-job.job in
+    subst (λ match. IfOk c.play_match.result (λ r. match ≡ Some (record_seen r)))
+    (match_alike job.about.value c.args.about.now.value (plan_seen job.plan.value) (plan_seen c.args.plan.now.value) job.number c.args.number
+    c.in_ok-job.ensures.about (ap plan_seen c.in_ok-job.ensures.plan) c.in_ok-job.ensures.number)
+    c.play_match.ensures.is
+
+pub returns-clause-asked : goal.returns-clause-asked
+returns-clause-asked g c =
+    let job = c.in_ok-job.job in
+    subst (λ keys. OnOk c.play_match.result (AsksAll keys (g.C.Chooser.counts c.args.chooser.now) (g.C.Chooser.counts c.play_match.new.chooser) c.args.steps.now c.play_match.new.steps))
+    (asked_alike job.about.value c.args.about.now.value (plan_seen job.plan.value) (plan_seen c.args.plan.now.value) job.number c.args.number
+    c.in_ok-job.ensures.about (ap plan_seen c.in_ok-job.ensures.plan) c.in_ok-job.ensures.number)
+    c.play_match.ensures.asked
+
+pub returns-clause-lacking : goal.returns-clause-lacking
+returns-clause-lacking g c =
+    let job = c.in_ok-job.job in
+    subst (λ keys. OnErr c.play_match.result (AsksSome keys (g.C.Chooser.counts c.args.chooser.now) (g.C.Chooser.counts c.play_match.new.chooser) c.args.steps.now c.play_match.new.steps))
+    (asked_alike job.about.value c.args.about.now.value (plan_seen job.plan.value) (plan_seen c.args.plan.now.value) job.number c.args.number
+    c.in_ok-job.ensures.about (ap plan_seen c.in_ok-job.ensures.plan) c.in_ok-job.ensures.number)
+    c.play_match.ensures.lacking
+
+pub returns-in_err-machine-clause-lacking : goal.returns-in_err-machine-clause-lacking
+returns-in_err-machine-clause-lacking g c =
+    anyway c.from_residual.result (none_asked (asks_of c.args.about.now.value (plan_seen c.args.plan.now.value) c.args.number) (g.C.Chooser.counts c.args.chooser.now) c.args.steps.now)
+
+pub returns-in_err-job-clause-lacking : goal.returns-in_err-job-clause-lacking
+returns-in_err-job-clause-lacking g c =
+    anyway c.from_residual-in_err-job.result (none_asked (asks_of c.args.about.now.value (plan_seen c.args.plan.now.value) c.args.number) (g.C.Chooser.counts c.args.chooser.now) c.args.steps.now)
+
+pub returns-clause-bounded : goal.returns-clause-bounded
+returns-clause-bounded g c =
+    let job = c.in_ok-job.job in
+    subst (λ keys. c.play_match.new.steps ≤ c.args.steps.now + all_costs keys)
+    (asked_alike job.about.value c.args.about.now.value (plan_seen job.plan.value) (plan_seen c.args.plan.now.value) job.number c.args.number
+    c.in_ok-job.ensures.about (ap plan_seen c.in_ok-job.ensures.plan) c.in_ok-job.ensures.number)
+    c.play_match.ensures.bounded

@@ -1,0 +1,82 @@
+//! The records of a plan's matches.
+ghost use Rattle.std.specs.Prelude.{◌≡◌, ◌<◌, ◌≤◌, ◌+◌, map, length, Some, All, IfOk, OnOk, OnErr};
+ghost use Rattle.rc_model.specs.Limits.{most_matches};
+ghost use Rattle.rc_play_model.specs.About.{About as PureAbout};
+ghost use Rattle.rc_play_model.specs.Keyed.{keyed_match};
+ghost use Rattle.rc_code.specs.Seen.{code_seen};
+ghost use Rattle.rc_code.specs.Stands.{StandsFor};
+ghost use Rattle.rc_redraw.specs.Choosing.{AsksAll, AsksSome, all_costs};
+ghost use Rattle.rc_rules.specs.Plan.{plan_seen};
+ghost use Rattle.rc_rules.specs.Record.{record_seen};
+ghost use Rattle.rc_match.specs.Asks.{asks_of};
+ghost use Rattle.rc_records.specs.Series.{looks_below, records_below};
+
+use rc_code::Code;
+use rc_deck::Memory;
+use rc_flat::OnwardMachine;
+use rc_match::{Job, play_match};
+use rc_redraw::Chooser;
+use rc_rules::{About, MatchRecord, Plan};
+use rc_steps::Steps;
+use std::alloc::Global;
+use std::sync::Arc;
+use std::sync::ledger::Ledger;
+
+/// The records of a plan's matches, in order, by any chooser, on code that stands for the sheet. Memory may run out.
+pub fn records_of<C: Chooser, L: Ledger>(
+    alloc: Global,
+    about: &Arc<About>,
+    plan: &Arc<Plan>,
+    code: &Arc<Code>,
+    chooser: &mut C,
+    steps: &mut Steps<L>,
+) -> Result<Vec<MatchRecord>, Memory>
+    requires code { StandsFor about.now.value.sheet (code_seen code.now.value) }
+    requires served { C.serves chooser.old about.now.value }
+    requires matches { length plan.now.value.matches.items ≤ most_matches }
+    requires seats { length plan.now.value.strategies.items ≡ about.now.value.sheet.players }
+    ensures are { IfOk result (λ records. map record_seen records.items
+        ≡ records_below about.now.value (plan_seen plan.now.value) (length plan.now.value.matches.items)) }
+    ensures count { IfOk result (λ records. length records.items ≡ length plan.now.value.matches.items) }
+    ensures each { IfOk result (λ records. All (λ r. length r.scores.items ≡ about.now.value.sheet.players) records.items) }
+    ensures asked { OnOk result (AsksAll (looks_below about.now.value (plan_seen plan.now.value) (length plan.now.value.matches.items))
+        (C.counts chooser.old) (C.counts chooser.new) steps.old steps.new) }
+    ensures lacking { OnErr result (AsksSome (looks_below about.now.value (plan_seen plan.now.value) (length plan.now.value.matches.items))
+        (C.counts chooser.old) (C.counts chooser.new) steps.old steps.new) }
+{
+    let mut records = Vec::new(alloc);
+    for number in 0..plan.matches.len() as u32 {
+        let played = record_of(alloc, about, plan, code, number, chooser, steps)?;
+        records.push(played)?;
+    }
+    Ok(records)
+}
+
+/// The record of one match, by any chooser, on code that stands for the sheet. Memory may run out.
+pub fn record_of<C: Chooser, L: Ledger>(
+    alloc: Global,
+    about: &Arc<About>,
+    plan: &Arc<Plan>,
+    code: &Arc<Code>,
+    number: u32,
+    chooser: &mut C,
+    steps: &mut Steps<L>,
+) -> Result<MatchRecord, Memory>
+    requires code { StandsFor about.now.value.sheet (code_seen code.now.value) }
+    requires served { C.serves chooser.old about.now.value }
+    requires number { number < length plan.now.value.matches.items }
+    requires seats { length plan.now.value.strategies.items ≡ about.now.value.sheet.players }
+    ensures is { IfOk result (λ r. keyed_match about.now.value (plan_seen plan.now.value) number ≡ Some (record_seen r)) }
+    ensures each { IfOk result (λ r. length r.scores.items ≡ about.now.value.sheet.players) }
+    ensures asked { OnOk result (AsksAll (asks_of about.now.value (plan_seen plan.now.value) number)
+        (C.counts chooser.old) (C.counts chooser.new) steps.old steps.new) }
+    ensures lacking { OnErr result (AsksSome (asks_of about.now.value (plan_seen plan.now.value) number)
+        (C.counts chooser.old) (C.counts chooser.new) steps.old steps.new) }
+    ensures same { (other : PureAbout) → C.serves chooser.old other → C.serves chooser.new other }
+    ensures rises { steps.old ≤ steps.new }
+    ensures bounded { steps.new ≤ steps.old + all_costs (asks_of about.now.value (plan_seen plan.now.value) number) }
+{
+    let machine = OnwardMachine::start_of(alloc, code, about)?;
+    let job = Job::of(about, plan, number)?;
+    play_match(alloc, &job, machine, chooser, steps)
+}

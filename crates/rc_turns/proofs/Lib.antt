@@ -1,0 +1,6 @@
+mod NumberLemmas
+mod GatherLemmas
+mod WorkLemmas
+mod FinishLemmas
+mod CaptureLemmas
+pub mod Threaded

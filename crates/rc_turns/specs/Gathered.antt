@@ -1,0 +1,58 @@
+-- What workers did, together: what is known of all their turns while these are put together, one by one.
+use Rattle.std.specs.Prelude.{◌≡◌, ℕ, ◌+◌, ◌<◌, ◌≤◌, List, [], ◌∷◌, ◌++◌, map, flat_map, length, Result, Ok, Err}
+use Rattle.std.specs.List.{AllByRecursion, sum_by}
+use Rattle.rc_deck.specs.declared.memory.Memory.{Memory}
+use Rattle.rc_play_model.specs.About.{About}
+use Rattle.rc_play_model.specs.Plan.{Plan}
+use Rattle.rc_redraw.specs.Counts.{Counts}
+use Rattle.atomic_table.specs.Seated.{TableId}
+use Rattle.rc_rules.specs.declared.record.MatchRecord.{MatchRecord}
+use Rattle.rc_claims.specs.Claims.{Pass}
+use Rattle.rc_turns.specs.declared.turn.Worker.{Worker}
+use Rattle.rc_turns.specs.declared.turn.Turn.{Turn}
+use Rattle.rc_turns.specs.declared.gathering.Gathered.{Gathered}
+use Rattle.rc_turns.specs.Turns.{IsRecordIn, number_of, asked_by_all, counted, IsTurn}
+
+-- each result is that of the worker's turn, where memory was found
+abbrev pub AreTurns : {C : Type 0} → (C → Counts) → About → Plan → List (Worker C) → List (Result (Turn C) Memory) → Type 0
+AreTurns counts about plan [] [] = Unit {0}
+AreTurns counts about plan [] (result ∷ results) = ⊥
+AreTurns counts about plan (worker ∷ workers) [] = ⊥
+AreTurns counts about plan (worker ∷ workers) (Ok turn ∷ results) =
+    IsTurn counts about plan worker turn × AreTurns counts about plan workers results
+AreTurns counts about plan (worker ∷ workers) (Err lack ∷ results) = AreTurns counts about plan workers results
+
+abbrev pub looks_in : List Counts → ℕ
+looks_in all = sum_by (λ c. c.looks) all
+
+abbrev pub hits_in : List Counts → ℕ
+hits_in all = sum_by (λ c. c.hits) all
+
+abbrev pub keeps_in : List Counts → ℕ
+keeps_in all = sum_by (λ c. c.keeps) all
+
+-- So many more looks were answered by these together, in as many lanes.
+pub record RiseTogether (looks : ℕ) (before after : List Counts) : Type 0 where
+  pub each : length after ≡ length before
+  pub looked : looks_in after ≡ looks_in before + looks
+  pub hit : hits_in before ≤ hits_in after
+  pub kept : keeps_in after + hits_in after ≡ keeps_in before + hits_in before + looks
+
+-- the pass of a result is of this word
+abbrev pub IsOwn : {C : Type 0} → TableId → Result (Turn C) Memory → Type 0
+IsOwn table (Ok turn) = turn.pass.table ≡ table
+IsOwn table (Err lack) = Unit {0}
+
+-- What some workers have together: their passes as one, with all that the passes had, all records, and their choosers.
+pub record IsGathered {C : Type 0} (counts : C → Counts) (about : About) (plan : Plan) (workers : List (Worker C)) (pass : Pass) (records : List MatchRecord) (choosers : List C) : Type 0 where
+  pub holders : pass.holders ≡ flat_map (λ w. w.pass.holders) workers
+  pub numbers : counted (length plan.matches) pass.numbers ≡ map number_of records
+  pub past : length records < length pass.numbers
+  pub are : AllByRecursion (IsRecordIn about plan) records
+  pub rise : RiseTogether (asked_by_all about plan (map number_of records)) (map (λ w. counts w.chooser) workers) (map counts choosers)
+
+-- The first workers were gathered, and these results are those of the others: what holds between two turns.
+abbrev pub Gathers : {C : Type 0} → (C → Counts) → About → Plan → List (Worker C) → List (Result (Turn C) Memory) → Gathered C → Type 0
+Gathers {C} counts about plan workers rest gathered =
+    (done left : List (Worker C)) × (workers ≡ done ++ left) × AreTurns counts about plan left rest
+    × IsGathered counts about plan done gathered.pass gathered.records.items gathered.choosers.items
