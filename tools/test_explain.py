@@ -220,7 +220,7 @@ class Explanations(unittest.TestCase):
 
     def test_each_kind_of_the_program_has_a_sentence(self) -> None:
         for file, name, sentences in (
-            ("rc_house/src/status.rt", "SourceKind", kinds.SHEET),
+            ("rc_answers/src/status.rt", "SourceKind", kinds.SHEET),
             ("rc_plan_model/src/fault.rt", "PlanKind", kinds.PLAN),
             ("rc_judge/src/verdict.rt", "Why", kinds.ILLEGAL),
         ):

@@ -6,11 +6,11 @@ use Rattle.rc_command.specs.Command.{IsCommand, options_of, workers_of}
 use Rattle.rc_command.specs.declared.options.Options.{Options}
 use Rattle.rc_command.specs.declared.command.Command.{Command}
 use Rattle.rc_command.specs.declared.command.Command.TheVariants.{Play, Check, Sheet, Bench}
-use Rattle.rc_house.specs.declared.status.Status.{Status}
-use Rattle.rc_house.specs.declared.status.Status.TheVariants.{Usage}
-use Rattle.rc_house.specs.Status.{line_of}
+use Rattle.rc_answers.specs.declared.status.Status.{Status}
+use Rattle.rc_answers.specs.declared.status.Status.TheVariants.{Usage}
+use Rattle.rc_answers.specs.Status.{line_of}
 use Rattle.rc_house.specs.Port.{Port, Ports, ports, Took, NoCountFell}
-use Rattle.rc_house.specs.Players.{AreWithin, CanPlay}
+use Rattle.rc_answers.specs.Players.{AreWithin, CanPlay}
 use Rattle.rc_house.specs.Running.{NamesNone, no_command, too_many, unread}
 use Rattle.rc_house.specs.Ends.{Runs, Rests, RefusesMany, ended_by, Ending, Ends, alone, shared, usage, no_memory}
 

@@ -1,15 +1,3 @@
-pub mod AcceptedLaws
-pub mod AnswerLaws
-pub mod BenchLaws
 pub mod EndsLemmas
-pub mod Exits
-pub mod OneAnswer
-pub mod OneReading
-pub mod Options
 pub mod OutcomeLemmas
-pub mod PlanLaws
-pub mod PlayedLaws
-pub mod PlayedLemmas
 pub mod PlayingLemmas
-pub mod PrintedTwice
-pub mod SomeAnswer

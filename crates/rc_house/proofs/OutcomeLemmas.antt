@@ -16,26 +16,26 @@ use Rattle.rc_records.specs.Series.{looks_of}
 use Rattle.rc_outside.specs.Source.{Gave, IsAtEnd, longest_read}
 use Rattle.rc_outside.specs.declared.errors.ReadFail.{ReadFail}
 use Rattle.rc_outside.specs.declared.errors.ReadFail.TheVariants as fails
-use Rattle.rc_house.specs.declared.task.Task.{Task}
-use Rattle.rc_house.specs.declared.task.Task.TheVariants as named
-use Rattle.rc_house.specs.declared.task.Task.TheVariants.{Play}
-use Rattle.rc_house.specs.declared.refusal.Refusal.{Refusal}
-use Rattle.rc_house.specs.declared.status.Status.{Status}
-use Rattle.rc_house.specs.declared.status.Status.TheVariants.{Memory, TooLong}
-use Rattle.rc_house.specs.declared.answer.Answer.{Answer as Stored}
-use Rattle.rc_house.specs.declared.answer.Answer.TheVariants.{Text, Refused}
-use Rattle.rc_house.specs.declared.answer.Prepared.{Prepared}
-use Rattle.rc_house.specs.declared.answer.Prepared.TheVariants.{Answered, Playing}
-use Rattle.rc_house.specs.Task.{IsNoteOf, limit_of}
-use Rattle.rc_house.specs.Note.{note_line}
-use Rattle.rc_house.specs.Answer.{Answer, text, refused, seen, text_judged, verdict, AreAlike, IsAnswered, HasAnswer, form_faulty, sheet_faulty, plan_faulty, accepted, IsGameOf, IsPrepared}
-use Rattle.rc_house.specs.Status.{refusal_status, read_status}
+use Rattle.rc_answers.specs.declared.task.Task.{Task}
+use Rattle.rc_answers.specs.declared.task.Task.TheVariants as named
+use Rattle.rc_answers.specs.declared.task.Task.TheVariants.{Play}
+use Rattle.rc_answers.specs.declared.refusal.Refusal.{Refusal}
+use Rattle.rc_answers.specs.declared.status.Status.{Status}
+use Rattle.rc_answers.specs.declared.status.Status.TheVariants.{Memory, TooLong}
+use Rattle.rc_answers.specs.declared.answer.Answer.{Answer as Stored}
+use Rattle.rc_answers.specs.declared.answer.Answer.TheVariants.{Text, Refused}
+use Rattle.rc_answers.specs.declared.answer.Prepared.{Prepared}
+use Rattle.rc_answers.specs.declared.answer.Prepared.TheVariants.{Answered, Playing}
+use Rattle.rc_answers.specs.Task.{IsNoteOf, limit_of}
+use Rattle.rc_answers.specs.Note.{note_line}
+use Rattle.rc_answers.specs.Answer.{Answer, text, refused, seen, text_judged, verdict, AreAlike, IsAnswered, HasAnswer, form_faulty, sheet_faulty, plan_faulty, accepted, IsGameOf, IsPrepared}
+use Rattle.rc_answers.specs.Status.{refusal_status, read_status}
 use Rattle.rc_house.specs.Port.{Port, Ports, port, HasFailed, IsSteady, Supplied, Delivers}
 use Rattle.rc_house.specs.Outcome.{GaveTooMuch, Answers, CountedFew, Refuses, Outcome, written, refusing, no_memory, read_failed, too_long, text_failed, note_failed, NoPortFailed, Succeeds, status_of}
 use Rattle.rc_house.specs.Ends.{Performs}
-use Rattle.rc_house.specs.Reading.{IsAcceptedWith}
+use Rattle.rc_answers.specs.Reading.{IsAcceptedWith}
 use Rattle.rc_house.specs.Running.{HasNoteOf, ReadsGame, ReadsNone, ReadsPrepared, AnswersSource, Concludes}
-use Rattle.rc_house.proofs.OneAnswer.{alike_answers}
+use Rattle.rc_answers.proofs.OneAnswer.{alike_answers}
 
 -- what a source gave to its end is all that it told
 gave_all : (whole rest bytes : List ℕ) (after : Option (List ℕ)) → after ≡ Some rest → whole ≡ bytes ++ rest → IsAtEnd after → (bytes ≡ whole) × (after ≡ Some [])

@@ -17,28 +17,29 @@ use Rattle.rc_command.specs.declared.options.Options.{Options}
 use Rattle.rc_command.specs.Command.{options_of}
 use Rattle.rc_command.specs.declared.command.Command.{Command}
 use Rattle.rc_command.specs.declared.command.Command.TheVariants as command
-use Rattle.rc_house.specs.declared.answer.Answer.{Answer as Stored}
-use Rattle.rc_house.specs.declared.answer.Answer.TheVariants.{Text, Refused}
-use Rattle.rc_house.specs.declared.answer.Game.{Game}
-use Rattle.rc_house.specs.declared.answer.Prepared.TheVariants.{Answered, Playing}
-use Rattle.rc_house.specs.declared.note.Note.{Note}
-use Rattle.rc_house.specs.declared.note.Note.TheVariants.{Looks}
-use Rattle.rc_house.specs.declared.status.Status.{Status}
-use Rattle.rc_house.specs.declared.status.Status.TheVariants.{Memory}
-use Rattle.rc_house.specs.declared.task.Task.{Task}
-use Rattle.rc_house.specs.declared.task.Task.TheVariants.{Play, Check, Sheet as PrintsSheet}
-use Rattle.rc_house.specs.Answer.{Answer, text, house_played, playouts_of, seen}
-use Rattle.rc_house.specs.Bench.{BenchOutcome, IsBenchAnswer, summary, no_memory as bench_no_memory}
+use Rattle.rc_answers.specs.declared.answer.Answer.{Answer as Stored}
+use Rattle.rc_answers.specs.declared.answer.Answer.TheVariants.{Text, Refused}
+use Rattle.rc_answers.specs.declared.answer.Game.{Game}
+use Rattle.rc_answers.specs.declared.answer.Prepared.TheVariants.{Answered, Playing}
+use Rattle.rc_answers.specs.declared.note.Note.{Note}
+use Rattle.rc_answers.specs.declared.note.Note.TheVariants.{Looks}
+use Rattle.rc_answers.specs.declared.status.Status.{Status}
+use Rattle.rc_answers.specs.declared.status.Status.TheVariants.{Memory}
+use Rattle.rc_answers.specs.declared.task.Task.{Task}
+use Rattle.rc_answers.specs.declared.task.Task.TheVariants.{Play, Check, Sheet as PrintsSheet}
+use Rattle.rc_answers.specs.Answer.{Answer, text, house_played, playouts_of, seen}
+use Rattle.rc_answers.specs.Bench.{IsBenchAnswer}
+use Rattle.rc_house.specs.Bench.{BenchOutcome, summary, no_memory as bench_no_memory}
 use Rattle.rc_house.specs.Ends.{Runs}
-use Rattle.rc_house.specs.Note.{looks_line, note_line}
+use Rattle.rc_answers.specs.Note.{looks_line, note_line}
 use Rattle.rc_house.specs.Outcome.{Answers, CountedFew}
-use Rattle.rc_house.specs.Players.{counted_playouts}
+use Rattle.rc_answers.specs.Players.{counted_playouts}
 use Rattle.rc_house.specs.Port.{Port, Ports, port, IsSteady}
 use Rattle.rc_house.specs.Running.{ReadsAnswer, ReadsGame, IsSeriesOf, TellsOf, PreparesCommand, AnswersBench, AnswersSource, AnswersCommand, Concludes}
-use Rattle.rc_house.proofs.AnswerLaws.{counted_few}
-use Rattle.rc_house.proofs.BenchLaws.{summary_is, few_steps}
+use Rattle.rc_answers.proofs.AnswerLaws.{counted_few}
+use Rattle.rc_answers.proofs.BenchLaws.{summary_is, few_steps}
 use Rattle.rc_house.proofs.OutcomeLemmas.{concluded, performed}
-use Rattle.rc_house.proofs.SomeAnswer.{some_hits}
+use Rattle.rc_answers.proofs.SomeAnswer.{some_hits}
 
 -- No more steps than playouts are for the command's answer.
 few_of : (options : Options) (answer : Answer) (told : Option (List ℕ)) (faults : ℕ) (after : Port) (steps steps' : ℕ)

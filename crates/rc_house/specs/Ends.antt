@@ -4,10 +4,10 @@ use Rattle.std.specs.Prelude.{◌≡◌, ◌<◌, ℕ, Bool, true, false, List}
 use Rattle.rc_command.specs.Command.{IsCommand, workers_of}
 use Rattle.rc_command.specs.declared.command.Command.{Command}
 use Rattle.rc_command.specs.declared.command.Command.TheVariants.{Play, Check, Sheet, Bench}
-use Rattle.rc_house.specs.declared.status.Status.{Status}
-use Rattle.rc_house.specs.declared.status.Status.TheVariants as ending
-use Rattle.rc_house.specs.declared.task.Task.{Task}
-use Rattle.rc_house.specs.declared.task.Task.TheVariants as task
+use Rattle.rc_answers.specs.declared.status.Status.{Status}
+use Rattle.rc_answers.specs.declared.status.Status.TheVariants as ending
+use Rattle.rc_answers.specs.declared.task.Task.{Task}
+use Rattle.rc_answers.specs.declared.task.Task.TheVariants as task
 use Rattle.rc_house.specs.Bench.{BenchOutcome}
 use Rattle.rc_house.specs.Outcome.{Outcome, Succeeds, Refuses}
 use Rattle.rc_house.specs.Port.{Ports, NoCountFell}

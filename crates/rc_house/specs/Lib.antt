@@ -1,15 +1,5 @@
-pub mod Accepted
-pub mod AcceptedPlan
-pub mod Answer
 pub mod Bench
 pub mod Ends
-pub mod Laws
-pub mod Note
-pub mod Players
 pub mod Outcome
-pub mod PlayedLaws
 pub mod Port
-pub mod Reading
 pub mod Running
-pub mod Status
-pub mod Task

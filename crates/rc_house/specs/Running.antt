@@ -16,22 +16,22 @@ use Rattle.rc_command.specs.Command.{IsCommand, workers_of}
 use Rattle.rc_command.specs.declared.command.Command.{Command}
 use Rattle.rc_command.specs.declared.command.Command.TheVariants as command
 use Rattle.rc_command.specs.declared.options.Options.{Options}
-use Rattle.rc_house.specs.declared.task.Task.{Task}
-use Rattle.rc_house.specs.declared.task.Task.TheVariants.{Play, Check, Sheet as PrintsSheet}
-use Rattle.rc_house.specs.declared.answer.Answer.{Answer as Stored}
-use Rattle.rc_house.specs.declared.answer.Answer.TheVariants as stored
-use Rattle.rc_house.specs.declared.answer.Prepared.{Prepared}
-use Rattle.rc_house.specs.declared.answer.Prepared.TheVariants.{Answered, Playing}
-use Rattle.rc_house.specs.declared.status.Status.{Status}
-use Rattle.rc_house.specs.declared.status.Status.TheVariants as ending
-use Rattle.rc_house.specs.Task.{IsNoteOf}
-use Rattle.rc_house.specs.declared.note.Note.TheVariants.{Looks}
-use Rattle.rc_house.specs.Note.{note_line}
-use Rattle.rc_house.specs.Players.{AreHits, CanPlay, counted_playouts}
-use Rattle.rc_house.specs.Answer.{Answer, seen, playouts_of, IsGame, IsPlayed}
-use Rattle.rc_house.specs.Bench.{IsBenchAnswer}
+use Rattle.rc_answers.specs.declared.task.Task.{Task}
+use Rattle.rc_answers.specs.declared.task.Task.TheVariants.{Play, Check, Sheet as PrintsSheet}
+use Rattle.rc_answers.specs.declared.answer.Answer.{Answer as Stored}
+use Rattle.rc_answers.specs.declared.answer.Answer.TheVariants as stored
+use Rattle.rc_answers.specs.declared.answer.Prepared.{Prepared}
+use Rattle.rc_answers.specs.declared.answer.Prepared.TheVariants.{Answered, Playing}
+use Rattle.rc_answers.specs.declared.status.Status.{Status}
+use Rattle.rc_answers.specs.declared.status.Status.TheVariants as ending
+use Rattle.rc_answers.specs.Task.{IsNoteOf}
+use Rattle.rc_answers.specs.declared.note.Note.TheVariants.{Looks}
+use Rattle.rc_answers.specs.Note.{note_line}
+use Rattle.rc_answers.specs.Players.{AreHits, CanPlay, counted_playouts}
+use Rattle.rc_answers.specs.Answer.{Answer, seen, playouts_of, IsGame, IsPlayed}
+use Rattle.rc_answers.specs.Bench.{IsBenchAnswer}
 use Rattle.rc_house.specs.Port.{Port, HasFailed, IsSteady, Delivers, Took}
-use Rattle.rc_house.specs.Status.{line_of, refusal_status}
+use Rattle.rc_answers.specs.Status.{line_of, refusal_status}
 use Rattle.rc_house.specs.Outcome.{Answers, CountedFew, GaveFew, GaveTooMuch}
 
 -- a text's note is one of the command's

@@ -2,11 +2,11 @@
 ghost use Rattle.std.specs.Prelude.{◌≡◌, ◌<◌, ℕ};
 ghost use Rattle.rc_play_model.specs.About.{about_of};
 ghost use Rattle.rc_rules.specs.Plan.{plan_seen};
-ghost use Rattle.rc_house.specs.Answer.{IsGame};
-ghost use Rattle.rc_house.specs.Players.{AreWithin};
+ghost use Rattle.rc_answers.specs.Answer.{IsGame};
+ghost use Rattle.rc_answers.specs.Players.{AreWithin};
 ghost use Rattle.rc_house.specs.Running.{PlaysSeries};
 
-use crate::answer::Game;
+use rc_answers::Game;
 use rc_command::Options;
 use rc_deck::Memory;
 use rc_outside::Gate;

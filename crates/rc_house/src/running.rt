@@ -2,21 +2,20 @@
 ghost use Rattle.std.specs.Prelude.{◌≡◌, ◌<◌, ◌≤◌, ℕ, List, map, string_bytes, IfOk, IfErr};
 ghost use Rattle.rc_play_model.specs.MatchLaws.{AlikeSamePicks};
 ghost use Rattle.rc_command.specs.Command.{IsCommand, workers_of};
+ghost use Rattle.rc_answers.specs.declared.note.Note.TheVariants.{Looks};
 ghost use Rattle.rc_house.specs.Ends.{Ends, RefusesMany, Runs};
-ghost use Rattle.rc_house.specs.Laws.{TextsAreTheSame};
-ghost use Rattle.rc_house.specs.PlayedLaws.{PlayedIsChecked};
-ghost use Rattle.rc_house.specs.Players.{CanPlay};
+ghost use Rattle.rc_answers.specs.Laws.{TextsAreTheSame};
+ghost use Rattle.rc_answers.specs.PlayedLaws.{PlayedIsChecked};
+ghost use Rattle.rc_answers.specs.Players.{CanPlay};
 ghost use Rattle.rc_house.specs.Port.{moment, port};
 ghost use Rattle.rc_house.specs.Running.{AnswersCommand, NamesNone, PreparesCommand, PreparesNone, ReadsNone, ReadsPrepared, TellsOf, told_of};
 
-use crate::answer::{Answer, Prepared, prepare};
-use crate::benching::bench_game;
 use crate::handing::{conclude, refuse};
-use crate::laws::{texts_are_the_same, what_is_played_is_judged_legal};
-use crate::note::Note;
 use crate::playing::{play_alone, play_together};
-use crate::status::Status;
-use crate::task::Task;
+use rc_answers::{
+    Answer, Note, Prepared, Status, Task, bench_game, prepare, texts_are_the_same,
+    what_is_played_is_judged_legal,
+};
 use rc_command::{Command, command_of};
 use rc_deck::Memory;
 use rc_outside::{Gate, Sink, Source, read_all};
@@ -78,7 +77,17 @@ fn played_answer(alloc: Global, command: Command, series: &Series) -> Result<Ans
     ensures { IfOk result (TellsOf command series.now) }
 {
     let text = told_text(alloc, command, series)?;
-    Ok(Answer::Text(text, Note::of(series)))
+    Ok(Answer::Text(text, note_of(series)))
+}
+
+/// What is noted behind a text that tells of these matches.
+fn note_of(series: &Series) -> Note
+    ensures { result ≡ Looks series.now.totals.looks series.now.totals.hits }
+{
+    Note::Looks {
+        looks: series.totals.looks(),
+        hits: series.totals.hits(),
+    }
 }
 
 /// What a command answers that one worker runs, or the status that it ends with.

@@ -2,11 +2,11 @@ use Rattle.std.proofs.Common.{subst, ◌≤◌, ◌+◌}
 use Rattle.rc_play_model.specs.About.{about_of}
 use Rattle.rc_records.specs.Series.{looks_of}
 use Rattle.rc_rules.specs.Plan.{plan_seen}
-use Rattle.rc_house.specs.declared.answer.Prepared.TheVariants.{Playing}
-use Rattle.rc_house.specs.Players.{counted_playouts}
+use Rattle.rc_answers.specs.declared.answer.Prepared.TheVariants.{Playing}
+use Rattle.rc_answers.specs.Players.{counted_playouts}
 use Rattle.rc_house.specs.Port.{port}
 use Rattle.rc_house.specs.Running.{AnswersCommand, IsSeriesOf, PreparesCommand}
-use Rattle.rc_house.proofs.Exits.{at_err}
+use Rattle.rc_answers.proofs.Exits.{at_err}
 use Rattle.rc_house.proofs.PlayingLemmas.{lacking, lacking_text, told}
 use Rattle.rc_house.proofs.running.answer_alone.Goals as goal
 

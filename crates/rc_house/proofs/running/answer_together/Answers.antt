@@ -1,7 +1,7 @@
 use Rattle.std.proofs.Common.{subst}
 use Rattle.rc_play_model.specs.About.{about_of}
 use Rattle.rc_rules.specs.Plan.{plan_seen}
-use Rattle.rc_house.specs.declared.answer.Prepared.TheVariants.{Playing}
+use Rattle.rc_answers.specs.declared.answer.Prepared.TheVariants.{Playing}
 use Rattle.rc_house.specs.Port.{port}
 use Rattle.rc_house.specs.Running.{IsSeriesOf, PreparesCommand}
 use Rattle.rc_house.proofs.PlayingLemmas.{told}

@@ -1,0 +1,12 @@
+pub mod AcceptedLaws
+pub mod AnswerLaws
+pub mod BenchLaws
+pub mod Exits
+pub mod OneAnswer
+pub mod OneReading
+pub mod Options
+pub mod PlanLaws
+pub mod PlayedLaws
+pub mod PlayedLemmas
+pub mod PrintedTwice
+pub mod SomeAnswer

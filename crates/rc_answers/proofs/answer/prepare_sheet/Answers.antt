@@ -1,0 +1,17 @@
+use Rattle.rc_form.specs.Form.{trees_of}
+use Rattle.rc_answers.proofs.AnswerLaws.{sheet_answer}
+use Rattle.rc_answers.proofs.answer.prepare_sheet.Goals as goal
+
+pub returns-in-Play : goal.returns-in-Play
+returns-in-Play c = rw c.in-Play.is (c.prepare_play.ensures _)
+
+pub returns-in_ok-check_answer-in-Check : goal.returns-in_ok-check_answer-in-Check
+returns-in_ok-check_answer-in-Check c = rw c.in-Check.is c.in_ok-check_answer-in-Check.ensures
+
+pub returns-in_ok-sheet_answer-in-Sheet : goal.returns-in_ok-sheet_answer-in-Sheet
+returns-in_ok-sheet_answer-in-Sheet c =
+    let forms = c.args.forms.now in
+    let read = rw c.in-Sheet.is at c.requires.read in
+    rw c.in-Sheet.is
+    (sheet_answer c.args.source.now (trees_of forms.list.items) forms.rest c.args.checked c.in_ok-sheet_answer-in-Sheet.field-0
+    read c.requires.accepted c.in_ok-sheet_answer-in-Sheet.ensures)

@@ -1,0 +1,157 @@
+-- What a command answers to its source. HasAnswer is the relation that holds of each source and its answers: exactly one, but that the
+-- note may tell one number of hits or another where several workers play. What an accepted sheet is answered, and with a plan, is
+-- IsAnswered. IsPrepared is what the program makes of a source before anybody plays.
+use Rattle.std.specs.Prelude.{◌≡◌, ◌≤◌, ℕ, List, [], length, drop, codes, Option, Some, None, Result, Ok, Err}
+use Rattle.rc_model.specs.Transcript.{line}
+use Rattle.rc_model.specs.Tree.{Tree}
+use Rattle.rc_play_model.specs.About.{About, about_of}
+use Rattle.rc_play_model.specs.Plan.{Plan}
+use Rattle.rc_play_model.specs.Keyed.{keyed_house, dealing_of}
+use Rattle.rc_text_model.specs.HouseText.{HouseText}
+use Rattle.rc_text_model.specs.Reading.{read_text}
+use Rattle.rc_text_model.specs.Why.{Illegal}
+use Rattle.rc_text_model.specs.Judged.{first_illegal}
+use Rattle.rc_records.specs.Series.{looks_of}
+use Rattle.rc_sheet_model.specs.Sheet as sheet
+use Rattle.rc_sheet_model.specs.Printing.{printed_sheet}
+use Rattle.rc_plan_model.specs.Limits.{IsWithinLimits}
+use Rattle.rc_plan_model.specs.declared.fault.PlanKind.{PlanKind}
+use Rattle.rc_rules.specs.Plan.{plan_seen}
+use Rattle.rc_plan.specs.declared.fail.PlanFail.{PlanFail}
+use Rattle.rc_command.specs.declared.options.Options.{Options}
+use Rattle.rc_plan.specs.declared.fail.PlanFail.TheVariants as fails
+use Rattle.rc_answers.specs.declared.task.Task.{Task}
+use Rattle.rc_answers.specs.declared.task.Task.TheVariants.{Play, Check, Sheet}
+use Rattle.rc_answers.specs.declared.refusal.Refusal.{Refusal}
+use Rattle.rc_answers.specs.declared.refusal.Refusal.TheVariants as refusal
+use Rattle.rc_answers.specs.declared.status.SourceKind.{SourceKind}
+use Rattle.rc_answers.specs.declared.answer.Answer.{Answer as Stored}
+use Rattle.rc_answers.specs.declared.answer.Answer.TheVariants as stored
+use Rattle.rc_answers.specs.declared.answer.Prepared.{Prepared}
+use Rattle.rc_answers.specs.declared.answer.Prepared.TheVariants.{Answered, Playing}
+use Rattle.rc_answers.specs.Task.{wanted}
+use Rattle.rc_answers.specs.declared.note.Note.TheVariants.{Nothing}
+use Rattle.rc_answers.specs.Note.{looks_line, note_line}
+use Rattle.rc_answers.specs.Players.{AreHits, counted_playouts}
+use Rattle.rc_answers.specs.Status.{why_told}
+use Rattle.rc_answers.specs.AcceptedPlan.{HasPlanFault, HasPlanReadFault, IsPlanAccepted, IsPlanRead}
+use Rattle.rc_answers.specs.Reading.{Reading, HasFormFault, HasSheetFault, IsAcceptedWith}
+
+-- a text, with what is noted behind it and how many playouts are counted for it; or a refusal
+pub data Answer : Type 0 where
+  text : (bytes note : List ℕ) (playouts : ℕ) → Answer
+  refused : (refusal : Refusal) → Answer
+
+-- The house text of a plan: the plays of all matches in order, and the standings. It is keyed_house of rc_play_model, a definition that
+-- knows of no book and no worker, so it is the same whoever plays, and whatever the book has. Options have a part in the note and in the
+-- playouts alone: the note tells how many looks there were, and how many of them hit.
+abbrev pub house_played : Options → About → Plan → ℕ → Answer
+house_played options about plan found =
+    text (keyed_house about plan) (looks_line (length (looks_of about plan)) found) (counted_playouts options (looks_of about plan))
+
+abbrev pub IsPlayed : Options → About → Plan → Answer → Type 0
+IsPlayed options about plan answer =
+    (found : ℕ) × AreHits options (looks_of about plan) found × (answer ≡ house_played options about plan found)
+
+-- The verdict on a transcript: that it is legal, or its first illegal line and why.
+abbrev pub verdict : Option Illegal → Answer
+verdict None = text (line (codes "legal")) [] 0
+verdict (Some illegal) = refused (refusal.Illegal illegal.line (why_told illegal.why))
+
+-- The answer to a transcript, as it is read: the verdict, or its first line outside the grammar.
+abbrev pub text_judged : About → Plan → Result HouseText ℕ → Answer
+text_judged about plan (Err at) = refused (refusal.Text at)
+text_judged about plan (Ok told) = verdict (first_illegal about dealing_of plan told)
+
+-- What a command answers where the sheet is accepted, with these lists behind it and the rest that begins here, and where the plan is
+-- accepted too, if the command reads one.
+abbrev pub IsAnswered : Task → List ℕ → sheet.Sheet → List Tree → ℕ → Answer → Type 0
+IsAnswered (Play options) source sheet others rest answer =
+    (plan : Plan) × IsPlanAccepted source sheet.players others rest plan × IsPlayed options (about_of sheet plan.turns) plan answer
+IsAnswered Check source sheet others rest answer =
+    (plan : Plan) × IsPlanRead sheet.players others plan × (answer ≡ text_judged (about_of sheet plan.turns) plan (read_text (drop rest source)))
+IsAnswered Sheet source sheet others rest answer = answer ≡ text (line (printed_sheet sheet)) [] 0
+
+-- The plan's first fault, where the command reads a plan.
+abbrev pub HasPlanRefusal : Task → List ℕ → sheet.Sheet → List Tree → ℕ → PlanKind → ℕ → Type 0
+HasPlanRefusal (Play options) source sheet others rest kind at = HasPlanFault source sheet.players others rest kind at
+HasPlanRefusal Check source sheet others rest kind at = HasPlanReadFault sheet.players others rest kind at
+HasPlanRefusal Sheet source sheet others rest kind at = ⊥
+
+-- The command has this answer to its source.
+pub data HasAnswer (task : Task) (source : List ℕ) (answer : Answer) : Type 0 where
+  -- the first fault of the source's forms
+  form_faulty : (kind : SourceKind) (at : ℕ) → HasFormFault source (wanted task) kind at
+      → answer ≡ refused (refusal.Sheet kind at)
+      → HasAnswer task source answer
+  -- the forms are read, and this is the sheet's first fault
+  sheet_faulty : (read : Reading source (wanted task)) (kind : SourceKind) (at : ℕ) → HasSheetFault read.lists read.rest kind at
+      → answer ≡ refused (refusal.Sheet kind at)
+      → HasAnswer task source answer
+  -- the sheet is accepted, and this is the plan's first fault
+  plan_faulty : (read : Reading source (wanted task)) (kind : PlanKind) (at : ℕ)
+      → IsAcceptedWith (λ sheet others. HasPlanRefusal task source sheet others read.rest kind at) read.lists
+      → answer ≡ refused (refusal.Plan kind at)
+      → HasAnswer task source answer
+  -- all that the command reads is accepted
+  accepted : (read : Reading source (wanted task))
+      → IsAcceptedWith (λ sheet others. IsAnswered task source sheet others read.rest answer) read.lists
+      → HasAnswer task source answer
+
+-- how many playouts are counted for an answer
+abbrev pub playouts_of : Answer → ℕ
+playouts_of (text bytes note playouts) = playouts
+playouts_of (refused refusal) = 0
+
+-- two answers that differ in their notes alone
+abbrev pub AreAlike : Answer → Answer → Type 0
+AreAlike (text bytes note playouts) (text bytes' note' playouts') = (bytes ≡ bytes') × (playouts ≡ playouts')
+AreAlike (refused refusal) (refused refusal') = refusal ≡ refusal'
+AreAlike (text bytes note playouts) (refused refusal) = ⊥
+AreAlike (refused refusal) (text bytes note playouts) = ⊥
+
+-- a command that one worker runs, and so of one answer to a source
+abbrev pub IsAlone : Task → Type 0
+IsAlone (Play options) = options.workers ≤ 1
+IsAlone Check = Unit {0}
+IsAlone Sheet = Unit {0}
+
+-- the answer that a value of the program stands for, where it took so many playouts
+abbrev pub seen : Stored → ℕ → Answer
+seen (stored.Text bytes note) playouts = text bytes.items (note_line note) playouts
+seen (stored.Refused refusal) playouts = refused refusal
+
+-- The command's answer to its source, for which nobody plays.
+abbrev pub IsAnswerTo : Task → List ℕ → Stored → Type 0
+IsAnswerTo task source answer = HasAnswer task source (seen answer 0)
+
+-- A sheet, and a plan for its players that is within the limits.
+pub record IsGame (sheet : sheet.Sheet) (plan : Plan) : Type 0 where
+  pub within : IsWithinLimits plan
+  pub seats : length plan.strategies ≡ sheet.players
+
+-- What is played of this sheet and plan is the command's answer to its source.
+abbrev pub IsGameOf : Task → List ℕ → sheet.Sheet → Plan → Type 0
+IsGameOf (Play options) source sheet plan =
+    (answer : Answer) → IsPlayed options (about_of sheet plan.turns) plan answer → HasAnswer (Play options) source answer
+IsGameOf Check source sheet plan = ⊥
+IsGameOf Sheet source sheet plan = ⊥
+
+-- What a command makes of its source before anybody plays: its answer, or the sheet and the plan that are to be played.
+abbrev pub IsPrepared : Task → List ℕ → Prepared → Type 0
+IsPrepared task source (Answered answer) = IsAnswerTo task source answer
+IsPrepared task source (Playing game) = IsGame game.checked (plan_seen game.plan) × IsGameOf task source game.checked (plan_seen game.plan)
+
+-- the text of a sheet as it is printed, behind which nothing is noted
+abbrev pub IsSheetText : sheet.Sheet → Stored → Type 0
+IsSheetText sheet (stored.Text bytes note) = (bytes.items ≡ line (printed_sheet sheet)) × (note ≡ Nothing)
+IsSheetText sheet (stored.Refused refusal) = ⊥
+
+-- the answer to a transcript that a value of the program stands for, which takes no playouts
+abbrev pub IsJudged : About → Plan → List ℕ → Stored → Type 0
+IsJudged about plan bytes answer = seen answer 0 ≡ text_judged about plan (read_text bytes)
+
+-- the refusal where the plan fails so: its first fault, and none where memory ran out
+abbrev pub IsPlanRefusal : PlanFail → Stored → Type 0
+IsPlanRefusal fails.Memory answer = ⊥
+IsPlanRefusal (fails.Fault fault) answer = answer ≡ stored.Refused (refusal.Plan fault.kind fault.at)

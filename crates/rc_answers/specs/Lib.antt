@@ -1,0 +1,11 @@
+pub mod Accepted
+pub mod AcceptedPlan
+pub mod Answer
+pub mod Bench
+pub mod Laws
+pub mod Note
+pub mod Players
+pub mod PlayedLaws
+pub mod Reading
+pub mod Status
+pub mod Task

@@ -1,0 +1,258 @@
+//! What a command answers to the bytes of its source, or what is to be played before it can.
+ghost use Rattle.std.specs.Prelude.{◌≡◌, ◌≤◌, length, None, IfOk, All};
+ghost use Rattle.rc_model.specs.Placed.{IsPlaced};
+ghost use Rattle.rc_model.specs.Spelled.{Spelled};
+ghost use Rattle.rc_model.specs.Limits.{longest_text};
+ghost use Rattle.rc_form.specs.Form.{tree_of, trees_of, IsPrintable};
+ghost use Rattle.rc_form.specs.SameForm.{IsOfAtoms};
+ghost use Rattle.rc_plan_model.specs.Limits.{IsWithinLimits};
+ghost use Rattle.rc_play_model.specs.About.{about_of};
+ghost use Rattle.rc_play_model.specs.Keyed.{dealing_of};
+ghost use Rattle.rc_text_model.specs.HouseText.{IsHouseText, lines_of};
+ghost use Rattle.rc_text.specs.House.{house_seen};
+ghost use Rattle.rc_text_model.specs.Judged.{first_illegal};
+ghost use Rattle.rc_rules.specs.Plan.{plan_seen};
+ghost use Rattle.rc_answers.specs.declared.refusal.Refusal.TheVariants as refusal;
+ghost use Rattle.rc_answers.specs.declared.status.SourceKind.TheVariants.{Shape};
+ghost use Rattle.rc_answers.specs.Status.{source_kind};
+ghost use Rattle.rc_command.specs.declared.options.Options.{Options};
+ghost use Rattle.rc_answers.specs.declared.task.Task.TheVariants as task;
+ghost use Rattle.rc_answers.specs.Task.{wanted};
+ghost use Rattle.rc_answers.specs.Reading.{IsAcceptedWith};
+ghost use Rattle.rc_answers.specs.declared.answer.Answer.TheVariants as stored;
+ghost use Rattle.rc_answers.specs.Answer.{IsAnswerTo, IsJudged, IsPlanRefusal, IsPrepared, IsSheetText, seen, verdict};
+
+use crate::accepting::{SourceFail, accept};
+use crate::note::Note;
+use crate::planning::{plan_behind, read_plan};
+use crate::printing::print_line;
+use crate::refusal::Refusal;
+use crate::status::SourceKind;
+use crate::task::Task;
+use rc_deck::Memory;
+use rc_flow::Checked;
+use rc_form::{FormFail, FormFault, Forms, read_forms};
+use rc_judge::{Verdict, judge};
+use rc_plan::PlanFail;
+use rc_records::shared_about;
+use rc_rules::Plan;
+use rc_text::{HouseText, TextFail, read_house};
+use std::alloc::Global;
+
+/// What a command answers to its source.
+#[derive(Drop)]
+pub enum Answer {
+    /// The text that it writes, and what it notes then.
+    Text(Vec<u8>, Note),
+    /// Why it writes none.
+    Refused(Refusal),
+}
+
+/// The matches of a plan for a sheet.
+#[derive(Drop)]
+pub struct Game {
+    pub checked: Checked,
+    pub plan: Plan,
+}
+
+/// What a command makes of its source before anybody plays.
+#[derive(Drop)]
+pub enum Prepared {
+    /// Its answer.
+    Answered(Answer),
+    /// The matches that are to be played.
+    Playing(Game),
+}
+
+/// What a command makes of its source before anybody plays. Memory may run out.
+pub fn prepare(alloc: Global, task: Task, source: &[u8]) -> Result<Prepared, Memory>
+    requires { length source.now ≤ longest_text }
+    ensures { IfOk result (IsPrepared task source.now) }
+{
+    match read_forms(alloc, source, task.wanted()) {
+        Ok(forms) => prepare_forms(alloc, task, source, &forms),
+        Err(FormFail::Fault(form_fault)) => Ok(Prepared::Answered(fault_of(form_fault))),
+        Err(FormFail::Memory) => Err(Memory),
+    }
+}
+
+/// The answer to a source whose forms have this fault.
+fn fault_of(form_fault: FormFault) -> Answer
+    ensures { result ≡ stored.Refused (refusal.Sheet (source_kind form_fault.kind) form_fault.at) }
+{
+    Answer::Refused(Refusal::Sheet {
+        kind: SourceKind::from(form_fault.kind),
+        at: form_fault.at,
+    })
+}
+
+/// What a command makes of a source with these forms.
+fn prepare_forms(
+    alloc: Global,
+    task: Task,
+    source: &[u8],
+    forms: &Forms,
+) -> Result<Prepared, Memory>
+    requires small { length source.now ≤ longest_text }
+    requires within { forms.now.rest ≤ length source.now }
+    requires read { Spelled source.now (wanted task) (trees_of forms.now.list.items) forms.now.rest }
+    requires printable { All (λ form. IsPrintable (tree_of form)) forms.now.list.items }
+    requires of_atoms { All (λ form. IsOfAtoms (tree_of form)) forms.now.list.items }
+    requires placed { All (λ form. IsPlaced (length source.now) (tree_of form)) forms.now.list.items }
+    ensures { IfOk result (IsPrepared task source.now) }
+{
+    let Some(form) = forms.list.first() else {
+        return Ok(Prepared::Answered(missing(forms)));
+    };
+    match accept(alloc, form) {
+        Ok(checked) => prepare_sheet(alloc, task, source, forms, checked),
+        Err(SourceFail::Fault { kind, at }) => Ok(Prepared::Answered(Answer::Refused(
+            Refusal::Sheet { kind, at },
+        ))),
+        Err(SourceFail::Memory) => Err(Memory),
+    }
+}
+
+/// The answer where the sheet is missing.
+fn missing(forms: &Forms) -> Answer
+    requires { forms.now.rest ≤ longest_text }
+    ensures { result ≡ stored.Refused (refusal.Sheet Shape forms.now.rest) }
+{
+    Answer::Refused(Refusal::Sheet {
+        kind: SourceKind::Shape,
+        at: forms.rest as u32,
+    })
+}
+
+/// What a command makes of a source with these forms, of which the first is accepted as this sheet.
+fn prepare_sheet(
+    alloc: Global,
+    task: Task,
+    source: &[u8],
+    forms: &Forms,
+    checked: Checked,
+) -> Result<Prepared, Memory>
+    requires small { length source.now ≤ longest_text }
+    requires within { forms.now.rest ≤ length source.now }
+    requires read { Spelled source.now (wanted task) (trees_of forms.now.list.items) forms.now.rest }
+    requires placed { All (λ form. IsPlaced (length source.now) (tree_of form)) forms.now.list.items }
+    requires accepted { IsAcceptedWith (λ sheet _. sheet ≡ checked) (trees_of forms.now.list.items) }
+    ensures { IfOk result (IsPrepared task source.now) }
+{
+    match task {
+        Task::Play(_) => prepare_play(alloc, source, forms, checked),
+        Task::Check => Ok(Prepared::Answered(check_answer(alloc, source, forms, checked)?)),
+        Task::Sheet => Ok(Prepared::Answered(sheet_answer(alloc, &checked)?)),
+    }
+}
+
+/// What `play` makes of a source with these forms, of which the first is accepted as this sheet.
+fn prepare_play(
+    alloc: Global,
+    source: &[u8],
+    forms: &Forms,
+    checked: Checked,
+) -> Result<Prepared, Memory>
+    requires small { length source.now ≤ longest_text }
+    requires within { forms.now.rest ≤ length source.now }
+    requires read { Spelled source.now 2 (trees_of forms.now.list.items) forms.now.rest }
+    requires placed { All (λ form. IsPlaced (length source.now) (tree_of form)) forms.now.list.items }
+    requires accepted { IsAcceptedWith (λ sheet _. sheet ≡ checked) (trees_of forms.now.list.items) }
+    ensures { (options : Options) → IfOk result (IsPrepared (task.Play options) source.now) }
+{
+    let players = checked.sheet().players;
+    match read_plan(alloc, source, forms, players) {
+        Ok(plan) => Ok(Prepared::Playing(Game { checked, plan })),
+        Err(fail) => Ok(Prepared::Answered(plan_failed(fail)?)),
+    }
+}
+
+/// The answer of `check` to a source with these forms, of which the first is accepted as this sheet.
+fn check_answer(
+    alloc: Global,
+    source: &[u8],
+    forms: &Forms,
+    checked: Checked,
+) -> Result<Answer, Memory>
+    requires small { length source.now ≤ longest_text }
+    requires within { forms.now.rest ≤ length source.now }
+    requires read { Spelled source.now 2 (trees_of forms.now.list.items) forms.now.rest }
+    requires placed { All (λ form. IsPlaced (length source.now) (tree_of form)) forms.now.list.items }
+    requires accepted { IsAcceptedWith (λ sheet _. sheet ≡ checked) (trees_of forms.now.list.items) }
+    ensures { IfOk result (IsAnswerTo task.Check source.now) }
+{
+    let players = checked.sheet().players;
+    match plan_behind(alloc, forms, players) {
+        Ok(plan) => judged_answer(alloc, checked, &plan, &source[forms.rest..]),
+        Err(fail) => plan_failed(fail),
+    }
+}
+
+/// The answer of `check` to this transcript where the sheet and the plan are accepted.
+fn judged_answer(
+    alloc: Global,
+    checked: Checked,
+    plan: &Plan,
+    bytes: &[u8],
+) -> Result<Answer, Memory>
+    requires short { length bytes.now ≤ longest_text }
+    requires within { IsWithinLimits (plan_seen plan.now) }
+    requires seats { length (plan_seen plan.now).strategies ≡ checked.players }
+    ensures { IfOk result (IsJudged (about_of checked plan.now.turns) (plan_seen plan.now) bytes.now) }
+{
+    match read_house(alloc, bytes) {
+        Ok(text) => verdict_answer(alloc, checked, plan, &text),
+        Err(TextFail::Fault { line }) => Ok(Answer::Refused(Refusal::Text { line })),
+        Err(TextFail::Memory) => Err(Memory),
+    }
+}
+
+/// The verdict on a house text.
+fn verdict_answer(
+    alloc: Global,
+    checked: Checked,
+    plan: &Plan,
+    text: &HouseText,
+) -> Result<Answer, Memory>
+    requires within { IsWithinLimits (plan_seen plan.now) }
+    requires seats { length (plan_seen plan.now).strategies ≡ checked.players }
+    requires text { IsHouseText (house_seen text.now) }
+    requires few { length (lines_of (house_seen text.now)) ≤ longest_text }
+    ensures { IfOk result (λ answer. seen answer 0
+        ≡ verdict (first_illegal (about_of checked plan.now.turns) dealing_of (plan_seen plan.now) (house_seen text.now))) }
+{
+    let about = shared_about(alloc, checked, plan.turns)?;
+    match judge(alloc, &about, plan, text)? {
+        Verdict::Legal => legal_answer(alloc),
+        Verdict::Illegal { line, why } => Ok(Answer::Refused(Refusal::Illegal { line, why })),
+    }
+}
+
+/// The answer to a legal transcript.
+fn legal_answer(alloc: Global) -> Result<Answer, Memory>
+    ensures { IfOk result (λ answer. seen answer 0 ≡ verdict None) }
+{
+    let text = Vec::from_slice(alloc, b"legal\n")?;
+    Ok(Answer::Text(text, Note::Nothing))
+}
+
+/// The answer of `sheet` where this sheet is accepted.
+fn sheet_answer(alloc: Global, checked: &Checked) -> Result<Answer, Memory>
+    ensures { IfOk result (IsSheetText checked.now) }
+{
+    let line = print_line(alloc, checked.sheet())?;
+    Ok(Answer::Text(line, Note::Nothing))
+}
+
+/// The answer where the plan fails so.
+fn plan_failed(fail: PlanFail) -> Result<Answer, Memory>
+    ensures { IfOk result (IsPlanRefusal fail) }
+{
+    match fail {
+        PlanFail::Fault(fault) => Ok(Answer::Refused(Refusal::Plan {
+            kind: fault.kind,
+            at: fault.at,
+        })),
+        PlanFail::Memory => Err(Memory),
+    }
+}

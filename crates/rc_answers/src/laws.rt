@@ -1,0 +1,36 @@
+//! Laws of what commands answer. No function here does anything: its contract is the law.
+ghost use Rattle.rc_answers.specs.Laws.{AnswersAreAlike, OneAnswer, PrintedAgain, SomeAnswer, TextsAreTheSame};
+ghost use Rattle.rc_answers.specs.PlayedLaws.{PlayedIsAnsweredLegal, PlayedIsChecked, PlayedIsLegal};
+
+/// A command has at most one answer to a source, where one worker runs it.
+pub fn one_answer()
+    ensures { OneAnswer }
+{}
+
+/// The answers of a command to a source differ in their notes alone, however many workers run it.
+pub fn answers_are_alike()
+    ensures { AnswersAreAlike }
+{}
+
+/// Each command has an answer to each source.
+pub fn some_answer()
+    ensures { SomeAnswer }
+{}
+
+/// What is written of the matches of a source is the same however many workers play, and however much is remembered.
+pub fn texts_are_the_same()
+    ensures { TextsAreTheSame }
+{}
+
+/// What `sheet` answers to a source, it answers to that text too: what it writes is in canonical form.
+pub fn a_printed_sheet_is_printed_again()
+    ensures { PrintedAgain }
+{}
+
+/// The house text of an accepted sheet and plan is judged legal. So `check` answers to these with their house text behind them, and to
+/// a source with what `play` writes for it behind it in a new line.
+pub fn what_is_played_is_judged_legal()
+    ensures legal { PlayedIsLegal }
+    ensures answered { PlayedIsAnsweredLegal }
+    ensures checked { PlayedIsChecked }
+{}

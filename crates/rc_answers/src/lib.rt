@@ -1,0 +1,28 @@
+//! What the commands answer: `play` plays a sheet by a plan, `check` judges a transcript of such plays, `sheet` prints a sheet, and
+//! `bench` plays a game of its own. Here a source is answered without ports, as far as nobody has to play for it, with why it is
+//! refused, the statuses that commands end with, and the laws of answers.
+#![tactic(auto)]
+
+mod accepting;
+mod answer;
+mod benching;
+mod laws;
+mod note;
+mod planning;
+mod printing;
+mod refusal;
+mod status;
+mod table_examples;
+mod task;
+
+pub use answer::{Answer, Game, Prepared, prepare};
+pub use benching::bench_game;
+pub use laws::{
+    a_printed_sheet_is_printed_again, answers_are_alike, one_answer, some_answer,
+    texts_are_the_same, what_is_played_is_judged_legal,
+};
+pub use note::Note;
+pub use refusal::Refusal;
+pub use status::{SourceKind, Status};
+pub use table_examples::{codes_of_statuses, lines_of_statuses, sources_of_tasks};
+pub use task::Task;

@@ -1,0 +1,52 @@
+//! The tables of statuses and of what commands read, computed. No function here does anything: each has a contract that the check proves
+//! by computing.
+ghost use Rattle.std.specs.Prelude.{◌≡◌, [], codes};
+ghost use Rattle.rc_command.specs.declared.options.Options.{Options};
+ghost use Rattle.rc_answers.specs.declared.task.Task.TheVariants as task;
+ghost use Rattle.rc_answers.specs.declared.status.SourceKind.TheVariants.{Unseen, NoCards};
+ghost use Rattle.rc_plan_model.specs.declared.fault.PlanKind.TheVariants.{TooLarge};
+ghost use Rattle.rc_judge.specs.declared.verdict.Why.TheVariants.{Menu};
+ghost use Rattle.rc_answers.specs.declared.status.Status.TheVariants as ending;
+ghost use Rattle.rc_answers.specs.declared.note.Note.TheVariants.{Nothing, Looks};
+ghost use Rattle.rc_answers.specs.Task.{limit_of, wanted};
+ghost use Rattle.rc_answers.specs.Note.{note_line};
+ghost use Rattle.rc_answers.specs.Status.{code_of, line_of};
+
+/// The exit codes.
+pub fn codes_of_statuses()
+    ensures done { code_of ending.Done ≡ 0 }
+    ensures sheet { code_of (ending.Sheet NoCards 6) ≡ 1 }
+    ensures usage { code_of ending.Usage ≡ 2 }
+    ensures plan { code_of (ending.Plan TooLarge 463) ≡ 3 }
+    ensures text { code_of (ending.Text 8) ≡ 4 }
+    ensures illegal { code_of (ending.Illegal 3 Menu) ≡ 4 }
+    ensures memory { code_of ending.Memory ≡ 5 }
+    ensures read_fault { code_of ending.ReadFault ≡ 6 }
+    ensures write_fault { code_of ending.WriteFault ≡ 7 }
+    ensures too_long { code_of ending.TooLong ≡ 8 }
+{}
+
+/// The lines that are noted.
+pub fn lines_of_statuses()
+    ensures done { line_of ending.Done ≡ [] }
+    ensures sheet { line_of (ending.Sheet Unseen 338) ≡ codes "sheet Unseen 338\n" }
+    ensures no_cards { line_of (ending.Sheet NoCards 0) ≡ codes "sheet NoCards 0\n" }
+    ensures plan { line_of (ending.Plan TooLarge 463) ≡ codes "plan TooLarge 463\n" }
+    ensures text { line_of (ending.Text 8) ≡ codes "text 8\n" }
+    ensures illegal { line_of (ending.Illegal 3 Menu) ≡ codes "illegal 3 Menu\n" }
+    ensures memory { line_of ending.Memory ≡ codes "no memory\n" }
+    ensures read_fault { line_of ending.ReadFault ≡ codes "read fault\n" }
+    ensures write_fault { line_of ending.WriteFault ≡ codes "write fault\n" }
+    ensures too_long { line_of ending.TooLong ≡ codes "too long\n" }
+    ensures usage { line_of ending.Usage ≡ codes "usage: cardhouse play, check, sheet or bench\n" }
+{}
+
+/// How much a command reads, and what it notes.
+pub fn sources_of_tasks()
+    ensures play_reads { (options : Options) → wanted (task.Play options) ≡ 2 }
+    ensures check_reads { wanted task.Check ≡ 2 }
+    ensures sheet_reads { wanted task.Sheet ≡ 1 }
+    ensures check_takes { limit_of task.Check ≡ 8388608 }
+    ensures note { note_line (Looks 600 12) ≡ codes "cache looks 600 hits 12\n" }
+    ensures no_note { note_line Nothing ≡ [] }
+{}

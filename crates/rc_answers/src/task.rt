@@ -1,0 +1,44 @@
+//! What commands do with a source.
+ghost use Rattle.std.specs.Prelude.{◌≡◌, ◌≤◌};
+ghost use Rattle.rc_model.specs.Limits.{longest_text};
+ghost use Rattle.rc_answers.specs.declared.task.Task.{Task};
+ghost use Rattle.rc_answers.specs.Task.{limit_of, wanted};
+
+use rc_command::Options;
+use rc_names::limits::{LONGEST_SOURCE, LONGEST_TEXT};
+
+/// What a command does with its source.
+#[derive(Clone, Copy, Debug, PartialEq, Eq, Hash)]
+pub enum Task {
+    /// Plays the matches of a sheet and a plan, by these options.
+    Play(Options),
+    /// Judges a transcript of a sheet and a plan.
+    Check,
+    /// Prints a sheet.
+    Sheet,
+}
+
+impl Task {
+    /// How many lists it reads from the front of its source.
+    pub fn wanted(self) -> usize
+        ensures { result ≡ wanted self }
+    {
+        match self {
+            Task::Play(_) => 2,
+            Task::Check => 2,
+            Task::Sheet => 1,
+        }
+    }
+
+    /// The most bytes that it takes from its source.
+    pub fn limit(self) -> usize
+        ensures is { result ≡ limit_of self }
+        ensures few { result ≤ longest_text }
+    {
+        match self {
+            Task::Play(_) => LONGEST_SOURCE,
+            Task::Check => LONGEST_TEXT,
+            Task::Sheet => LONGEST_SOURCE,
+        }
+    }
+}
