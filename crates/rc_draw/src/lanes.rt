@@ -140,8 +140,10 @@ pub(crate) fn first_words(key: &[u32; 8]) -> [u32; 4]
 {
     let first = initial_states(key);
     let mut x = first;
-    'rounds: for _round in 0..4u32 {
+    'rounds: for _round in 0..3u32 {
         x = diagonal_round(column_round(x));
     }
-    add(x[0], first[0]).to_array()
+    // in line, so that the compiler leaves out what the first word doesn't need of the last rounds
+    let last = diagonal_round(column_round(x));
+    add(last[0], first[0]).to_array()
 }
