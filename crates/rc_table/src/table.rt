@@ -109,8 +109,7 @@ fn homes(alloc: Global, shape: &Shape) -> Result<Rows, Memory>
     let mut lists = Rows::new(alloc, shape)?;
     for id in 0..shape.cards() {
         let home = shape.home(id);
-        let top = lists.list(home).len();
-        lists.put_in(home, top, id);
+        lists.put_on(home, id);
     }
     Ok(lists)
 }

@@ -1,21 +1,20 @@
-use Rattle.std.proofs.Common.{ℕ, List, length, get_or, set, [], arith, ap, ap₂, ◌∙◌}
+use Rattle.std.proofs.Common.{ℕ, List, length, get_or, arith, ap, ap₂, ◌∙◌}
 use Rattle.std.proofs.lemmas.List.FromFn.{length-map-range_with_len}
 use Rattle.rc_table.proofs.Homes.{begun, no_card, one_more, begun_few, home_within, room_at_home}
-use Rattle.rc_table.proofs.PutBack.{insert_above}
 use Rattle.rc_table.proofs.table.homes.Goals as goal
 
 abbrev get_or_zero : List ℕ → ℕ → ℕ
 get_or_zero room at = get_or room at 0
 
-pub put_in-requires-clause-list : goal.put_in-requires-clause-list
-put_in-requires-clause-list c =
+pub put_on-requires-clause-list : goal.put_on-requires-clause-list
+put_on-requires-clause-list c =
     let shape = c.args.shape.now in
     let within = home_within shape c.loop-id.id c.requires (omega (arith, c.cards-id-end.ensures)) in
     let long = ap length c.loop-id.invariant.all ∙ length-map-range_with_len (begun shape.home c.loop-id.id) 0 (length shape.places) in
     omega (arith, within, long, c.home-home.ensures)
 
-pub put_in-requires-clause-room : goal.put_in-requires-clause-room
-put_in-requires-clause-room c =
+pub put_on-requires-clause-room : goal.put_on-requires-clause-room
+put_on-requires-clause-room c =
     let shape = c.args.shape.now in
     let cards = c.cards-id-end.ensures in
     let within = home_within shape c.loop-id.id c.requires (omega (arith, cards)) in
@@ -38,10 +37,7 @@ loop-id-preserved c =
     let id = c.loop-id.id in
     let home = c.home-home.ensures in
     let within = home_within shape id c.requires (omega (arith, c.cards-id-end.ensures)) in
-    let list = get_or c.loop-id.lists.all c.home-home.result [] in
-    let top = ap length c.list-top.ensures in
-    let put = ap (λ lists. lists.all) c.put_in.ensures ∙ ap (λ list. set c.loop-id.lists.all c.home-home.result list) (insert_above list (length c.list-top.result.now) id (omega (arith, top))) in
     record {
-      all = put ∙ rw home (one_more shape.home id (length shape.places) c.loop-id.lists.all c.loop-id.invariant.all within);
-      room = ap (λ lists. lists.room) c.put_in.ensures ∙ c.loop-id.invariant.room;
+      all = ap (λ lists. lists.all) c.put_on.ensures.lists ∙ rw home (one_more shape.home id (length shape.places) c.loop-id.lists.all c.loop-id.invariant.all within);
+      room = ap (λ lists. lists.room) c.put_on.ensures.lists ∙ c.loop-id.invariant.room;
     }
