@@ -1,5 +1,4 @@
-use Rattle.std.proofs.Common.{◌+◌, ◌∙◌, [], length, map, drop, sym, ap, arith}
-use Rattle.std.proofs.lemmas.List.{drop_all}
+use Rattle.std.proofs.Common.{map, arith}
 use Rattle.rc_table.specs.Places.{place_seen}
 use Rattle.rc_table.specs.Shape.{mems_among}
 use Rattle.rc_table.proofs.Mems.{mems_on}
