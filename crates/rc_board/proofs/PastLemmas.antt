@@ -1,8 +1,8 @@
 -- What a board keeps, after edits and where it goes home.
-use Rattle.std.proofs.Common.{◌≡◌, ℕ, ℤ, false, true, true≢false, List, [], ◌∷◌, length, refl, sym, ap, subst}
+use Rattle.std.proofs.Common.{◌≡◌, false, true, true≢false, List, [], ◌∷◌, length, refl, sym, ap, subst}
 use Rattle.rc_play_model.specs.Table.{Table, IsSound}
 use Rattle.rc_table.specs.Laid.{Laid, relaid}
-use Rattle.rc_board.specs.Undo.{Edit, changed, undone, before_of, IsEditOf, CanUndo, Kept, edited, gone_home, GoesBack}
+use Rattle.rc_board.specs.Undo.{Edit, undone, before_of, IsEditOf, CanUndo, Kept, edited, gone_home, GoesBack}
 use Rattle.rc_board.specs.Past.{Past, none_kept, edits_kept, home_kept, noted_in, edits_of, notes_of, home_of, home_table, TookLast, IsPast, kept_of}
 use Rattle.rc_board.proofs.UndoLemmas.{noted_can, so_many}
 
@@ -27,11 +27,16 @@ noted_edit e past past' old new t more laid back is sound kept =
     subst (λ (p : Past). AreNoted p new (edited (kept_of past old) t)) (sym more)
     (subst (λ (l : Laid). AreNoted (noted_in e past) l (edited (kept_of past old) t)) (sym laid) (one_noted e past old t back is sound kept))
 
--- where edits aren't noted, nothing is noted of a number
-pub unnoted : (num : ℕ) (value : ℤ) (past : Past) → notes_of past ≡ false → past ≡ noted_in (changed num value) past
-unnoted num value none_kept off = refl
-unnoted num value (edits_kept edits) off = absurd (true≢false off)
-unnoted num value (home_kept base) off = refl
+-- and where edits aren't noted
+unnoted : (past : Past) (old : Laid) (t : Table) → notes_of past ≡ false → IsPast old past → AreNoted past (relaid old t) (edited (kept_of past old) t)
+unnoted none_kept old t off kept = (tt, refl)
+unnoted (edits_kept edits) old t off kept = absurd (true≢false off)
+unnoted (home_kept base) old t off kept = (kept, refl)
+
+pub unnoted_edit : (past : Past) (old new : Laid) (t : Table) → notes_of past ≡ false → new ≡ relaid old t → IsPast old past →
+    AreNoted past new (edited (kept_of past old) t)
+unnoted_edit past old new t off laid kept =
+    subst (λ (l : Laid). AreNoted past l (edited (kept_of past old) t)) (sym laid) (unnoted past old t off kept)
 
 -- THE LAST EDIT
 

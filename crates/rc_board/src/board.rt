@@ -94,9 +94,25 @@ impl Board {
     }
 
     /// Takes a card out of its place and puts it on top of a location of cards.
-    #[tactic(auto, using(crate::proofs::KeepsLemmas::keeps_all))]
     #[inline(always)]
     pub fn put_top(&mut self, id: u16, loc: u16) -> Result<(), Memory>
+        requires card { id < length self.old.laid.shape.faces }
+        requires loc { HoldsCards self.old.laid.shape loc }
+        ensures leads { OnOk result (self.new ≡ edited self.old (put_top self.old.laid.shape id loc self.old.laid.table)) }
+        ensures keeps { Keeps self.old self.new }
+    {
+        if self.past.notes() {
+            return self.note_and_put_top(id, loc);
+        }
+        let (from, place) = self.table.place_of(id);
+        self.table.put_top_from(id, from, place, loc);
+        Ok(())
+    }
+
+    // The same with an entry of where the card was.
+    #[tactic(auto, using(crate::proofs::KeepsLemmas::keeps_all))]
+    #[inline(never)]
+    fn note_and_put_top(&mut self, id: u16, loc: u16) -> Result<(), Memory>
         requires card { id < length self.old.laid.shape.faces }
         requires loc { HoldsCards self.old.laid.shape loc }
         ensures leads { OnOk result (self.new ≡ edited self.old (put_top self.old.laid.shape id loc self.old.laid.table)) }
@@ -144,8 +160,23 @@ impl Board {
     }
 
     /// Puts a reference on top of a location of references, where there is room.
-    #[tactic(auto, using(crate::proofs::KeepsLemmas::keeps_all))]
     pub fn remember_top(&mut self, id: u16, loc: u16) -> Result<(), Memory>
+        requires card { id < length self.old.laid.shape.faces }
+        requires loc { HoldsReferences self.old.laid.shape loc }
+        ensures leads { OnOk result (self.new.laid ≡ relaid self.old.laid (remember_top self.old.laid.shape id loc self.old.laid.table)) }
+        ensures keeps { Keeps self.old self.new }
+    {
+        if self.past.notes() {
+            return self.note_and_remember_top(id, loc);
+        }
+        self.table.remember_top(id, loc);
+        Ok(())
+    }
+
+    // The same with an entry of where the reference is.
+    #[tactic(auto, using(crate::proofs::KeepsLemmas::keeps_all))]
+    #[inline(never)]
+    fn note_and_remember_top(&mut self, id: u16, loc: u16) -> Result<(), Memory>
         requires card { id < length self.old.laid.shape.faces }
         requires loc { HoldsReferences self.old.laid.shape loc }
         ensures leads { OnOk result (self.new.laid ≡ relaid self.old.laid (remember_top self.old.laid.shape id loc self.old.laid.table)) }
@@ -185,8 +216,23 @@ impl Board {
     }
 
     /// Takes the topmost reference with the card's face out of a location of references, if there is one.
-    #[tactic(auto, using(crate::proofs::KeepsLemmas::keeps_all))]
     pub fn forget(&mut self, id: u16, loc: u16) -> Result<(), Memory>
+        requires card { id < length self.old.laid.shape.faces }
+        requires loc { HoldsReferences self.old.laid.shape loc }
+        ensures leads { OnOk result (self.new.laid ≡ relaid self.old.laid (forget_in self.old.laid.shape id loc self.old.laid.table)) }
+        ensures keeps { Keeps self.old self.new }
+    {
+        if self.past.notes() {
+            return self.note_and_forget(id, loc);
+        }
+        self.table.forget(id, loc);
+        Ok(())
+    }
+
+    // The same with an entry of the reference and its place.
+    #[tactic(auto, using(crate::proofs::KeepsLemmas::keeps_all))]
+    #[inline(never)]
+    fn note_and_forget(&mut self, id: u16, loc: u16) -> Result<(), Memory>
         requires card { id < length self.old.laid.shape.faces }
         requires loc { HoldsReferences self.old.laid.shape loc }
         ensures leads { OnOk result (self.new.laid ≡ relaid self.old.laid (forget_in self.old.laid.shape id loc self.old.laid.table)) }
@@ -218,9 +264,6 @@ impl Board {
         ensures leads { OnOk result (self.new ≡ edited self.old (set_number num value self.old.laid.table)) }
         ensures keeps { Keeps self.old self.new }
     {
-        // what is known of a sound table and of a number
-        let _sound = self.table.shape();
-        let _old = self.table.number(num);
         if self.past.notes() {
             return self.note_and_set(num, value);
         }

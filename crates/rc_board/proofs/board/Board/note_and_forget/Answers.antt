@@ -7,7 +7,7 @@ use Rattle.rc_board.specs.PastSeen.{past_seen}
 use Rattle.rc_board.proofs.UndoLemmas.{forgotten_back}
 use Rattle.rc_board.proofs.PastLemmas.{AreNoted, noted_edit}
 use Rattle.rc_board.proofs.KeepsLemmas.{keeps_edit}
-use Rattle.rc_board.proofs.board.Board.forget.Goals as goal
+use Rattle.rc_board.proofs.board.Board.note_and_forget.Goals as goal
 
 kept : (c : goal.After-take_reference) →
     AreNoted (past_seen c.note.new.self) c.take_reference.new.self

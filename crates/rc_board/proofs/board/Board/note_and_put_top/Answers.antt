@@ -7,7 +7,7 @@ use Rattle.rc_board.specs.PastSeen.{past_seen}
 use Rattle.rc_board.proofs.UndoLemmas.{top_back, from_there}
 use Rattle.rc_board.proofs.PastLemmas.{AreNoted, noted_edit}
 use Rattle.rc_board.proofs.KeepsLemmas.{keeps_edit}
-use Rattle.rc_board.proofs.board.Board.put_top.Goals as goal
+use Rattle.rc_board.proofs.board.Board.note_and_put_top.Goals as goal
 
 kept : (c : goal.After-put_top_from) →
     AreNoted (past_seen c.note.new.self) c.put_top_from.new.self

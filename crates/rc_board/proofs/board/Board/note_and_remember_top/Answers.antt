@@ -7,7 +7,7 @@ use Rattle.rc_board.specs.PastSeen.{past_seen}
 use Rattle.rc_board.proofs.UndoLemmas.{remembered_top_back}
 use Rattle.rc_board.proofs.PastLemmas.{AreNoted, noted_edit}
 use Rattle.rc_board.proofs.KeepsLemmas.{keeps_edit}
-use Rattle.rc_board.proofs.board.Board.remember_top.Goals as goal
+use Rattle.rc_board.proofs.board.Board.note_and_remember_top.Goals as goal
 
 kept : (c : goal.After-note_top) →
     AreNoted (past_seen c.note.new.self) c.note_top.new.self

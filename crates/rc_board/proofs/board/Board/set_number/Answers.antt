@@ -1,32 +1,23 @@
-use Rattle.std.proofs.Common.{◌≡◌, sym, ap, ◌∙◌, rules, SFits, w64}
+use Rattle.std.proofs.Common.{sym, ap, ◌∙◌, rules, SFits, w64}
 use Rattle.std.proofs.lemmas.Int.{to_z-of_z}
 use Rattle.rc_table.specs.Laid.{relaid}
 use Rattle.rc_play_model.specs.Table.{set_number}
-use Rattle.rc_board.specs.Undo.{Kept, changed, undone, edited}
+use Rattle.rc_board.specs.Undo.{Kept, edited}
 use Rattle.rc_board.specs.Past.{kept_of}
 use Rattle.rc_board.specs.PastSeen.{past_seen}
-use Rattle.rc_board.proofs.UndoLemmas.{number_back}
-use Rattle.rc_board.proofs.PastLemmas.{AreNoted, noted_edit, unnoted}
+use Rattle.rc_board.proofs.PastLemmas.{AreNoted, unnoted_edit}
 use Rattle.rc_board.proofs.KeepsLemmas.{keeps_edit}
 use Rattle.rc_board.proofs.board.Board.set_number.Goals as goal
-
-set_is : (c : goal.After-set_number) → c.set_number.new.self ≡ relaid c.self.inside.table (set_number c.args.num c.args.value c.self.inside.table.table)
-set_is c =
-    let fits : SFits w64 c.args.value = search rules in
-    c.set_number.ensures ∙ ap (λ v. relaid c.self.inside.table (set_number c.args.num v c.self.inside.table.table)) (to_z-of_z w64 c.args.value fits)
 
 kept : (c : goal.After-set_number) →
     AreNoted (past_seen c.self.inside.past) c.set_number.new.self
     (edited (kept_of (past_seen c.self.inside.past) c.self.inside.table) (set_number c.args.num c.args.value c.self.inside.table.table))
 kept c =
     let now = c.self.inside.table in
-    let past = past_seen c.self.inside.past in
-    let old = c.number-old.result in
-    noted_edit (changed c.args.num old) past past now c.set_number.new.self (set_number c.args.num c.args.value now.table)
-    (unnoted c.args.num old past (sym c.notes.ensures ∙ c.if-notes.false))
-    (set_is c)
-    (ap (λ v. undone (changed c.args.num v) (set_number c.args.num c.args.value now.table)) c.number-old.ensures.is ∙ number_back now.table c.args.num c.args.value)
-    c.number-old.ensures.clamped c.shape-sound.ensures.sound c.self.invariant
+    let fits : SFits w64 c.args.value = search rules in
+    unnoted_edit (past_seen c.self.inside.past) now c.set_number.new.self _ (sym c.notes.ensures ∙ c.if-notes.false)
+    (c.set_number.ensures ∙ ap (λ v. relaid now (set_number c.args.num v now.table)) (to_z-of_z w64 c.args.value fits))
+    c.self.invariant
 
 pub invariant_of-self : goal.invariant_of-self
 invariant_of-self c = (kept c).0
