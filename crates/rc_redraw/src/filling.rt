@@ -80,7 +80,7 @@ pub(crate) fn hiding(alloc: Global, shape: &Shape, sights: &[Sight]) -> Result<V
     requires { length sights.now ≡ length shape.now.places }
     ensures { IfOk result (λ locs. locs.items ≡ hiding_from 0 (mems_of shape.now.places) (map sight_seen sights.now)) }
 {
-    let mut locs = Vec::new(alloc);
+    let mut locs = Vec::with_capacity(alloc, shape.locations() as usize)?;
     for loc in 0..shape.locations() {
         let mem = shape.holds_references(loc);
         if hidden_places(mem, &sights[loc as usize]) > 0 {

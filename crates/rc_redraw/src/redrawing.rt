@@ -24,8 +24,8 @@ use std::sync::Arc;
 /// Tables that look like a view, one for each key. What the view shows is laid once. A deal only puts the other cards anew into the
 /// places that hide them, and takes no memory.
 #[derive(Drop)]
-pub struct Redraws {
-    view: View,
+pub struct Redraws<'v> {
+    view: &'v View,
     // that of the last key, or with the hidden cards in ascending order
     table: Table,
     // the locations that hide cards
@@ -36,7 +36,7 @@ pub struct Redraws {
     order: Vec<u16>,
 }
 
-impl Model for Redraws {
+impl<'v> Model for Redraws<'v> {
     ghost use Rattle.std.specs.Coded.{codes};
     ghost use Rattle.rc_flow.specs.Codes.{sheet_codes};
     ghost use Rattle.rc_redraw.specs.Redraws.{Redrawn};
@@ -48,15 +48,15 @@ impl Model for Redraws {
     ghost use Rattle.rc_redraw.specs.Redraws.{Keeps};
     ghost use Rattle.rc_view.specs.Seen.{view_seen};
 
-    ghost view = { λ r. record { shape = r.table.shape; view = view_seen r.view; table = r.table.table } };
+    ghost view = { λ r. record { shape = r.table.shape; view = view_seen r.view.now; table = r.table.table } };
 
-    ghost invariant = { λ r. Keeps (record { shape = r.table.shape; view = view_seen r.view; table = r.table.table })
+    ghost invariant = { λ r. Keeps (record { shape = r.table.shape; view = view_seen r.view.now; table = r.table.table })
         r.hidden.items r.unused.items r.order.items };
 }
 
-impl Redraws {
+impl<'v> Redraws<'v> {
     /// Lays what a view shows. The view is that of some table of this shape. It takes all memory that deals need; that may run out.
-    pub fn new(alloc: Global, shape: &Arc<Shape>, view: &View) -> Result<Redraws, Memory>
+    pub fn new(alloc: Global, shape: &Arc<Shape>, view: &'v View) -> Result<Redraws<'v>, Memory>
         requires { IsViewOfSound shape.now.value (view_seen view.now) }
         ensures shape { IfOk result (λ redraws. redraws.shape ≡ shape.now.value) }
         ensures view { IfOk result (λ redraws. redraws.view ≡ view_seen view.now) }
@@ -67,7 +67,6 @@ impl Redraws {
         table.lay(&lists, &view.numbers);
         let hidden = hiding(alloc, shape, &view.sights)?;
         let order = Vec::from_slice(alloc, &unused)?;
-        let view = view.copy(alloc)?;
         Ok(Redraws {
             view,
             table,
@@ -101,7 +100,7 @@ impl Redraws {
 
     // That table alone.
     fn into_table(self) -> Table
-        ensures { result ≡ record { shape = self.shape; table = self.table } }
+        ensures { result ≡ record { shape = self.entry.shape; table = self.entry.table } }
     {
         let Redraws { table, .. } = self;
         table

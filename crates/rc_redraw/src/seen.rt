@@ -33,7 +33,8 @@ pub(crate) fn faces_seen(alloc: Global, shape: &Shape, sights: &[Sight]) -> Resu
     requires { length sights.now ≡ length shape.now.places }
     ensures { IfOk result (λ faces. faces.items ≡ seen_faces (mems_of shape.now.places) (map sight_seen sights.now)) }
 {
-    let mut faces = Vec::new(alloc);
+    // each card is seen at most once
+    let mut faces = Vec::with_capacity(alloc, shape.cards() as usize)?;
     for loc in 0..shape.locations() {
         let mem = shape.holds_references(loc);
         faces.extend_from_slice(faces_shown(mem, &sights[loc as usize]))?;

@@ -11,7 +11,7 @@ use Rattle.rc_redraw.proofs.redrawing.Redraws.deal.Goals as goal
 
 pub refill-requires-clause-enough : goal.refill-requires-clause-enough
 refill-requires-clause-enough c =
-    let r : Redrawn = record { shape = c.self.inside.table.shape; view = view_seen c.self.inside.view; table = c.self.inside.table.table } in
+    let r : Redrawn = record { shape = c.self.inside.table.shape; view = view_seen c.self.inside.view.now; table = c.self.inside.table.table } in
     let kept = c.self.invariant in
     let key = c.args.key.now in
     let count = c.seen_places_take_the_smallest.ensures.rest r.shape r.view kept.of in
@@ -22,7 +22,7 @@ refill-requires-clause-enough c =
 
 pub refill-requires-clause-sound : goal.refill-requires-clause-sound
 refill-requires-clause-sound c =
-    let r : Redrawn = record { shape = c.self.inside.table.shape; view = view_seen c.self.inside.view; table = c.self.inside.table.table } in
+    let r : Redrawn = record { shape = c.self.inside.table.shape; view = view_seen c.self.inside.view.now; table = c.self.inside.table.table } in
     let kept = c.self.invariant in
     let key = c.args.key.now in
     let count = c.seen_places_take_the_smallest.ensures.rest r.shape r.view kept.of in
@@ -33,7 +33,7 @@ refill-requires-clause-sound c =
 
 pub invariant_of-self : goal.invariant_of-self
 invariant_of-self c =
-    let r : Redrawn = record { shape = c.self.inside.table.shape; view = view_seen c.self.inside.view; table = c.self.inside.table.table } in
+    let r : Redrawn = record { shape = c.self.inside.table.shape; view = view_seen c.self.inside.view.now; table = c.self.inside.table.table } in
     let kept = c.self.invariant in
     let key = c.args.key.now in
     let count = c.seen_places_take_the_smallest.ensures.rest r.shape r.view kept.of in
@@ -53,7 +53,7 @@ invariant_of-self c =
 
 pub returns-clause-is : goal.returns-clause-is
 returns-clause-is c =
-    let r : Redrawn = record { shape = c.self.inside.table.shape; view = view_seen c.self.inside.view; table = c.self.inside.table.table } in
+    let r : Redrawn = record { shape = c.self.inside.table.shape; view = view_seen c.self.inside.view.now; table = c.self.inside.table.table } in
     let kept = c.self.invariant in
     let key = c.args.key.now in
     let count = c.seen_places_take_the_smallest.ensures.rest r.shape r.view kept.of in
@@ -65,7 +65,7 @@ returns-clause-is c =
 
 pub returns-clause-sound : goal.returns-clause-sound
 returns-clause-sound c =
-    let r : Redrawn = record { shape = c.self.inside.table.shape; view = view_seen c.self.inside.view; table = c.self.inside.table.table } in
+    let r : Redrawn = record { shape = c.self.inside.table.shape; view = view_seen c.self.inside.view.now; table = c.self.inside.table.table } in
     let kept = c.self.invariant in
     let key = c.args.key.now in
     let count = c.seen_places_take_the_smallest.ensures.rest r.shape r.view kept.of in
@@ -77,7 +77,7 @@ returns-clause-sound c =
 
 pub returns-clause-view : goal.returns-clause-view
 returns-clause-view c =
-    let r : Redrawn = record { shape = c.self.inside.table.shape; view = view_seen c.self.inside.view; table = c.self.inside.table.table } in
+    let r : Redrawn = record { shape = c.self.inside.table.shape; view = view_seen c.self.inside.view.now; table = c.self.inside.table.table } in
     let kept = c.self.invariant in
     let key = c.args.key.now in
     let count = c.seen_places_take_the_smallest.ensures.rest r.shape r.view kept.of in
