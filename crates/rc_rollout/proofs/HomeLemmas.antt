@@ -1,20 +1,33 @@
 -- Machines that are at home at a decision.
-use Rattle.std.proofs.Common.{◌≡◌, ℕ, ap, ◌∙◌}
+use Rattle.std.proofs.Common.{◌≡◌, ℕ, length, sym, ap, subst, ◌∙◌}
 use Rattle.rc_play_model.specs.About.{About}
 use Rattle.rc_play_model.specs.Step.{Config}
 use Rattle.rc_play_model.specs.Tally.{Ask}
+use Rattle.rc_rules.specs.Machine.{StandsAtDecision, menu_here}
 use Rattle.rc_flat.specs.Home.{Homing}
-use Rattle.rc_rollout.specs.Back.{IsHomeOf, StandsAtRound}
+use Rattle.rc_rollout.specs.Back.{IsHomeAtRound, IsHomeOf, StandsAtRound}
 
--- at a round's table it is at home at the decision
-pub round_home : (about : About) (ask : Ask) (round : ℕ) (m : Homing) → StandsAtRound about ask round m → IsHomeOf about ask m
-round_home about ask round m stands =
-    record { same = stands.same; control = ap (λ (c : Config). c.control) (stands.home ∙ stands.there) }
+module _ (about : About) (ask : Ask) (round : ℕ) where
+  -- where it stands at a round's table, that is its home
+  pub home_there : (m : Homing) → StandsAtRound about ask round m → IsHomeAtRound about ask round m
+  home_there m stands =
+      record {
+        same = stands.same;
+        there = stands.home ∙ stands.there;
+        decides = subst (StandsAtDecision about) (sym stands.home) stands.decides;
+        size = ap (λ (c : Config). length (menu_here about c)) stands.home ∙ stands.size;
+      }
 
--- back at home it is as it was there
-pub same_machine : (old new : Homing) → new.about ≡ old.about → new.config ≡ old.config → new.home ≡ old.home → new.spent ≡ old.spent → new ≡ old
-same_machine old new about config home spent =
-    ap (λ x. record { about = x; config = new.config; home = new.home; spent = new.spent }) about
-    ∙ ap (λ x. record { about = old.about; config = x; home = new.home; spent = new.spent }) config
-    ∙ ap (λ x. record { about = old.about; config = old.config; home = x; spent = new.spent }) home
-    ∙ ap (λ x. record { about = old.about; config = old.config; home = old.home; spent = x }) spent
+  -- and it is one of the ask, with whatever table
+  pub round_home : (m : Homing) → IsHomeAtRound about ask round m → IsHomeOf about ask m
+  round_home m home = record { same = home.same; control = ap (λ (c : Config). c.control) home.there }
+
+  -- it stays
+  pub home_stays : (old new : Homing) → new.about ≡ about → new.home ≡ old.home → IsHomeAtRound about ask round old → IsHomeAtRound about ask round new
+  home_stays old new same home is =
+      record {
+        same = same;
+        there = home ∙ is.there;
+        decides = subst (StandsAtDecision about) (sym home) is.decides;
+        size = ap (λ (c : Config). length (menu_here about c)) home ∙ is.size;
+      }

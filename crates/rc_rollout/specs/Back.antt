@@ -19,3 +19,10 @@ pub record StandsAtRound (about : About) (ask : Ask) (round : ℕ) (m : Homing) 
   pub decides : StandsAtDecision about m.config
   pub size : length (menu_here about m.config) ≡ menu_size about ask.view
   pub fresh : m.spent ≡ false
+
+-- the home of a machine is the decision of an ask with the table that is redrawn for a round, wherever it stands
+pub record IsHomeAtRound (about : About) (ask : Ask) (round : ℕ) (m : Homing) : Type 0 where
+  pub same : m.about ≡ about
+  pub there : m.home ≡ redrawn_at about ask round
+  pub decides : StandsAtDecision about m.home
+  pub size : length (menu_here about m.home) ≡ menu_size about ask.view

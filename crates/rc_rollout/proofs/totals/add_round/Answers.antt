@@ -1,18 +1,7 @@
-use Rattle.std.proofs.Common.{sym, ◌∙◌, subst}
+use Rattle.std.proofs.Common.{◌∙◌}
 use Rattle.rc_redraw.specs.Asking.{ask_seen}
-use Rattle.rc_rollout.specs.Back.{IsHomeOf}
-use Rattle.rc_rollout.proofs.AskedLemmas.{on_ok}
-use Rattle.rc_rollout.proofs.HomeLemmas.{round_home}
 use Rattle.rc_rollout.proofs.RoundLemmas.{dealt_for, deals_still}
 use Rattle.rc_rollout.proofs.totals.add_round.Goals as goal
-
-pub returns-clause-home : goal.returns-clause-home
-returns-clause-home g c =
-    let about = c.args.about.now in
-    let ask = ask_seen c.args.ask.now in
-    on_ok c.add_gains.result _ _
-    (λ back. subst (IsHomeOf about ask) (sym back) (round_home about ask c.args.round c.go_to_round.new.machine c.go_to_round.ensures))
-    c.add_gains.ensures.back
 
 pub go_to_round-requires-clause-table : goal.go_to_round-requires-clause-table
 go_to_round-requires-clause-table g c =
