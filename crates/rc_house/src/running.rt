@@ -157,26 +157,6 @@ fn answer_from<S: Source, L: Ledger>(
     answer_alone(alloc, command, source, &mut steps)
 }
 
-/// What a command answers with as many workers as its words name, or the status that it ends with.
-fn answer_of<R: Threads + Wait + Sync, S: Source, G: Gate>(
-    alloc: Global,
-    rt: &R,
-    command: Command,
-    source: &mut S,
-    gate: &G,
-) -> Result<Answer, Status>
-    requires named { (words : List (List ℕ)) × IsCommand words command }
-    ensures answers { (playouts : ℕ) × AnswersCommand command (port (S.left source.old) (S.faults source.old)) (port (S.left source.new) (S.faults source.new))
-        0 playouts result }
-    ensures counted { S.faults source.old ≤ S.faults source.new }
-{
-    if command.options().workers == 1 {
-        answer_from::<S, Brand>(alloc, command, source, Blank::new(1))
-    } else {
-        answer_together(alloc, rt, command, source, gate)
-    }
-}
-
 /// The command that words name; where only one worker can play, one of more isn't named.
 fn command_for(alloc: Global, words: &[String], several: bool) -> Result<Command, Status>
     ensures named { IfOk result (IsCommand (map string_bytes words.now)) }
@@ -249,8 +229,12 @@ pub fn run<R: Threads + Wait + Sync, S: Source, O: Sink, N: Sink, G: Gate>(
     texts_are_the_same();
     what_is_played_is_judged_legal();
     match command_for(alloc, words, true) {
+        Ok(command) if command.options().workers == 1 => {
+            let answered = answer_from::<S, Brand>(alloc, command, source, Blank::new(1));
+            conclude(out, notes, answered)
+        }
         Ok(command) => {
-            let answered = answer_of(alloc, rt, command, source, gate);
+            let answered = answer_together(alloc, rt, command, source, gate);
             conclude(out, notes, answered)
         }
         Err(status) => refuse(notes, status),
