@@ -117,50 +117,6 @@ fn decide(
     Some(Stop::Decide { seat, site })
 }
 
-// A step where no round is next.
-#[tactic(auto, using(rc_doing::proofs::ShuffleLemmas::not_shuffled))]
-fn step_at<D: Dealer>(
-    state: &mut State,
-    about: &About,
-    code: &[Instruction],
-    first: &Instruction,
-    dealer: &mut D,
-) -> Result<Option<Stop>, Memory>
-    requires serves { Serves about.now.sheet (list_seen code.now) }
-    requires ready { IsReady about.now (list_seen code.now) state.old }
-    requires round { state.old.place.at_round ≡ false }
-    requires here { slice_get (list_seen code.now) state.old.place.next ≡ Some (instruction_seen first.now) }
-    ensures leads { IfOk result (λ stop. step about.now (D.dealing dealer.old) (D.state dealer.old) (config_at about.now (list_seen code.now) state.old)
-        ≡ next_seen stop (config_at about.now (list_seen code.now) state.new) (D.state dealer.new)) }
-    ensures ready { OnOk result (IsReady about.now (list_seen code.now) state.new) }
-    ensures keeps { Keeps state.old.board state.new.board }
-    ensures shuffled { HasShuffled (D.dealing dealer.old) (D.state dealer.old) (D.state dealer.new) }
-    ensures dealing { D.dealing dealer.new ≡ D.dealing dealer.old }
-    ensures kept { IfOk result (λ stop. IsSome stop → D.state dealer.new ≡ D.state dealer.old) }
-{
-    match first {
-        Instruction::Do(inside) => match do_next(state, about, code, *inside, dealer) {
-            Ok(()) => Ok(None),
-            Err(Memory) => Err(Memory),
-        },
-        Instruction::Stage { number, class, .. } => {
-            state.open_next(about, code, *number, *class);
-            Ok(None)
-        }
-        Instruction::Choice {
-            site,
-            alts,
-            inside,
-            ..
-        } => Ok(choice_next(state, about, code, *site, alts, *inside)),
-        Instruction::Simple(_) => Ok(state.leave(about, code)),
-        Instruction::If(_, _) => Ok(state.leave(about, code)),
-        Instruction::Repeat(_, _) => Ok(state.leave(about, code)),
-        Instruction::Each(_, _, _) => Ok(state.leave(about, code)),
-        Instruction::End => Ok(state.leave(about, code)),
-    }
-}
-
 // A step.
 #[tactic(auto, using(rc_doing::proofs::ShuffleLemmas::not_shuffled))]
 fn one_step<D: Dealer>(
@@ -182,9 +138,29 @@ fn one_step<D: Dealer>(
     if state.place.at_round() {
         return Ok(state.step_round(about, code));
     }
-    match code.get(state.place.next()) {
-        Some(first) => step_at(state, about, code, first, dealer),
-        None => Ok(state.leave(about, code)),
+    let Some(instruction) = code.get(state.place.next()) else {
+        return Ok(state.leave(about, code));
+    };
+    match instruction {
+        Instruction::Do(inside) => match do_next(state, about, code, *inside, dealer) {
+            Ok(()) => Ok(None),
+            Err(Memory) => Err(Memory),
+        },
+        Instruction::Stage { number, class, .. } => {
+            state.open_next(about, code, *number, *class);
+            Ok(None)
+        }
+        Instruction::Choice {
+            site,
+            alts,
+            inside,
+            ..
+        } => Ok(choice_next(state, about, code, *site, alts, *inside)),
+        Instruction::Simple(_) => Ok(state.leave(about, code)),
+        Instruction::If(_, _) => Ok(state.leave(about, code)),
+        Instruction::Repeat(_, _) => Ok(state.leave(about, code)),
+        Instruction::Each(_, _, _) => Ok(state.leave(about, code)),
+        Instruction::End => Ok(state.leave(about, code)),
     }
 }
 
