@@ -1,0 +1,69 @@
+//! Tests that are asked again and again.
+
+use crate::flat::{Flat, flat_of};
+use rc_ast::Test;
+use std::marker::Model;
+
+/// A test, with its flat form if it has one.
+pub struct Asked {
+    test: Test,
+    flat: Option<Flat>,
+}
+
+impl Drop for Asked {
+    // a derived drop is proved again wherever such a test is dropped, and this one once
+    fn drop(self) {
+        let Asked {
+            test: _test,
+            flat: _flat,
+        } = self;
+    }
+}
+
+impl Model for Asked {
+    ghost use Rattle.rc_sheet_model.specs.Sheet.{Test as PureTest};
+    ghost use Rattle.rc_ast.specs.Expressions.{test_seen};
+    ghost use Rattle.rc_asked.specs.Codes.{coded_test};
+    ghost use Rattle.rc_asked.specs.Meaning.{IsFlatForm};
+
+    ghost Value = { PureTest };
+
+    ghost coded = { coded_test };
+
+    ghost view = { λ a. test_seen a.test };
+
+    ghost invariant = { λ a. IsFlatForm (test_seen a.test) a.flat };
+}
+
+impl Asked {
+    ghost use Rattle.std.specs.Prelude.{◌≡◌, IfSome};
+    ghost use Rattle.rc_ast.specs.Expressions.{test_seen};
+    ghost use Rattle.rc_asked.specs.Meaning.{flat_meant};
+
+    /// A test that is to be asked.
+    pub fn new(test: Test) -> Asked
+        ensures { result ≡ test_seen test }
+    {
+        let flat = flat_of(&test);
+        Asked { test, flat }
+    }
+
+    /// The test.
+    #[inline(always)]
+    pub fn test(&self) -> &Test
+        ensures { test_seen result.now ≡ self.now }
+    {
+        &self.test
+    }
+
+    /// Its flat form, if it has one.
+    #[inline(always)]
+    pub fn flat(&self) -> Option<&Flat>
+        ensures { IfSome result (λ flat. flat_meant flat.now ≡ self.now) }
+    {
+        match &self.flat {
+            Some(flat) => Some(flat),
+            None => None,
+        }
+    }
+}

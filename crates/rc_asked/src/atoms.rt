@@ -1,0 +1,78 @@
+//! Tests with no other test inside them.
+ghost use Rattle.std.specs.Prelude.{◌≡◌, IfSome};
+ghost use Rattle.rc_sheet_model.specs.Sheet.{eq_attr};
+ghost use Rattle.rc_ast.specs.Expressions.{card_seen, int_seen, test_seen};
+ghost use Rattle.rc_asked.specs.Meaning.{atom_meant, compared};
+
+use crate::amounts::{Amount, amount_of, topped_by};
+use rc_ast::{CardExpr, IntExpr, Loc, Test};
+
+/// How a number is to compare with another.
+#[derive(Clone, Copy)]
+pub enum Comparison {
+    Equal,
+    Less,
+    AtMost,
+    More,
+    AtLeast,
+}
+
+/// A comparison of two numbers, or of the values that the top cards of two locations have for an attribute each.
+#[derive(Clone, Copy)]
+pub enum Atom {
+    Compare {
+        how: Comparison,
+        one: Amount,
+        other: Amount,
+    },
+    Same {
+        one: Loc,
+        name: u16,
+        other: Loc,
+        other_name: u16,
+    },
+}
+
+fn compare_of(how: Comparison, a: &IntExpr, b: &IntExpr) -> Option<Atom>
+    ensures { IfSome result (λ atom. atom_meant atom ≡ compared how (int_seen a.now) (int_seen b.now)) }
+{
+    match amount_of(a) {
+        Some(one) => match amount_of(b) {
+            Some(other) => Some(Atom::Compare { how, one, other }),
+            None => None,
+        },
+        None => None,
+    }
+}
+
+fn same_of(a: &CardExpr, name: u16, b: &CardExpr, other_name: u16) -> Option<Atom>
+    ensures { IfSome result (λ atom. atom_meant atom ≡ eq_attr (card_seen a.now) name (card_seen b.now) other_name) }
+{
+    match topped_by(a) {
+        Some(one) => match topped_by(b) {
+            Some(other) => Some(Atom::Same {
+                one,
+                name,
+                other,
+                other_name,
+            }),
+            None => None,
+        },
+        None => None,
+    }
+}
+
+/// A test in flat form, if it has no other test inside it and has one.
+pub(crate) fn atom_of(test: &Test) -> Option<Atom>
+    ensures { IfSome result (λ atom. atom_meant atom ≡ test_seen test.now) }
+{
+    match test {
+        Test::EqInt(a, b) => compare_of(Comparison::Equal, a, b),
+        Test::Less(a, b) => compare_of(Comparison::Less, a, b),
+        Test::LessEq(a, b) => compare_of(Comparison::AtMost, a, b),
+        Test::More(a, b) => compare_of(Comparison::More, a, b),
+        Test::MoreEq(a, b) => compare_of(Comparison::AtLeast, a, b),
+        Test::EqAttr(a, name, b, other) => same_of(a, *name, b, *other),
+        _ => None,
+    }
+}

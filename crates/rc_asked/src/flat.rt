@@ -1,0 +1,120 @@
+//! Tests in flat form.
+ghost use Rattle.std.specs.Prelude.{◌≡◌, IfSome};
+ghost use Rattle.rc_sheet_model.specs.Sheet.{all_of, and_of, cards_in, each_player, eq_int, literal, size_of};
+ghost use Rattle.rc_ast.specs.Names.{loc_seen};
+ghost use Rattle.rc_ast.specs.Expressions.{coll_seen, domain_seen, int_seen, test_seen, tests_seen};
+ghost use Rattle.rc_asked.specs.Meaning.{flat_meant, IsFlatForm};
+
+use crate::atoms::{Atom, atom_of};
+use rc_ast::{CollExpr, Domain, IntExpr, Loc, Test, Who};
+
+/// A test in flat form: one comparison, two that are both to hold, or whether each player has so many cards in a location of his,
+/// outside all binders. Beside that stand the number of its variable's word and the offset of the location's form.
+#[derive(Clone, Copy)]
+pub enum Flat {
+    One(Atom),
+    Both(Atom, Atom),
+    EachHas {
+        bound: u32,
+        name: u16,
+        at: u32,
+        count: i64,
+    },
+}
+
+fn both_of(tests: &Vec<Test>) -> Option<Flat>
+    ensures { IfSome result (λ flat. flat_meant flat ≡ and_of (tests_seen tests.now.items)) }
+{
+    if tests.len() != 2 {
+        return None;
+    }
+    match atom_of(&tests[0]) {
+        Some(one) => match atom_of(&tests[1]) {
+            Some(other) => Some(Flat::Both(one, other)),
+            None => None,
+        },
+        None => None,
+    }
+}
+
+// So many in a location of the player that the outermost variable stands for.
+fn each_has(bound: u32, loc: &Loc, count: i64) -> Option<Flat>
+    ensures { IfSome result (λ flat. flat_meant flat ≡ all_of each_player bound (eq_int (size_of (cards_in (loc_seen loc.now))) (literal count))) }
+{
+    match loc.who {
+        Who::Var(0) => Some(Flat::EachHas {
+            bound,
+            name: loc.name,
+            at: loc.at,
+            count,
+        }),
+        _ => None,
+    }
+}
+
+// As many as a number, if it is a literal.
+fn each_has_literal(bound: u32, loc: &Loc, expr: &IntExpr) -> Option<Flat>
+    ensures { IfSome result (λ flat. flat_meant flat ≡ all_of each_player bound (eq_int (size_of (cards_in (loc_seen loc.now))) (int_seen expr.now))) }
+{
+    match expr {
+        IntExpr::Lit(count) => each_has(bound, loc, *count),
+        _ => None,
+    }
+}
+
+fn each_size(bound: u32, cards: &CollExpr, expr: &IntExpr) -> Option<Flat>
+    ensures { IfSome result (λ flat. flat_meant flat ≡ all_of each_player bound (eq_int (size_of (coll_seen cards.now)) (int_seen expr.now))) }
+{
+    match cards {
+        CollExpr::Loc(loc) => each_has_literal(bound, loc, expr),
+        _ => None,
+    }
+}
+
+fn each_equal(bound: u32, a: &IntExpr, b: &IntExpr) -> Option<Flat>
+    ensures { IfSome result (λ flat. flat_meant flat ≡ all_of each_player bound (eq_int (int_seen a.now) (int_seen b.now))) }
+{
+    match a {
+        IntExpr::Size(cards) => each_size(bound, cards, b),
+        _ => None,
+    }
+}
+
+fn of_each(bound: u32, test: &Test) -> Option<Flat>
+    ensures { IfSome result (λ flat. flat_meant flat ≡ all_of each_player bound (test_seen test.now)) }
+{
+    match test {
+        Test::EqInt(a, b) => each_equal(bound, a, b),
+        _ => None,
+    }
+}
+
+// A test of all members of a domain in flat form, if they are the players and it has one.
+fn all_in(domain: &Domain, bound: u32, test: &Test) -> Option<Flat>
+    ensures { IfSome result (λ flat. flat_meant flat ≡ all_of (domain_seen domain.now) bound (test_seen test.now)) }
+{
+    match domain {
+        Domain::Players => of_each(bound, test),
+        _ => None,
+    }
+}
+
+fn one_of(test: &Test) -> Option<Flat>
+    ensures { IfSome result (λ flat. flat_meant flat ≡ test_seen test.now) }
+{
+    match atom_of(test) {
+        Some(atom) => Some(Flat::One(atom)),
+        None => None,
+    }
+}
+
+/// A test in flat form, if it has one.
+pub(crate) fn flat_of(test: &Test) -> Option<Flat>
+    ensures { IsFlatForm (test_seen test.now) result }
+{
+    match test {
+        Test::And(tests) => both_of(tests),
+        Test::All(domain, bound, inner) => all_in(domain, *bound, inner),
+        _ => one_of(test),
+    }
+}

@@ -1,0 +1,328 @@
+//! Guards of the cards of one location, in parts.
+ghost use Rattle.std.specs.Prelude.{◌≡◌, ℕ, true, map, All, IfSome, if◌then◌else◌};
+ghost use Rattle.rc_sheet_model.specs.Sheet.{and_of, any_alt, any_of, cards_in, card_var, each_card, eq_attr, has_value, or_of, top_card};
+ghost use Rattle.rc_ast.specs.Names.{loc_seen};
+ghost use Rattle.rc_ast.specs.Expressions.{card_seen, coll_seen, domain_seen, test_seen, tests_seen};
+ghost use Rattle.rc_ast.specs.Items.{alt_seen};
+ghost use Rattle.rc_asked.specs.Guards.{in_sense, part_meant, guard_meant, IsFixedLoc, IsFixedAmount, IsFixedAtom, IsFixedPart, IsFixedGuard, IsQuestionOf, IsPartOf, IsGuardOf, IsWishOf};
+
+use crate::amounts::Amount;
+use crate::atoms::{Atom, atom_of};
+use arrayvec::ArrayVec;
+use rc_ast::{Alt, CardExpr, CollExpr, Domain, Loc, Test, Who};
+
+/// Whether a question is asked as it is, or its opposite, in either of the two ways in which a sheet says so.
+#[derive(Clone, Copy)]
+pub enum Sense {
+    Plain,
+    Ne,
+    Not,
+}
+
+/// What is wished of a card: that it has a value for an attribute, or for one the value that the top card of a location has for one.
+#[derive(Clone, Copy)]
+pub enum Wish {
+    Value { name: u16, value: u16 },
+    Against { name: u16, against: Loc, other: u16 },
+}
+
+/// A question that is answered with no walk over a tree, where no variable owns any of its locations: a comparison; whether the
+/// innermost variable's card is as it is wished; or whether one of the cards of a location is.
+#[derive(Clone, Copy)]
+pub enum Question {
+    Known(Atom),
+    Wished(Wish),
+    Some { among: Loc, bound: u32, wish: Wish },
+}
+
+/// A part of a guard.
+#[derive(Clone, Copy)]
+pub struct Part {
+    pub sense: Sense,
+    pub question: Question,
+}
+
+impl Default for Part {
+    fn default() -> Part {
+        Part {
+            sense: Sense::Plain,
+            question: Question::Wished(Wish::Value { name: 0, value: 0 }),
+        }
+    }
+}
+
+/// The parts of a guard, few of them.
+pub type FewParts = ArrayVec<Part, 4>;
+
+/// A guard of the cards of a location: whether one of its parts is enough, and the parts. No variable owns any of its locations.
+#[derive(Drop)]
+pub struct Guard {
+    pub loc: Loc,
+    pub any: bool,
+    pub parts: FewParts,
+}
+
+// Whether no variable owns a location.
+fn is_fixed(loc: &Loc) -> bool
+    ensures { result ≡ true → IsFixedLoc (loc_seen loc.now) }
+{
+    match loc.who {
+        Who::Game => true,
+        Who::CurrentPlayer => true,
+        Who::CurrentTeam => true,
+        Who::TeamOfCurrent => true,
+        _ => false,
+    }
+}
+
+// Whether no variable owns what a number is read off. A number that the game keeps isn't looked at: few guards ask for one.
+fn is_fixed_amount(amount: &Amount) -> bool
+    ensures { result ≡ true → IsFixedAmount amount.now }
+{
+    match amount {
+        Amount::Literal(_) => true,
+        Amount::Number(_) => false,
+        Amount::Size(loc) => is_fixed(loc),
+        Amount::Worth(loc, _) => is_fixed(loc),
+    }
+}
+
+fn is_fixed_atom(atom: &Atom) -> bool
+    ensures { result ≡ true → IsFixedAtom atom.now }
+{
+    match atom {
+        Atom::Compare { how: _, one, other } => is_fixed_amount(one) && is_fixed_amount(other),
+        Atom::Same {
+            one,
+            name: _,
+            other,
+            other_name: _,
+        } => is_fixed(one) && is_fixed(other),
+    }
+}
+
+// The location, where a collection is one that no variable owns.
+fn fixed_location(cards: &CollExpr) -> Option<Loc>
+    ensures same { IfSome result (λ loc. cards_in (loc_seen loc) ≡ coll_seen cards.now) }
+    ensures fixed { IfSome result (λ loc. IsFixedLoc (loc_seen loc)) }
+{
+    match cards {
+        CollExpr::Loc(loc) => { if is_fixed(loc) { Some(*loc) } else { None } }
+        _ => None,
+    }
+}
+
+// The location, where a card is the top one of one that no variable owns.
+fn fixed_top(card: &CardExpr) -> Option<Loc>
+    ensures same { IfSome result (λ loc. top_card (cards_in (loc_seen loc)) ≡ card_seen card.now) }
+    ensures fixed { IfSome result (λ loc. IsFixedLoc (loc_seen loc)) }
+{
+    match card {
+        CardExpr::Top(cards) => fixed_location(cards),
+        _ => None,
+    }
+}
+
+// The location, where a domain is the cards of one that no variable owns.
+fn fixed_domain(domain: &Domain) -> Option<Loc>
+    ensures same { IfSome result (λ loc. each_card (cards_in (loc_seen loc)) ≡ domain_seen domain.now) }
+    ensures fixed { IfSome result (λ loc. IsFixedLoc (loc_seen loc)) }
+{
+    match domain {
+        Domain::Coll(cards) => fixed_location(cards),
+        _ => None,
+    }
+}
+
+// Whether a card is the variable at this place.
+fn is_variable(card: &CardExpr, place: u8) -> bool
+    ensures { result ≡ true → card_seen card.now ≡ card_var place }
+{
+    match card {
+        CardExpr::Var(var) => *var == place,
+        _ => false,
+    }
+}
+
+// What is wished of the card of the variable at this place, where that is what two cards' values are compared for.
+fn wish_between(a: &CardExpr, name: u16, b: &CardExpr, other: u16, place: u8) -> Option<Wish>
+    ensures { IfSome result (IsWishOf place (eq_attr (card_seen a.now) name (card_seen b.now) other)) }
+{
+    if !is_variable(a, place) {
+        return None;
+    }
+    match fixed_top(b) {
+        Some(against) => Some(Wish::Against {
+            name,
+            against,
+            other,
+        }),
+        None => None,
+    }
+}
+
+// The same where a card is asked for a value.
+fn wish_named(card: &CardExpr, name: u16, value: u16, place: u8) -> Option<Wish>
+    ensures { IfSome result (IsWishOf place (has_value (card_seen card.now) name value)) }
+{
+    if is_variable(card, place) {
+        return Some(Wish::Value { name, value });
+    }
+    None
+}
+
+fn wish_of(test: &Test, place: u8) -> Option<Wish>
+    ensures { IfSome result (IsWishOf place (test_seen test.now)) }
+{
+    match test {
+        Test::EqAttr(a, name, b, other) => wish_between(a, *name, b, *other, place),
+        Test::Is(card, name, value) => wish_named(card, *name, *value, place),
+        _ => None,
+    }
+}
+
+fn known_of(test: &Test) -> Option<Question>
+    ensures { IfSome result (IsQuestionOf (test_seen test.now)) }
+{
+    match atom_of(test) {
+        Some(atom) => {
+            if is_fixed_atom(&atom) {
+                Some(Question::Known(atom))
+            } else {
+                None
+            }
+        }
+        None => None,
+    }
+}
+
+// The question that a test is which binds no variable.
+fn plain_question(test: &Test) -> Option<Question>
+    ensures { IfSome result (IsQuestionOf (test_seen test.now)) }
+{
+    match wish_of(test, 0) {
+        Some(wish) => Some(Question::Wished(wish)),
+        None => known_of(test),
+    }
+}
+
+// The question whether one of a domain passes a test.
+fn some_of(domain: &Domain, bound: u32, inner: &Test) -> Option<Question>
+    ensures { IfSome result (IsQuestionOf (any_of (domain_seen domain.now) bound (test_seen inner.now))) }
+{
+    match fixed_domain(domain) {
+        Some(among) => some_in(among, bound, inner),
+        None => None,
+    }
+}
+
+fn some_in(among: Loc, bound: u32, inner: &Test) -> Option<Question>
+    requires { IsFixedLoc (loc_seen among) }
+    ensures { IfSome result (IsQuestionOf (any_of (each_card (cards_in (loc_seen among))) bound (test_seen inner.now))) }
+{
+    match wish_of(inner, 1) {
+        Some(wish) => Some(Question::Some { among, bound, wish }),
+        None => None,
+    }
+}
+
+fn question_of(test: &Test) -> Option<Question>
+    ensures { IfSome result (IsQuestionOf (test_seen test.now)) }
+{
+    match test {
+        Test::Any(domain, bound, inner) => some_of(domain, *bound, inner),
+        _ => plain_question(test),
+    }
+}
+
+fn sensed(sense: Sense, test: &Test) -> Option<Part>
+    ensures { IfSome result (IsPartOf (in_sense sense (test_seen test.now))) }
+{
+    match question_of(test) {
+        Some(question) => Some(Part { sense, question }),
+        None => None,
+    }
+}
+
+fn part_of(test: &Test) -> Option<Part>
+    ensures { IfSome result (IsPartOf (test_seen test.now)) }
+{
+    match test {
+        Test::Ne(inner) => sensed(Sense::Ne, inner),
+        Test::Not(inner) => sensed(Sense::Not, inner),
+        _ => sensed(Sense::Plain, test),
+    }
+}
+
+fn parts_of(tests: &Vec<Test>) -> Option<FewParts>
+    ensures same { IfSome result (λ parts. map part_meant parts.items ≡ map test_seen tests.now.items) }
+    ensures fixed { IfSome result (λ parts. All IsFixedPart parts.items) }
+{
+    if tests.len() > 4 {
+        return None;
+    }
+    let mut parts = FewParts::new();
+    for test in tests {
+        match part_of(test) {
+            Some(part) => parts.push(part),
+            None => return None,
+        }
+    }
+    Some(parts)
+}
+
+// The guard of a location's cards that joins these tests.
+fn joined(loc: Loc, any: bool, tests: &Vec<Test>) -> Option<Guard>
+    requires { IsFixedLoc (loc_seen loc) }
+    ensures place { IfSome result (λ guard. guard.loc ≡ loc) }
+    ensures same { IfSome result (λ guard. guard_meant guard ≡ (if any then or_of (tests_seen tests.now.items) else and_of (tests_seen tests.now.items))) }
+    ensures fixed { IfSome result IsFixedGuard }
+{
+    match parts_of(tests) {
+        Some(parts) => Some(Guard { loc, any, parts }),
+        None => None,
+    }
+}
+
+#[tactic(auto, using(rc_ast::proofs::ViewLemmas::and_seen, rc_ast::proofs::ViewLemmas::or_seen))]
+fn guard_by(loc: Loc, test: &Test) -> Option<Guard>
+    requires { IsFixedLoc (loc_seen loc) }
+    ensures place { IfSome result (λ guard. guard.loc ≡ loc) }
+    ensures same { IfSome result (λ guard. guard_meant guard ≡ test_seen test.now) }
+    ensures fixed { IfSome result IsFixedGuard }
+{
+    match test {
+        Test::Or(tests) => joined(loc, true, tests),
+        Test::And(tests) => joined(loc, false, tests),
+        _ => None,
+    }
+}
+
+fn guard_in(loc: Loc, alt: &Alt) -> Option<Guard>
+    requires { IsFixedLoc (loc_seen loc) }
+    ensures { IfSome result (λ guard. (bound : ℕ) → IsGuardOf (any_alt (each_card (cards_in (loc_seen loc))) bound (alt_seen alt.now)) guard) }
+{
+    match alt {
+        Alt::If(guard, _) => guard_by(loc, guard),
+        _ => None,
+    }
+}
+
+fn guard_among(domain: &Domain, alt: &Alt) -> Option<Guard>
+    ensures { IfSome result (λ guard. (bound : ℕ) → IsGuardOf (any_alt (domain_seen domain.now) bound (alt_seen alt.now)) guard) }
+{
+    match fixed_domain(domain) {
+        Some(loc) => guard_in(loc, alt),
+        None => None,
+    }
+}
+
+/// The guard of an alternative outside all binders that offers the cards of a location, if it is one in such parts.
+pub(crate) fn guard_of(alt: &Alt) -> Option<Guard>
+    ensures { IfSome result (IsGuardOf (alt_seen alt.now)) }
+{
+    match alt {
+        Alt::Any(domain, _, inner) => guard_among(domain, inner),
+        _ => None,
+    }
+}
