@@ -1,8 +1,7 @@
 -- Code as the definitions have it.
 use Rattle.std.specs.Prelude.{List, map}
-use Rattle.rc_ast.specs.Expressions.{int_seen, test_seen, domain_seen}
+use Rattle.rc_ast.specs.Expressions.{int_seen, domain_seen}
 use Rattle.rc_ast.specs.Effects.{effect_seen}
-use Rattle.rc_ast.specs.Items.{alts_seen}
 use Rattle.rc_code.specs.Instruction.{simple, if_true, so_often, one_by_one, do_all, begin_stage, offer, end_body}
 use Rattle.rc_code.specs.Instruction.{Block as PureBlock, Instruction as PureInstruction, SitePlace as PurePlace, Code as PureCode}
 use Rattle.rc_code.specs.declared.code.Block.{Block}
@@ -16,12 +15,12 @@ block_seen block = record { before = block.before; inside = block.inside }
 
 abbrev pub instruction_seen : Instruction → PureInstruction
 instruction_seen (Simple e) = simple (effect_seen e)
-instruction_seen (If test inside) = if_true (test_seen test) inside
+instruction_seen (If test inside) = if_true test inside
 instruction_seen (Repeat count inside) = so_often (int_seen count) inside
 instruction_seen (Each domain bound inside) = one_by_one (domain_seen domain) bound inside
 instruction_seen (Do inside) = do_all inside
-instruction_seen (Stage number class end inside) = begin_stage number class (test_seen end) inside
-instruction_seen (Choice site alts blocks inside) = offer site (alts_seen alts.items) (map block_seen blocks.items) inside
+instruction_seen (Stage number class end inside) = begin_stage number class end inside
+instruction_seen (Choice site alts blocks inside) = offer site alts.items (map block_seen blocks.items) inside
 instruction_seen End = end_body
 
 abbrev pub list_seen : List Instruction → List PureInstruction

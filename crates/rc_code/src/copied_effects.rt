@@ -4,6 +4,7 @@ ghost use Rattle.rc_ast.specs.Effects.{effect_seen};
 ghost use Rattle.rc_ast.specs.Items.{alt_seen};
 
 use crate::copies::{boxed_test, copy_card, copy_coll, copy_domain, copy_int, copy_test};
+use rc_asked::Offer;
 use rc_ast::{Alt, Effect};
 use rc_deck::Memory;
 use std::alloc::Global;
@@ -55,14 +56,14 @@ fn copy_effects(alloc: Global, effects: &Vec<Effect>) -> Result<Vec<Effect>, Mem
     Ok(copies)
 }
 
-/// The same alternatives once more.
-pub(crate) fn copy_alts(alloc: Global, alts: &Vec<Alt>) -> Result<Vec<Alt>, Memory>
-    ensures { IfOk result (λ copy. map alt_seen copy.items ≡ map alt_seen alts.now.items) }
+/// The same alternatives once more, of which menus are to be made.
+pub(crate) fn copy_offers(alloc: Global, alts: &Vec<Alt>) -> Result<Vec<Offer>, Memory>
+    ensures { IfOk result (λ copy. copy.items ≡ map alt_seen alts.now.items) }
 {
     let mut copies = Vec::new(alloc);
     for alt in alts {
         let copy = copy_alt(alloc, alt)?;
-        copies.push(copy)?;
+        copies.push(Offer::new(copy))?;
     }
     Ok(copies)
 }

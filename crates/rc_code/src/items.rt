@@ -10,9 +10,10 @@ ghost use Rattle.rc_code.specs.Compiled.{effects_code, alts_code, blocks_from, i
 ghost use Rattle.rc_code.specs.Seen.{block_seen, list_seen, place_seen};
 
 use crate::code::{Block, Instruction, SitePlace};
-use crate::copied_effects::copy_alts;
+use crate::copied_effects::copy_offers;
 use crate::copies::copy_test;
 use crate::effects::{push, push_effects, push_inside, write};
+use rc_asked::Asked;
 use rc_ast::{Alt, Class, Effect, SheetItem, Test};
 use rc_deck::Memory;
 use std::alloc::Global;
@@ -105,7 +106,7 @@ fn push_stage(
                 Instruction::Stage {
                     number,
                     class,
-                    end,
+                    end: Asked::new(end),
                     inside,
                 },
             );
@@ -224,7 +225,7 @@ fn push_offer(
         Err(Memory) => return Err(Memory),
     };
     let inside = list.len() - at - 1;
-    match copy_alts(alloc, alts) {
+    match copy_offers(alloc, alts) {
         Ok(alts) => {
             write(
                 list,

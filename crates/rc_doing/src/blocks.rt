@@ -7,7 +7,7 @@ ghost use Rattle.rc_play_model.specs.Value.{Bind as PureBind, player_bound, card
 ghost use Rattle.rc_play_model.specs.Scene.{CardValue};
 ghost use Rattle.rc_play_model.specs.Bound.{IsBindOf, IsCardOf};
 ghost use Rattle.rc_play_model.specs.Effects.{does_one, does, times as times_in};
-ghost use Rattle.rc_ast.specs.Expressions.{coll_seen, int_seen, test_seen, domain_seen};
+ghost use Rattle.rc_ast.specs.Expressions.{coll_seen, int_seen, domain_seen};
 ghost use Rattle.rc_rules.specs.Control.{frames_seen};
 ghost use Rattle.rc_value.specs.Cards.{value_seen, values_seen};
 ghost use Rattle.rc_value.specs.Current.{IsCurrent};
@@ -24,13 +24,14 @@ ghost use Rattle.rc_rules.specs.Dealer.{HasShuffled};
 use crate::everyone::{gather_all, gather_for_each, set_all, set_for_each};
 use crate::scopes::one_more;
 use crate::simple::do_simple;
-use rc_ast::{CollExpr, Domain, IntExpr, Test};
+use rc_asked::Asked;
+use rc_ast::{CollExpr, Domain, IntExpr};
 use rc_board::Board;
 use rc_code::Instruction;
 use rc_deck::Memory;
 use rc_names::limits::MOST_TIMES;
 use rc_rules::{About, Dealer, Frames};
-use rc_state::{Context, FewCards, cards_now, few_cards_now, int_now, test_now};
+use rc_state::{Context, FewCards, asked_now, cards_now, few_cards_now, int_now};
 use rc_value::{Bind, Bindings, Card, Cards, Current};
 
 /// The first instructions, so many of them.
@@ -63,8 +64,8 @@ pub fn past(code: &[Instruction], count: usize) -> &[Instruction]
 
 // The test and what is inside, where a block is one `if`.
 #[inline(always)]
-fn sole_if(code: &[Instruction]) -> Option<(&Test, &[Instruction])>
-    ensures is { IfSome result (λ sole. effects_in (list_seen code.now) ≡ effect (when (test_seen sole.0.now) (effects_in (list_seen sole.1.now))) no_effect) }
+fn sole_if(code: &[Instruction]) -> Option<(&Asked, &[Instruction])>
+    ensures is { IfSome result (λ sole. effects_in (list_seen code.now) ≡ effect (when sole.0.now (effects_in (list_seen sole.1.now))) no_effect) }
     ensures simple { IfSome result (λ sole. AreSimple (list_seen code.now) → AreSimple (list_seen sole.1.now)) }
     ensures shorter { IfSome result (λ sole. length sole.1.now < length code.now) }
 {
@@ -180,23 +181,23 @@ fn do_first<'c, D: Dealer>(
 #[inline(always)]
 fn do_if<D: Dealer>(
     context: &Context,
-    test: &Test,
+    test: &Asked,
     inside: &[Instruction],
     board: &mut Board,
     frames: &mut Frames,
     dealer: &mut D,
 ) -> Result<(), Memory>
     requires stands { Stands context.now board.old.laid frames.old.items }
-    requires well { IsEffectUnder context.now.about.now.sheet context.now.scope.now (when (test_seen test.now) (effects_in (list_seen inside.now))) }
+    requires well { IsEffectUnder context.now.about.now.sheet context.now.scope.now (when test.now (effects_in (list_seen inside.now))) }
     requires simple { AreSimple (list_seen inside.now) }
-    ensures does { OnOk result (does_one context.now.about.now (D.dealing dealer.old) context.now.scope.now (when (test_seen test.now) (effects_in (list_seen inside.now)))
+    ensures does { OnOk result (does_one context.now.about.now (D.dealing dealer.old) context.now.scope.now (when test.now (effects_in (list_seen inside.now)))
         (point_of board.old.laid frames.old.items (D.state dealer.old)) ≡ point_of board.new.laid frames.new.items (D.state dealer.new)) }
     ensures stands { OnOk result (Stands context.now board.new.laid frames.new.items) }
     ensures keeps { Keeps board.old board.new }
     ensures shuffled { HasShuffled (D.dealing dealer.old) (D.state dealer.old) (D.state dealer.new) }
     ensures dealing { D.dealing dealer.new ≡ D.dealing dealer.old }
 {
-    if test_now(context, test, board.table(), &*frames) {
+    if asked_now(context, test, board.table(), &*frames) {
         return do_block(context, inside, board, frames, dealer);
     }
     Ok(())

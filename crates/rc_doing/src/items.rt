@@ -8,7 +8,7 @@ ghost use Rattle.rc_play_model.specs.About.{scene_at};
 ghost use Rattle.rc_play_model.specs.Menu.{alt_in, bindings_of, effects_of};
 ghost use Rattle.rc_play_model.specs.Effects.{does};
 ghost use Rattle.rc_ast.specs.Expressions.{domain_seen};
-ghost use Rattle.rc_ast.specs.Items.{alt_seen, alts_seen};
+ghost use Rattle.rc_ast.specs.Items.{alt_seen};
 ghost use Rattle.rc_rules.specs.Control.{frames_seen};
 ghost use Rattle.rc_value.specs.Current.{IsCurrent};
 ghost use Rattle.rc_value.specs.Seen.{bind_seen};
@@ -24,6 +24,7 @@ ghost use Rattle.rc_rules.specs.Dealer.{HasShuffled};
 
 use crate::blocks::do_block;
 use crate::scopes::one_more;
+use rc_asked::Offer;
 use rc_ast::{Alt, Domain};
 use rc_board::Board;
 use rc_code::Instruction;
@@ -39,7 +40,7 @@ use rc_value::{Bind, Bindings, Cards, Current};
 pub fn do_item<D: Dealer>(
     about: &About,
     current: Current,
-    alts: &[Alt],
+    alts: &[Offer],
     block: &[Instruction],
     item: &Item,
     board: &mut Board,
@@ -48,10 +49,10 @@ pub fn do_item<D: Dealer>(
 ) -> Result<(), Memory>
     requires shape { board.old.laid.shape ≡ about.now.shape }
     requires current { IsCurrent about.now.sheet (frames_seen frames.old.items) current }
-    requires well { AreAltsOutside about.now.sheet (alts_seen alts.now) }
-    requires block { effects_in (list_seen block.now) ≡ effects_of (alt_in (alts_seen alts.now) item.now.alt) }
+    requires well { AreAltsOutside about.now.sheet alts.now }
+    requires block { effects_in (list_seen block.now) ≡ effects_of (alt_in alts.now item.now.alt) }
     requires simple { AreSimple (list_seen block.now) }
-    ensures does { OnOk result (let alt = alt_in (alts_seen alts.now) item.now.alt in
+    ensures does { OnOk result (let alt = alt_in alts.now item.now.alt in
         does about.now (D.dealing dealer.old)
         (bindings_of (scene_at about.now board.old.laid.table (frames_seen frames.old.items)) [] alt item.now.spots.items) (effects_of alt)
         (point_of board.old.laid frames.old.items (D.state dealer.old)) ≡ point_of board.new.laid frames.new.items (D.state dealer.new)) }
@@ -60,7 +61,7 @@ pub fn do_item<D: Dealer>(
     ensures shuffled { HasShuffled (D.dealing dealer.old) (D.state dealer.old) (D.state dealer.new) }
     ensures dealing { D.dealing dealer.new ≡ D.dealing dealer.old }
 {
-    let Some(alt) = alts.get(item.alt as usize) else {
+    let Some(offer) = alts.get(item.alt as usize) else {
         return Ok(());
     };
     let scope = Bindings::empty();
@@ -71,7 +72,7 @@ pub fn do_item<D: Dealer>(
     };
     do_here(
         &context,
-        alt,
+        offer.alt(),
         block,
         item.spots.as_slice(),
         board,

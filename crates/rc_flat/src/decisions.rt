@@ -2,7 +2,6 @@
 ghost use Rattle.std.specs.Prelude.{◌≡◌, ℕ, ◌<◌, length, map, slice_get, slice_index_or, Some, OnOk};
 ghost use Rattle.rc_play_model.specs.Step.{goes};
 ghost use Rattle.rc_play_model.specs.Decision.{choose};
-ghost use Rattle.rc_ast.specs.Items.{alts_seen};
 ghost use Rattle.rc_rules.specs.Machine.{StandsAtDecision, menu_here};
 ghost use Rattle.rc_code.specs.Instruction.{offer};
 ghost use Rattle.rc_code.specs.Meaning.{block_in};
@@ -12,7 +11,7 @@ ghost use Rattle.rc_code.specs.Serves.{AreSimple, Serves};
 ghost use Rattle.rc_stand.specs.State.{IsReady, config_at};
 ghost use Rattle.rc_rules.specs.Dealer.{HasShuffled};
 
-use rc_ast::Alt;
+use rc_asked::Offer;
 use rc_code::{Block, Instruction};
 use rc_deck::Memory;
 use rc_doing::{do_item, front, past};
@@ -59,7 +58,7 @@ fn take_item<D: Dealer>(
     state: &mut State,
     about: &About,
     code: &[Instruction],
-    alts: &[Alt],
+    alts: &[Offer],
     blocks: &[Block],
     inside: usize,
     item: u16,
@@ -67,7 +66,7 @@ fn take_item<D: Dealer>(
 ) -> Result<(), Memory>
     requires serves { Serves about.now.sheet (list_seen code.now) }
     requires ready { IsReady about.now (list_seen code.now) state.old }
-    requires here { (site : ℕ) × (slice_get (list_seen code.now) state.old.place.next ≡ Some (offer site (alts_seen alts.now) (map block_seen blocks.now) inside)) }
+    requires here { (site : ℕ) × (slice_get (list_seen code.now) state.old.place.next ≡ Some (offer site alts.now (map block_seen blocks.now) inside)) }
     requires decision { StandsAtDecision about.now (config_at about.now (list_seen code.now) state.old) }
     requires offered { item < length (menu_here about.now (config_at about.now (list_seen code.now) state.old)) }
     ensures leads { OnOk result (choose about.now (D.dealing dealer.old) (D.state dealer.old) item (config_at about.now (list_seen code.now) state.old)

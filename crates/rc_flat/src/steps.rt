@@ -3,7 +3,6 @@ ghost use Rattle.std.specs.Prelude.{◌≡◌, ◌+◌, ◌<◌, IsSome, None, S
 ghost use Rattle.rc_play_model.specs.Owners.{mover};
 ghost use Rattle.rc_play_model.specs.Step.{goes, step};
 ghost use Rattle.rc_play_model.specs.Stop.{stop_of};
-ghost use Rattle.rc_ast.specs.Items.{alts_seen};
 ghost use Rattle.rc_rules.specs.Control.{frames_seen, stop_seen};
 ghost use Rattle.rc_rules.specs.Machine.{StandsWhereItStops};
 ghost use Rattle.rc_code.specs.Instruction.{Block as PureBlock, do_all, offer};
@@ -13,11 +12,11 @@ ghost use Rattle.rc_code.specs.Serves.{Serves};
 ghost use Rattle.rc_stand.specs.State.{KeepsMenu, IsReady, config_at, next_seen, LeadsTo};
 ghost use Rattle.rc_rules.specs.Dealer.{HasShuffled};
 
-use rc_ast::Alt;
+use rc_asked::Offer;
 use rc_code::Instruction;
 use rc_deck::Memory;
 use rc_doing::{do_outside, front, past};
-use rc_menu::fill_menu_by;
+use rc_menu::fill_offers_by;
 use rc_play_model::stops_stay;
 use rc_rules::{About, Dealer, Stop};
 use rc_stand::{State, behind};
@@ -66,19 +65,19 @@ fn choice_next(
     about: &About,
     code: &[Instruction],
     site: u8,
-    alts: &[Alt],
+    alts: &[Offer],
     inside: usize,
 ) -> Option<Stop>
     requires serves { Serves about.now.sheet (list_seen code.now) }
     requires ready { IsReady about.now (list_seen code.now) state.old }
     requires round { state.old.place.at_round ≡ false }
-    requires here { (blocks : List PureBlock) × (slice_get (list_seen code.now) state.old.place.next ≡ Some (offer site (alts_seen alts.now) blocks inside)) }
+    requires here { (blocks : List PureBlock) × (slice_get (list_seen code.now) state.old.place.next ≡ Some (offer site alts.now blocks inside)) }
     ensures leads { LeadsTo about.now (config_at about.now (list_seen code.now) state.old) result (config_at about.now (list_seen code.now) state.new) }
     ensures ready { IsReady about.now (list_seen code.now) state.new }
     ensures keeps { state.new.board ≡ state.old.board }
 {
     let current = state.current;
-    fill_menu_by(
+    fill_offers_by(
         about,
         current,
         state.board.table(),

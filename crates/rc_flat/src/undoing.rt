@@ -6,7 +6,7 @@ ghost use Rattle.rc_stand.specs.State.{IsReady, flat_of};
 ghost use Rattle.rc_stand.specs.Moments.{IsInMatch};
 
 use rc_code::Instruction;
-use rc_menu::fill_menu_by;
+use rc_menu::fill_offers_by;
 use rc_rules::About;
 use rc_stand::{State, choice_there};
 
@@ -25,7 +25,7 @@ pub fn refill(state: &mut State, about: &About, code: &[Instruction])
         return;
     };
     let choice = choice_there(code, state.place.next());
-    fill_menu_by(
+    fill_offers_by(
         about,
         state.current,
         state.board.table(),

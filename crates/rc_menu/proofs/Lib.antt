@@ -2,3 +2,4 @@ pub mod Offers
 pub mod AskLemmas
 pub mod RowOffers
 pub mod KnownLemmas
+pub mod PartLemmas

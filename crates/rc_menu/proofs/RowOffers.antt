@@ -1,13 +1,18 @@
 -- What is offered of the cards of a row.
-use Rattle.std.proofs.Common.{◌≡◌, ℕ, Bool, true, cond, List, [], ◌∷◌, map, refl, sym, ap, ◌∙◌}
+use Rattle.std.proofs.Common.{◌≡◌, ℕ, Bool, true, false, not, cond, List, [], ◌∷◌, map, refl, sym, ap, ◌∙◌}
 use Rattle.std.specs.List.{list_all}
-use Rattle.rc_play_model.specs.Menu.{from_each}
+use Rattle.rc_sheet_model.specs.Sheet.{Alt as PureAlt, Test as PureTest, cards_in, if_alt}
+use Rattle.rc_play_model.specs.Menu.{from_each, spots_of}
 use Rattle.rc_play_model.specs.Scene.{CardValue, id_of}
-use Rattle.rc_play_model.specs.Value.{Scene as PureScene, Bind as PureBind}
+use Rattle.rc_play_model.specs.Value.{Scene as PureScene, Bind as PureBind, coll_value}
+use Rattle.rc_ast.specs.Names.{loc_seen}
+use Rattle.rc_asked.specs.declared.guards.Guard.{Guard}
+use Rattle.rc_asked.specs.Guards.{guard_meant, IsGuardOf}
 use Rattle.rc_menu.specs.declared.asks.Ask.{Ask}
 use Rattle.rc_menu.specs.declared.asks.Ask.TheVariants.{Value, Wish, Whole}
-use Rattle.rc_menu.specs.Asks.{ask_value, asks_value, met_value, joined}
-use Rattle.rc_menu.proofs.Offers.{each_mapped, same_offers}
+use Rattle.rc_menu.specs.declared.asks.Parts.{Parts}
+use Rattle.rc_menu.specs.Asks.{ask_value, asks_value, met_value, joined, told_of, IsInParts}
+use Rattle.rc_menu.proofs.Offers.{each_mapped, offered_if, same_offers}
 
 -- where values are all that is asked, a card's id tells all
 module _ (s : PureScene CardValue) (vars : List (PureBind CardValue)) where
@@ -25,3 +30,32 @@ module _ (s : PureScene CardValue) (vars : List (PureBind CardValue)) where
       ∙ each_mapped (λ id. cond (joined any (map (met_value id) asks)) ([] ∷ []) []) id_of 0 cards
       ∙ same_offers (λ c. joined any (map (met_value (id_of c)) asks)) (λ c. joined any (map (ask_value s vars c) asks)) cards
       (λ c. ap (joined any) (met_all c asks (sym is ∙ so)))
+
+  -- the same of a guard in parts
+  pub part_offers : (t : PureTest) (parts : Parts) (asks : List Ask) (ids : List ℕ) (cards : List CardValue) → list_all asks_value asks ≡ true → ids ≡ map id_of cards →
+      IsInParts s vars t parts asks →
+      from_each (λ id. cond (cond parts.settled parts.any (joined parts.any (map (met_value id) asks))) ([] ∷ []) []) 0 ids
+      ≡ from_each (λ c. cond (told_of s vars t c) ([] ∷ []) []) 0 cards
+  part_offers t parts asks ids cards sought are h =
+      ap (from_each (λ id. cond (cond parts.settled parts.any (joined parts.any (map (met_value id) asks))) ([] ∷ []) []) 0) are
+      ∙ each_mapped (λ id. cond (cond parts.settled parts.any (joined parts.any (map (met_value id) asks))) ([] ∷ []) []) id_of 0 cards
+      ∙ same_offers (λ c. cond parts.settled parts.any (joined parts.any (map (met_value (id_of c)) asks))) (told_of s vars t) cards
+      (λ c. ap (λ bs. cond parts.settled parts.any (joined parts.any bs)) (met_all c asks sought) ∙ sym (h c))
+
+  -- and of the alternative whose guard it is
+  pub guard_offers : (alt : PureAlt) (guard : Guard) → IsGuardOf alt guard →
+      from_each (λ c. cond (told_of s vars (guard_meant guard) c) ([] ∷ []) []) 0 (coll_value s vars (cards_in (loc_seen guard.loc))) ≡ spots_of s vars alt
+  guard_offers alt guard h =
+      offered_if s vars (if_alt (guard_meant guard) h.1) (guard_meant guard) h.1 (coll_value s vars (cards_in (loc_seen guard.loc))) refl
+      ∙ ap (spots_of s vars) (sym h.2)
+
+-- what is settled once and for all, and what isn't
+pub settled_offers : (settled any way : Bool) (f : ℕ → Bool) (ids : List ℕ) → not settled ≡ false → any ≡ way →
+    from_each (λ id. cond way ([] ∷ []) []) 0 ids ≡ from_each (λ id. cond (cond settled any (f id)) ([] ∷ []) []) 0 ids
+settled_offers true any way f ids so is = ap (λ b. from_each (λ id. cond b ([] ∷ []) []) 0 ids) (sym is)
+settled_offers false any way f ids so is = absurd (cc)
+
+pub asked_offers : (settled any : Bool) (f : ℕ → Bool) (ids : List ℕ) → not settled ≡ true →
+    from_each (λ id. cond (f id) ([] ∷ []) []) 0 ids ≡ from_each (λ id. cond (cond settled any (f id)) ([] ∷ []) []) 0 ids
+asked_offers true any f ids so = absurd (cc)
+asked_offers false any f ids so = refl

@@ -5,6 +5,8 @@ use Rattle.rc_sheet_model.specs.Sheet.{Test}
 use Rattle.rc_play_model.specs.Value.{Scene as PureScene, Bind as PureBind, card_bound, both, nat_same, test_value}
 use Rattle.rc_play_model.specs.Scene.{CardValue, id_of}
 use Rattle.rc_ast.specs.Expressions.{test_seen}
+use Rattle.rc_asked.specs.Guards.{part_meant}
+use Rattle.rc_asked.specs.declared.guards.Part.{Part}
 use Rattle.rc_menu.specs.declared.asks.Ask.{Ask}
 use Rattle.rc_menu.specs.declared.asks.Ask.TheVariants.{Value, Wish, Whole}
 use Rattle.rc_menu.specs.declared.asks.Parts.{Parts}
@@ -45,6 +47,10 @@ joined any answers = if any then list_any (λ b. b) answers else list_all (λ b.
 -- what a test says, of each card
 abbrev pub told_of : PureScene CardValue → List (PureBind CardValue) → Test → CardValue → Bool
 told_of s vars t c = test_value s (vars ++ card_bound c ∷ []) t
+
+-- what parts of a guard say, of each card
+abbrev pub parts_told : PureScene CardValue → List (PureBind CardValue) → List Part → CardValue → List Bool
+parts_told s vars parts c = map (λ part. told_of s vars (part_meant part) c) parts
 
 -- a test joined to what was asked before it, and whatever is asked behind it: it settles all, or it is asked
 abbrev pub IsJoined : PureScene CardValue → List (PureBind CardValue) → Test → Bool → Bool → List Ask → List Ask → Type 0

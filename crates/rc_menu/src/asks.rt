@@ -50,9 +50,9 @@ pub(crate) struct Parts {
     pub(crate) any: bool,
 }
 
-// How a value is wanted, asked by the row of all cards' values.
+/// How a value is wanted, asked by the row of all cards' values.
 #[inline(always)]
-fn ask_in<'t>(row: &'t [Option<u16>], wanted: Wanted) -> Ask<'t>
+pub(crate) fn ask_in<'t>(row: &'t [Option<u16>], wanted: Wanted) -> Ask<'t>
     ensures is { (id : ℕ) → met_value id result ≡ meets wanted (slice_index_or row.now id None) }
     ensures by_row { asks_value result ≡ true }
 {

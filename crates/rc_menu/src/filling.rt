@@ -7,7 +7,8 @@ ghost use Rattle.rc_rules.specs.Control.{control_seen, frames_seen};
 ghost use Rattle.rc_rules.specs.Menu.{menu_seen};
 ghost use Rattle.rc_value.specs.Current.{IsCurrent};
 
-use crate::menu::fill_menu;
+use crate::menu::{fill_menu, fill_offers};
+use rc_asked::Offer;
 use rc_ast::Alt;
 use rc_rules::{About, Control, Menu};
 use rc_table::Table;
@@ -53,6 +54,31 @@ pub fn fill_menu_by(
         current,
     );
     fill_menu(&scene, site, alts, menu);
+}
+
+/// The same with alternatives whose guards may be known in parts.
+pub fn fill_offers_by(
+    about: &About,
+    current: Current,
+    table: &Table,
+    control: &Control,
+    site: u8,
+    offers: &[Offer],
+    menu: &mut Menu,
+)
+    requires laid { table.now.shape ≡ about.now.shape }
+    requires current { IsCurrent about.now.sheet (frames_seen control.now.frames.items) current }
+    requires offers { offers.now ≡ alts_at about.now.sheet site }
+    ensures { menu_seen menu.new.items ≡ menu_at about.now site table.now.table (control_seen control.now) }
+{
+    let scene = Scene::with_current(
+        about.sheet(),
+        about.lookup(),
+        table,
+        control.frames.as_slice(),
+        current,
+    );
+    fill_offers(&scene, site, offers, menu);
 }
 
 /// The same menu once more.

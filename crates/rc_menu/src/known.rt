@@ -62,9 +62,9 @@ fn plain_of<'t>(test: &'t Test) -> Plain<'t>
     }
 }
 
-// The same of the opposite.
+/// What is at hand of the opposite, or the same.
 #[inline(always)]
-fn turned_if(opposite: bool, hand: AtHand) -> AtHand
+pub(crate) fn turned_if(opposite: bool, hand: AtHand) -> AtHand
     ensures { result ≡ hand_turned opposite hand }
 {
     match hand {
@@ -290,9 +290,9 @@ fn all_there(scene: &Scene, scope: &Bindings, loc: &Loc, wanted: Wanted) -> bool
     }
 }
 
-// Whether one of them is.
+/// Whether one of them is.
 #[inline(always)]
-fn some_there(scene: &Scene, scope: &Bindings, loc: &Loc, wanted: Wanted) -> bool
+pub(crate) fn some_there(scene: &Scene, scope: &Bindings, loc: &Loc, wanted: Wanted) -> bool
     ensures { result ≡ list_any (wanted_value (scene_seen scene.now) wanted) (coll_value (scene_seen scene.now) scope.now (cards_in (loc_seen loc.now))) }
 {
     match scene.lookup.values(wanted.name) {

@@ -8,6 +8,7 @@ mod filling;
 mod known;
 mod menu;
 mod offering;
+mod parts;
 
-pub use filling::{copy_menu, fill_menu_at, fill_menu_by};
+pub use filling::{copy_menu, fill_menu_at, fill_menu_by, fill_offers_by};
 pub use menu::{fill_menu, menu_of};

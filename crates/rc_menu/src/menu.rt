@@ -13,7 +13,8 @@ ghost use Rattle.rc_value.specs.Binding.{BindsFew, alt_depth, domains_in};
 ghost use Rattle.rc_menu.specs.AlikeMenus.{EqualAtAlike};
 ghost use Rattle.rc_menu.specs.Menu.{extended};
 
-use crate::offering::{offer_every, offer_guarded, with_spot};
+use crate::offering::{offer_every, offer_guarded, offer_in_parts, with_spot};
+use rc_asked::Offer;
 use rc_ast::{Alt, CollExpr, Domain};
 use rc_play_model::alike_states_have_equal_menus;
 use rc_rules::{Item, Menu, Spots};
@@ -305,6 +306,46 @@ fn offer_all(scene: &Scene, alts: &[Alt], menu: &mut Menu)
     let scope = Bindings::empty();
     for number in 0..alts.len() {
         offer(scene, &scope, &alts[number], &first_item(number), menu);
+    }
+}
+
+/// The same with alternatives whose guards may be known in parts.
+pub(crate) fn fill_offers(scene: &Scene, site: u8, offers: &[Offer], menu: &mut Menu)
+    requires site { offers.now ≡ alts_at (scene_seen scene.now).known.sheet site }
+    ensures { menu_seen menu.new.items ≡ pure_menu_of (scene_seen scene.now) site }
+{
+    menu.clear();
+    make_offers(scene, offers, menu);
+}
+
+// Puts what they offer into an empty menu.
+fn make_offers(scene: &Scene, offers: &[Offer], menu: &mut Menu)
+    requires few { All (BindsFew 0) offers.now }
+    requires empty { menu.old.items ≡ [] }
+    ensures { menu_seen menu.new.items ≡ pure_menu_from (scene_seen scene.now) offers.now }
+{
+    let scope = Bindings::empty();
+    for number in 0..offers.len() {
+        make_offer(scene, &scope, &offers[number], &first_item(number), menu);
+    }
+}
+
+// The items that an alternative outside all binders offers: by its guard in parts, or else as it stands in the sheet.
+#[inline(always)]
+fn make_offer(scene: &Scene, scope: &Bindings, one: &Offer, item: &Item, menu: &mut Menu)
+    requires outside { scope.now ≡ [] }
+    requires few { BindsFew 0 one.now }
+    requires bare { item.now.spots.items ≡ [] }
+    ensures { menu_seen menu.new.items ≡ take 256 (menu_seen menu.old.items
+        ++ map (extended (item_seen item.now)) (spots_of (scene_seen scene.now) scope.now one.now)) }
+{
+    match one.guard() {
+        Some(guard) => {
+            if !offer_in_parts(scene, scope, guard, item, menu) {
+                offer(scene, scope, one.alt(), item, menu);
+            }
+        }
+        None => offer(scene, scope, one.alt(), item, menu),
     }
 }
 

@@ -1,17 +1,23 @@
 //! Menus that grow by the cards of an innermost domain.
-ghost use Rattle.std.specs.Prelude.{◌≡◌, ◌<◌, ◌+◌, ◌≤◌, ◌++◌, ◌∷◌, [], true, length, map, take, if◌then◌else◌};
+ghost use Rattle.std.specs.Prelude.{◌≡◌, ◌<◌, ◌+◌, ◌≤◌, ◌++◌, ◌∷◌, [], true, false, length, map, take, if◌then◌else◌};
+ghost use Rattle.rc_sheet_model.specs.Sheet.{cards_in};
 ghost use Rattle.rc_play_model.specs.Menu.{from_each};
+ghost use Rattle.rc_play_model.specs.Value.{coll_value};
+ghost use Rattle.rc_ast.specs.Names.{loc_seen};
 ghost use Rattle.rc_ast.specs.Expressions.{test_seen};
+ghost use Rattle.rc_asked.specs.Guards.{guard_meant, IsFixedGuard};
 ghost use Rattle.rc_rules.specs.Menu.{item_seen, menu_seen};
 ghost use Rattle.rc_menu.specs.Asks.{ask_value, met_value, AllFit, joined, told_of};
 ghost use Rattle.rc_value.specs.Depth.{test_depth};
 ghost use Rattle.rc_menu.specs.Menu.{extended};
 ghost use Rattle.rc_value.specs.Scene.{scene_seen};
 
-use crate::asks::{Ask, Asks, are_sought, joined_answer, joined_met, parts_of};
+use crate::asks::{Ask, Asks, Parts, are_sought, joined_answer, joined_met, parts_of};
+use crate::parts::known_parts;
+use rc_asked::Guard;
 use rc_ast::Test;
 use rc_rules::{Item, Menu, Spots};
-use rc_value::{Bindings, Collection, Scene};
+use rc_value::{Bindings, Collection, Scene, ids_of};
 
 /// The item with one more position.
 #[inline(always)]
@@ -81,6 +87,19 @@ fn put_at_if(menu: &mut Menu, item: &Item, spot: u16, passes: bool)
     let _count = menu.len();
     if passes {
         put_at(menu, item, spot);
+    }
+}
+
+// Offers each of the cards with these ids.
+fn offer_ids(ids: &[u16], item: &Item, menu: &mut Menu)
+    requires few { length ids.now ≤ 512 }
+    requires room { length item.now.spots.items < 4 }
+    ensures { menu_seen menu.new.items ≡ take 256 (menu_seen menu.old.items
+        ++ map (extended (item_seen item.now)) (from_each (λ id. [] ∷ []) 0 ids.now)) }
+{
+    let _count = menu.len();
+    for place in 0..ids.len() {
+        put_at(menu, item, place as u16);
     }
 }
 
@@ -177,5 +196,50 @@ pub(crate) fn offer_guarded<'t>(
         offer_some(scene, scope, cards, asks.as_slice(), parts.any, item, menu);
     } else if parts.any {
         offer_every(cards, item, menu);
+    }
+}
+
+// Offers those of the cards with these ids for which a guard in parts holds, where values are all that it asks.
+#[inline(always)]
+fn offer_sought(parts: Parts, asks: &[Ask], ids: &[u16], item: &Item, menu: &mut Menu)
+    requires few { length ids.now ≤ 512 }
+    requires room { length item.now.spots.items < 4 }
+    ensures { menu_seen menu.new.items ≡ take 256 (menu_seen menu.old.items
+        ++ map (extended (item_seen item.now)) (from_each (λ id. if (if parts.settled then parts.any else joined parts.any (map (met_value id) asks.now)) then [] ∷ [] else []) 0 ids.now)) }
+{
+    let _count = menu.len();
+    if !parts.settled {
+        offer_met(asks, parts.any, ids, item, menu);
+    } else if parts.any {
+        offer_ids(ids, item, menu);
+    }
+}
+
+/// Offers those of the cards of a location for which a guard holds whose parts are known. Where there is no row of values for what it
+/// asks, it offers nothing, and says so.
+#[inline(never)]
+pub(crate) fn offer_in_parts(
+    scene: &Scene,
+    scope: &Bindings,
+    guard: &Guard,
+    item: &Item,
+    menu: &mut Menu,
+) -> bool
+    requires outside { scope.now ≡ [] }
+    requires fixed { IsFixedGuard guard.now }
+    requires room { length item.now.spots.items < 4 }
+    ensures done { result ≡ true → menu_seen menu.new.items ≡ take 256 (menu_seen menu.old.items
+        ++ map (extended (item_seen item.now)) (from_each (λ c. if told_of (scene_seen scene.now) scope.now (guard_meant guard.now) c then [] ∷ [] else []) 0
+        (coll_value (scene_seen scene.now) scope.now (cards_in (loc_seen guard.now.loc))))) }
+    ensures left { result ≡ false → menu.new.items ≡ menu.old.items }
+{
+    let mut asks = Asks::new();
+    match known_parts(scene, scope, guard, &mut asks) {
+        Some(parts) => {
+            let ids = ids_of(scene, scope, &guard.loc);
+            offer_sought(parts, asks.as_slice(), ids, item, menu);
+            true
+        }
+        None => false,
     }
 }

@@ -1,7 +1,6 @@
 //! Steps at stages: one opens, a round of one begins, its next member has the turn, or it ends.
 ghost use Rattle.std.specs.Prelude.{◌≡◌, ℕ, ◌+◌, ◌<◌, ◌^◌, None, Some, true, false, List, [], ◌∷◌, ◌++◌, drop, slice_get};
 ghost use Rattle.rc_sheet_model.specs.Sheet.{Class as PureClass, Test as PureTest};
-ghost use Rattle.rc_ast.specs.Expressions.{test_seen};
 ghost use Rattle.rc_code.specs.Instruction.{begin_stage};
 ghost use Rattle.rc_code.specs.Meaning.{items_from};
 ghost use Rattle.rc_code.specs.Seen.{list_seen};
@@ -10,7 +9,8 @@ ghost use Rattle.rc_stand.specs.State.{IsReady, config_at, LeadsTo};
 
 use crate::state::State;
 use crate::there::{behind, stage_there};
-use rc_ast::{Class, Test};
+use rc_asked::Asked;
+use rc_ast::Class;
 use rc_code::Instruction;
 use rc_rules::{About, Stop};
 use rc_state::{close_frame, member_count, open_frame_by, pass_frame_by};
@@ -36,14 +36,14 @@ impl State {
         about: &About,
         code: &[Instruction],
         place: usize,
-        end: &Test,
+        end: &Asked,
         inside: usize,
     ) -> Option<Stop>
         requires ready { IsReady about.now (list_seen code.now) self.old }
         requires serves { Serves about.now.sheet (list_seen code.now) }
         requires round { self.old.place.at_round ≡ true }
         requires within { (outer : List ℕ) × (self.old.place.outer ≡ outer ++ place ∷ []) }
-        requires here { (number : ℕ) × (class : PureClass) × (slice_get (list_seen code.now) place ≡ Some (begin_stage number class (test_seen end.now) inside)) }
+        requires here { (number : ℕ) × (class : PureClass) × (slice_get (list_seen code.now) place ≡ Some (begin_stage number class end.now inside)) }
         requires fits { place + 1 < 2 ^ 64 }
         ensures leads { LeadsTo about.now (config_at about.now (list_seen code.now) self.old) result (config_at about.now (list_seen code.now) self.new) }
         ensures ready { IsReady about.now (list_seen code.now) self.new }

@@ -4,12 +4,11 @@ ghost use Rattle.rc_sheet_model.specs.WellFormed.{Around, IsTest};
 ghost use Rattle.rc_play_model.specs.Value.{test_value};
 ghost use Rattle.rc_play_model.specs.About.{scene_at};
 ghost use Rattle.rc_play_model.specs.Scores.{scores_of};
-ghost use Rattle.rc_ast.specs.Expressions.{test_seen};
 ghost use Rattle.rc_rules.specs.Control.{frames_seen, control_seen};
 ghost use Rattle.rc_value.specs.Current.{IsCurrent};
 
 use crate::place::Position;
-use rc_ast::Test;
+use rc_asked::Asked;
 use rc_board::Board;
 use rc_rules::{About, Control, Menu, Scores};
 use rc_state::{has_ended_by, scores_now};
@@ -40,11 +39,11 @@ impl State {
 
     /// Whether the end test of a stage holds.
     #[inline(always)]
-    pub fn ends(&self, about: &About, end: &Test) -> bool
+    pub fn ends(&self, about: &About, end: &Asked) -> bool
         requires laid { self.now.board.laid.shape ≡ about.now.shape }
         requires current { IsCurrent about.now.sheet (frames_seen self.now.control.frames.items) self.now.current }
-        requires well { (around : Around) × (around.binders ≡ 0) × IsTest about.now.sheet around (test_seen end.now) }
-        ensures { result ≡ test_value (scene_at about.now self.now.board.laid.table (frames_seen self.now.control.frames.items)) [] (test_seen end.now) }
+        requires well { (around : Around) × (around.binders ≡ 0) × IsTest about.now.sheet around end.now }
+        ensures { result ≡ test_value (scene_at about.now self.now.board.laid.table (frames_seen self.now.control.frames.items)) [] end.now }
     {
         has_ended_by(about, self.current, self.board.table(), &self.control, end)
     }

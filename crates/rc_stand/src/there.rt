@@ -1,35 +1,34 @@
 //! What stands at a place of the code, and where the code behind it begins.
 ghost use Rattle.std.specs.Prelude.{◌≡◌, ℕ, ◌+◌, ◌<◌, ◌≤◌, ◌^◌, List, length, map, drop, slice_get, Some};
 ghost use Rattle.rc_sheet_model.specs.Sheet.{Class as PureClass, Test as PureTest, Alt as PureAlt};
-ghost use Rattle.rc_ast.specs.Expressions.{test_seen};
-ghost use Rattle.rc_ast.specs.Items.{alts_seen};
 ghost use Rattle.rc_code.specs.Instruction.{Block as PureBlock, begin_stage, offer};
 ghost use Rattle.rc_code.specs.Seen.{block_seen, instruction_seen, list_seen};
 ghost use Rattle.rc_stand.specs.Places.{IsStageAt};
 ghost use Rattle.rc_stand.specs.Flat.{IsChoiceAt};
 
-use rc_ast::{Alt, Class, Test};
+use rc_asked::{Asked, Offer};
+use rc_ast::Class;
 use rc_code::{Block, Instruction};
 
 /// A stage: its class, its end test, and how many instructions are inside it.
 #[derive(Drop)]
 pub struct StageThere<'c> {
     pub class: Class,
-    pub end: &'c Test,
+    pub end: &'c Asked,
     pub inside: usize,
 }
 
 /// A choice: its alternatives, the blocks of their effects, and how many instructions are inside it.
 #[derive(Drop)]
 pub struct ChoiceThere<'c> {
-    pub alts: &'c [Alt],
+    pub alts: &'c [Offer],
     pub blocks: &'c [Block],
     pub inside: usize,
 }
 
 fn stage_in(first: &Instruction) -> StageThere<'_>
     requires { (number : ℕ) × (class : PureClass) × (end : PureTest) × (inside : ℕ) × (instruction_seen first.now ≡ begin_stage number class end inside) }
-    ensures { (number : ℕ) × (instruction_seen first.now ≡ begin_stage number result.class (test_seen result.end.now) result.inside) }
+    ensures { (number : ℕ) × (instruction_seen first.now ≡ begin_stage number result.class result.end.now result.inside) }
 {
     match first {
         Instruction::Stage {
@@ -55,7 +54,7 @@ fn stage_in(first: &Instruction) -> StageThere<'_>
 /// The stage that begins at a place.
 pub fn stage_there(code: &[Instruction], place: usize) -> StageThere<'_>
     requires { IsStageAt (list_seen code.now) place }
-    ensures there { (number : ℕ) × (slice_get (list_seen code.now) place ≡ Some (begin_stage number result.class (test_seen result.end.now) result.inside)) }
+    ensures there { (number : ℕ) × (slice_get (list_seen code.now) place ≡ Some (begin_stage number result.class result.end.now result.inside)) }
     ensures fits { place + 1 < 2 ^ 64 }
 {
     match code.get(place) {
@@ -66,7 +65,7 @@ pub fn stage_there(code: &[Instruction], place: usize) -> StageThere<'_>
 
 fn choice_in(first: &Instruction) -> ChoiceThere<'_>
     requires { (site : ℕ) × (alts : List PureAlt) × (blocks : List PureBlock) × (inside : ℕ) × (instruction_seen first.now ≡ offer site alts blocks inside) }
-    ensures { (site : ℕ) × (instruction_seen first.now ≡ offer site (alts_seen result.alts.now) (map block_seen result.blocks.now) result.inside) }
+    ensures { (site : ℕ) × (instruction_seen first.now ≡ offer site result.alts.now (map block_seen result.blocks.now) result.inside) }
 {
     match first {
         Instruction::Choice {
@@ -93,7 +92,7 @@ fn choice_in(first: &Instruction) -> ChoiceThere<'_>
 pub fn choice_there(code: &[Instruction], place: usize) -> ChoiceThere<'_>
     requires { IsChoiceAt (list_seen code.now) place }
     ensures { (site : ℕ) × (slice_get (list_seen code.now) place
-        ≡ Some (offer site (alts_seen result.alts.now) (map block_seen result.blocks.now) result.inside)) }
+        ≡ Some (offer site result.alts.now (map block_seen result.blocks.now) result.inside)) }
 {
     match code.get(place) {
         Some(first) => choice_in(first),

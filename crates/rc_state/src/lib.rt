@@ -4,6 +4,7 @@
 //! Nothing here takes memory.
 #![tactic(auto)]
 
+mod asked;
 mod change;
 mod context;
 mod counting;
@@ -16,6 +17,7 @@ mod scoring;
 mod shuffles;
 mod stages;
 
+pub use asked::asked_now;
 pub use change::{Change, changed};
 pub use context::{Context, scene_now};
 pub use counting::{count_decision, member_count, new_control};

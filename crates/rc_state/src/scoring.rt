@@ -1,18 +1,22 @@
 //! What is asked of a whole match: whether a stage ends, and the scores.
-ghost use Rattle.std.specs.Prelude.{◌≡◌, []};
+ghost use Rattle.std.specs.Prelude.{◌≡◌, ◌+◌, ◌≤◌, [], length};
 ghost use Rattle.rc_sheet_model.specs.WellFormed.{Around, IsTest};
-ghost use Rattle.rc_play_model.specs.Value.{test_value};
+ghost use Rattle.rc_play_model.specs.Value.{int_value, test_value};
 ghost use Rattle.rc_play_model.specs.About.{scene_at};
-ghost use Rattle.rc_play_model.specs.Scores.{score_of, scores_of};
-ghost use Rattle.rc_ast.specs.Expressions.{test_seen};
+ghost use Rattle.rc_play_model.specs.Scores.{scores_of};
+ghost use Rattle.rc_ast.specs.Expressions.{int_seen, test_seen};
 ghost use Rattle.rc_rules.specs.Control.{frames_seen, control_seen};
 ghost use Rattle.rc_value.specs.Current.{IsCurrent};
+ghost use Rattle.rc_value.specs.Depth.{int_depth};
+ghost use Rattle.rc_value.specs.Scene.{scene_seen};
 
-use rc_ast::Test;
+use rc_asked::{Asked, Flat};
+use rc_ast::{IntExpr, Test};
 use rc_rules::{About, Control, Scores};
 use rc_table::Table;
 use rc_value::{
-    Bind, Bindings, Current, Scene, current_of, expressions_bind_few, int_of, players_test, test_of,
+    Bind, Bindings, Current, Scene, current_of, each_has, expressions_bind_few, int_of,
+    number_at_hand, test_of,
 };
 
 /// Whether the end test of a stage holds.
@@ -32,12 +36,12 @@ pub fn has_ended_by(
     current: Current,
     table: &Table,
     control: &Control,
-    end: &Test,
+    end: &Asked,
 ) -> bool
     requires laid { table.now.shape ≡ about.now.shape }
     requires current { IsCurrent about.now.sheet (frames_seen control.now.frames.items) current }
-    requires well { (around : Around) × (around.binders ≡ 0) × IsTest about.now.sheet around (test_seen end.now) }
-    ensures { result ≡ test_value (scene_at about.now table.now.table (frames_seen control.now.frames.items)) [] (test_seen end.now) }
+    requires well { (around : Around) × (around.binders ≡ 0) × IsTest about.now.sheet around end.now }
+    ensures { result ≡ test_value (scene_at about.now table.now.table (frames_seen control.now.frames.items)) [] end.now }
 {
     let scene = Scene::with_current(
         about.sheet(),
@@ -46,9 +50,9 @@ pub fn has_ended_by(
         control.frames.as_slice(),
         current,
     );
-    match players_test(&scene, end) {
-        Some(ends) => ends,
-        None => has_ended_asked(about, current, table, control, end),
+    match end.flat() {
+        Some(Flat::EachHas { name, count, .. }) => each_has(&scene, *name, *count),
+        _ => has_ended_asked(about, current, table, control, end.test()),
     }
 }
 
@@ -82,21 +86,27 @@ pub fn scores_now(about: &About, table: &Table, control: &Control) -> Scores
     requires laid { table.now.shape ≡ about.now.shape }
     ensures { result.items ≡ scores_of about.now table.now.table (control_seen control.now) }
 {
-    let sheet = about.sheet();
-    let mut scores = Scores::new();
-    for player in 0..sheet.players {
-        scores.push(score_now(about, table, control, player));
-    }
-    scores
-}
-
-fn score_now(about: &About, table: &Table, control: &Control, player: u8) -> i64
-    requires laid { table.now.shape ≡ about.now.shape }
-    ensures { result ≡ score_of about.now table.now.table (control_seen control.now) player }
-{
     expressions_bind_few();
     let sheet = about.sheet();
     let scene = Scene::new(sheet, about.lookup(), table, control.frames.as_slice());
     let empty = Bindings::empty();
-    int_of(&scene, &empty.with(Bind::Player(player)), &sheet.score)
+    let mut scope = empty.with(Bind::Player(0));
+    let mut scores = Scores::new();
+    for player in 0..sheet.players {
+        scope.rebind(Bind::Player(player));
+        scores.push(score_in(&scene, &scope, &sheet.score));
+    }
+    scores
+}
+
+// The score of the player that the scope's one variable stands for.
+#[inline(always)]
+fn score_in(scene: &Scene, scope: &Bindings, score: &IntExpr) -> i64
+    requires fits { length scope.now + int_depth (int_seen score.now) ≤ 5 }
+    ensures { result ≡ int_value (scene_seen scene.now) scope.now (int_seen score.now) }
+{
+    match number_at_hand(scene, scope, score) {
+        Some(number) => number,
+        None => int_of(scene, scope, score),
+    }
 }

@@ -1,5 +1,5 @@
 -- Tests of all players that compare a number of each with one that is the same for all.
-use Rattle.std.proofs.Common.{◌≡◌, ℕ, zero, suc, ℤ, ◌==◌, Bool, false, List, [], ◌∷◌, ◌++◌, length, map, slice_get, Option, Some, None, arith, refl, sym, ap, ap₂, ◌∙◌}
+use Rattle.std.proofs.Common.{◌≡◌, ℕ, zero, suc, ℤ, ◌==◌, false, List, [], ◌∷◌, ◌++◌, length, map, slice_get, Option, Some, None, arith, refl, sym, ap, ap₂, ◌∙◌}
 use Rattle.std.specs.Prelude.{IfSome}
 use mathlib.Core.Path.{fun_ext}
 use Rattle.std.specs.List.{list_any, list_all}
@@ -11,7 +11,7 @@ use Rattle.rc_play_model.specs.Shape.{team_at}
 use Rattle.rc_play_model.specs.Scene.{CardValue}
 use Rattle.rc_play_model.specs.Value.{Scene as PureScene, Bind as PureBind, Known, player_bound, player_of, who_value, num_place, number_there, int_value, test_value}
 use Rattle.rc_flow.specs.Reads.{reads_who}
-use Rattle.rc_value.specs.declared.comparing.Comparison.{Comparison}
+use Rattle.rc_asked.specs.declared.atoms.Comparison.{Comparison}
 use Rattle.rc_value.specs.declared.comparing.Suited.{Suited}
 use Rattle.rc_value.specs.Comparing.{compare, number_held, suits, ArePaired, IsHisNumber, IsSameForAll, IsSuited}
 use Rattle.rc_value.proofs.HoldingLemmas.{his}

@@ -1,10 +1,11 @@
 -- Tests of all players that ask how many cards each of them has.
-use Rattle.std.proofs.Common.{◌≡◌, ℕ, ◌+◌, ◌<◌, ◌≤◌, ◌&&◌, ◌||◌, true, false, List, [], ◌∷◌, ◌++◌, length, get_or, drop, map, slice_get, Bool, pos, Option, Some, None, sym, ap, ap₂, ◌∙◌}
+use Rattle.std.proofs.Common.{◌≡◌, ℕ, ◌+◌, ◌<◌, ◌≤◌, ◌&&◌, ◌||◌, true, false, List, [], ◌∷◌, ◌++◌, length, get_or, drop, map, slice_get, Bool, ℤ, pos, Option, Some, None, refl, sym, ap, ap₂, ◌∙◌}
 use Rattle.std.specs.Prelude.{IfSome}
 use mathlib.Core.Path.{fun_ext}
 use Rattle.std.specs.List.{list_any, list_all}
 use Rattle.std.specs.Ordering.{int_eq}
-use Rattle.rc_sheet_model.specs.Sheet.{player_class, LocName, who_var, Loc, Test, CollExpr, cards_in, IntExpr, size_of, literal, eq_int}
+use Rattle.rc_model.specs.Numbers.{below}
+use Rattle.rc_sheet_model.specs.Sheet.{player_class, LocName, who_var, Loc, Test, CollExpr, cards_in, IntExpr, size_of, literal, eq_int, all_of, each_player}
 use Rattle.rc_play_model.specs.Owners.{place_among}
 use Rattle.rc_play_model.specs.Scene.{CardValue}
 use Rattle.rc_play_model.specs.Value.{Scene as PureScene, Bind as PureBind, player_bound, player_of, cards_there, cut, coll_value, int_value, test_value}
@@ -79,3 +80,16 @@ pub holding_is : (place : ℕ) (t : Test) (a b : IntExpr) (h : Option Holding) �
 holding_is place t a b None is told = told
 holding_is place t a b (Some h) is told = λ s vars player len.
     ap (test_value s (vars ++ player_bound player ∷ [])) is ∙ told s vars player len
+
+-- the test itself, outside all binders
+abbrev his_cards : ℕ → ℕ → CollExpr
+his_cards name at = cards_in (record { who = who_var 0; name = name; at = at })
+
+pub each_held : (s : PureScene CardValue) (name at bound : ℕ) (count : ℤ) →
+    list_all (holds s (record { name = name; count = count })) (below s.known.sheet.players)
+    ≡ test_value s [] (all_of each_player bound (eq_int (size_of (his_cards name at)) (literal count)))
+each_held s name at bound count =
+    let cards = his_cards name at in
+    let own = own_is 0 name at (record { who = who_var 0; name = name; at = at }) cards refl refl in
+    let asks = compared_any 0 name (size_of cards) (literal count) cards (Some (record { name = name; count = count })) refl own (refl, refl) in
+    all_held s [] (eq_int (size_of cards) (literal count)) (record { name = name; count = count }) (below s.known.sheet.players) 0 refl asks

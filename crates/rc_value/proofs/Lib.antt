@@ -10,3 +10,4 @@ pub mod RowLemmas
 pub mod HoldingLemmas
 pub mod ComparingLemmas
 pub mod CurrentLemmas
+pub mod AtomLemmas

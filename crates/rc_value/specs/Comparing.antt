@@ -5,8 +5,8 @@ use Rattle.rc_sheet_model.specs.Sheet.{player_class, IntExpr, Test}
 use Rattle.rc_play_model.specs.Owners.{place_among}
 use Rattle.rc_play_model.specs.Value.{Scene as PureScene, Bind as PureBind, player_bound, number_there, int_value, test_value}
 use Rattle.rc_play_model.specs.Scene.{CardValue}
-use Rattle.rc_value.specs.declared.comparing.Comparison.{Comparison}
-use Rattle.rc_value.specs.declared.comparing.Comparison.TheVariants.{Equal, Less, AtMost, More, AtLeast}
+use Rattle.rc_asked.specs.declared.atoms.Comparison.{Comparison}
+use Rattle.rc_asked.specs.declared.atoms.Comparison.TheVariants.{Equal, Less, AtMost, More, AtLeast}
 use Rattle.rc_value.specs.declared.comparing.Suited.{Suited}
 
 -- whether a number compares so with another

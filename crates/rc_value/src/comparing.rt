@@ -13,17 +13,8 @@ ghost use Rattle.rc_value.specs.Scene.{scene_seen};
 use crate::leaves::number_of;
 use crate::scene::Scene;
 use crate::scope::Bindings;
+use rc_asked::Comparison;
 use rc_ast::{Class, IntExpr, Num, Test, Who};
-
-/// How a number is to compare with another.
-#[derive(Clone, Copy)]
-pub(crate) enum Comparison {
-    Equal,
-    Less,
-    AtMost,
-    More,
-    AtLeast,
-}
 
 /// How a player's number of a name is to compare with a number that is the same for all players.
 #[derive(Clone, Copy)]
@@ -196,9 +187,9 @@ fn held(scene: &Scene, name: u16, player: u8) -> i64
     }
 }
 
-// Whether one number compares so with another.
+/// Whether one number compares so with another.
 #[inline(always)]
-fn compare(how: Comparison, one: i64, other: i64) -> bool
+pub(crate) fn compare(how: Comparison, one: i64, other: i64) -> bool
     ensures { result ≡ compare how one other }
 {
     match how {

@@ -2,6 +2,7 @@
 #![tactic(auto)]
 
 mod arithmetic;
+mod atoms;
 mod binding;
 mod cards;
 mod collection;
@@ -20,6 +21,7 @@ mod scope;
 mod wanted;
 
 pub use arithmetic::{clamped_difference, clamped_product, clamped_sum};
+pub use atoms::atom_holds;
 pub use binding::expressions_bind_few;
 pub use cards::{Card, Cards};
 pub use collection::Collection;
@@ -27,10 +29,10 @@ pub use current::{Current, current_inside, current_of};
 pub use expressions::{card_of, coll_of, int_of, test_of, wanted_of};
 pub use groups::{Values, note_values, regroup, value_at};
 pub use hand::{bare, number_at_hand};
-pub use leaves::{cards_of, value_in};
+pub use leaves::{attr_of_id, cards_of, value_in};
 pub use places::{loc_at, num_at, who_of};
-pub use players::players_test;
-pub use rows::ids_of;
+pub use players::each_has;
+pub use rows::{ids_of, top_id};
 pub use scene::Scene;
 pub use scope::{Bind, Bindings};
 pub use wanted::{

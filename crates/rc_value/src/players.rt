@@ -1,9 +1,9 @@
 //! Tests of all players that go over what each has, with no variable: how many cards in a location of his, or how a number of his
 //! compares.
-ghost use Rattle.std.specs.Prelude.{◌≡◌, ◌≤◌, ◌++◌, ◌∷◌, [], map, IfSome};
+ghost use Rattle.std.specs.Prelude.{◌≡◌, ℕ, ◌≤◌, ◌++◌, ◌∷◌, [], map, IfSome};
 ghost use Rattle.std.specs.List.{list_all, list_any};
 ghost use Rattle.rc_model.specs.Numbers.{below};
-ghost use Rattle.rc_sheet_model.specs.Sheet.{literal, who_var};
+ghost use Rattle.rc_sheet_model.specs.Sheet.{all_of, cards_in, each_player, eq_int, literal, size_of as size_expr, who_var};
 ghost use Rattle.rc_play_model.specs.Value.{player_bound, test_value};
 ghost use Rattle.rc_ast.specs.Names.{loc_seen};
 ghost use Rattle.rc_ast.specs.Expressions.{coll_seen, int_seen, test_seen};
@@ -13,7 +13,7 @@ ghost use Rattle.rc_value.specs.Scene.{scene_seen};
 use crate::comparing::{all_suit, any_suit, suited_of};
 use crate::scene::Scene;
 use crate::scope::Bindings;
-use rc_ast::{Class, CollExpr, Domain, IntExpr, Loc, Test, Who};
+use rc_ast::{Class, CollExpr, IntExpr, Loc, Test, Who};
 
 /// How many cards a player is to have in his location of a name.
 #[derive(Clone, Copy)]
@@ -77,30 +77,6 @@ fn name_at(loc: &Loc, place: usize) -> Option<u16>
     }
 }
 
-/// Whether a test of all players holds that asks how many cards each has in a location of his. Nothing is told of other tests.
-#[inline(always)]
-pub fn players_test(scene: &Scene, test: &Test) -> Option<bool>
-    ensures { IfSome result (λ holds. holds ≡ test_value (scene_seen scene.now) [] (test_seen test.now)) }
-{
-    match test {
-        Test::All(domain, _, inner) => match domain {
-            Domain::Players => all_of_players(scene, inner),
-            _ => None,
-        },
-        _ => None,
-    }
-}
-
-#[inline(always)]
-fn all_of_players(scene: &Scene, inner: &Test) -> Option<bool>
-    ensures { IfSome result (λ holds. holds ≡ list_all (λ m. test_value (scene_seen scene.now) (m ∷ []) (test_seen inner.now)) (map (λ n. player_bound n) (below (scene_seen scene.now).known.sheet.players))) }
-{
-    match holding_of(inner, 0) {
-        Some(holding) => Some(all_hold(scene, holding)),
-        None => None,
-    }
-}
-
 /// Whether a test holds for each player, if it asks how many cards he has, or how a number of his compares.
 #[inline(always)]
 pub(crate) fn all_at_once(scene: &Scene, scope: &Bindings, test: &Test) -> Option<bool>
@@ -127,6 +103,15 @@ pub(crate) fn any_at_once(scene: &Scene, scope: &Bindings, test: &Test) -> Optio
             None => None,
         },
     }
+}
+
+/// Whether each player has so many cards in his location of a name. Neither the word of the test's variable nor the offset of the
+/// location's form matters.
+#[inline(always)]
+pub fn each_has(scene: &Scene, name: u16, count: i64) -> bool
+    ensures { (bound at : ℕ) → result ≡ test_value (scene_seen scene.now) [] (all_of each_player bound (eq_int (size_expr (cards_in (record { who = who_var 0; name = name; at = at }))) (literal count))) }
+{
+    all_hold(scene, Holding { name, count })
 }
 
 /// Whether each player has so many.

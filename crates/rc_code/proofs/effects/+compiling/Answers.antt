@@ -12,7 +12,7 @@ pub push_if-returns-in-Ok-copy_test : goal.push_if-returns-in-Ok-copy_test
 push_if-returns-in-Ok-copy_test t c =
     let code = effects_code (effects_seen c.args.effects.now.items) in
     let here = c.len-at.ensures ∙ c.args.list.now.ok.0 in
-    let one = ap₂ (λ test n. if_true test n) c.in-Ok-copy_test.ensures c.in-Ok.ensures.inside in
+    let one = ap₂ (λ test n. if_true test n) (c.new.ensures ∙ c.in-Ok-copy_test.ensures) c.in-Ok.ensures.inside in
     filled c.args.list.now.items c.push_inside.new.list.items c.write.new.list.items code end_body _ _ c.len-at.result c.in-Ok.ensures.code here c.write.ensures one
 
 pub push_repeat-returns-in-Ok-copy_int : goal.push_repeat-returns-in-Ok-copy_int

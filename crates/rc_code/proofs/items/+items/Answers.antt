@@ -55,7 +55,7 @@ pub push_stage-returns-in-Ok-copy_test-clause-code : goal.push_stage-returns-in-
 push_stage-returns-in-Ok-copy_test-clause-code t c =
     let body = items_code (items_seen c.args.body.now.items) in
     let here = c.len-at.ensures ∙ c.args.list.now.ok.0 in
-    let one = ap₂ (λ test n. begin_stage c.args.number c.args.class test n) c.in-Ok-copy_test.ensures c.in-Ok.ensures.inside in
+    let one = ap₂ (λ test n. begin_stage c.args.number c.args.class test n) (c.new.ensures ∙ c.in-Ok-copy_test.ensures) c.in-Ok.ensures.inside in
     filled c.args.list.now.items c.push_inside_stage.new.list.items c.write.new.list.items (body ++ end_body ∷ []) end_body _ _ c.len-at.result c.in-Ok.ensures.code
     here c.write.ensures one
 

@@ -1,11 +1,28 @@
-use Rattle.std.proofs.Common.{◌≡◌, ◌<◌, rules, length, slice_index_or}
-use Rattle.rc_state.proofs.Rows.{alt_under}
+use Rattle.std.proofs.Common.{◌≡◌, ℕ, zero, suc, ◌<◌, rules, List, [], ◌∷◌, length, get_or, slice_index_or, sym, ap, subst, arith}
+use Rattle.rc_sheet_model.specs.Sheet.{Alt, Sheet}
+use Rattle.rc_sheet_model.specs.WellFormed.{Around, IsAlt, AreAlts}
 use Rattle.rc_doing.proofs.items.do_item.Goals as goal
 
+each_alt : (sheet : Sheet) (around : Around) (alts : List Alt) → AreAlts sheet around alts → (i : ℕ) (alt : Alt) → i < length alts →
+    alt ≡ get_or alts i alt → IsAlt sheet around alt
+each_alt sheet around [] are i alt lt is = absurd (omega (arith, lt))
+each_alt sheet around (a ∷ alts) are zero alt lt is = subst (IsAlt sheet around) (sym is) are.0
+each_alt sheet around (a ∷ alts) are (suc i) alt lt is = each_alt sheet around alts are.1 i alt (omega (arith, lt)) is
+
+-- an alternative outside all binders stands under no variable
 pub do_here-requires-clause-well : goal.do_here-requires-clause-well
 do_here-requires-clause-well g c =
     let a = c.in-Some.ensures.lookup in
+    let sheet = c.args.about.now.sheet in
     let alts = c.args.alts.now in
+    let offer = c.in-Some.offer.now in
     let lt : c.args.item.now.alt < length alts = search rules in
-    let is : c.in-Some.alt.now ≡ slice_index_or alts c.args.item.now.alt c.in-Some.alt.now = search rules in
-    alt_under c.args.about.now.sheet alts c.requires.well c.empty-scope.result c.empty-scope.ensures c.args.item.now.alt c.in-Some.alt.now lt is
+    let is : offer ≡ slice_index_or alts c.args.item.now.alt offer = search rules in
+    let around = c.requires.well.0 in
+    let outside = c.requires.well.1 in
+    let long = ap length c.empty-scope.ensures in (
+      around,
+      omega (arith, outside),
+      omega (arith, long),
+      subst (IsAlt sheet around) (sym c.alt.ensures) (each_alt sheet around alts c.requires.well.2 c.args.item.now.alt offer lt is),
+    )

@@ -3,7 +3,6 @@ use Rattle.rc_play_model.specs.About.{scene_at}
 use Rattle.rc_play_model.specs.Menu.{Item, alt_in, effects_of, bindings_of}
 use Rattle.rc_play_model.specs.Effects.{does}
 use Rattle.rc_play_model.specs.Step.{goes}
-use Rattle.rc_ast.specs.Items.{alts_seen}
 use Rattle.rc_rules.specs.Control.{control_seen}
 use Rattle.rc_value.specs.Current.{IsCurrent}
 use Rattle.rc_code.specs.Seen.{block_seen, list_seen}
@@ -27,7 +26,7 @@ returns-clause-leads g c =
     let about = c.args.about.now in
     let code = list_seen c.args.code.now in
     let m = flat_of about code c.args.state.now in
-    let alts = alts_seen c.args.alts.now in
+    let alts = c.args.alts.now in
     let blocks = map block_seen c.args.blocks.now in
     let here = c.requires.here in
     let dealing = g.D.Dealer.dealing c.args.dealer.now in

@@ -4,7 +4,6 @@ use Rattle.std.proofs.lemmas.List.{length-map}
 use Rattle.rc_play_model.specs.Menu.{menu_from}
 use Rattle.rc_play_model.specs.About.{scene_at, menu_at}
 use Rattle.rc_play_model.specs.Step.{goes}
-use Rattle.rc_ast.specs.Items.{alts_seen}
 use Rattle.rc_table.specs.Laid.{Laid}
 use Rattle.rc_rules.specs.Menu.{item_seen}
 use Rattle.rc_code.specs.Instruction.{offer}
@@ -22,8 +21,8 @@ pub returns-then-is_empty-clause-leads : goal.returns-then-is_empty-clause-leads
 returns-then-is_empty-clause-leads c =
     let about = c.args.about.now in
     let m = flat_of about (list_seen c.args.code.now) c.args.state.now in
-    let filled = c.fill_menu_by.ensures ∙ ap (λ (laid : Laid). menu_at about c.args.site laid.table m.control) c.table.ensures in
-    let alts = alts_seen c.args.alts.now in
+    let filled = c.fill_offers_by.ensures ∙ ap (λ (laid : Laid). menu_at about c.args.site laid.table m.control) c.table.ensures in
+    let alts = c.args.alts.now in
     let here = c.requires.here in
     let choice = c.requires.serves.choices m.place.next c.args.site alts here.0 c.args.inside here.1 in
     let none = eqb-true _ _ (sym c.is_empty.ensures ∙ c.if-is_empty.true) in
@@ -31,14 +30,14 @@ returns-then-is_empty-clause-leads c =
     skip_leads m dealing k c.args.site alts here.0 c.args.inside c.requires.round here.1 c.behind.result
     (c.behind.ensures ∙ ap (λ n. drop (n + 1 + c.args.inside) m.code) c.next-next.ensures)
     (ap (λ xs. length (menu_from (scene_at about m.table m.control.frames) xs)) choice.same
-    ∙ ap length (sym filled) ∙ length-map c.fill_menu_by.new.menu.items item_seen ∙ none)
+    ∙ ap length (sym filled) ∙ length-map c.fill_offers_by.new.menu.items item_seen ∙ none)
     ∙ ap (λ path. goes k (config_of (moved m path m.table m.control))) (sym c.go_to.ensures)
 
 pub returns-then-is_empty-clause-ready : goal.returns-then-is_empty-clause-ready
 returns-then-is_empty-clause-ready c =
     let about = c.args.about.now in
     let m = flat_of about (list_seen c.args.code.now) c.args.state.now in
-    let filled = c.fill_menu_by.ensures ∙ ap (λ (laid : Laid). menu_at about c.args.site laid.table m.control) c.table.ensures in
+    let filled = c.fill_offers_by.ensures ∙ ap (λ (laid : Laid). menu_at about c.args.site laid.table m.control) c.table.ensures in
     let here = c.requires.here in
     let play = c.requires.ready.play in
     record {
@@ -50,9 +49,9 @@ returns-then-is_empty-clause-ready c =
       kept = λ other is.
           let offered = (c.requires.ready.kept other is).offered in
           let some = offered.some in
-          let same = ap (λ site. length (menu_at about site m.table m.control)) (one_site m c.args.site other (alts_seen c.args.alts.now) here.0 c.args.inside here.1 offered) in
+          let same = ap (λ site. length (menu_at about site m.table m.control)) (one_site m c.args.site other c.args.alts.now here.0 c.args.inside here.1 offered) in
           let none = ap length filled in
-          let empty = length-map c.fill_menu_by.new.menu.items item_seen in
+          let empty = length-map c.fill_offers_by.new.menu.items item_seen in
           let zero = eqb-true _ _ (sym c.is_empty.ensures ∙ c.if-is_empty.true) in
           absurd (omega (arith, some, same, none, empty, zero));
     }
@@ -60,12 +59,12 @@ returns-then-is_empty-clause-ready c =
 pub decide-requires-clause-here : goal.decide-requires-clause-here
 decide-requires-clause-here c =
     let m = flat_of c.args.about.now (list_seen c.args.code.now) c.args.state.now in
-    let filled = c.fill_menu_by.ensures ∙ ap (λ (laid : Laid). menu_at c.args.about.now c.args.site laid.table m.control) c.table.ensures in
-    let alts = alts_seen c.args.alts.now in
+    let filled = c.fill_offers_by.ensures ∙ ap (λ (laid : Laid). menu_at c.args.about.now c.args.site laid.table m.control) c.table.ensures in
+    let alts = c.args.alts.now in
     let here = c.requires.here in
     let choice = c.requires.serves.choices m.place.next c.args.site alts here.0 c.args.inside here.1 in
     let many = ap length filled in
-    let all = length-map c.fill_menu_by.new.menu.items item_seen in
+    let all = length-map c.fill_offers_by.new.menu.items item_seen in
     let not_zero = eqb-false _ _ (sym c.is_empty.ensures ∙ c.if-is_empty.false) in
     record {
       offered = record {
@@ -86,7 +85,7 @@ decide-requires-clause-ready c =
     let about = c.args.about.now in
     let m = flat_of about (list_seen c.args.code.now) c.args.state.now in
     let here = c.requires.here in
-    let filled = c.fill_menu_by.ensures ∙ ap (λ (laid : Laid). menu_at about c.args.site laid.table m.control) c.table.ensures in
+    let filled = c.fill_offers_by.ensures ∙ ap (λ (laid : Laid). menu_at about c.args.site laid.table m.control) c.table.ensures in
     record {
       laid = c.requires.ready.laid;
       play = c.requires.ready.play;
@@ -95,6 +94,6 @@ decide-requires-clause-ready c =
           let offered = (c.requires.ready.kept other is).offered in
           record {
             offered = offered;
-            menu = filled ∙ ap (λ site. menu_at about site m.table m.control) (one_site m c.args.site other (alts_seen c.args.alts.now) here.0 c.args.inside here.1 offered);
+            menu = filled ∙ ap (λ site. menu_at about site m.table m.control) (one_site m c.args.site other c.args.alts.now here.0 c.args.inside here.1 offered);
           };
     }

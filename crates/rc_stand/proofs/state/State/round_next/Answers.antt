@@ -1,6 +1,5 @@
 use Rattle.std.proofs.Common.{◌+◌, ◌<◌, ◌≤◌, ap, sym, ◌∙◌, subst, true≢false, arith}
 use Rattle.rc_play_model.specs.Step.{goes, with_frames, one_turn_more}
-use Rattle.rc_ast.specs.Expressions.{test_seen}
 use Rattle.rc_rules.specs.Control.{frames_seen}
 use Rattle.rc_code.specs.Seen.{list_seen}
 use Rattle.rc_stand.specs.Flat.{config_of}
@@ -14,7 +13,7 @@ use Rattle.rc_stand.proofs.state.State.round_next.Goals as goal
 pub ends-requires-clause-well : goal.ends-requires-clause-well
 ends-requires-clause-well c =
     let here = c.requires.here in
-    c.requires.serves.ends c.args.place here.0 here.1 (test_seen c.args.end.now) c.args.inside here.2
+    c.requires.serves.ends c.args.place here.0 here.1 c.args.end.now c.args.inside here.2
 
 pub returns-then-ends-clause-leads : goal.returns-then-ends-clause-leads
 returns-then-ends-clause-leads c =
@@ -22,7 +21,7 @@ returns-then-ends-clause-leads c =
     let here = c.requires.here in
     let frames = frames_seen c.close_frame.new.frames.items in
     λ dealing k.
-    close_leads m dealing k c.requires.within.0 c.args.place here.0 here.1 (test_seen c.args.end.now) c.args.inside c.requires.within.1 here.2
+    close_leads m dealing k c.requires.within.0 c.args.place here.0 here.1 c.args.end.now c.args.inside c.requires.within.1 here.2
     c.behind.result frames c.requires.round c.behind.ensures (sym c.ends.ensures ∙ c.if-ends.true) (sym c.close_frame.ensures)
     ∙ ap (λ path. goes k (config_of (moved m path m.table (with_frames m.control frames)))) (sym c.close.ensures)
 
@@ -44,7 +43,7 @@ returns-then-self-turns-clause-leads c =
     let m = flat_of c.args.about.now (list_seen c.args.code.now) c.args.self.now in
     let here = c.requires.here in
     λ dealing k.
-    over_leads m dealing k c.requires.within.0 c.args.place here.0 here.1 (test_seen c.args.end.now) c.args.inside c.requires.within.1 here.2
+    over_leads m dealing k c.requires.within.0 c.args.place here.0 here.1 c.args.end.now c.args.inside c.requires.within.1 here.2
     c.requires.round (sym c.ends.ensures ∙ c.if-ends.false) (subst (λ n. n ≤ m.control.turn) c.turns.ensures c.if-self-turns.true)
 
 pub returns-clause-leads : goal.returns-clause-leads
@@ -52,7 +51,7 @@ returns-clause-leads c =
     let m = flat_of c.args.about.now (list_seen c.args.code.now) c.args.self.now in
     let here = c.requires.here in
     λ dealing k.
-    round_leads m dealing k c.requires.within.0 c.args.place here.0 here.1 (test_seen c.args.end.now) c.args.inside c.requires.within.1 here.2
+    round_leads m dealing k c.requires.within.0 c.args.place here.0 here.1 c.args.end.now c.args.inside c.requires.within.1 here.2
     c.requires.round (sym c.ends.ensures ∙ c.if-ends.false) (subst (λ n. m.control.turn < n) c.turns.ensures c.if-self-turns.false)
     ∙ ap (λ path. goes k (config_of (moved m path m.table (one_turn_more m.control)))) (sym c.go_to.ensures)
 

@@ -1,0 +1,19 @@
+use Rattle.std.proofs.Common.{length, arith, ap, sym, subst, ◌∙◌}
+use Rattle.std.specs.Prelude.{All}
+use Rattle.rc_asked.specs.Guards.{IsFixedPart}
+use Rattle.rc_menu.specs.Asks.{joined, parts_told}
+use Rattle.rc_value.specs.Scene.{scene_seen}
+use Rattle.rc_menu.proofs.PartLemmas.{guard_told}
+use Rattle.rc_menu.proofs.parts.known_parts.Goals as goal
+
+pub parts_settle-requires-clause-fixed : goal.parts_settle-requires-clause-fixed
+parts_settle-requires-clause-fixed c = subst (All IsFixedPart) (sym c.as_slice.ensures.value) c.requires.fixed.1
+
+pub parts_settle-requires-clause-few : goal.parts_settle-requires-clause-few
+parts_settle-requires-clause-few c = omega (arith, c.len-few.ensures.fits, ap length c.as_slice.ensures.value)
+
+pub returns-in-Some-clause-is : goal.returns-in-Some-clause-is
+returns-in-Some-clause-is c = λ card.
+    guard_told (scene_seen c.args.scene.now) c.args.scope.now c.args.guard.now card
+    ∙ ap (λ ps. joined c.args.guard.now.any (parts_told (scene_seen c.args.scene.now) c.args.scope.now ps card)) (sym c.as_slice.ensures.value)
+    ∙ c.in-Some.ensures.is card

@@ -1,0 +1,167 @@
+//! Guards of the cards of a location that are known in parts. Nothing of them hangs on a variable but values of the card itself, so each
+//! part is asked once, with no walk over a tree, outside all binders.
+ghost use Rattle.std.specs.Prelude.{◌≡◌, ℕ, ◌+◌, ◌<◌, ◌≤◌, [], true, length, map, All, IfSome, if◌then◌else◌};
+ghost use Rattle.std.specs.List.{list_all};
+ghost use Rattle.rc_sheet_model.specs.Sheet.{Test as PureTest};
+ghost use Rattle.rc_play_model.specs.Scene.{CardValue};
+ghost use Rattle.rc_asked.specs.Guards.{in_sense, guard_meant, part_meant, question_meant, wish_meant, IsFixedGuard, IsFixedPart, IsFixedQuestion, IsFixedWish};
+ghost use Rattle.rc_menu.specs.Asks.{ask_value, asks_value, joined, parts_told, IsInParts, IsJoined};
+ghost use Rattle.rc_menu.specs.Known.{IsAtHand, IsTurned};
+ghost use Rattle.rc_value.specs.Scene.{scene_seen};
+ghost use Rattle.rc_value.specs.Wanted.{IsWantedAt};
+
+use crate::asks::{Asks, Parts, ask_in};
+use crate::known::{AtHand, some_there, turned_if};
+use rc_asked::{Guard, Part, Question, Sense, Wish};
+use rc_value::{Bindings, Scene, Wanted, atom_holds, attr_of_id, top_id};
+
+// The value that a card is to have.
+#[inline(always)]
+fn wanted_by(scene: &Scene, scope: &Bindings, wish: &Wish) -> Wanted
+    requires { IsFixedWish wish.now }
+    ensures { (place : ℕ) → IsWantedAt (scene_seen scene.now) place (wish_meant place wish.now) result }
+{
+    match wish {
+        Wish::Value { name, value } => Wanted {
+            name: *name,
+            value: Some(*value),
+            equal: true,
+        },
+        Wish::Against {
+            name,
+            against,
+            other,
+        } => Wanted {
+            name: *name,
+            value: attr_of_id(scene, top_id(scene, scope, against), *other),
+            equal: true,
+        },
+    }
+}
+
+// What is at hand of a question.
+#[inline(always)]
+fn question_at_hand(scene: &Scene, scope: &Bindings, question: &Question) -> AtHand
+    requires outside { scope.now ≡ [] }
+    requires fixed { IsFixedQuestion question.now }
+    ensures { IsAtHand (scene_seen scene.now) scope.now (question_meant question.now) result }
+{
+    match question {
+        Question::Known(atom) => AtHand::Holds(atom_holds(scene, scope, atom)),
+        Question::Wished(wish) => AtHand::Wished(wanted_by(scene, scope, wish)),
+        Question::Some {
+            among,
+            bound: _,
+            wish,
+        } => {
+            let wanted = wanted_by(scene, scope, wish);
+            AtHand::Holds(some_there(scene, scope, among, wanted))
+        }
+    }
+}
+
+#[inline(always)]
+fn is_opposite(sense: Sense) -> bool
+    ensures { (t : PureTest) → IsTurned result t (in_sense sense t) }
+{
+    match sense {
+        Sense::Plain => false,
+        Sense::Ne => true,
+        Sense::Not => true,
+    }
+}
+
+// What is at hand of a part.
+#[inline(always)]
+fn part_at_hand(scene: &Scene, scope: &Bindings, part: &Part) -> AtHand
+    requires outside { scope.now ≡ [] }
+    requires fixed { IsFixedPart part.now }
+    ensures { IsAtHand (scene_seen scene.now) scope.now (part_meant part.now) result }
+{
+    let hand = question_at_hand(scene, scope, &part.question);
+    turned_if(is_opposite(part.sense), hand)
+}
+
+// Joins a part to what is asked, where there is a row of values for it: whether it settles all.
+#[inline(always)]
+fn part_settles<'t>(
+    scene: &'t Scene,
+    scope: &Bindings,
+    part: &Part,
+    any: bool,
+    asks: &mut Asks<'t>,
+) -> Option<bool>
+    requires outside { scope.now ≡ [] }
+    requires fixed { IsFixedPart part.now }
+    requires room { length asks.old.items < 4 }
+    requires sought { list_all asks_value asks.old.items ≡ true }
+    ensures is { IfSome result (λ settled. IsJoined (scene_seen scene.now) scope.now (part_meant part.now) any settled asks.old.items asks.new.items) }
+    ensures count { length asks.new.items ≤ length asks.old.items + 1 }
+    ensures sought { list_all asks_value asks.new.items ≡ true }
+{
+    match part_at_hand(scene, scope, part) {
+        AtHand::Wished(wanted) => match scene.lookup.values(wanted.name) {
+            Some(row) => {
+                asks.push(ask_in(row, wanted));
+                Some(false)
+            }
+            None => None,
+        },
+        AtHand::Holds(holds) => Some(holds == any),
+        AtHand::Unclear => None,
+    }
+}
+
+// The same with all parts.
+#[inline(always)]
+fn parts_settle<'t>(
+    scene: &'t Scene,
+    scope: &Bindings,
+    parts: &[Part],
+    any: bool,
+    asks: &mut Asks<'t>,
+) -> Option<bool>
+    requires outside { scope.now ≡ [] }
+    requires fixed { All IsFixedPart parts.now }
+    requires few { length parts.now ≤ 4 }
+    requires empty { asks.old.items ≡ [] }
+    ensures is { IfSome result (λ settled. (c : CardValue) → joined any (parts_told (scene_seen scene.now) scope.now parts.now c)
+        ≡ (if settled then any else joined any (map (ask_value (scene_seen scene.now) scope.now c) asks.new.items))) }
+    ensures sought { list_all asks_value asks.new.items ≡ true }
+{
+    for place in 0..parts.len() {
+        match part_settles(scene, scope, &parts[place], any, asks) {
+            Some(settled) => {
+                if settled {
+                    return Some(true);
+                }
+            }
+            None => return None,
+        }
+    }
+    Some(false)
+}
+
+/// A guard whose parts are known, in parts as `parts_of` has them: values are all that is asked. None where there is no row of them.
+#[inline(always)]
+pub(crate) fn known_parts<'t>(
+    scene: &'t Scene,
+    scope: &Bindings,
+    guard: &Guard,
+    asks: &mut Asks<'t>,
+) -> Option<Parts>
+    requires outside { scope.now ≡ [] }
+    requires fixed { IsFixedGuard guard.now }
+    requires empty { asks.old.items ≡ [] }
+    ensures is { IfSome result (λ parts. IsInParts (scene_seen scene.now) scope.now (guard_meant guard.now) parts asks.new.items) }
+    ensures sought { list_all asks_value asks.new.items ≡ true }
+{
+    let _few = guard.parts.len();
+    match parts_settle(scene, scope, guard.parts.as_slice(), guard.any, asks) {
+        Some(settled) => Some(Parts {
+            settled,
+            any: guard.any,
+        }),
+        None => None,
+    }
+}

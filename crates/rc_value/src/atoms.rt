@@ -1,0 +1,50 @@
+//! Comparisons in flat form, which are read off the table with no walk over a tree.
+ghost use Rattle.std.specs.Prelude.{◌≡◌};
+ghost use Rattle.rc_play_model.specs.Value.{int_value, test_value};
+ghost use Rattle.rc_asked.specs.Meaning.{amount_meant, atom_meant};
+ghost use Rattle.rc_value.specs.Scene.{scene_seen};
+
+use crate::comparing::compare;
+use crate::leaves::{attr_of_id, number_of, worth_of_id};
+use crate::rows::{ids_of, top_id};
+use crate::scene::Scene;
+use crate::scope::Bindings;
+use rc_asked::{Amount, Atom};
+
+// The number that a flat form stands for.
+#[inline(always)]
+fn amount_of(scene: &Scene, scope: &Bindings, amount: &Amount) -> i64
+    ensures { result ≡ int_value (scene_seen scene.now) scope.now (amount_meant amount.now) }
+{
+    match amount {
+        Amount::Literal(value) => *value,
+        Amount::Number(num) => number_of(scene, scope, num),
+        Amount::Size(loc) => ids_of(scene, scope, loc).len() as i64,
+        Amount::Worth(loc, map) => worth_of_id(scene, top_id(scene, scope, loc), *map),
+    }
+}
+
+/// Whether a comparison holds.
+#[tactic(auto, using(crate::proofs::AtomLemmas::compared_is))]
+#[inline(always)]
+pub fn atom_holds(scene: &Scene, scope: &Bindings, atom: &Atom) -> bool
+    ensures { result ≡ test_value (scene_seen scene.now) scope.now (atom_meant atom.now) }
+{
+    match atom {
+        Atom::Compare { how, one, other } => {
+            let one = amount_of(scene, scope, one);
+            let other = amount_of(scene, scope, other);
+            compare(*how, one, other)
+        }
+        Atom::Same {
+            one,
+            name,
+            other,
+            other_name,
+        } => {
+            let value = attr_of_id(scene, top_id(scene, scope, one), *name);
+            let other_value = attr_of_id(scene, top_id(scene, scope, other), *other_name);
+            value == other_value
+        }
+    }
+}
