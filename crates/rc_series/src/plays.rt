@@ -1,6 +1,6 @@
 //! Plays of all matches, one after the other, over one book.
-ghost use Rattle.std.specs.Prelude.{◌≡◌, ◌≤◌, ◌+◌, [], map, length, All, IfOk, OnOk};
-ghost use Rattle.rc_model.specs.Limits.{most_entries, most_matches};
+ghost use Rattle.std.specs.Prelude.{◌≡◌, ◌≤◌, ◌+◌, [], map, length, IfOk, OnOk};
+ghost use Rattle.rc_model.specs.Limits.{most_entries};
 ghost use Rattle.rc_play_model.specs.About.{about_of};
 ghost use Rattle.rc_play_model.specs.House.{standings_of};
 ghost use Rattle.rc_plan_model.specs.Limits.{IsWithinLimits};
@@ -8,12 +8,12 @@ ghost use Rattle.rc_code.specs.Seen.{code_seen};
 ghost use Rattle.rc_code.specs.Stands.{StandsFor};
 ghost use Rattle.rc_rules.specs.Plan.{plan_seen};
 ghost use Rattle.rc_rules.specs.Record.{record_seen, standing_seen};
-ghost use Rattle.rc_records.specs.Series.{looks_of, matches_of, records_below};
+ghost use Rattle.rc_records.specs.Series.{looks_of, matches_of};
 ghost use Rattle.rc_cache.specs.Hits.{hits, cost};
 ghost use Rattle.rc_cache.specs.Sums.{idle};
 
 use rc_cache::{
-    Book, Fresh, Naming, OwnBook, Totals, one_worker_has_the_hits_of_its_looks,
+    Book, Fresh, Naming, OwnBook, one_worker_has_the_hits_of_its_looks,
     one_worker_lacking_memory_takes_no_more_steps,
 };
 use rc_code::Code;
@@ -21,7 +21,7 @@ use rc_deck::Memory;
 use rc_flow::Checked;
 use rc_records::{Series, records_of, shared_about, told};
 use rc_rollout::{Choices, shared_code};
-use rc_rules::{About, MatchRecord, Plan};
+use rc_rules::{About, Plan};
 use rc_steps::Steps;
 use std::alloc::Global;
 use std::marker::Brand;
@@ -84,47 +84,16 @@ fn played<N: Naming, L: Ledger>(
     ensures rises { steps.old ≤ steps.new }
     ensures bounded { steps.new ≤ steps.old + cost (looks_of about.now.value (plan_seen plan.now.value)) capacity }
 {
-    let choices = own_choices::<N>(alloc, fresh, about, code, capacity)?;
-    let (records, totals) = played_by(alloc, about, plan, code, choices, steps);
+    one_worker_has_the_hits_of_its_looks();
+    one_worker_lacking_memory_takes_no_more_steps();
+    let mut choices = own_choices::<N>(alloc, fresh, about, code, capacity)?;
+    let records = records_of(alloc, about, plan, code, &mut choices, steps);
+    // before the match, so that the book is closed also where memory ran out
+    let totals = choices.into_memo().close();
     match records {
         Ok(matches) => Ok(told(alloc, plan, matches, totals)?),
         Err(Memory) => Err(Memory),
     }
-}
-
-// The records of a plan's matches by choices over a book that was asked nothing, and the book's totals. Memory may run out; the book is
-// closed all the same.
-fn played_by<N: Naming, L: Ledger>(
-    alloc: Global,
-    about: &Arc<About>,
-    plan: &Arc<Plan>,
-    code: &Arc<Code>,
-    choices: Choices<OwnBook<N>>,
-    steps: &mut Steps<L>,
-) -> (Result<Vec<MatchRecord>, Memory>, Totals)
-    requires matches { length plan.now.value.matches.items ≤ most_matches }
-    requires seats { length plan.now.value.strategies.items ≡ about.now.value.sheet.players }
-    requires code { StandsFor about.now.value.sheet (code_seen code.now.value) }
-    requires chosen { StandsFor about.now.value.sheet (code_seen choices.code.value) }
-    requires name { (about.now.value ≡ N.about) × (1 ≡ N.lanes) }
-    requires unasked { choices.memo ≡ ([], idle 0) }
-    ensures are { IfOk result.0 (λ records. map record_seen records.items
-        ≡ records_below about.now.value (plan_seen plan.now.value) (length plan.now.value.matches.items)) }
-    ensures count { IfOk result.0 (λ records. length records.items ≡ length plan.now.value.matches.items) }
-    ensures each { IfOk result.0 (λ records. All (λ r. length r.scores.items ≡ about.now.value.sheet.players) records.items) }
-    ensures book { (result.1.capacity ≡ N.capacity) × (result.1.lanes ≡ N.lanes) }
-    ensures looks { OnOk result.0 (result.1.looks ≡ length (looks_of about.now.value (plan_seen plan.now.value))) }
-    ensures hits { OnOk result.0 (result.1.hits ≡ hits (looks_of about.now.value (plan_seen plan.now.value)) N.capacity) }
-    ensures counted { OnOk result.0 (steps.new ≡ steps.old + cost (looks_of about.now.value (plan_seen plan.now.value)) N.capacity) }
-    ensures rises { steps.old ≤ steps.new }
-    ensures bounded { steps.new ≤ steps.old + cost (looks_of about.now.value (plan_seen plan.now.value)) N.capacity }
-{
-    one_worker_has_the_hits_of_its_looks();
-    one_worker_lacking_memory_takes_no_more_steps();
-    let mut choices = choices;
-    let records = records_of(alloc, about, plan, code, &mut choices, steps);
-    let totals = choices.into_memo().close();
-    (records, totals)
 }
 
 // Choices by a new book for one worker, on this code.

@@ -1,8 +1,50 @@
-use Rattle.std.proofs.Common.{sym, subst}
-use Rattle.rc_code.specs.Seen.{code_seen}
-use Rattle.rc_code.specs.Stands.{StandsFor}
+use Rattle.std.proofs.Common.{ap, ◌∙◌}
+use Rattle.rc_series.proofs.OwnLemmas.{all_made, some_made}
 use Rattle.rc_series.proofs.plays.played.Goals as goal
 
-pub played_by-records-requires-clause-chosen : goal.played_by-records-requires-clause-chosen
-played_by-records-requires-clause-chosen g c =
-    subst (λ code. StandsFor c.args.about.now.value.sheet (code_seen code)) (sym c.in_ok-choices.ensures.code) c.requires.code
+pub returns-in_err-told-in-Ok-clause-rises : goal.returns-in_err-told-in-Ok-clause-rises
+returns-in_err-told-in-Ok-clause-rises g c =
+    (all_made c.args.about.now.value c.args.plan.now.value c.args.steps.now c.records_of-records.new.steps c.requires.name.1 c.in_ok-choices.ensures.memo
+    c.into_memo.ensures c.close-totals.ensures.legal c.one_worker_has_the_hits_of_its_looks.ensures c.in-Ok.ensures.asked).3
+
+pub returns-in_err-told-in-Ok-clause-bounded : goal.returns-in_err-told-in-Ok-clause-bounded
+returns-in_err-told-in-Ok-clause-bounded g c =
+    (all_made c.args.about.now.value c.args.plan.now.value c.args.steps.now c.records_of-records.new.steps c.requires.name.1 c.in_ok-choices.ensures.memo
+    c.into_memo.ensures c.close-totals.ensures.legal c.one_worker_has_the_hits_of_its_looks.ensures c.in-Ok.ensures.asked).4
+
+pub returns-in_ok-told-in-Ok-clause-looks : goal.returns-in_ok-told-in-Ok-clause-looks
+returns-in_ok-told-in-Ok-clause-looks g c =
+    ap (λ t. t.looks) c.in_ok-told-in-Ok.ensures.totals ∙ c.close-totals.ensures.looks
+    ∙ (all_made c.args.about.now.value c.args.plan.now.value c.args.steps.now c.records_of-records.new.steps c.requires.name.1 c.in_ok-choices.ensures.memo
+    c.into_memo.ensures c.close-totals.ensures.legal c.one_worker_has_the_hits_of_its_looks.ensures c.in-Ok.ensures.asked).0
+
+pub returns-in_ok-told-in-Ok-clause-hits : goal.returns-in_ok-told-in-Ok-clause-hits
+returns-in_ok-told-in-Ok-clause-hits g c =
+    ap (λ t. t.hits) c.in_ok-told-in-Ok.ensures.totals ∙ c.close-totals.ensures.hits
+    ∙ (all_made c.args.about.now.value c.args.plan.now.value c.args.steps.now c.records_of-records.new.steps c.requires.name.1 c.in_ok-choices.ensures.memo
+    c.into_memo.ensures c.close-totals.ensures.legal c.one_worker_has_the_hits_of_its_looks.ensures c.in-Ok.ensures.asked).1
+
+pub returns-in_ok-told-in-Ok-clause-counted : goal.returns-in_ok-told-in-Ok-clause-counted
+returns-in_ok-told-in-Ok-clause-counted g c =
+    (all_made c.args.about.now.value c.args.plan.now.value c.args.steps.now c.records_of-records.new.steps c.requires.name.1 c.in_ok-choices.ensures.memo
+    c.into_memo.ensures c.close-totals.ensures.legal c.one_worker_has_the_hits_of_its_looks.ensures c.in-Ok.ensures.asked).2
+
+pub returns-in_ok-told-in-Ok-clause-rises : goal.returns-in_ok-told-in-Ok-clause-rises
+returns-in_ok-told-in-Ok-clause-rises g c =
+    (all_made c.args.about.now.value c.args.plan.now.value c.args.steps.now c.records_of-records.new.steps c.requires.name.1 c.in_ok-choices.ensures.memo
+    c.into_memo.ensures c.close-totals.ensures.legal c.one_worker_has_the_hits_of_its_looks.ensures c.in-Ok.ensures.asked).3
+
+pub returns-in_ok-told-in-Ok-clause-bounded : goal.returns-in_ok-told-in-Ok-clause-bounded
+returns-in_ok-told-in-Ok-clause-bounded g c =
+    (all_made c.args.about.now.value c.args.plan.now.value c.args.steps.now c.records_of-records.new.steps c.requires.name.1 c.in_ok-choices.ensures.memo
+    c.into_memo.ensures c.close-totals.ensures.legal c.one_worker_has_the_hits_of_its_looks.ensures c.in-Ok.ensures.asked).4
+
+pub returns-in-Err-clause-rises : goal.returns-in-Err-clause-rises
+returns-in-Err-clause-rises g c =
+    (some_made c.args.about.now.value c.args.plan.now.value c.args.steps.now c.records_of-records.new.steps c.requires.name.1 c.in_ok-choices.ensures.memo
+    c.into_memo.ensures c.close-totals.ensures.legal c.one_worker_lacking_memory_takes_no_more_steps.ensures c.in-Err.ensures.lacking).0
+
+pub returns-in-Err-clause-bounded : goal.returns-in-Err-clause-bounded
+returns-in-Err-clause-bounded g c =
+    (some_made c.args.about.now.value c.args.plan.now.value c.args.steps.now c.records_of-records.new.steps c.requires.name.1 c.in_ok-choices.ensures.memo
+    c.into_memo.ensures c.close-totals.ensures.legal c.one_worker_lacking_memory_takes_no_more_steps.ensures c.in-Err.ensures.lacking).1
