@@ -2,15 +2,12 @@
 ghost use Rattle.std.specs.Prelude.{◌≡◌, ◌+◌, ◌<◌, ◌≤◌, [], ◌∷◌, ◌++◌, length, take, drop, map, fold, All, OnOk, IfOk, IfSome};
 ghost use Rattle.rc_model.specs.Numbers.{below};
 ghost use Rattle.rc_sheet_model.specs.Sheet.{effect, no_effect, when, repeat as repeat_of, for_each as for_each_of};
-ghost use Rattle.rc_sheet_model.specs.WellFormed.{Around, AreEffects};
 ghost use Rattle.rc_play_model.specs.Value.{Bind as PureBind, player_bound, card_bound, coll_value};
 ghost use Rattle.rc_play_model.specs.Scene.{CardValue};
 ghost use Rattle.rc_play_model.specs.Bound.{IsBindOf, IsCardOf};
 ghost use Rattle.rc_play_model.specs.Effects.{does_one, does, times as times_in};
 ghost use Rattle.rc_ast.specs.Expressions.{coll_seen, int_seen, domain_seen};
-ghost use Rattle.rc_rules.specs.Control.{frames_seen};
 ghost use Rattle.rc_value.specs.Cards.{value_seen, values_seen};
-ghost use Rattle.rc_value.specs.Current.{IsCurrent};
 ghost use Rattle.rc_value.specs.Seen.{bind_seen};
 ghost use Rattle.rc_state.specs.Point.{point_of};
 ghost use Rattle.rc_state.specs.Under.{IsCollUnder, IsEffectUnder, AreEffectsUnder};
@@ -30,9 +27,9 @@ use rc_board::Board;
 use rc_code::Instruction;
 use rc_deck::Memory;
 use rc_names::limits::MOST_TIMES;
-use rc_rules::{About, Dealer, Frames};
+use rc_rules::{Dealer, Frames};
 use rc_state::{Context, FewCards, asked_now, cards_now, few_cards_now, int_now};
-use rc_value::{Bind, Bindings, Card, Cards, Current};
+use rc_value::{Bind, Bindings, Card, Cards};
 
 /// The first instructions, so many of them.
 #[tactic(auto, using(crate::proofs::ListLemmas::front_seen, crate::proofs::ListLemmas::all_seen, crate::proofs::ListLemmas::front_simple))]
@@ -443,34 +440,4 @@ fn do_inside<D: Dealer>(
             None => do_block(context, code, board, frames, dealer),
         },
     }
-}
-
-/// Does the effects of a block outside all binders, where it is known who is current. That stays so.
-#[tactic(auto, using(crate::proofs::ShuffleLemmas::not_shuffled))]
-pub fn do_outside<D: Dealer>(
-    about: &About,
-    current: Current,
-    code: &[Instruction],
-    board: &mut Board,
-    frames: &mut Frames,
-    dealer: &mut D,
-) -> Result<(), Memory>
-    requires laid { board.old.laid.shape ≡ about.now.shape }
-    requires current { IsCurrent about.now.sheet (frames_seen frames.old.items) current }
-    requires well { (around : Around) × (around.binders ≡ 0) × AreEffects about.now.sheet around (effects_in (list_seen code.now)) }
-    requires simple { AreSimple (list_seen code.now) }
-    ensures does { OnOk result (does about.now (D.dealing dealer.old) [] (effects_in (list_seen code.now))
-        (point_of board.old.laid frames.old.items (D.state dealer.old)) ≡ point_of board.new.laid frames.new.items (D.state dealer.new)) }
-    ensures current { OnOk result (IsCurrent about.now.sheet (frames_seen frames.new.items) current) }
-    ensures keeps { Keeps board.old board.new }
-    ensures shuffled { HasShuffled (D.dealing dealer.old) (D.state dealer.old) (D.state dealer.new) }
-    ensures dealing { D.dealing dealer.new ≡ D.dealing dealer.old }
-{
-    let scope = Bindings::empty();
-    let context = Context {
-        about,
-        scope: &scope,
-        current,
-    };
-    do_block(&context, code, board, frames, dealer)
 }

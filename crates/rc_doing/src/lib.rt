@@ -11,5 +11,5 @@ mod scopes;
 mod shuffling;
 mod simple;
 
-pub use blocks::{do_outside, front, past};
+pub use blocks::{do_block, front, past};
 pub use items::do_item;

@@ -15,11 +15,13 @@ ghost use Rattle.rc_rules.specs.Dealer.{HasShuffled};
 use rc_asked::Offer;
 use rc_code::Instruction;
 use rc_deck::Memory;
-use rc_doing::{do_outside, front, past};
+use rc_doing::{do_block, front, past};
 use rc_menu::fill_offers_by;
 use rc_play_model::stops_stay;
 use rc_rules::{About, Dealer, Stop};
 use rc_stand::{State, behind};
+use rc_state::Context;
+use rc_value::Bindings;
 
 // Does the effects that are next, so many instructions.
 #[tactic(auto, using(rc_doing::proofs::ShuffleLemmas::not_shuffled))]
@@ -43,9 +45,14 @@ fn do_next<D: Dealer>(
 {
     let next = state.place.next() + 1;
     let inner = front(past(code, next), inside);
-    match do_outside(
+    let scope = Bindings::empty();
+    let context = Context {
         about,
-        state.current,
+        scope: &scope,
+        current: state.current,
+    };
+    match do_block(
+        &context,
         inner,
         &mut state.board,
         &mut state.control.frames,

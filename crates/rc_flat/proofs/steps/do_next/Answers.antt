@@ -19,11 +19,13 @@ returns-clause-leads g c =
     let dealing = g.D.Dealer.dealing c.args.dealer.now in
     let k = g.D.Dealer.state c.args.dealer.now in
     let before = point_of c.args.state.now.board.laid c.args.state.now.control.frames.items k in
-    let after = point_of c.do_outside.new.board.laid c.do_outside.new.frames.items (g.D.Dealer.state c.do_outside.new.dealer) in
+    let after = point_of c.do_block.new.board.laid c.do_block.new.frames.items (g.D.Dealer.state c.do_block.new.dealer) in
     let inner = c.front-inner.ensures.is ∙ ap (λ code. take c.args.inside code) (c.past.ensures.is ∙ ap (λ n. drop (n + 1) m.code) c.next-next.ensures) in
     do_leads m dealing k c.args.inside c.behind.result after c.requires.round c.requires.here
     (c.behind.ensures ∙ ap (λ n. drop (n + 1 + c.args.inside) m.code) c.next-next.ensures)
-    (ap (λ code. does about dealing [] (effects_in code) before) (sym inner) ∙ c.in-Ok.ensures.does)
+    (ap (λ code. does about dealing [] (effects_in code) before) (sym inner)
+    ∙ ap (λ vars. does about dealing vars (effects_in (list_seen c.front-inner.result.now)) before) (sym c.empty-scope.ensures)
+    ∙ c.in-Ok.ensures.does)
     ∙ ap (λ path. goes after.dealer (config_of (moved m path after.table (with_frames m.control after.frames)))) (sym c.go_to.ensures)
 
 pub returns-clause-ready : goal.returns-clause-ready
@@ -32,9 +34,9 @@ returns-clause-ready g c =
     let play = c.requires.ready.play in
     record {
       laid = c.in-Ok.ensures.keeps.shape ∙ c.requires.ready.laid;
-      play = goes_on m play c.go_to.new.self c.do_outside.new.board.laid.table (with_frames m.control (frames_seen c.do_outside.new.frames.items))
-          (g.D.Dealer.dealing c.args.dealer.now) (g.D.Dealer.state c.args.dealer.now) (g.D.Dealer.state c.do_outside.new.dealer)
+      play = goes_on m play c.go_to.new.self c.do_block.new.board.laid.table (with_frames m.control (frames_seen c.do_block.new.frames.items))
+          (g.D.Dealer.dealing c.args.dealer.now) (g.D.Dealer.state c.args.dealer.now) (g.D.Dealer.state c.do_block.new.dealer)
           (subst (IsPlace m.code) (sym c.go_to.ensures) (went_place m play c.behind.result)) play.turn play.counts (returns-clause-leads g c);
-      current = c.in-Ok.ensures.current;
+      current = c.in-Ok.ensures.stands.1;
       kept = λ site is. absurd (let e = sym (c.requires.ready.kept site is).offered.there ∙ c.requires.here in cc);
     }
