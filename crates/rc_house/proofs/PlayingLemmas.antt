@@ -133,6 +133,16 @@ module _ (before after : Port) where
   lacking_text called game steps steps' series status prepared is lacks =
       let counted = is.counted in lacking called game steps steps' status prepared (omega (arith, counted)) lacks
 
+-- options of so many workers, with a book of so many totals
+abbrev pub options_with : ℕ → ℕ → Options
+options_with workers cache = record { workers = workers; cache = cache }
+
+-- the options are those of one worker
+pub are_of_one : (options told : Options) → options ≡ told → told.workers ≡ 1 → options_with 1 options.cache ≡ told
+are_of_one options told same one =
+    let own : options.workers ≡ 1 = ap (λ (options : Options). options.workers) same ∙ one in
+    ap (λ workers. options_with workers options.cache) (sym own) ∙ same
+
 -- what was done with the answer of the bench
 bench_concluded : (options : Options) (number : ℕ) (before after : Ports) (steps steps' : ℕ) (answered : Result Stored Status) (status : Status)
     → AnswersBench options number steps steps' answered → Concludes answered before.out after.out before.notes after.notes status

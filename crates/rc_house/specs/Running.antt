@@ -74,11 +74,6 @@ pub record IsSeriesOf (options : Options) (about : About) (plan : Plan) (steps s
   pub hits : AreHits options (looks_of about plan) series.totals.hits
   pub counted : steps' ≡ steps + counted_playouts options (looks_of about plan)
 
--- They were, or there was no memory for all of it.
-abbrev pub PlaysSeries : {E : Type 0} → Options → About → Plan → ℕ → ℕ → Result Series E → Type 0
-PlaysSeries options about plan steps steps' (Ok series) = IsSeriesOf options about plan steps steps' series
-PlaysSeries options about plan steps steps' (Err error) = steps' ≤ steps + counted_playouts options (looks_of about plan)
-
 -- What a command tells of the matches of a series: their house text, or the summary of the bench.
 abbrev pub told_of : Command → Series → List ℕ
 told_of (command.Play options) series = text_of series.text

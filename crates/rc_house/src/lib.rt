@@ -2,7 +2,6 @@
 #![tactic(auto)]
 
 mod handing;
-mod playing;
 mod running;
 
 pub use handing::refuse;

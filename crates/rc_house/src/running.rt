@@ -11,19 +11,20 @@ ghost use Rattle.rc_house.specs.Port.{moment, port};
 ghost use Rattle.rc_house.specs.Running.{AnswersCommand, NamesNone, PreparesCommand, PreparesNone, ReadsNone, ReadsPrepared, TellsOf, told_of};
 
 use crate::handing::{conclude, refuse};
-use crate::playing::{play_alone, play_together};
 use rc_answers::{
-    Answer, Note, Prepared, Status, Task, bench_game, prepare, texts_are_the_same,
+    Answer, Game, Note, Prepared, Status, Task, bench_game, prepare, texts_are_the_same,
     what_is_played_is_judged_legal,
 };
-use rc_command::{Command, command_of};
+use rc_command::{Command, Options, command_of};
 use rc_deck::Memory;
 use rc_outside::{Gate, Sink, Source, read_all};
 use rc_play_model::alike_decisions_have_one_item;
 use rc_records::Series;
+use rc_series::series_of;
 use rc_steps::Steps;
 use rc_text::write_house;
 use rc_trick::summary;
+use rc_workers::series_by_workers;
 use std::alloc::Global;
 use std::marker::Brand;
 use std::sync::Wait;
@@ -90,7 +91,7 @@ fn note_of(series: &Series) -> Note
     }
 }
 
-/// What a command answers that one worker runs, or the status that it ends with.
+/// What a command answers that one worker runs, who waits for nobody, or the status that it ends with.
 fn answer_alone<S: Source, L: Ledger>(
     alloc: Global,
     command: Command,
@@ -106,14 +107,16 @@ fn answer_alone<S: Source, L: Ledger>(
     match prepare_command(alloc, command, source)? {
         Prepared::Answered(answer) => Ok(answer),
         Prepared::Playing(game) => {
-            let series = play_alone(alloc, game, command.options(), steps)?;
+            let Game { checked, plan } = game;
+            let series = series_of(alloc, checked, plan, command.options().cache, steps)?;
             let answer = played_answer(alloc, command, &series)?;
             Ok(answer)
         }
     }
 }
 
-/// What a command answers that several workers run, or the status that it ends with.
+/// What a command answers that several workers run, over one book, or the status that it ends with. Each calls the gate before it plays
+/// a match.
 fn answer_together<R: Threads + Wait + Sync, S: Source, G: Gate>(
     alloc: Global,
     rt: &R,
@@ -130,7 +133,9 @@ fn answer_together<R: Threads + Wait + Sync, S: Source, G: Gate>(
     match prepare_command(alloc, command, source)? {
         Prepared::Answered(answer) => Ok(answer),
         Prepared::Playing(game) => {
-            let series = play_together(rt, alloc, game, command.options(), gate)?;
+            let Game { checked, plan } = game;
+            let Options { workers, cache } = command.options();
+            let series = series_by_workers(rt, alloc, checked, plan, workers, cache, gate)?;
             let answer = played_answer(alloc, command, &series)?;
             Ok(answer)
         }

@@ -1,13 +1,14 @@
-use Rattle.std.proofs.Common.{subst, ◌≤◌, ◌+◌}
+use Rattle.std.proofs.Common.{◌≤◌, ◌+◌, arith, subst}
 use Rattle.rc_play_model.specs.About.{about_of}
 use Rattle.rc_records.specs.Series.{looks_of}
 use Rattle.rc_rules.specs.Plan.{plan_seen}
+use Rattle.rc_command.specs.Command.{options_of}
 use Rattle.rc_answers.specs.declared.answer.Prepared.TheVariants.{Playing}
-use Rattle.rc_answers.specs.Players.{counted_playouts}
+use Rattle.rc_answers.specs.Players.{alone, counted_playouts}
 use Rattle.rc_house.specs.Port.{port}
 use Rattle.rc_house.specs.Running.{AnswersCommand, IsSeriesOf, PreparesCommand}
 use Rattle.rc_answers.proofs.Exits.{at_err}
-use Rattle.rc_house.proofs.PlayingLemmas.{lacking, lacking_text, told}
+use Rattle.rc_house.proofs.PlayingLemmas.{are_of_one, lacking, lacking_text, options_with, told}
 use Rattle.rc_house.proofs.running.answer_alone.Goals as goal
 
 pub returns-in_err-series-in-Playing-clause-answers : goal.returns-in_err-series-in-Playing-clause-answers
@@ -18,9 +19,10 @@ returns-in_err-series-in-Playing-clause-answers g c =
     let about = about_of game.checked game.plan.turns in
     let plan = plan_seen game.plan in
     let prepared : PreparesCommand c.args.command before after (Playing game) = rw c.in-Playing.is at c.in_ok-answer.ensures.prepared in
-    let few = subst (λ options. c.play_alone.new.steps ≤ c.args.steps.now + counted_playouts options (looks_of about plan)) c.options.ensures c.in_err-series-in-Playing.ensures in
-    at_err (AnswersCommand c.args.command before after c.args.steps.now c.play_alone.new.steps) c.from_residual-in_err-series-in-Playing.result c.from_residual-in_err-series-in-Playing.ensures.1
-    (λ status lacks. lacking before after c.args.command game c.args.steps.now c.play_alone.new.steps status prepared few lacks)
+    let few = subst (λ options. c.series_of.new.steps ≤ c.args.steps.now + counted_playouts options (looks_of about plan))
+    (are_of_one c.options.result (options_of c.args.command) c.options.ensures c.requires.alone) c.series_of.ensures.bounded in
+    at_err (AnswersCommand c.args.command before after c.args.steps.now c.series_of.new.steps) c.from_residual-in_err-series-in-Playing.result c.from_residual-in_err-series-in-Playing.ensures.1
+    (λ status lacks. lacking before after c.args.command game c.args.steps.now c.series_of.new.steps status prepared few lacks)
 
 pub returns-in_err-answer-in-Playing-clause-answers : goal.returns-in_err-answer-in-Playing-clause-answers
 returns-in_err-answer-in-Playing-clause-answers g c =
@@ -31,9 +33,20 @@ returns-in_err-answer-in-Playing-clause-answers g c =
     let plan = plan_seen game.plan in
     let prepared : PreparesCommand c.args.command before after (Playing game) = rw c.in-Playing.is at c.in_ok-answer.ensures.prepared in
     let series = c.in_ok-series-in-Playing.series in
-    let is = subst (λ options. IsSeriesOf options about plan c.args.steps.now c.play_alone.new.steps series) c.options.ensures c.in_ok-series-in-Playing.ensures in
-    at_err (AnswersCommand c.args.command before after c.args.steps.now c.play_alone.new.steps) c.from_residual-in_err-answer-in-Playing.result c.from_residual-in_err-answer-in-Playing.ensures.1
-    (λ status lacks. lacking_text before after c.args.command game c.args.steps.now c.play_alone.new.steps series status prepared is lacks)
+    let played = c.in_ok-series-in-Playing.ensures in
+    let by_one : IsSeriesOf (options_with 1 c.options.result.cache) about plan c.args.steps.now c.series_of.new.steps series =
+    record {
+      matches = played.matches;
+      standings = played.standings;
+      book = played.book;
+      looks = played.looks;
+      hits = alone (omega arith) played.hits;
+      counted = played.counted;
+    } in
+    let is = subst (λ options. IsSeriesOf options about plan c.args.steps.now c.series_of.new.steps series)
+    (are_of_one c.options.result (options_of c.args.command) c.options.ensures c.requires.alone) by_one in
+    at_err (AnswersCommand c.args.command before after c.args.steps.now c.series_of.new.steps) c.from_residual-in_err-answer-in-Playing.result c.from_residual-in_err-answer-in-Playing.ensures.1
+    (λ status lacks. lacking_text before after c.args.command game c.args.steps.now c.series_of.new.steps series status prepared is lacks)
 
 pub returns-in_ok-answer-in-Playing-clause-answers : goal.returns-in_ok-answer-in-Playing-clause-answers
 returns-in_ok-answer-in-Playing-clause-answers g c =
@@ -44,5 +57,16 @@ returns-in_ok-answer-in-Playing-clause-answers g c =
     let plan = plan_seen game.plan in
     let prepared : PreparesCommand c.args.command before after (Playing game) = rw c.in-Playing.is at c.in_ok-answer.ensures.prepared in
     let series = c.in_ok-series-in-Playing.series in
-    let is = subst (λ options. IsSeriesOf options about plan c.args.steps.now c.play_alone.new.steps series) c.options.ensures c.in_ok-series-in-Playing.ensures in
-    told before after c.args.command game c.args.steps.now c.play_alone.new.steps series c.in_ok-answer-in-Playing.answer prepared is c.in_ok-answer-in-Playing.ensures
+    let played = c.in_ok-series-in-Playing.ensures in
+    let by_one : IsSeriesOf (options_with 1 c.options.result.cache) about plan c.args.steps.now c.series_of.new.steps series =
+    record {
+      matches = played.matches;
+      standings = played.standings;
+      book = played.book;
+      looks = played.looks;
+      hits = alone (omega arith) played.hits;
+      counted = played.counted;
+    } in
+    let is = subst (λ options. IsSeriesOf options about plan c.args.steps.now c.series_of.new.steps series)
+    (are_of_one c.options.result (options_of c.args.command) c.options.ensures c.requires.alone) by_one in
+    told before after c.args.command game c.args.steps.now c.series_of.new.steps series c.in_ok-answer-in-Playing.answer prepared is c.in_ok-answer-in-Playing.ensures
