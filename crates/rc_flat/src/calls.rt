@@ -17,11 +17,13 @@ ghost use Rattle.rc_flat.specs.Marks.{IsMark};
 
 use crate::decisions::apply;
 use crate::machine::FlatMachine;
-use crate::steps::advance;
+use crate::steps::one_step;
 use crate::undoing::refill;
 use rc_deck::Memory;
+use rc_code::Instruction;
 use rc_menu::copy_menu;
 use rc_rules::{Control, Dealer, Machine, Menu, Scores, Stop};
+use rc_play_model::stops_stay;
 use rc_stand::{Mark, Stand, write_menu};
 use rc_table::Table;
 
@@ -117,11 +119,22 @@ impl Machine for FlatMachine {
         if self.spent {
             return Err(Memory);
         }
-        match advance(&mut self.state, &self.about, &self.code.list, dealer) {
-            Ok(stop) => Ok(stop),
-            Err(Memory) => {
-                self.spent = true;
-                Err(Memory)
+        stops_stay();
+        let state = &mut self.state;
+        let about = &self.about;
+        let code: &[Instruction] = &self.code.list;
+        // what an about keeps
+        let _sheet = about.sheet();
+        loop {
+            match one_step(state, about, code, dealer) {
+                Ok(next) => match next {
+                    Some(stop) => return Ok(stop),
+                    None => {}
+                },
+                Err(Memory) => {
+                    self.spent = true;
+                    return Err(Memory);
+                }
             }
         }
     }

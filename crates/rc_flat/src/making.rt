@@ -72,8 +72,9 @@ impl FlatMachine {
         Ok(FlatMachine::with_opening(code, about, Board::new(alloc, table)))
     }
 
-    /// A match at its start, in matches of this about, that notes nothing.
-    pub(crate) fn onward_start(
+    /// A match at its start, in matches of this about, which is copied. It notes nothing of its edits, and never goes back. The code
+    /// stands for its sheet.
+    pub fn onward_start(
         alloc: Global,
         code: &Arc<Code>,
         about: &About,

@@ -2,9 +2,7 @@
 ghost use Rattle.std.specs.Prelude.{◌≡◌, ◌+◌, ◌<◌, IsSome, None, Some, false, List, slice_get, IfOk, OnOk};
 ghost use Rattle.rc_play_model.specs.Owners.{mover};
 ghost use Rattle.rc_play_model.specs.Step.{goes, step};
-ghost use Rattle.rc_play_model.specs.Stop.{stop_of};
-ghost use Rattle.rc_rules.specs.Control.{frames_seen, stop_seen};
-ghost use Rattle.rc_rules.specs.Machine.{StandsWhereItStops};
+ghost use Rattle.rc_rules.specs.Control.{frames_seen};
 ghost use Rattle.rc_code.specs.Instruction.{Block as PureBlock, do_all, offer};
 ghost use Rattle.rc_code.specs.Seen.{instruction_seen, list_seen};
 ghost use Rattle.rc_board.specs.Undo.{Keeps};
@@ -17,7 +15,6 @@ use rc_code::Instruction;
 use rc_deck::Memory;
 use rc_doing::{do_block, front, past};
 use rc_menu::fill_offers_by;
-use rc_play_model::stops_stay;
 use rc_rules::{About, Dealer, Stop};
 use rc_stand::{State, behind};
 use rc_state::Context;
@@ -123,9 +120,9 @@ fn decide(
     Some(Stop::Decide { seat, site })
 }
 
-// A step.
+/// A step. It stops where the step does.
 #[tactic(auto, using(rc_doing::proofs::ShuffleLemmas::not_shuffled))]
-fn one_step<D: Dealer>(
+pub fn one_step<D: Dealer>(
     state: &mut State,
     about: &About,
     code: &[Instruction],
@@ -167,36 +164,5 @@ fn one_step<D: Dealer>(
         Instruction::Repeat(_, _) => Ok(state.leave(about, code)),
         Instruction::Each(_, _, _) => Ok(state.leave(about, code)),
         Instruction::End => Ok(state.leave(about, code)),
-    }
-}
-
-/// Goes on to the next stop.
-#[tactic(auto, using(rc_doing::proofs::ShuffleLemmas::not_shuffled))]
-pub fn advance<D: Dealer>(
-    state: &mut State,
-    about: &About,
-    code: &[Instruction],
-    dealer: &mut D,
-) -> Result<Stop, Memory>
-    requires serves { Serves about.now.sheet (list_seen code.now) }
-    requires ready { IsReady about.now (list_seen code.now) state.old }
-    ensures leads { IfOk result (λ stop. stop_of about.now (D.dealing dealer.old) (D.state dealer.old) (config_at about.now (list_seen code.now) state.old)
-        ≡ Some (record { stop = stop_seen stop; config = config_at about.now (list_seen code.now) state.new; dealer = D.state dealer.new })) }
-    ensures stands { IfOk result (λ stop. StandsWhereItStops about.now (stop_seen stop) (config_at about.now (list_seen code.now) state.new)) }
-    ensures ready { OnOk result (IsReady about.now (list_seen code.now) state.new) }
-    ensures keeps { Keeps state.old.board state.new.board }
-    ensures shuffled { HasShuffled (D.dealing dealer.old) (D.state dealer.old) (D.state dealer.new) }
-    ensures dealing { D.dealing dealer.new ≡ D.dealing dealer.old }
-{
-    stops_stay();
-    let _sheet = about.sheet();
-    loop {
-        match one_step(state, about, code, dealer) {
-            Ok(next) => match next {
-                Some(stop) => return Ok(stop),
-                None => {}
-            },
-            Err(Memory) => return Err(Memory),
-        }
     }
 }

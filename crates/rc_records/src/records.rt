@@ -13,7 +13,7 @@ ghost use Rattle.rc_records.specs.Series.{looks_below, records_below};
 
 use rc_code::Code;
 use rc_deck::Memory;
-use rc_flat::OnwardMachine;
+use rc_flat::FlatMachine;
 use rc_match::{Job, play_match};
 use rc_redraw::Chooser;
 use rc_rules::{About, MatchRecord, Plan};
@@ -76,7 +76,7 @@ pub fn record_of<C: Chooser, L: Ledger>(
     ensures rises { steps.old ≤ steps.new }
     ensures bounded { steps.new ≤ steps.old + all_costs (asks_of about.now.value (plan_seen plan.now.value) number) }
 {
-    let machine = OnwardMachine::start_of(alloc, code, about)?;
+    let machine = FlatMachine::onward_start(alloc, code, about)?;
     let job = Job::of(about, plan, number)?;
     play_match(alloc, &job, machine, chooser, steps)
 }

@@ -4,7 +4,7 @@ use Rattle.rc_rules.specs.Dealer.{HasShuffled}
 use Rattle.rc_code.specs.Seen.{list_seen}
 use Rattle.rc_board.specs.Undo.{Keeps}
 use Rattle.rc_stand.specs.State.{IsReady, config_at}
-use Rattle.rc_flat.proofs.steps.advance.Given as goal
+use Rattle.rc_flat.proofs.calls.FlatMachineMachine.advance.Given as goal
 
 abbrev pub invariant-loop-next : goal.invariant-loop-next
 invariant-loop-next g l =
