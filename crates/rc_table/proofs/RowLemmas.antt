@@ -4,7 +4,7 @@ use Rattle.std.specs.Vec.{with_items}
 use Rattle.std.specs.List.{insert, remove}
 use Rattle.std.proofs.lemmas.List.{drop-drop, drop-take, take-take, drop_at, take-append-le, take_all, take_at, drop_all, append_assoc, append-nil, set_split, get_or_default, length-take-le, length-drop, length-map, length-append, length-set, get_or-map, map-set, set-get_or, take-set-le, drop-set-lt, drop-set-add, take_more_set, with_items_is}
 use lib.Seq.{paste}
-use Rattle.std.proofs.lemmas.List.Edits.{length-paste}
+use Rattle.std.proofs.lemmas.List.Edits.{length-paste, take-paste}
 use borrow.Rule.Slice.PartMut.{put_mid}
 use Rattle.std.proofs.lemmas.Slice.{take-put_mid_below, drop-put_mid}
 use Rattle.rc_table.specs.Rows.{Lists}
@@ -320,6 +320,26 @@ moved_up row place id within =
 
 length_few : (row : List ℕ) (place : ℕ) → length row - 1 ≤ place → length (take (length row - 1) row) ≤ place
 length_few row place last = let long = length-take-le (length row - 1) row (omega arith) in omega (arith, long, last)
+
+-- those behind a place are moved down by one, and what the last place holds then no longer counts
+pub moved_down : (row : List ℕ) (place : ℕ) → place + 1 < length row →
+    take (length row - 1) (paste row place (drop (place + 1) row) (length row - (place + 1))) ≡ remove row place
+moved_down row place more =
+    let n = length row - (place + 1) in
+    let left = length-drop (place + 1) row in
+    let last : length row - 1 ≡ place + n = omega (arith, more) in
+    let next : place + 1 ≡ suc place = omega arith in
+    ap (λ k. take k (paste row place (drop (place + 1) row) n)) last
+    ∙ take-paste row place (drop (place + 1) row) n (omega (arith, more)) (omega (arith, left))
+    ∙ ap (λ list. take place row ++ list) (take_all n (drop (place + 1) row) (omega (arith, left)) ∙ ap (λ k. drop k row) next)
+
+-- the last one is taken out
+pub last_out : (row : List ℕ) (place : ℕ) → place < length row → length row ≤ place + 1 → take (length row - 1) row ≡ remove row place
+last_out row place there last =
+    let is : length row - 1 ≡ place = omega (arith, there, last) in
+    ap (λ k. take k row) is
+    ∙ sym (append-nil (take place row))
+    ∙ ap (λ list. take place row ++ list) (sym (drop_all (suc place) row (omega (arith, last))))
 
 -- it takes the last place
 pub put_at_end : (row : List ℕ) (place id : ℕ) → place < length row → length row - 1 ≤ place → set row place id ≡ insert (take (length row - 1) row) place id

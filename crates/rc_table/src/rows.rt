@@ -40,18 +40,6 @@ impl Model for Rows {
     ghost invariant = { λ r. AreRows r.rows.items 0 (length r.ids.items) };
 }
 
-// Takes an id out of a row, and moves those behind it down. What the last place holds then no longer counts.
-#[inline(always)]
-fn remove_at(row: &mut [u16], place: usize)
-    requires { place < length row.old }
-    ensures long { length row.new ≡ length row.old }
-    ensures rest { take (length row.old - 1) row.new ≡ remove row.old place }
-{
-    if place + 1 < row.len() {
-        row.copy_within(place + 1.., place);
-    }
-}
-
 // Puts an id into a row, and moves those behind it up. What the last place held is lost.
 #[inline(always)]
 fn insert_at(row: &mut [u16], place: usize, id: u16)
@@ -110,7 +98,7 @@ impl Rows {
         }
     }
 
-    /// Takes an id out of a list.
+    /// Takes an id out of a list, and moves those behind it down. What the last place held then no longer counts.
     #[inline(always)]
     pub(crate) fn take_out(&mut self, at: u16, place: usize)
         requires list { at < length self.old.all }
@@ -124,7 +112,10 @@ impl Rows {
         let from = row.from as usize;
         let to = from + row.count as usize;
         row.count -= 1;
-        remove_at(&mut self.ids[from..to], place);
+        let ids = &mut self.ids[from..to];
+        if place + 1 < ids.len() {
+            ids.copy_within(place + 1.., place);
+        }
     }
 
     /// Puts an id into a list.
