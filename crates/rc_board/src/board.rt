@@ -118,6 +118,7 @@ impl Board {
         ensures leads { OnOk result (self.new ≡ edited self.old (put_top self.old.laid.shape id loc self.old.laid.table)) }
         ensures keeps { Keeps self.old self.new }
     {
+        // what a table keeps
         let _sound = self.table.shape();
         let (from, place) = self.table.place_of(id);
         let at = top_without(&self.table, from, place, loc);
@@ -143,6 +144,7 @@ impl Board {
         ensures leads { OnOk result (self.new ≡ edited self.old (put_bottom self.old.laid.shape id loc self.old.laid.table)) }
         ensures keeps { Keeps self.old self.new }
     {
+        // what a table keeps
         let _sound = self.table.shape();
         let (from, place) = self.table.place_of(id);
         let entry = Entry::Moved {
@@ -182,6 +184,7 @@ impl Board {
         ensures leads { OnOk result (self.new.laid ≡ relaid self.old.laid (remember_top self.old.laid.shape id loc self.old.laid.table)) }
         ensures keeps { Keeps self.old self.new }
     {
+        // what a table keeps
         let _sound = self.table.shape();
         if !self.table.has_room(loc) {
             return Ok(());
@@ -203,6 +206,7 @@ impl Board {
         ensures leads { OnOk result (self.new.laid ≡ relaid self.old.laid (remember_bottom self.old.laid.shape id loc self.old.laid.table)) }
         ensures keeps { Keeps self.old self.new }
     {
+        // what a table keeps
         let _sound = self.table.shape();
         if !self.table.has_room(loc) {
             return Ok(());
@@ -239,6 +243,7 @@ impl Board {
         ensures keeps { Keeps self.old self.new }
     {
         edits_keep_tables_sound();
+        // what a table keeps
         let _sound = self.table.shape();
         let Some(place) = self.table.topmost_like(id, loc) else {
             return Ok(());
@@ -279,6 +284,7 @@ impl Board {
         ensures leads { OnOk result (self.new ≡ edited self.old (set_number num value self.old.laid.table)) }
         ensures keeps { Keeps self.old self.new }
     {
+        // what a table keeps
         let _sound = self.table.shape();
         let entry = changed_entry(num, self.table.number(num));
         match self.past.note(entry) {
@@ -297,6 +303,7 @@ impl Board {
         ensures leads { OnOk result (self.new ≡ edited self.old (reorder loc order.now self.old.laid.table)) }
         ensures keeps { Keeps self.old self.new }
     {
+        // what a table keeps
         let _sound = self.table.shape();
         match self.past.note_order(self.alloc, loc, self.table.list(loc)) {
             Ok(()) => {}

@@ -20,6 +20,7 @@ impl Board {
         ensures keeps { Keeps self.old self.new }
     {
         let _few = self.table().list(from);
+        // what a list keeps
         if self.table().shape().holds_references(from) {
             return Ok(());
         }
@@ -36,6 +37,7 @@ fn pile_cards(board: &mut Board, from: u16, to: u16) -> Result<(), Memory>
     ensures keeps { Keeps board.old board.new }
 {
     let _sound = board.table().shape();
+    // what a table keeps
     match sole(board.table().list(from)) {
         Some(id) => board.put_top(id, to),
         None => pile_many(board, from, to),
@@ -62,6 +64,7 @@ fn pile_many(board: &mut Board, from: u16, to: u16) -> Result<(), Memory>
     ensures keeps { Keeps board.old board.new }
 {
     let _sound = board.table().shape();
+    // what a table keeps
     let mut ids: ArrayVec<u16, 512> = ArrayVec::new();
     let _fits = ids.try_extend_from_slice(board.table().list(from));
     put_these(board, ids.as_slice(), to)

@@ -29,6 +29,7 @@ pub fn points(map: &PointMap, face: &Face) -> i64
     requires clamped { All (λ entry. IsWithinClamp entry.points) (entries_of map.now) }
     ensures { result ≡ points_of (entries_of map.now) face.now }
 {
+    // what a list keeps
     let _count = map.entries.len();
     let mut sum = 0i128;
     for entry in &map.entries {

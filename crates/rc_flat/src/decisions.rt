@@ -76,6 +76,7 @@ fn take_item<D: Dealer>(
     ensures shuffled { HasShuffled (D.dealing dealer.old) (D.state dealer.old) (D.state dealer.new) }
     ensures dealing { D.dealing dealer.new ≡ D.dealing dealer.old }
 {
+    // what an about keeps
     let _turns = about.turns();
     let current = state.current;
     let next = state.place.next() + 1;

@@ -64,6 +64,7 @@ impl HomeMachine {
         ensures fresh { IfOk result (λ m. m.spent ≡ false) }
     {
         sites_are_placed();
+        // what an about keeps
         let _sheet = about.sheet();
         let place = place_of(code, site_of(&control));
         let code = Arc::try_clone(code)?;

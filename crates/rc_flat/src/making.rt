@@ -101,6 +101,7 @@ impl FlatMachine {
         ensures notes { result.notes ≡ board.notes }
     {
         standing_code_serves();
+        // what an about keeps
         let _sheet = about.sheet();
         let control = new_control(&about);
         FlatMachine {
@@ -160,6 +161,7 @@ impl FlatMachine {
         ensures notes { IfOk result (λ m. m.notes ≡ true) }
     {
         sites_are_placed();
+        // what an about keeps
         let _sheet = about.sheet();
         let place = place_of(code, site_of(&control));
         let code = Arc::try_clone(code)?;
@@ -186,6 +188,7 @@ impl FlatMachine {
         ensures notes { result.notes ≡ board.notes }
     {
         standing_code_serves();
+        // what an about keeps
         let _sheet = about.sheet();
         let mut state = State {
             board,

@@ -86,6 +86,7 @@ pub fn copy_menu(menu: &Menu) -> Menu
     ensures { menu_seen result.items ≡ menu_seen menu.now.items }
 {
     let mut copy = Menu::new();
+    // what a menu keeps
     let _fits = menu.len();
     for item in menu.as_slice() {
         copy.push(item.copy());

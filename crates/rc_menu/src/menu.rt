@@ -39,6 +39,7 @@ fn put_if(menu: &mut Menu, item: &Item, passes: bool)
     ensures { menu_seen menu.new.items ≡ take 256 (menu_seen menu.old.items ++ (if passes then extended (item_seen item.now) [] ∷ [] else [])) }
 {
     let _count = menu.len();
+    // what a menu keeps
     if passes {
         put(menu, item);
     }
@@ -169,6 +170,7 @@ fn offer_each(
         (map (λ c. card_bound c) cards.now))) }
 {
     let _count = menu.len();
+    // what a menu keeps
     for place in 0..cards.len() {
         if menu.is_full() {
             return;
@@ -193,6 +195,7 @@ fn offer_players(scene: &Scene, scope: &Bindings, inner: &Alt, item: &Item, menu
         (map (λ n. player_bound n) (below (scene_seen scene.now).known.sheet.players)))) }
 {
     let _count = menu.len();
+    // what a menu keeps
     for player in 0..scene.sheet.players {
         if menu.is_full() {
             return;
@@ -227,6 +230,7 @@ fn offer_parts(
         (map (λ g. group_bound g) (groups_by (scene_seen scene.now) name (coll_value (scene_seen scene.now) scope.now (coll_seen cards.now)))))) }
 {
     let _count = menu.len();
+    // what a menu keeps
     let mut room = Cards::new();
     coll_of(scene, scope, cards, &mut room);
     let all = Collection::built(room.as_slice());

@@ -85,6 +85,7 @@ fn put_at_if(menu: &mut Menu, item: &Item, spot: u16, passes: bool)
     ensures { menu_seen menu.new.items ≡ take 256 (menu_seen menu.old.items ++ (if passes then extended (extended (item_seen item.now) (spot ∷ [])) [] ∷ [] else [])) }
 {
     let _count = menu.len();
+    // what a menu keeps
     if passes {
         put_at(menu, item, spot);
     }
@@ -98,6 +99,7 @@ fn offer_ids(ids: &[u16], item: &Item, menu: &mut Menu)
         ++ map (extended (item_seen item.now)) (from_each (λ id. [] ∷ []) 0 ids.now)) }
 {
     let _count = menu.len();
+    // what a menu keeps
     for place in 0..ids.len() {
         put_at(menu, item, place as u16);
     }
@@ -110,6 +112,7 @@ pub(crate) fn offer_every(cards: &Collection, item: &Item, menu: &mut Menu)
         ++ map (extended (item_seen item.now)) (from_each (λ c. [] ∷ []) 0 cards.now)) }
 {
     let _count = menu.len();
+    // what a menu keeps
     for place in 0..cards.len() {
         put_at(menu, item, place as u16);
     }
@@ -132,6 +135,7 @@ fn offer_asked(
         ++ map (extended (item_seen item.now)) (from_each (λ c. if joined any (map (ask_value (scene_seen scene.now) scope.now c) asks.now) then [] ∷ [] else []) 0 cards.now)) }
 {
     let _count = menu.len();
+    // what a menu keeps
     for place in 0..cards.len() {
         let passes = joined_answer(scene, scope, asks, any, cards.at(place));
         put_at_if(menu, item, place as u16, passes);
@@ -169,6 +173,7 @@ fn offer_met(asks: &[Ask], any: bool, ids: &[u16], item: &Item, menu: &mut Menu)
         ++ map (extended (item_seen item.now)) (from_each (λ id. if joined any (map (met_value id) asks.now) then [] ∷ [] else []) 0 ids.now)) }
 {
     let _count = menu.len();
+    // what a menu keeps
     for place in 0..ids.len() {
         let passes = joined_met(asks, any, ids[place]);
         put_at_if(menu, item, place as u16, passes);
@@ -190,6 +195,7 @@ pub(crate) fn offer_guarded<'t>(
         ++ map (extended (item_seen item.now)) (from_each (λ c. if told_of (scene_seen scene.now) scope.now (test_seen guard.now) c then [] ∷ [] else []) 0 cards.now)) }
 {
     let _count = menu.len();
+    // what a menu keeps
     let mut asks = Asks::new();
     let parts = parts_of(scene, scope, guard, &mut asks);
     if !parts.settled {
@@ -208,6 +214,7 @@ fn offer_sought(parts: Parts, asks: &[Ask], ids: &[u16], item: &Item, menu: &mut
         ++ map (extended (item_seen item.now)) (from_each (λ id. if (if parts.settled then parts.any else joined parts.any (map (met_value id) asks.now)) then [] ∷ [] else []) 0 ids.now)) }
 {
     let _count = menu.len();
+    // what a menu keeps
     if !parts.settled {
         offer_met(asks, parts.any, ids, item, menu);
     } else if parts.any {

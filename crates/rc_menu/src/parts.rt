@@ -156,6 +156,7 @@ pub(crate) fn known_parts<'t>(
     ensures is { IfSome result (λ parts. IsInParts (scene_seen scene.now) scope.now (guard_meant guard.now) parts asks.new.items) }
     ensures sought { list_all asks_value asks.new.items ≡ true }
 {
+    // what a list keeps
     let _few = guard.parts.len();
     match parts_settle(scene, scope, guard.parts.as_slice(), guard.any, asks) {
         Some(settled) => Some(Parts {

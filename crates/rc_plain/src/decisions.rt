@@ -47,6 +47,7 @@ impl State {
         ensures ready { IsReady about.now self.new }
         ensures dealing { D.dealing dealer.new ≡ D.dealing dealer.old }
     {
+        // what an about keeps
         let _turns = about.turns();
         let current = current_of(
             about.sheet(),

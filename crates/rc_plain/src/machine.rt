@@ -130,6 +130,7 @@ impl PlainMachine {
     {
         sites_fix_choices();
         let _sheet = about.sheet();
+        // what an about keeps
         let site = site_of(&control);
         let path = path_of(&about, site);
         let mut menu = Menu::new();

@@ -31,6 +31,7 @@ impl State {
         ensures ready { IsReady about.now self.new }
         ensures dealing { D.dealing dealer.new ≡ D.dealing dealer.old }
     {
+        // what an about keeps
         let _sheet = about.sheet();
         do_effects(
             about,
@@ -52,6 +53,7 @@ impl State {
         ensures ready { IsReady about.now self.new }
     {
         sites_fix_choices();
+        // what an about keeps
         let _sheet = about.sheet();
         fill_menu_at(
             about,
@@ -101,6 +103,7 @@ impl State {
         if self.path.at_round() {
             return self.round_next(about, end);
         }
+        // what an about keeps
         let _sheet = about.sheet();
         open_frame(&mut self.control.frames, about, number, class);
         self.path.open();
@@ -117,6 +120,7 @@ impl State {
         ensures leads { LeadsTo about.now (config_at about.now self.old) result (config_at about.now self.new) }
         ensures ready { IsReady about.now self.new }
     {
+        // what an about keeps
         let _sheet = about.sheet();
         if has_ended(about, &self.table, &self.control, end) {
             close_frame(&mut self.control.frames);
@@ -202,6 +206,7 @@ impl State {
         ensures dealing { D.dealing dealer.new ≡ D.dealing dealer.old }
     {
         stops_stay();
+        // what an about keeps
         let _sheet = about.sheet();
         loop {
             match self.step(about, dealer) {

@@ -49,6 +49,7 @@ impl State {
         ensures ready { IsReady about.now (list_seen code.now) self.new }
         ensures keeps { self.new.board ≡ self.old.board }
     {
+        // what an about keeps
         let _sheet = about.sheet();
         if self.ends(about, end) {
             close_frame(&mut self.control.frames);

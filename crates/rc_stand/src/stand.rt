@@ -67,6 +67,7 @@ pub fn write_menu(from: &Menu, to: &mut Menu)
     ensures { menu_seen to.new.items ≡ menu_seen from.now.items }
 {
     to.clear();
+    // what a menu keeps
     let _fits = from.len();
     for item in from.as_slice() {
         to.push(item.copy());

@@ -32,6 +32,7 @@ pub fn few_cards_now(
     ensures is { result ≡ true → values_seen out.new.items ≡ coll_value (scene_in context.now table.now frames.now.items) context.now.scope.now (coll_seen expr.now) }
     ensures there { result ≡ true → All (λ card. IsCardOf context.now.about.now.shape (value_seen card)) out.new.items }
 {
+    // what an about and a table keep
     let _fits = context.about.sheet();
     let _sound = table.shape();
     write_bare(context, expr, table, frames, out)
@@ -84,6 +85,7 @@ pub fn sole_card_now(
     ensures is { IfSome result (λ card. coll_value (scene_in context.now table.now frames.now.items) context.now.scope.now (coll_seen expr.now) ≡ value_seen card ∷ []) }
     ensures there { IfSome result (λ card. IsCardOf context.now.about.now.shape (value_seen card)) }
 {
+    // what an about and a table keep
     let _fits = context.about.sheet();
     let _sound = table.shape();
     sole_bare(context, expr, table, frames)

@@ -60,6 +60,7 @@ pub fn pass_frame(frames: &mut Frames, count: u8)
     requires { 1 ≤ count }
     ensures { frames_seen frames.new.items ≡ passed count (frames_seen frames.old.items) }
 {
+    // what a list keeps
     let _fits = frames.len();
     match frames.pop() {
         Some(frame) => frames.push(next_of(frame, count)),

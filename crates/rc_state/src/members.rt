@@ -53,6 +53,7 @@ pub fn member_at(
         ≡ slice_index_or (members (scene_in context.now table.now frames.now.items) context.now.scope.now (domain_seen domain.now)) spot (player_bound 0) }
     ensures there { IsBindOf context.now.about.now.shape (member_seen result (values_seen room.new.items)) }
 {
+    // what an about and a table keep
     let _fits = context.about.sheet();
     let _sound = table.shape();
     match domain {
@@ -140,6 +141,7 @@ pub fn bare_bind_at<'m>(
         ≡ slice_index_or (members (scene_in context.now table.now frames.now.items) context.now.scope.now (domain_seen domain.now)) spot (player_bound 0)) }
     ensures there { IfSome result (λ bind. IsBindOf context.now.about.now.shape (bind_seen bind)) }
 {
+    // what an about and a table keep
     let _fits = context.about.sheet();
     let _sound = table.shape();
     bound_at(context, domain, spot, table, frames)

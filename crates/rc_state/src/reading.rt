@@ -30,6 +30,7 @@ pub fn card_now(context: &Context, expr: &CardExpr, table: &Table, frames: &Fram
     ensures there { IfSome result (λ card. IsCardOf context.now.about.now.shape (value_seen card)) }
 {
     expressions_bind_few();
+    // what an about and a table keep
     let _fits = context.about.sheet();
     let _sound = table.shape();
     found_card(context, expr, table, frames)
@@ -63,6 +64,7 @@ pub fn cards_now(
     ensures there { All (λ card. IsCardOf context.now.about.now.shape (value_seen card)) out.new.items }
 {
     expressions_bind_few();
+    // what an about and a table keep
     let _fits = context.about.sheet();
     let _sound = table.shape();
     coll_of(&scene_now(context, table, frames), context.scope, expr, out);
@@ -78,6 +80,7 @@ pub fn int_now(context: &Context, expr: &IntExpr, table: &Table, frames: &Frames
 {
     expressions_bind_few();
     values_stay_within_limits();
+    // what a table keeps
     let _sound = table.shape();
     found_int(context, expr, table, frames)
 }
@@ -122,6 +125,7 @@ pub fn loc_now(context: &Context, loc: &Loc, table: &Table, frames: &Frames) -> 
     ensures is { result ≡ loc_place (scene_in context.now table.now frames.now.items).known context.now.scope.now (loc_seen loc.now) }
     ensures holds { IfSome result (λ at. HoldsAs context.now.about.now.shape (holds_references context.now.about.now.sheet loc.now.name) at) }
 {
+    // what an about keeps
     let _fits = context.about.sheet();
     loc_at(&scene_now(context, table, frames), context.scope, loc)
 }

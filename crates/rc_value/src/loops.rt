@@ -51,6 +51,7 @@ pub fn fill(all: &mut Cards, cards: &Collection)
     ensures { values_seen all.new.items ≡ cards.now }
 {
     let _count = cards.len();
+    // what a collection keeps
     append(all, cards);
 }
 
