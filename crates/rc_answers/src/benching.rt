@@ -2,6 +2,7 @@
 ghost use Rattle.std.specs.Prelude.{◌≡◌, ◌≤◌, length, IfOk, All};
 ghost use Rattle.rc_model.specs.Placed.{IsPlaced};
 ghost use Rattle.rc_model.specs.Spelled.{Spelled};
+ghost use Rattle.rc_model.specs.Limits.{most_in_bench};
 ghost use Rattle.rc_form.specs.Form.{tree_of, trees_of, IsPrintable};
 ghost use Rattle.rc_form.specs.SameForm.{IsOfAtoms};
 ghost use Rattle.rc_sheet_model.specs.Sheet.{Sheet};
@@ -21,7 +22,7 @@ use std::alloc::Global;
 /// The matches of the bench, so many. Memory may run out.
 pub fn bench_game(alloc: Global, number: u16) -> Result<Game, Memory>
     requires some { 1 ≤ number }
-    requires few { number ≤ 1000 }
+    requires few { number ≤ most_in_bench }
     ensures is { IfOk result (λ game. IsTrickGame game.checked) }
     ensures one { IfOk result (λ game. (other : Sheet) → IsTrickGame other → other ≡ game.checked) }
     ensures plan { IfOk result (λ game. plan_seen game.plan ≡ bench_plan number) }

@@ -7,7 +7,7 @@ use Rattle.rc_play_model.specs.Table.{Table, list_at}
 use Rattle.rc_play_model.specs.Value.{cut}
 use Rattle.rc_play_model.specs.Effects.{move_card}
 
--- the cards or references of a location, of which the first 512 count
+-- the cards or references of a location, of which the first count, up to a limit
 abbrev pub cards_of : Shape → Table → ℕ → List CardValue
 cards_of shape table loc = cut (map (value_in (holds_references (slice_get shape.places loc)) loc) (list_at table loc))
 

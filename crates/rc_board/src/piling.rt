@@ -9,6 +9,7 @@ ghost use Rattle.rc_board.specs.Undo.{Keeps};
 use crate::board::Board;
 use arrayvec::ArrayVec;
 use rc_deck::Memory;
+use rc_names::limits::MOST_IN_LIST;
 
 impl Board {
     /// Puts all cards of a location on top of a location of cards, the lowest first. Which they are is read before the first one moves,
@@ -19,8 +20,8 @@ impl Board {
         ensures leads { OnOk result (self.new.laid ≡ relaid self.old.laid (piled self.old.laid.shape to from self.old.laid.table)) }
         ensures keeps { Keeps self.old self.new }
     {
-        let _few = self.table().list(from);
         // what a list keeps
+        let _few = self.table().list(from);
         if self.table().shape().holds_references(from) {
             return Ok(());
         }
@@ -36,8 +37,8 @@ fn pile_cards(board: &mut Board, from: u16, to: u16) -> Result<(), Memory>
         (fold (λ table id. put_top board.old.laid.shape id to table) board.old.laid.table (list_at board.old.laid.table from))) }
     ensures keeps { Keeps board.old board.new }
 {
-    let _sound = board.table().shape();
     // what a table keeps
+    let _sound = board.table().shape();
     match sole(board.table().list(from)) {
         Some(id) => board.put_top(id, to),
         None => pile_many(board, from, to),
@@ -63,9 +64,9 @@ fn pile_many(board: &mut Board, from: u16, to: u16) -> Result<(), Memory>
         (fold (λ table id. put_top board.old.laid.shape id to table) board.old.laid.table (list_at board.old.laid.table from))) }
     ensures keeps { Keeps board.old board.new }
 {
-    let _sound = board.table().shape();
     // what a table keeps
-    let mut ids: ArrayVec<u16, 512> = ArrayVec::new();
+    let _sound = board.table().shape();
+    let mut ids: ArrayVec<u16, MOST_IN_LIST> = ArrayVec::new();
     let _fits = ids.try_extend_from_slice(board.table().list(from));
     put_these(board, ids.as_slice(), to)
 }

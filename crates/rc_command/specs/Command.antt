@@ -1,5 +1,6 @@
 -- The commands, as words name them.
 use Rattle.std.specs.Prelude.{ℕ, ◌≡◌, List, [], ◌∷◌, codes}
+use Rattle.rc_model.specs.Limits.{most_in_bench}
 use Rattle.rc_command.specs.Words.{IsNumber, HasOptions, usual_options}
 use Rattle.rc_command.specs.declared.options.Options.{Options}
 use Rattle.rc_command.specs.declared.command.Command.{Command}
@@ -7,7 +8,7 @@ use Rattle.rc_command.specs.declared.command.Command.TheVariants.{Play, Check, S
 
 -- the words behind `bench` are its number and its options
 abbrev pub IsBench : List (List ℕ) → ℕ → Options → Type 0
-IsBench words number options = (text : List ℕ) × (rest : List (List ℕ)) × (words ≡ text ∷ rest) × IsNumber 1000 text number
+IsBench words number options = (text : List ℕ) × (rest : List (List ℕ)) × (words ≡ text ∷ rest) × IsNumber most_in_bench text number
     × HasOptions rest options
 
 -- these words are the command

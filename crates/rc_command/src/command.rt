@@ -8,6 +8,7 @@ ghost use Rattle.rc_command.specs.Command.{IsCommand, IsBench, options_of};
 use crate::number::number_of;
 use crate::options::{Options, options_of};
 use rc_deck::Memory;
+use rc_names::limits::MOST_IN_BENCH;
 use std::alloc::Global;
 
 /// A command with what its words say.
@@ -84,7 +85,7 @@ fn bench_of(alloc: Global, rest: &[String]) -> Result<Option<Command>, Memory>
     ensures none { IfOk result (λ found. IfNone found ((number : ℕ) (options : Options) → IsBench (map string_bytes rest.now) number options → ⊥)) }
 {
     match rest {
-        [number, rest @ ..] => match number_of(number.as_str(), 1000) {
+        [number, rest @ ..] => match number_of(number.as_str(), MOST_IN_BENCH) {
             Some(number) => numbered_bench(alloc, number as u16, rest),
             None => Ok(None),
         },

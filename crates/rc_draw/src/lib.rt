@@ -12,6 +12,7 @@ mod word;
 
 ghost use Rattle.std.specs.Prelude.{◌≡◌, ◌<◌, ◌≤◌, length};
 ghost use Rattle.std.specs.List.Sorted.{IsPermutation};
+ghost use Rattle.rc_model.specs.Limits.{most_cards};
 ghost use Rattle.rc_play_model.specs.Draws as draws;
 
 use crate::word::first_word;
@@ -59,7 +60,7 @@ pub fn pick_by(key: &[u8; 32], n: u32) -> u32
 /// Puts a list of at most 512 items into the order of a key. From the last place down to the second, each takes what stands at
 /// a place up to it by the key's next word, and gives what it had. A list of fewer than two items stays.
 pub fn shuffle_by(key: &[u8; 32], list: &mut [u16])
-    requires { length list.old ≤ 512 }
+    requires { length list.old ≤ most_cards }
     ensures order { list.new ≡ draws.permuted key.now list.old }
     ensures permuted { IsPermutation list.old list.new }
 {

@@ -1,5 +1,6 @@
 //! The calls of the machine.
 ghost use Rattle.std.specs.Prelude.{◌≡◌, ℕ, ◌<◌, ◌≤◌, ◌++◌, List, true, false, length, Some, is_err, IsSome, IfOk, OnOk, OnErr};
+ghost use Rattle.rc_model.specs.Limits.{most_items};
 ghost use Rattle.rc_play_model.specs.Table.{Table as PureTable};
 ghost use Rattle.rc_play_model.specs.About.{menu_at};
 ghost use Rattle.rc_play_model.specs.Step.{Config, goes};
@@ -19,11 +20,11 @@ use crate::decisions::apply;
 use crate::machine::FlatMachine;
 use crate::steps::one_step;
 use crate::undoing::refill;
-use rc_deck::Memory;
 use rc_code::Instruction;
+use rc_deck::Memory;
 use rc_menu::copy_menu;
-use rc_rules::{Control, Dealer, Machine, Menu, Scores, Stop};
 use rc_play_model::stops_stay;
+use rc_rules::{Control, Dealer, Machine, Menu, Scores, Stop};
 use rc_stand::{Mark, Stand, write_menu};
 use rc_table::Table;
 
@@ -147,7 +148,7 @@ impl Machine for FlatMachine {
         requires fresh { self.now.spent ≡ false }
         requires decision { StandsAtDecision self.now.about self.now.config }
         ensures is { result ≡ length (menu_here self.now.about self.now.config) }
-        ensures few { result ≤ 256 }
+        ensures few { result ≤ most_items }
     {
         self.state.menu.len()
     }

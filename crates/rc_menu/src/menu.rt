@@ -1,6 +1,7 @@
 //! What a choice offers.
 ghost use Rattle.std.specs.Prelude.{◌≡◌, ◌+◌, ◌<◌, ◌≤◌, ◌++◌, ◌∷◌, [], length, map, take, if◌then◌else◌, All};
 ghost use Rattle.rc_model.specs.Numbers.{below};
+ghost use Rattle.rc_model.specs.Limits.{most_items};
 ghost use Rattle.rc_play_model.specs.Value.{card_bound, player_bound, group_bound, coll_value, groups_by};
 ghost use Rattle.rc_play_model.specs.Menu.{spots_of, from_each, alts_at, menu_of as pure_menu_of, menu_from as pure_menu_from};
 ghost use Rattle.rc_ast.specs.Expressions.{coll_seen};
@@ -26,7 +27,7 @@ use rc_value::{
 // Puts an item behind the others, where there is room.
 #[inline(never)]
 fn put(menu: &mut Menu, item: &Item)
-    ensures { menu_seen menu.new.items ≡ take 256 (menu_seen menu.old.items ++ extended (item_seen item.now) [] ∷ []) }
+    ensures { menu_seen menu.new.items ≡ take most_items (menu_seen menu.old.items ++ extended (item_seen item.now) [] ∷ []) }
 {
     if !menu.is_full() {
         menu.push(item.copy());
@@ -36,10 +37,10 @@ fn put(menu: &mut Menu, item: &Item)
 // The same where it passes.
 #[inline(never)]
 fn put_if(menu: &mut Menu, item: &Item, passes: bool)
-    ensures { menu_seen menu.new.items ≡ take 256 (menu_seen menu.old.items ++ (if passes then extended (item_seen item.now) [] ∷ [] else [])) }
+    ensures { menu_seen menu.new.items ≡ take most_items (menu_seen menu.old.items ++ (if passes then extended (item_seen item.now) [] ∷ [] else [])) }
 {
-    let _count = menu.len();
     // what a menu keeps
+    let _count = menu.len();
     if passes {
         put(menu, item);
     }
@@ -50,7 +51,7 @@ fn put_if(menu: &mut Menu, item: &Item, passes: bool)
 fn offer(scene: &Scene, scope: &Bindings, alt: &Alt, item: &Item, menu: &mut Menu)
     requires fits { length scope.now + alt_depth (alt_seen alt.now) ≤ 5 }
     requires room { length item.now.spots.items + domains_in (alt_seen alt.now) ≤ 4 }
-    ensures { menu_seen menu.new.items ≡ take 256 (menu_seen menu.old.items
+    ensures { menu_seen menu.new.items ≡ take most_items (menu_seen menu.old.items
         ++ map (extended (item_seen item.now)) (spots_of (scene_seen scene.now) scope.now (alt_seen alt.now))) }
 {
     match alt {
@@ -79,7 +80,7 @@ fn offer_over(
     requires domain { length scope.now + coll_depth (coll_seen cards.now) ≤ 5 }
     requires fits { length scope.now + (1 + alt_depth (alt_seen inner.now)) ≤ 5 }
     requires room { length item.now.spots.items + (1 + domains_in (alt_seen inner.now)) ≤ 4 }
-    ensures { menu_seen menu.new.items ≡ take 256 (menu_seen menu.old.items
+    ensures { menu_seen menu.new.items ≡ take most_items (menu_seen menu.old.items
         ++ map (extended (item_seen item.now)) (from_each (λ m. spots_of (scene_seen scene.now) (scope.now ++ m ∷ []) (alt_seen inner.now)) 0
         (map (λ c. card_bound c) (coll_value (scene_seen scene.now) scope.now (coll_seen cards.now))))) }
 {
@@ -113,7 +114,7 @@ fn offer_built(
     requires domain { length scope.now + coll_depth (coll_seen cards.now) ≤ 5 }
     requires fits { length scope.now + (1 + alt_depth (alt_seen inner.now)) ≤ 5 }
     requires room { length item.now.spots.items + (1 + domains_in (alt_seen inner.now)) ≤ 4 }
-    ensures { menu_seen menu.new.items ≡ take 256 (menu_seen menu.old.items
+    ensures { menu_seen menu.new.items ≡ take most_items (menu_seen menu.old.items
         ++ map (extended (item_seen item.now)) (from_each (λ m. spots_of (scene_seen scene.now) (scope.now ++ m ∷ []) (alt_seen inner.now)) 0
         (map (λ c. card_bound c) (coll_value (scene_seen scene.now) scope.now (coll_seen cards.now))))) }
 {
@@ -141,7 +142,7 @@ fn offer_cards(
 )
     requires fits { length scope.now + (1 + alt_depth (alt_seen inner.now)) ≤ 5 }
     requires room { length item.now.spots.items + (1 + domains_in (alt_seen inner.now)) ≤ 4 }
-    ensures { menu_seen menu.new.items ≡ take 256 (menu_seen menu.old.items
+    ensures { menu_seen menu.new.items ≡ take most_items (menu_seen menu.old.items
         ++ map (extended (item_seen item.now)) (from_each (λ m. spots_of (scene_seen scene.now) (scope.now ++ m ∷ []) (alt_seen inner.now)) 0
         (map (λ c. card_bound c) cards.now))) }
 {
@@ -165,12 +166,12 @@ fn offer_each(
 )
     requires fits { length scope.now + (1 + alt_depth (alt_seen inner.now)) ≤ 5 }
     requires room { length item.now.spots.items + (1 + domains_in (alt_seen inner.now)) ≤ 4 }
-    ensures { menu_seen menu.new.items ≡ take 256 (menu_seen menu.old.items
+    ensures { menu_seen menu.new.items ≡ take most_items (menu_seen menu.old.items
         ++ map (extended (item_seen item.now)) (from_each (λ m. spots_of (scene_seen scene.now) (scope.now ++ m ∷ []) (alt_seen inner.now)) 0
         (map (λ c. card_bound c) cards.now))) }
 {
-    let _count = menu.len();
     // what a menu keeps
+    let _count = menu.len();
     for place in 0..cards.len() {
         if menu.is_full() {
             return;
@@ -190,12 +191,12 @@ fn offer_each(
 fn offer_players(scene: &Scene, scope: &Bindings, inner: &Alt, item: &Item, menu: &mut Menu)
     requires fits { length scope.now + (1 + alt_depth (alt_seen inner.now)) ≤ 5 }
     requires room { length item.now.spots.items + (1 + domains_in (alt_seen inner.now)) ≤ 4 }
-    ensures { menu_seen menu.new.items ≡ take 256 (menu_seen menu.old.items
+    ensures { menu_seen menu.new.items ≡ take most_items (menu_seen menu.old.items
         ++ map (extended (item_seen item.now)) (from_each (λ m. spots_of (scene_seen scene.now) (scope.now ++ m ∷ []) (alt_seen inner.now)) 0
         (map (λ n. player_bound n) (below (scene_seen scene.now).known.sheet.players)))) }
 {
-    let _count = menu.len();
     // what a menu keeps
+    let _count = menu.len();
     for player in 0..scene.sheet.players {
         if menu.is_full() {
             return;
@@ -225,12 +226,12 @@ fn offer_parts(
     requires domain { length scope.now + coll_depth (coll_seen cards.now) ≤ 5 }
     requires fits { length scope.now + (1 + alt_depth (alt_seen inner.now)) ≤ 5 }
     requires room { length item.now.spots.items + (1 + domains_in (alt_seen inner.now)) ≤ 4 }
-    ensures { menu_seen menu.new.items ≡ take 256 (menu_seen menu.old.items
+    ensures { menu_seen menu.new.items ≡ take most_items (menu_seen menu.old.items
         ++ map (extended (item_seen item.now)) (from_each (λ m. spots_of (scene_seen scene.now) (scope.now ++ m ∷ []) (alt_seen inner.now)) 0
         (map (λ g. group_bound g) (groups_by (scene_seen scene.now) name (coll_value (scene_seen scene.now) scope.now (coll_seen cards.now)))))) }
 {
-    let _count = menu.len();
     // what a menu keeps
+    let _count = menu.len();
     let mut room = Cards::new();
     coll_of(scene, scope, cards, &mut room);
     let all = Collection::built(room.as_slice());
@@ -265,7 +266,7 @@ fn offer_group(
 )
     requires fits { length scope.now + (1 + alt_depth (alt_seen inner.now)) ≤ 5 }
     requires room { length item.now.spots.items + domains_in (alt_seen inner.now) ≤ 4 }
-    ensures { menu_seen menu.new.items ≡ take 256 (menu_seen menu.old.items
+    ensures { menu_seen menu.new.items ≡ take most_items (menu_seen menu.old.items
         ++ map (extended (item_seen item.now)) (spots_of (scene_seen scene.now) (scope.now ++ group_bound (values_seen group.now.items) ∷ []) (alt_seen inner.now))) }
 {
     offer(
@@ -340,7 +341,7 @@ fn make_offer(scene: &Scene, scope: &Bindings, one: &Offer, item: &Item, menu: &
     requires outside { scope.now ≡ [] }
     requires few { BindsFew 0 one.now }
     requires bare { item.now.spots.items ≡ [] }
-    ensures { menu_seen menu.new.items ≡ take 256 (menu_seen menu.old.items
+    ensures { menu_seen menu.new.items ≡ take most_items (menu_seen menu.old.items
         ++ map (extended (item_seen item.now)) (spots_of (scene_seen scene.now) scope.now one.now)) }
 {
     match one.guard() {

@@ -1,5 +1,6 @@
 //! Menus that grow by the cards of an innermost domain.
 ghost use Rattle.std.specs.Prelude.{◌≡◌, ◌<◌, ◌+◌, ◌≤◌, ◌++◌, ◌∷◌, [], true, false, length, map, take, if◌then◌else◌};
+ghost use Rattle.rc_model.specs.Limits.{most_items, most_in_list};
 ghost use Rattle.rc_sheet_model.specs.Sheet.{cards_in};
 ghost use Rattle.rc_play_model.specs.Menu.{from_each};
 ghost use Rattle.rc_play_model.specs.Value.{coll_value};
@@ -55,7 +56,7 @@ fn first_spot(alt: usize, spot: u16) -> Item
 #[inline(always)]
 fn put_at(menu: &mut Menu, item: &Item, spot: u16)
     requires { length item.now.spots.items < 4 }
-    ensures { menu_seen menu.new.items ≡ take 256 (menu_seen menu.old.items ++ extended (extended (item_seen item.now) (spot ∷ [])) [] ∷ []) }
+    ensures { menu_seen menu.new.items ≡ take most_items (menu_seen menu.old.items ++ extended (extended (item_seen item.now) (spot ∷ [])) [] ∷ []) }
 {
     if menu.is_full() {
         return;
@@ -72,7 +73,7 @@ fn put_at(menu: &mut Menu, item: &Item, spot: u16)
 #[inline(never)]
 fn push_behind(menu: &mut Menu, item: &Item, spot: u16)
     requires spots { length item.now.spots.items < 4 }
-    requires room { length menu.old.items < 256 }
+    requires room { length menu.old.items < most_items }
     ensures { menu_seen menu.new.items ≡ menu_seen menu.old.items ++ extended (item_seen item.now) (spot ∷ []) ∷ [] }
 {
     menu.push(with_spot(item, spot));
@@ -82,10 +83,10 @@ fn push_behind(menu: &mut Menu, item: &Item, spot: u16)
 #[inline(always)]
 fn put_at_if(menu: &mut Menu, item: &Item, spot: u16, passes: bool)
     requires { length item.now.spots.items < 4 }
-    ensures { menu_seen menu.new.items ≡ take 256 (menu_seen menu.old.items ++ (if passes then extended (extended (item_seen item.now) (spot ∷ [])) [] ∷ [] else [])) }
+    ensures { menu_seen menu.new.items ≡ take most_items (menu_seen menu.old.items ++ (if passes then extended (extended (item_seen item.now) (spot ∷ [])) [] ∷ [] else [])) }
 {
-    let _count = menu.len();
     // what a menu keeps
+    let _count = menu.len();
     if passes {
         put_at(menu, item, spot);
     }
@@ -93,13 +94,13 @@ fn put_at_if(menu: &mut Menu, item: &Item, spot: u16, passes: bool)
 
 // Offers each of the cards with these ids.
 fn offer_ids(ids: &[u16], item: &Item, menu: &mut Menu)
-    requires few { length ids.now ≤ 512 }
+    requires few { length ids.now ≤ most_in_list }
     requires room { length item.now.spots.items < 4 }
-    ensures { menu_seen menu.new.items ≡ take 256 (menu_seen menu.old.items
+    ensures { menu_seen menu.new.items ≡ take most_items (menu_seen menu.old.items
         ++ map (extended (item_seen item.now)) (from_each (λ id. [] ∷ []) 0 ids.now)) }
 {
-    let _count = menu.len();
     // what a menu keeps
+    let _count = menu.len();
     for place in 0..ids.len() {
         put_at(menu, item, place as u16);
     }
@@ -108,11 +109,11 @@ fn offer_ids(ids: &[u16], item: &Item, menu: &mut Menu)
 /// Offers each of the cards.
 pub(crate) fn offer_every(cards: &Collection, item: &Item, menu: &mut Menu)
     requires { length item.now.spots.items < 4 }
-    ensures { menu_seen menu.new.items ≡ take 256 (menu_seen menu.old.items
+    ensures { menu_seen menu.new.items ≡ take most_items (menu_seen menu.old.items
         ++ map (extended (item_seen item.now)) (from_each (λ c. [] ∷ []) 0 cards.now)) }
 {
-    let _count = menu.len();
     // what a menu keeps
+    let _count = menu.len();
     for place in 0..cards.len() {
         put_at(menu, item, place as u16);
     }
@@ -131,11 +132,11 @@ fn offer_asked(
 )
     requires fits { AllFit scope.now asks.now }
     requires room { length item.now.spots.items < 4 }
-    ensures { menu_seen menu.new.items ≡ take 256 (menu_seen menu.old.items
+    ensures { menu_seen menu.new.items ≡ take most_items (menu_seen menu.old.items
         ++ map (extended (item_seen item.now)) (from_each (λ c. if joined any (map (ask_value (scene_seen scene.now) scope.now c) asks.now) then [] ∷ [] else []) 0 cards.now)) }
 {
-    let _count = menu.len();
     // what a menu keeps
+    let _count = menu.len();
     for place in 0..cards.len() {
         let passes = joined_answer(scene, scope, asks, any, cards.at(place));
         put_at_if(menu, item, place as u16, passes);
@@ -154,7 +155,7 @@ fn offer_some(
 )
     requires fits { AllFit scope.now asks.now }
     requires room { length item.now.spots.items < 4 }
-    ensures { menu_seen menu.new.items ≡ take 256 (menu_seen menu.old.items
+    ensures { menu_seen menu.new.items ≡ take most_items (menu_seen menu.old.items
         ++ map (extended (item_seen item.now)) (from_each (λ c. if joined any (map (ask_value (scene_seen scene.now) scope.now c) asks.now) then [] ∷ [] else []) 0 cards.now)) }
 {
     if let Some(ids) = cards.ids() {
@@ -166,14 +167,14 @@ fn offer_some(
 }
 
 // Offers those of the cards with these ids that have the values that are asked for.
-fn offer_met(asks: &[Ask], any: bool, ids: &[u16], item: &Item, menu: &mut Menu)
-    requires few { length ids.now ≤ 512 }
+fn offer_met(asks: &[CardAsk], any: bool, ids: &[u16], item: &Item, menu: &mut Menu)
+    requires few { length ids.now ≤ most_in_list }
     requires room { length item.now.spots.items < 4 }
-    ensures { menu_seen menu.new.items ≡ take 256 (menu_seen menu.old.items
+    ensures { menu_seen menu.new.items ≡ take most_items (menu_seen menu.old.items
         ++ map (extended (item_seen item.now)) (from_each (λ id. if joined any (map (met_value id) asks.now) then [] ∷ [] else []) 0 ids.now)) }
 {
-    let _count = menu.len();
     // what a menu keeps
+    let _count = menu.len();
     for place in 0..ids.len() {
         let passes = joined_met(asks, any, ids[place]);
         put_at_if(menu, item, place as u16, passes);
@@ -191,11 +192,11 @@ pub(crate) fn offer_guarded<'t>(
 )
     requires deep { length scope.now + (1 + test_depth (test_seen guard.now)) ≤ 5 }
     requires room { length item.now.spots.items < 4 }
-    ensures { menu_seen menu.new.items ≡ take 256 (menu_seen menu.old.items
+    ensures { menu_seen menu.new.items ≡ take most_items (menu_seen menu.old.items
         ++ map (extended (item_seen item.now)) (from_each (λ c. if told_of (scene_seen scene.now) scope.now (test_seen guard.now) c then [] ∷ [] else []) 0 cards.now)) }
 {
-    let _count = menu.len();
     // what a menu keeps
+    let _count = menu.len();
     let mut asks = Asks::new();
     let parts = parts_of(scene, scope, guard, &mut asks);
     if !parts.settled {
@@ -207,14 +208,14 @@ pub(crate) fn offer_guarded<'t>(
 
 // Offers those of the cards with these ids for which a guard in parts holds, where values are all that it asks.
 #[inline(always)]
-fn offer_sought(parts: Parts, asks: &[Ask], ids: &[u16], item: &Item, menu: &mut Menu)
-    requires few { length ids.now ≤ 512 }
+fn offer_sought(parts: Parts, asks: &[CardAsk], ids: &[u16], item: &Item, menu: &mut Menu)
+    requires few { length ids.now ≤ most_in_list }
     requires room { length item.now.spots.items < 4 }
-    ensures { menu_seen menu.new.items ≡ take 256 (menu_seen menu.old.items
+    ensures { menu_seen menu.new.items ≡ take most_items (menu_seen menu.old.items
         ++ map (extended (item_seen item.now)) (from_each (λ id. if (if parts.settled then parts.any else joined parts.any (map (met_value id) asks.now)) then [] ∷ [] else []) 0 ids.now)) }
 {
-    let _count = menu.len();
     // what a menu keeps
+    let _count = menu.len();
     if !parts.settled {
         offer_met(asks, parts.any, ids, item, menu);
     } else if parts.any {
@@ -235,7 +236,7 @@ pub(crate) fn offer_in_parts(
     requires outside { scope.now ≡ [] }
     requires fixed { IsFixedGuard guard.now }
     requires room { length item.now.spots.items < 4 }
-    ensures done { result ≡ true → menu_seen menu.new.items ≡ take 256 (menu_seen menu.old.items
+    ensures done { result ≡ true → menu_seen menu.new.items ≡ take most_items (menu_seen menu.old.items
         ++ map (extended (item_seen item.now)) (from_each (λ c. if told_of (scene_seen scene.now) scope.now (guard_meant guard.now) c then [] ∷ [] else []) 0
         (coll_value (scene_seen scene.now) scope.now (cards_in (loc_seen guard.now.loc))))) }
     ensures left { result ≡ false → menu.new.items ≡ menu.old.items }

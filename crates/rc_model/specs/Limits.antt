@@ -1,4 +1,4 @@
--- The limits of sheets, of plans, of options and of texts, but for the range of the numbers of a game.
+-- The limits of sheets, of play, of plans, of options and of texts, but for the range of the numbers of a game.
 use Rattle.std.specs.Prelude.{ℕ}
 
 abbrev pub most_players : ℕ
@@ -41,6 +41,29 @@ most_repeats = 2
 abbrev pub most_open : ℕ
 most_open = 64
 
+-- times that an effect repeats others
+abbrev pub most_times : ℕ
+most_times = 1000
+
+-- cards of a collection that count
+abbrev pub most_in_collection : ℕ
+most_in_collection = 512
+
+-- items of a menu
+abbrev pub most_items : ℕ
+most_items = 256
+
+-- references in one `mem`, and in all together
+abbrev pub most_in_mem : ℕ
+most_in_mem = 512
+
+abbrev pub most_references : ℕ
+most_references = 1024
+
+-- ids in one list of a table: of cards, or the references in a `mem`
+abbrev pub most_in_list : ℕ
+most_in_list = most_in_mem
+
 -- the largest seed of a match, and the largest key of a strategy: eighteen digits
 abbrev pub largest_seed : ℕ
 largest_seed = 999999999999999999
@@ -51,6 +74,10 @@ most_rounds = 1000
 
 abbrev pub most_matches : ℕ
 most_matches = 4096
+
+-- matches of a built-in game
+abbrev pub most_in_bench : ℕ
+most_in_bench = 1000
 
 abbrev pub most_turns : ℕ
 most_turns = 100000

@@ -1,7 +1,7 @@
-//! The limits of texts, sheets, plans and options, and the range of numbers.
+//! The limits of texts, sheets, play, plans and options, and the range of numbers.
 ghost use Rattle.std.specs.Prelude.{◌≡◌, pos};
 ghost use Rattle.rc_model.specs.Clamp.{largest_number};
-ghost use Rattle.rc_model.specs.Limits.{most_players, most_cards, most_locations, most_numbers, most_attrs, most_values, most_maps, most_stages, most_sites, most_variables, most_repeats, most_open, largest_seed, most_rounds, most_matches, most_turns, most_turns_in_all, most_workers, most_entries, longest_source, longest_text};
+ghost use Rattle.rc_model.specs.Limits.{most_players, most_cards, most_locations, most_numbers, most_attrs, most_values, most_maps, most_stages, most_sites, most_variables, most_repeats, most_open, most_times, most_in_collection, most_items, most_in_mem, most_references, most_in_list, most_in_bench, largest_seed, most_rounds, most_matches, most_turns, most_turns_in_all, most_workers, most_entries, longest_source, longest_text};
 
 /// The most bytes of a word.
 pub const MOST_BYTES: usize = 64;
@@ -35,6 +35,24 @@ pub const MOST_REPEATS: u32 = 2;
 
 /// The most times that an effect repeats others.
 pub const MOST_TIMES: i64 = 1000;
+
+/// The most cards of a collection that count.
+pub const MOST_IN_COLLECTION: usize = 512;
+
+/// The most items of a menu.
+pub const MOST_ITEMS: usize = 256;
+
+/// The most references that one `mem` holds.
+pub const MOST_IN_MEM: usize = 512;
+
+/// The most references that all `mem` hold together.
+pub const MOST_REFERENCES: usize = 1024;
+
+/// The most ids in one list of a table: of cards, or the references in a `mem`.
+pub const MOST_IN_LIST: usize = MOST_IN_MEM;
+
+/// The most matches of a built-in game.
+pub const MOST_IN_BENCH: u64 = 1000;
 
 /// The most matches of a plan.
 pub const MOST_MATCHES: u64 = 4096;
@@ -81,6 +99,13 @@ pub fn limits_as_defined()
     ensures variables { MOST_VARIABLES ≡ most_variables }
     ensures repeats { MOST_REPEATS ≡ most_repeats }
     ensures open { MOST_OPEN ≡ most_open }
+    ensures times { MOST_TIMES ≡ pos most_times }
+    ensures collections { MOST_IN_COLLECTION ≡ most_in_collection }
+    ensures items { MOST_ITEMS ≡ most_items }
+    ensures in_mem { MOST_IN_MEM ≡ most_in_mem }
+    ensures references { MOST_REFERENCES ≡ most_references }
+    ensures in_list { MOST_IN_LIST ≡ most_in_list }
+    ensures bench { MOST_IN_BENCH ≡ most_in_bench }
     ensures matches { MOST_MATCHES ≡ most_matches }
     ensures turns { MOST_TURNS ≡ most_turns }
     ensures turns_in_all { MOST_TURNS_IN_ALL ≡ most_turns_in_all }

@@ -1,5 +1,6 @@
 //! The machine.
 ghost use Rattle.std.specs.Prelude.{◌≡◌, ◌<◌, ◌≤◌, true, false, length, Some, is_err, IfOk, OnOk, OnErr, IsOk};
+ghost use Rattle.rc_model.specs.Limits.{most_items};
 ghost use Rattle.rc_play_model.specs.Shape.{shape_of};
 ghost use Rattle.rc_play_model.specs.Step.{goes, start};
 ghost use Rattle.rc_play_model.specs.Stop.{stop_of};
@@ -129,8 +130,8 @@ impl PlainMachine {
         ensures at { config_of result ≡ at_site about table.table (control_seen control) }
     {
         sites_fix_choices();
-        let _sheet = about.sheet();
         // what an about keeps
+        let _sheet = about.sheet();
         let site = site_of(&control);
         let path = path_of(&about, site);
         let mut menu = Menu::new();
@@ -192,7 +193,7 @@ impl Machine for PlainMachine {
     fn menu_size(&self) -> usize
         requires decision { StandsAtDecision self.now.about (config_of self.now) }
         ensures is { result ≡ length (menu_here self.now.about (config_of self.now)) }
-        ensures few { result ≤ 256 }
+        ensures few { result ≤ most_items }
     {
         self.state.menu.len()
     }

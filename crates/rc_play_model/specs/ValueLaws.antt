@@ -1,14 +1,15 @@
 -- Statements of laws of values: how large collections and numbers are, and which card the largest or the smallest one is.
 use Rattle.std.specs.Prelude.{◌≡◌, ℕ, ◌≤◌, List, length, take, slice_get, All, ℤ, ◌≤ℤ◌, ◌<ℤ◌, int_lt, Some}
 use Rattle.rc_model.specs.Clamp.{IsWithinClamp}
+use Rattle.rc_model.specs.Limits.{most_in_collection}
 use Rattle.rc_sheet_model.specs.Sheet.{CollExpr, IntExpr, Sheet}
 use Rattle.rc_sheet_model.specs.WellFormed.{Around, IsInt}
 use Rattle.rc_play_model.specs.Value.{Scene, best_of, int_more, coll_value, int_value}
 use Rattle.rc_play_model.specs.Scene.{CardValue, Vars}
 
--- of a collection at most 512 cards count
+-- of a collection at most so many cards count
 abbrev pub CollectionsAreWithin : Type 0
-CollectionsAreWithin = (scene : Scene CardValue) (vars : Vars) (cards : CollExpr) → length (coll_value scene vars cards) ≤ 512
+CollectionsAreWithin = (scene : Scene CardValue) (vars : Vars) (cards : CollExpr) → length (coll_value scene vars cards) ≤ most_in_collection
 
 -- each number that a well formed expression has is within the clamp, where those of the table are
 abbrev pub NumbersAreWithin : Type 0

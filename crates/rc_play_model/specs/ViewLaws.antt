@@ -1,5 +1,6 @@
 -- Statements of laws: of menus, views and alike states.
 use Rattle.std.specs.Prelude.{◌≡◌, ◌↔◌, ℕ, ◌≤◌, List, length}
+use Rattle.rc_model.specs.Limits.{most_items}
 use Rattle.rc_sheet_model.specs.Sheet.{Alt, Sheet}
 use Rattle.rc_sheet_model.specs.Sight.{IsInSight}
 use Rattle.rc_play_model.specs.Control.{Control}
@@ -44,6 +45,6 @@ AlikeEqualMenus =
 abbrev pub ListsOffers : Type 0
 ListsOffers = (scene : Scene CardValue) (alts : List Alt) → AreOffers scene alts (paths_of scene alts)
 
--- and a menu has at most 256 items
+-- and a menu has at most so many items
 abbrev pub MenusAreShort : Type 0
-MenusAreShort = (scene : Scene CardValue) (site : ℕ) → length (menu_of scene site) ≤ 256
+MenusAreShort = (scene : Scene CardValue) (site : ℕ) → length (menu_of scene site) ≤ most_items

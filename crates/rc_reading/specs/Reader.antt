@@ -1,6 +1,7 @@
 -- The fields of a reader and of a scope.
 use Rattle.std.specs.Prelude.{◌≡◌, ◌≤◌, ℕ, List, length, map, position, bytes_eq}
 use Rattle.std.specs.Map.{lookup}
+use Rattle.rc_model.specs.Limits.{most_attrs, most_values, most_maps, most_locations, most_numbers}
 use Rattle.rc_sheet_model.specs.Naming.{Naming}
 use Rattle.rc_sheet_model.specs.Naming.{Variable as PureVariable}
 use Rattle.rc_sheet_model.specs.Naming.{Scope as PureScope}
@@ -33,10 +34,10 @@ Numbers words entries = (word : List ℕ) → lookup (bytes_eq word) entries ≡
 
 -- there are few names of each kind, but of variables, and each variable is found
 pub record IsReader (reader : Fields) : Type 0 where
-  pub attrs : length reader.names.attrs.items ≤ 256
-  pub values : length reader.names.values.items ≤ 256
-  pub maps : length reader.names.maps.items ≤ 256
-  pub locs : length reader.names.locs.items ≤ 256
-  pub nums : length reader.names.nums.items ≤ 256
+  pub attrs : length reader.names.attrs.items ≤ most_attrs
+  pub values : length reader.names.values.items ≤ most_values
+  pub maps : length reader.names.maps.items ≤ most_maps
+  pub locs : length reader.names.locs.items ≤ most_locations
+  pub nums : length reader.names.nums.items ≤ most_numbers
   pub vars : length reader.names.vars.items ≤ 4294967295
   pub numbers : Numbers reader.names.vars.items reader.variables.entries

@@ -1,5 +1,6 @@
 //! Names, whose numbers are known, and the forms of lists.
 ghost use Rattle.std.specs.Prelude.{◌≡◌, ◌<◌, ◌≤◌, IsTrue, IfOk, IfSome, length, position, bytes_eq};
+ghost use Rattle.rc_model.specs.Limits.{most_attrs};
 ghost use Rattle.rc_form.specs.Form.{tree_of, trees_of, packed};
 ghost use Rattle.rc_grammar.specs.Faults.{fits};
 ghost use Rattle.rc_sheet_model.specs.Naming as model;
@@ -40,7 +41,7 @@ fn place_of(words: &[Word], word: &[u8]) -> Option<usize>
 /// The number of a plain word among these, where it is one.
 #[tactic(auto, unfolding(crate::specs::ReadNames::name_at))]
 pub fn number_in(words: &[Word], form: &Form) -> Option<u16>
-    requires few { length words.now ≤ 256 }
+    requires few { length words.now ≤ most_attrs }
     ensures { result ≡ reading.name_at words.now (tree_of form.now) }
 {
     let Form::Atom { word, .. } = form else {
@@ -55,7 +56,7 @@ pub fn number_in(words: &[Word], form: &Form) -> Option<u16>
 
 /// The number of a plain word among these.
 pub fn name_at(words: &[Word], form: &Form) -> Result<u16, Unread>
-    requires few { length words.now ≤ 256 }
+    requires few { length words.now ≤ most_attrs }
     ensures { Gives (λ number. number) result (reading.name_at words.now (tree_of form.now)) }
 {
     match number_in(words, form) {

@@ -1,5 +1,6 @@
 //! A reader of forms, which knows the names of the sheet.
 ghost use Rattle.std.specs.Prelude.{◌≡◌, ◌≤◌, ◌<◌, length, position, bytes_eq, IfOk, IfSome, IfNone};
+ghost use Rattle.rc_model.specs.Limits.{most_attrs, most_values, most_maps, most_locations, most_numbers};
 
 use crate::variables::numbers_of;
 use indexmap::IndexMap;
@@ -39,11 +40,11 @@ impl Reader {
     /// A reader with these names. There is none with more variables than a number of 32 bits counts, which are more than memory
     /// holds. The only error is want of memory.
     pub fn new(alloc: Global, naming: Naming) -> Result<Option<Reader>, AllocError>
-        requires attrs { length naming.names.attrs.items ≤ 256 }
-        requires values { length naming.names.values.items ≤ 256 }
-        requires maps { length naming.names.maps.items ≤ 256 }
-        requires locs { length naming.names.locs.items ≤ 256 }
-        requires nums { length naming.names.nums.items ≤ 256 }
+        requires attrs { length naming.names.attrs.items ≤ most_attrs }
+        requires values { length naming.names.values.items ≤ most_values }
+        requires maps { length naming.names.maps.items ≤ most_maps }
+        requires locs { length naming.names.locs.items ≤ most_locations }
+        requires nums { length naming.names.nums.items ≤ most_numbers }
         ensures some { IfOk result (λ made. IfSome made (λ reader. reader ≡ naming_seen naming)) }
         ensures none { IfOk result (λ made. IfNone made (4294967295 < length naming.names.vars.items)) }
     {

@@ -1,5 +1,6 @@
 -- What is kept for tables that are redrawn for a view time and again.
 use Rattle.std.specs.Prelude.{◌≡◌, ℕ, ◌≤◌, List, length}
+use Rattle.rc_model.specs.Limits.{most_cards}
 use Rattle.rc_play_model.specs.Shape.{Shape}
 use Rattle.rc_play_model.specs.Table.{Table}
 use Rattle.rc_play_model.specs.View.{View}
@@ -22,6 +23,6 @@ pub record Keeps (r : Redrawn) (hidden unused order : List ℕ) : Type 0 where
   pub of : IsViewOfSound r.shape r.view
   pub hiding : hidden ≡ hiding_from 0 (mems_of r.shape.places) r.view.sights
   pub rest : unused ≡ unused_ids r.shape (seen_of r.shape r.view)
-  pub few : length unused ≤ 512
+  pub few : length unused ≤ most_cards
   pub each : length order ≡ length unused
   pub is : r.table ≡ redrawn r.shape r.view order

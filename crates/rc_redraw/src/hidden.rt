@@ -1,5 +1,6 @@
 //! The ids that unseen card places take.
 ghost use Rattle.std.specs.Prelude.{◌≡◌, ◌≤◌, length, IfOk};
+ghost use Rattle.rc_model.specs.Limits.{most_cards};
 ghost use Rattle.rc_play_model.specs.Redraw.{unused};
 ghost use Rattle.rc_redraw.specs.Taken.{Marks};
 
@@ -11,7 +12,7 @@ use std::alloc::Global;
 /// The ids that are not taken, in ascending order.
 pub(crate) fn left_by(alloc: Global, shape: &Shape, taken: &Taken) -> Result<Vec<u16>, Memory>
     requires { Marks shape.now taken.now.ids.items taken.now.marks.items }
-    ensures few { IfOk result (λ ids. length ids.items ≤ 512) }
+    ensures few { IfOk result (λ ids. length ids.items ≤ most_cards) }
     ensures is { IfOk result (λ ids. ids.items ≡ unused shape.now taken.now.ids.items) }
 {
     // what a shape keeps

@@ -1,5 +1,6 @@
 //! What a view shows, laid out.
 ghost use Rattle.std.specs.Prelude.{◌≡◌, ◌≤◌, [], length, map, IfOk};
+ghost use Rattle.rc_model.specs.Limits.{most_cards};
 ghost use Rattle.rc_play_model.specs.Redraw.{mems_of, seen_faces, seen_ids, unused, hidden_count, filled as filled_by};
 ghost use Rattle.rc_play_model.specs.Smallest.{AreEnough};
 ghost use Rattle.rc_view.specs.Seen.{sight_seen};
@@ -31,7 +32,7 @@ pub(crate) fn layout_of(alloc: Global, shape: &Shape, sights: &[Sight]) -> Resul
         (seen_ids shape.now [] (seen_faces (mems_of shape.now.places) (map sight_seen sights.now))) layout.unused.items) }
     ensures unused { IfOk result (λ layout. layout.unused.items
         ≡ unused shape.now (seen_ids shape.now [] (seen_faces (mems_of shape.now.places) (map sight_seen sights.now)))) }
-    ensures few { IfOk result (λ layout. length layout.unused.items ≤ 512) }
+    ensures few { IfOk result (λ layout. length layout.unused.items ≤ most_cards) }
 {
     seen_places_take_the_smallest();
     let faces = faces_seen(alloc, shape, sights)?;

@@ -1,5 +1,6 @@
 //! The tables that a view and keys give.
 ghost use Rattle.std.specs.Prelude.{◌≡◌, ◌≤◌, length, IfOk};
+ghost use Rattle.rc_model.specs.Limits.{most_cards};
 ghost use Rattle.rc_play_model.specs.Draws.{permuted};
 ghost use Rattle.rc_play_model.specs.Redraw.{redraw as redraw_of};
 ghost use Rattle.rc_play_model.specs.RedrawLaws.{IsViewOfSound};
@@ -110,7 +111,7 @@ impl<'v> Redraws<'v> {
 // Writes ids into the order of a key over as many others.
 fn shuffle(order: &mut Vec<u16>, ids: &[u16], key: &[u8; 32])
     requires each { length order.old.items ≡ length ids.now }
-    requires few { length ids.now ≤ 512 }
+    requires few { length ids.now ≤ most_cards }
     ensures is { order.new.items ≡ permuted key.now ids.now }
     ensures each { length order.new.items ≡ length ids.now }
 {

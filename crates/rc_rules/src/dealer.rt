@@ -2,6 +2,7 @@
 ghost use Rattle.std.specs.Prelude.{◌≡◌, ◌≤◌, ℕ, length};
 ghost use Rattle.std.specs.List.Sorted.{IsPermutation};
 ghost use Rattle.rc_model.specs.Numbers.{below};
+ghost use Rattle.rc_model.specs.Limits.{most_cards};
 ghost use Rattle.rc_play_model.specs.Table.{taken};
 ghost use Rattle.rc_play_model.specs.Effects.{Dealing};
 ghost use Rattle.rc_play_model.specs.Keyed.{dealing_of};
@@ -18,7 +19,7 @@ pub trait Dealer {
 
     /// Puts a list of at most 512 items into the order of the state, and goes on to the next state.
     fn shuffle(&mut self, list: &mut [u16])
-        requires few { length list.old ≤ 512 }
+        requires few { length list.old ≤ most_cards }
         ensures taken { list.new ≡ taken ((dealing self.old).order (state self.old) (length list.old)) list.old }
         ensures order { IsPermutation (below (length list.old)) ((dealing self.old).order (state self.old) (length list.old)) }
         ensures next { state self.new ≡ (dealing self.old).next (state self.old) (length list.old) }
@@ -69,7 +70,7 @@ impl Dealer for MatchDealer {
 
 // Puts a list into the order of this shuffle of a match.
 fn put_in_turn(deal: u64, turn: u64, list: &mut [u16])
-    requires few { length list.old ≤ 512 }
+    requires few { length list.old ≤ most_cards }
     ensures taken { list.new ≡ taken ((dealing_of deal).order turn (length list.old)) list.old }
     ensures order { IsPermutation (below (length list.old)) ((dealing_of deal).order turn (length list.old)) }
 {

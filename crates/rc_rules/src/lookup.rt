@@ -1,7 +1,7 @@
 //! What names and cards come to: found once for a sheet, and not at each use.
 ghost use Rattle.std.specs.Prelude.{◌≡◌, ◌+◌, ◌≤◌, map, option_map, sum_by, IfOk, All, Some, None, slice_get};
 ghost use Rattle.rc_model.specs.Numbers.{below};
-ghost use Rattle.rc_model.specs.Limits.{most_locations, most_numbers};
+ghost use Rattle.rc_model.specs.Limits.{most_locations, most_numbers, most_attrs};
 ghost use Rattle.rc_model.specs.Clamp.{IsWithinClamp};
 ghost use Rattle.rc_model.specs.Deck.{points_of, value_at};
 ghost use Rattle.rc_deck.specs.Points.{entries_of};
@@ -14,6 +14,7 @@ use crate::range::Range;
 use crate::stages::{class_of_stage, owner_count};
 use rc_ast::{Class, Sheet};
 use rc_deck::{Memory, PointMap, attr, points};
+use rc_names::limits::{MOST_NAMES, MOST_STAGES};
 use rc_table::Shape;
 use std::alloc::Global;
 
@@ -124,7 +125,11 @@ pub fn lookup_of(alloc: Global, sheet: &Sheet, shape: &Shape) -> Result<Lookup, 
     let locs = loc_ranges(alloc, sheet)?;
     let nums = num_ranges(alloc, sheet)?;
     let stages = stage_classes(alloc, sheet)?;
-    let values = value_rows(alloc, shape, sheet.names.attrs.len().min(256))?;
+    let values = value_rows(
+        alloc,
+        shape,
+        sheet.names.attrs.len().min(MOST_NAMES as usize),
+    )?;
     let worths = worth_rows(alloc, sheet, shape)?;
     Ok(Lookup {
         locs,
@@ -178,7 +183,7 @@ fn stage_classes(alloc: Global, sheet: &Sheet) -> Result<Vec<Class>, Memory>
     ensures { IfOk result (λ list. AreStages (sheet_seen sheet.now) list.items) }
 {
     let mut list = Vec::new(alloc);
-    for number in 0..256 {
+    for number in 0..MOST_STAGES {
         match class_of_stage(sheet, number) {
             Some(class) => list.push(class)?,
             None => return Ok(list),
@@ -189,7 +194,7 @@ fn stage_classes(alloc: Global, sheet: &Sheet) -> Result<Vec<Class>, Memory>
 
 // The values of all cards, attribute by attribute.
 fn value_rows(alloc: Global, shape: &Shape, attrs: usize) -> Result<Vec<Vec<Option<u16>>>, Memory>
-    requires few { attrs ≤ 256 }
+    requires few { attrs ≤ most_attrs }
     ensures { IfOk result (λ rows. rows_seen rows.items ≡ map (value_row shape.now.faces) (below attrs)) }
 {
     let mut rows = Vec::new(alloc);

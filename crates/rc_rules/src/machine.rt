@@ -1,5 +1,6 @@
 //! Machines that play a match.
 ghost use Rattle.std.specs.Prelude.{◌≡◌, ◌<◌, ◌≤◌, ℕ, Bool, true, false, length, Some, is_err, IfOk, OnOk, OnErr};
+ghost use Rattle.rc_model.specs.Limits.{most_items};
 ghost use Rattle.rc_play_model.specs.About.{About as PureAbout};
 ghost use Rattle.rc_play_model.specs.Step.{Config, goes};
 ghost use Rattle.rc_play_model.specs.Stop.{stop_of};
@@ -51,7 +52,7 @@ pub trait Machine {
         requires fresh { spent self.now ≡ false }
         requires decision { StandsAtDecision (about self.now) (config self.now) }
         ensures is { result ≡ length (menu_here (about self.now) (config self.now)) }
-        ensures few { result ≤ 256 };
+        ensures few { result ≤ most_items };
 
     /// Takes an item of the menu and does its effects. The match then stands behind the decision, and `advance` goes on. Where it
     /// lacks memory the dealer is in a state that shuffles lead to. Of a spent machine nothing is asked.

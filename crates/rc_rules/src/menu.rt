@@ -3,6 +3,7 @@ ghost use Rattle.std.specs.Prelude.{◌≡◌};
 ghost use Rattle.rc_rules.specs.Menu.{item_seen};
 
 use arrayvec::ArrayVec;
+use rc_names::limits::MOST_ITEMS;
 
 /// The positions of an item's bindings in their domains, from outside to inside.
 pub type Spots = ArrayVec<u16, 4>;
@@ -33,7 +34,7 @@ impl Item {
 }
 
 /// The first 256 items that a choice offers.
-pub type Menu = ArrayVec<Item, 256>;
+pub type Menu = ArrayVec<Item, MOST_ITEMS>;
 
 /// Each player's score.
 pub type Scores = ArrayVec<i64, 8>;

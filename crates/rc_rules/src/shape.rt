@@ -2,6 +2,7 @@
 ghost use Rattle.std.specs.Prelude.{◌≡◌, ◌≤◌, ◌<◌, ◌++◌, map, length, sum_by, IfOk, OnOk};
 ghost use Rattle.rc_model.specs.Numbers.{below};
 ghost use Rattle.rc_model.specs.Deck.{face_count};
+ghost use Rattle.rc_model.specs.Limits.{most_cards, most_locations};
 ghost use Rattle.rc_deck.specs.Tree.{groups_of};
 ghost use Rattle.rc_deck.specs.Product.{faces_of_groups};
 ghost use Rattle.rc_sheet_model.specs.Sheet as model;
@@ -135,7 +136,7 @@ fn home_list(alloc: Global, sheet: &Sheet) -> Result<Vec<u16>, Memory>
 // Adds the first location of a deck's cards, for each of them.
 fn push_homes(sheet: &Sheet, line: &DeckLine, list: &mut Vec<u16>) -> Result<(), Memory>
     requires formed { IsWellFormed (sheet_seen sheet.now) }
-    requires few { face_count (groups_of line.now.tree) ≤ 512 }
+    requires few { face_count (groups_of line.now.tree) ≤ most_cards }
     ensures { OnOk result (list.new.items ≡ list.old.items ++ play.homes_of (sheet_seen sheet.now) (deck_line_seen line.now)) }
 {
     let home = first_loc(sheet, line.loc);
@@ -147,7 +148,7 @@ fn push_homes(sheet: &Sheet, line: &DeckLine, list: &mut Vec<u16>) -> Result<(),
 
 // How many cards a deck has, if there are at most 512.
 fn card_count(tree: &DeckTree) -> usize
-    requires { face_count (groups_of tree.now) ≤ 512 }
+    requires { face_count (groups_of tree.now) ≤ most_cards }
     ensures { result ≡ length (faces_of_groups (groups_of tree.now)) }
 {
     count_of(tree, usize::from(MOST_CARDS))
@@ -164,7 +165,7 @@ fn first_loc(sheet: &Sheet, name: u16) -> u16
 
 // How many locations these names have.
 fn location_count(sheet: &Sheet, names: &[LocName]) -> usize
-    requires { sum_by (λ name. well.owner_count (sheet_seen sheet.now) name.class) (map loc_name_seen names.now) ≤ 256 }
+    requires { sum_by (λ name. well.owner_count (sheet_seen sheet.now) name.class) (map loc_name_seen names.now) ≤ most_locations }
     ensures { result ≡ sum_by (λ name. well.owner_count (sheet_seen sheet.now) name.class) (map loc_name_seen names.now) }
 {
     let mut count = 0;

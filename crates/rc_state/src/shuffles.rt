@@ -1,13 +1,15 @@
 //! The list that a dealer shuffles.
 ghost use Rattle.std.specs.Prelude.{◌≡◌, ◌≤◌};
 ghost use Rattle.rc_model.specs.Numbers.{below};
+ghost use Rattle.rc_model.specs.Limits.{most_in_list};
 
 use arrayvec::ArrayVec;
+use rc_names::limits::MOST_IN_LIST;
 
 /// The places of a list of so many items, in order.
 #[tactic(auto, using(crate::proofs::Orders::below_more))]
-pub fn places(count: usize) -> ArrayVec<u16, 512>
-    requires few { count ≤ 512 }
+pub fn places(count: usize) -> ArrayVec<u16, MOST_IN_LIST>
+    requires few { count ≤ most_in_list }
     ensures { result.items ≡ below count }
 {
     let mut places = ArrayVec::new();

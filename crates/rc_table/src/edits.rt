@@ -7,8 +7,9 @@ ghost use Rattle.rc_play_model.specs.Bound.{HoldsCards, HoldsReferences};
 ghost use Rattle.rc_play_model.specs.Table.{list_at, put_top, put_bottom, remember_top, remember_bottom, has_room, forget_in, place_of, set_number, taken, reorder};
 ghost use Rattle.rc_table.specs.Laid.{relaid};
 
-use crate::table::{LONGEST_LIST, Table};
+use crate::table::Table;
 use crate::whereabouts::note_top;
+use rc_names::limits::MOST_IN_LIST;
 use rc_play_model::edits_keep_tables_sound;
 
 impl Table {
@@ -149,7 +150,7 @@ impl Table {
         edits_keep_tables_sound();
         // what is known of a sound table
         let _shape = self.shape();
-        let mut list = [0; LONGEST_LIST];
+        let mut list = [0; MOST_IN_LIST];
         let count = reordered(self.list(loc), order, &mut list);
         self.relist(loc, &list[..count]);
     }

@@ -1,6 +1,7 @@
 //! Which cards have equal faces, and by which number a face is known.
 ghost use Rattle.std.specs.Prelude.{◌≡◌, ◌<◌, ◌≤◌, length, IfOk};
 ghost use Rattle.std.specs.List.{position_or_len};
+ghost use Rattle.rc_model.specs.Limits.{most_cards};
 ghost use Rattle.rc_play_model.specs.Shape.{face_at, face_eq, face_number as face_number_of};
 ghost use Rattle.rc_table.specs.Shape.{face_numbers_of};
 
@@ -30,7 +31,7 @@ fn first_like(faces: &[Face], face: &Face) -> usize
 
 /// The number of each of these faces: the place of the first one that equals it. It compares each face with those before it.
 pub(crate) fn face_numbers_of(alloc: Global, faces: &[Face]) -> Result<Vec<u16>, Memory>
-    requires { length faces.now ≤ 512 }
+    requires { length faces.now ≤ most_cards }
     ensures { IfOk result (λ numbers. numbers.items ≡ face_numbers_of faces.now) }
 {
     let mut numbers = Vec::with_capacity(alloc, faces.len())?;

@@ -1,12 +1,14 @@
 //! Where a card is, and how many references there are.
 ghost use Rattle.std.specs.Prelude.{◌≡◌, ◌<◌, nat_lt, if◌then◌else◌, length, slice_get, reverse, remove, MatchOption};
+ghost use Rattle.rc_model.specs.Limits.{most_in_mem, most_references};
 ghost use Rattle.rc_play_model.specs.Shape.{holds_references};
 ghost use Rattle.rc_play_model.specs.Table.{list_at, place_of, references, has_room, without_face, forget_in};
 ghost use Rattle.rc_table.specs.Restored.{taken_at};
 
 use crate::faces::have_same_face;
-use crate::shape::{MOST_IN_MEM, MOST_REFERENCES, Shape};
+use crate::shape::Shape;
 use crate::table::Table;
+use rc_names::limits::{MOST_IN_MEM, MOST_REFERENCES};
 
 // The last place in a list of a card with this card's face.
 fn topmost(shape: &Shape, list: &[u16], id: u16) -> Option<usize>
@@ -63,8 +65,8 @@ impl Table {
 
     // Whether all locations together have room, where this one has. They need not be counted where two at most hold references.
     fn has_room_among_all(&self, loc: u16) -> bool
-        requires room { length (list_at self.now.table loc) < 512 }
-        ensures { result ≡ nat_lt (references self.now.shape self.now.table) 1024 }
+        requires room { length (list_at self.now.table loc) < most_in_mem }
+        ensures { result ≡ nat_lt (references self.now.shape self.now.table) most_references }
     {
         if self.shape().is_of_two(loc) {
             return true;

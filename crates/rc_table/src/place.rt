@@ -1,5 +1,6 @@
 //! One location, and how many of some hold references.
 ghost use Rattle.std.specs.Prelude.{◌≡◌, ◌≤◌, length, map};
+ghost use Rattle.rc_model.specs.Limits.{most_locations};
 ghost use Rattle.rc_table.specs.Places.{place_seen};
 ghost use Rattle.rc_table.specs.Shape.{mems_among, mems_here};
 
@@ -33,7 +34,7 @@ fn mems_here(place: Place) -> u16
 
 /// How many of these locations hold references.
 pub(crate) fn mems_among(places: &[Place]) -> u16
-    requires few { length places.now ≤ 256 }
+    requires few { length places.now ≤ most_locations }
     ensures { result ≡ mems_among (map place_seen places.now) }
 {
     let mut count = 0;

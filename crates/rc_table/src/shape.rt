@@ -9,14 +9,9 @@ use crate::faces::face_numbers_of;
 use crate::place::{Place, mems_among};
 use rc_deck::{Face, Memory};
 use rc_names::LocKind;
+use rc_names::limits::MOST_IN_MEM;
 use std::alloc::Global;
 use std::marker::Model;
-
-/// The most references in one `mem`.
-pub(crate) const MOST_IN_MEM: usize = 512;
-
-/// The most references in all of them together.
-pub(crate) const MOST_REFERENCES: usize = 1024;
 
 /// How many players there are, each player's team, the locations in their order, how many numbers there are, and each card's
 /// face and first location.

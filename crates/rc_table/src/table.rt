@@ -2,6 +2,7 @@
 ghost use Rattle.std.specs.Prelude.{◌≡◌, ◌≤◌, length, map, IfOk};
 ghost use Rattle.rc_model.specs.Numbers.{below};
 ghost use Rattle.rc_model.specs.Clamp.{IsWithinClamp};
+ghost use Rattle.rc_model.specs.Limits.{most_in_list};
 ghost use Rattle.rc_play_model.specs.Table.{IsSound, list_at, number_at, at_home, opening};
 ghost use Rattle.rc_play_model.specs.Bound.{HasHomes};
 ghost use Rattle.rc_table.specs.Laid.{rooms};
@@ -14,9 +15,6 @@ use rc_play_model::opening_tables_are_sound;
 use std::alloc::Global;
 use std::marker::Model;
 use std::sync::Arc;
-
-/// The most ids in one location.
-pub(crate) const LONGEST_LIST: usize = 512;
 
 /// Where the cards of a match are: the list of each location from bottom to top, and the numbers. Each table is sound, and
 /// knows the shape that it is laid for.
@@ -84,7 +82,7 @@ impl Table {
     /// The ids of a location from bottom to top; none where there is no such location.
     pub fn list(&self, loc: u16) -> &[u16]
         ensures is { result.now ≡ list_at self.now.table loc }
-        ensures few { length result.now ≤ 512 }
+        ensures few { length result.now ≤ most_in_list }
     {
         self.lists.list(loc)
     }

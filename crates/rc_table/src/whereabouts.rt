@@ -1,5 +1,6 @@
 //! Where each card stands.
 ghost use Rattle.std.specs.Prelude.{◌≡◌, ◌<◌, ◌≤◌, [], ◌∷◌, length, drop, slice_index_or, All, IfOk};
+ghost use Rattle.rc_model.specs.Limits.{most_in_list};
 ghost use Rattle.rc_play_model.specs.Bound.{HoldsCards};
 ghost use Rattle.rc_table.specs.Shape.{IsShape};
 ghost use Rattle.rc_table.specs.Whereabouts.{AreSound, laid_out, whereabouts, noted, noted_in};
@@ -12,7 +13,7 @@ use std::alloc::Global;
 // Notes where the ids of a list stand in a location, from a place on.
 fn note(stand: &mut [(u16, u16)], loc: u16, list: &[u16], from: usize)
     requires ids { All (λ id. id < length stand.old) list.now }
-    requires few { length list.now ≤ 512 }
+    requires few { length list.now ≤ most_in_list }
     ensures { stand.new ≡ noted loc from (drop from list.now) stand.old }
 {
     for at in from..list.len() {
@@ -29,7 +30,7 @@ pub(crate) fn note_cards(
     from: usize,
 )
     requires ids { All (λ id. id < length stand.old) (slice_index_or lists.now.all loc []) }
-    requires few { length (slice_index_or lists.now.all loc []) ≤ 512 }
+    requires few { length (slice_index_or lists.now.all loc []) ≤ most_in_list }
     ensures { stand.new ≡ noted_in shape.now lists.now.all loc from stand.old }
 {
     if !shape.holds_references(loc) {
@@ -48,9 +49,9 @@ pub(crate) fn note_move(
     place: usize,
 )
     requires ids { All (λ id. id < length stand.old) (slice_index_or lists.now.all from []) }
-    requires few { length (slice_index_or lists.now.all from []) ≤ 512 }
+    requires few { length (slice_index_or lists.now.all from []) ≤ most_in_list }
     requires other_ids { All (λ id. id < length stand.old) (slice_index_or lists.now.all to []) }
-    requires other_few { length (slice_index_or lists.now.all to []) ≤ 512 }
+    requires other_few { length (slice_index_or lists.now.all to []) ≤ most_in_list }
     ensures { stand.new ≡ noted_in shape.now lists.now.all to place (noted_in shape.now lists.now.all from at stand.old) }
 {
     note_cards(stand, shape, lists, from, at);
@@ -61,7 +62,7 @@ pub(crate) fn note_move(
 #[inline(always)]
 fn note_left(stand: &mut [(u16, u16)], shape: &Shape, lists: &Rows, loc: u16, from: usize)
     requires ids { All (λ id. id < length stand.old) (slice_index_or lists.now.all loc []) }
-    requires few { length (slice_index_or lists.now.all loc []) ≤ 512 }
+    requires few { length (slice_index_or lists.now.all loc []) ≤ most_in_list }
     ensures { stand.new ≡ noted_in shape.now lists.now.all loc from stand.old }
 {
     if from < lists.list(loc).len() {
@@ -83,10 +84,10 @@ pub(crate) fn note_top(
     id: u16,
 )
     requires ids { All (λ id. id < length stand.old) (slice_index_or lists.now.all from []) }
-    requires few { length (slice_index_or lists.now.all from []) ≤ 512 }
+    requires few { length (slice_index_or lists.now.all from []) ≤ most_in_list }
     requires id { id < length stand.old }
     requires cards { HoldsCards shape.now to }
-    requires place { place < 512 }
+    requires place { place < most_in_list }
     requires last { drop place (slice_index_or lists.now.all to []) ≡ id ∷ [] }
     ensures { stand.new ≡ noted_in shape.now lists.now.all to place (noted_in shape.now lists.now.all from at stand.old) }
 {

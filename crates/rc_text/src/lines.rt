@@ -5,7 +5,7 @@ ghost use Rattle.rc_text.specs.Finds.{Finds};
 ghost use Rattle.rc_text.specs.LineSeen.{line_seen};
 
 use crate::fields::{behind, counted, integer, number};
-use rc_names::limits::{LARGEST_SEED, MOST_TURNS};
+use rc_names::limits::{LARGEST_SEED, MOST_ITEMS, MOST_TURNS};
 use rc_rules::{Ended, Pick, Score, Standing};
 
 /// A line of a house text.
@@ -68,7 +68,7 @@ fn chosen_in(bytes: &[u8]) -> Option<Line>
     let (seat, rest) = number(b"choose ", 7, bytes)?;
     let (site, rest) = number(b" ", 63, rest)?;
     let (item, rest) = number(b" ", 255, rest)?;
-    let (size, rest) = counted(b" ", 256, rest)?;
+    let (size, rest) = counted(b" ", MOST_ITEMS as u64, rest)?;
     let pick = Pick {
         seat: seat as u8,
         site: site as u8,

@@ -1,5 +1,6 @@
 //! The plan of the bench.
 ghost use Rattle.std.specs.Prelude.{◌≡◌, ◌≤◌, ◌∷◌, [], length, map, IfOk};
+ghost use Rattle.rc_model.specs.Limits.{most_in_bench};
 ghost use Rattle.rc_play_model.specs.Plan.{random, rollout};
 ghost use Rattle.rc_plan_model.specs.Limits.{IsWithinLimits};
 ghost use Rattle.rc_plan_model.specs.PlanStands.{counted_from};
@@ -17,7 +18,7 @@ use std::alloc::{AllocError, Global};
 /// No memory is left.
 pub fn bench_plan(alloc: Global, number: u16) -> Result<Plan, Memory>
     requires some { 1 ≤ number }
-    requires few { number ≤ 1000 }
+    requires few { number ≤ most_in_bench }
     ensures is { IfOk result (λ plan. plan_seen plan ≡ bench_plan number) }
     ensures within { IfOk result (λ plan. IsWithinLimits (plan_seen plan)) }
     ensures seats { IfOk result (λ plan. length (plan_seen plan).strategies ≡ 4) }

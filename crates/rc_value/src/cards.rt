@@ -4,6 +4,7 @@ ghost use Rattle.rc_play_model.specs.Scene.{id_of};
 ghost use Rattle.rc_value.specs.Cards.{value_seen};
 
 use arrayvec::ArrayVec;
+use rc_names::limits::MOST_IN_COLLECTION;
 
 /// A card, wherever it is, or a reference that was read in a location.
 #[derive(Clone, Copy, PartialEq, Eq, Debug)]
@@ -42,4 +43,4 @@ pub(crate) fn id_or_none(card: Option<Card>) -> Option<u16>
 }
 
 /// The cards of a collection.
-pub type Cards = ArrayVec<Card, 512>;
+pub type Cards = ArrayVec<Card, MOST_IN_COLLECTION>;

@@ -1,7 +1,9 @@
 //! Collections.
 ghost use Rattle.std.specs.Prelude.{◌≡◌, ◌<◌, ◌≤◌, length, map, Some, slice_index_or, option_map, IfSome};
+ghost use Rattle.rc_model.specs.Limits.{most_in_collection};
 
 use crate::Card;
+use rc_names::limits::MOST_IN_COLLECTION;
 use std::marker::Model;
 
 /// Where the cards of a collection stand: in a location, whose number says that it holds references, or in a list of its own.
@@ -19,6 +21,7 @@ pub struct Collection<'s> {
 
 impl<'s> Model for Collection<'s> {
     ghost use Rattle.std.specs.Prelude.{List, ◌≤◌, length};
+    ghost use Rattle.rc_model.specs.Limits.{most_in_collection};
     ghost use Rattle.rc_play_model.specs.Scene.{CardValue};
 
     ghost Value = { List CardValue };
@@ -27,7 +30,7 @@ impl<'s> Model for Collection<'s> {
 
     ghost view = { λ c. listed c.source };
 
-    ghost invariant = { λ c. length (listed c.source) ≤ 512 };
+    ghost invariant = { λ c. length (listed c.source) ≤ most_in_collection };
 }
 
 impl<'s> Collection<'s> {
@@ -41,7 +44,7 @@ impl<'s> Collection<'s> {
     pub fn there(ids: &'s [u16], mem: Option<u16>) -> Collection<'s>
         ensures { result ≡ cut (map (read_in mem) ids.now) }
     {
-        let count = ids.len().min(512);
+        let count = ids.len().min(MOST_IN_COLLECTION);
         Collection {
             source: Listing::There {
                 ids: &ids[..count],
@@ -52,7 +55,7 @@ impl<'s> Collection<'s> {
 
     /// These cards.
     pub fn built(cards: &'s [Card]) -> Collection<'s>
-        requires few { length cards.now ≤ 512 }
+        requires few { length cards.now ≤ most_in_collection }
         ensures { result ≡ values_seen cards.now }
     {
         Collection {
@@ -64,7 +67,7 @@ impl<'s> Collection<'s> {
     pub fn part(cards: &'s [Card]) -> Collection<'s>
         ensures { result ≡ cut (values_seen cards.now) }
     {
-        let count = cards.len().min(512);
+        let count = cards.len().min(MOST_IN_COLLECTION);
         Collection {
             source: Listing::Built(&cards[..count]),
         }
@@ -74,7 +77,7 @@ impl<'s> Collection<'s> {
     #[inline(always)]
     pub fn ids(&self) -> Option<&[u16]>
         ensures is { IfSome result (λ ids. ids.now ≡ map id_of self.now) }
-        ensures few { IfSome result (λ ids. length ids.now ≤ 512) }
+        ensures few { IfSome result (λ ids. length ids.now ≤ most_in_collection) }
     {
         match &self.source {
             Listing::There { ids, mem: _ } => Some(*ids),
@@ -86,7 +89,7 @@ impl<'s> Collection<'s> {
     #[inline(always)]
     pub fn len(&self) -> usize
         ensures is { result ≡ length self.now }
-        ensures few { result ≤ 512 }
+        ensures few { result ≤ most_in_collection }
     {
         match &self.source {
             Listing::There { ids, mem: _ } => ids.len(),

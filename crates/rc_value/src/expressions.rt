@@ -2,6 +2,7 @@
 ghost use Rattle.std.specs.Prelude.{◌≡◌, ◌+◌, ◌<◌, ◌≤◌, ◌++◌, ◌∷◌, [], map, filter, length, option_map, IfSome, true, not};
 ghost use Rattle.std.specs.List.{list_all, list_any};
 ghost use Rattle.rc_model.specs.Numbers.{below};
+ghost use Rattle.rc_model.specs.Limits.{most_in_collection};
 ghost use Rattle.rc_play_model.specs.Ends.{first_of, last_of};
 ghost use Rattle.rc_play_model.specs.Scene.{id_of};
 ghost use Rattle.rc_play_model.specs.Value.{card_value, coll_value, colls_value, int_value, test_value, tests_value, card_bound, player_bound, attr_of_any, worth_of_any, sum_worth, cut};
@@ -30,6 +31,7 @@ use crate::wanted::{
 };
 use crate::{Card, Cards};
 use rc_ast::{CardExpr, CollExpr, Domain, IntExpr, Test};
+use rc_names::limits::MOST_IN_COLLECTION;
 
 /// The cards of a collection, written into an empty list.
 #[cycle(values)]
@@ -96,7 +98,7 @@ fn join(scene: &Scene, scope: &Bindings, parts: &Vec<CollExpr>, out: &mut Cards)
 fn add(scene: &Scene, scope: &Bindings, expr: &CollExpr, out: &mut Cards)
     requires fits { length scope.now + coll_depth (coll_seen expr.now) ≤ 5 }
     ensures is { values_seen out.new.items ≡ cut (values_seen out.old.items ++ coll_value (scene_seen scene.now) scope.now (coll_seen expr.now)) }
-    ensures few { length out.new.items ≤ 512 }
+    ensures few { length out.new.items ≤ most_in_collection }
 {
     match bare(&*scene, &*scope, expr) {
         Some(cards) => append(out, &cards),
@@ -109,7 +111,7 @@ fn add(scene: &Scene, scope: &Bindings, expr: &CollExpr, out: &mut Cards)
 fn add_built(scene: &Scene, scope: &Bindings, expr: &CollExpr, out: &mut Cards)
     requires fits { length scope.now + coll_depth (coll_seen expr.now) ≤ 5 }
     ensures is { values_seen out.new.items ≡ cut (values_seen out.old.items ++ coll_value (scene_seen scene.now) scope.now (coll_seen expr.now)) }
-    ensures few { length out.new.items ≤ 512 }
+    ensures few { length out.new.items ≤ most_in_collection }
 {
     let mut room = Cards::new();
     coll_of(scene, scope, expr, &mut room);
@@ -299,7 +301,7 @@ fn calculated(scene: &Scene, scope: &Bindings, expr: &IntExpr) -> i64
 fn count_of(scene: &Scene, scope: &Bindings, expr: &CollExpr) -> usize
     requires fits { length scope.now + coll_depth (coll_seen expr.now) ≤ 5 }
     ensures is { result ≡ length (coll_value (scene_seen scene.now) scope.now (coll_seen expr.now)) }
-    ensures few { result ≤ 512 }
+    ensures few { result ≤ most_in_collection }
 {
     match expr {
         CollExpr::Var(var) => scope.group(*var).len(),
@@ -315,7 +317,7 @@ fn count_of(scene: &Scene, scope: &Bindings, expr: &CollExpr) -> usize
 fn count_filtered(scene: &Scene, scope: &Bindings, expr: &CollExpr) -> usize
     requires fits { length scope.now + coll_depth (coll_seen expr.now) ≤ 5 }
     ensures is { result ≡ length (coll_value (scene_seen scene.now) scope.now (coll_seen expr.now)) }
-    ensures few { result ≤ 512 }
+    ensures few { result ≤ most_in_collection }
 {
     match expr {
         CollExpr::Filter(cards, _, test) => match bare(&*scene, &*scope, cards) {
@@ -337,7 +339,7 @@ fn count_filtered(scene: &Scene, scope: &Bindings, expr: &CollExpr) -> usize
 fn count_built(scene: &Scene, scope: &Bindings, expr: &CollExpr) -> usize
     requires fits { length scope.now + coll_depth (coll_seen expr.now) ≤ 5 }
     ensures is { result ≡ length (coll_value (scene_seen scene.now) scope.now (coll_seen expr.now)) }
-    ensures few { result ≤ 512 }
+    ensures few { result ≤ most_in_collection }
 {
     let mut room = Cards::new();
     coll_of(scene, scope, expr, &mut room);
@@ -349,11 +351,11 @@ fn count_built(scene: &Scene, scope: &Bindings, expr: &CollExpr) -> usize
 fn count_parts(scene: &Scene, scope: &Bindings, parts: &Vec<CollExpr>) -> usize
     requires fits { length scope.now + colls_depth (colls_seen parts.now.items) ≤ 5 }
     ensures is { result ≡ length (cut (colls_value (scene_seen scene.now) scope.now (colls_seen parts.now.items))) }
-    ensures few { result ≤ 512 }
+    ensures few { result ≤ most_in_collection }
 {
     let mut count = 0;
     for part in parts {
-        let more = count_of(scene, scope, part).min(512 - count);
+        let more = count_of(scene, scope, part).min(MOST_IN_COLLECTION - count);
         count += more;
     }
     count

@@ -1,5 +1,6 @@
 //! Groups of cards with equal values of an attribute.
 ghost use Rattle.std.specs.Prelude.{◌≡◌, ◌+◌, ◌<◌, ◌≤◌, [], length, filter, filter_map, slice_index_or, Some, if◌then◌else◌, ◌++◌, ◌∷◌};
+ghost use Rattle.rc_model.specs.Limits.{most_in_collection};
 ghost use Rattle.rc_sheet_model.specs.WellFormed.{is_among};
 ghost use Rattle.rc_play_model.specs.Value.{attr_of as attr_value, both, nat_same, firsts};
 ghost use Rattle.rc_value.specs.Cards.{value_seen, values_seen};
@@ -11,9 +12,10 @@ use crate::leaves::attr_of;
 use crate::scene::Scene;
 use crate::{Card, Cards};
 use arrayvec::ArrayVec;
+use rc_names::limits::MOST_IN_COLLECTION;
 
 /// Values of an attribute.
-pub type Values = ArrayVec<u16, 512>;
+pub type Values = ArrayVec<u16, MOST_IN_COLLECTION>;
 
 /// Writes the different values that cards have for an attribute into an empty list, in order of first appearance.
 pub fn note_values(scene: &Scene, cards: &Collection, name: u16, values: &mut Values)
@@ -35,7 +37,7 @@ pub fn value_at(values: &Values, place: usize) -> u16
 
 // Puts a value behind others, where it isn't among them.
 fn note(values: &mut Values, value: Option<u16>)
-    requires { length values.old.items < 512 }
+    requires { length values.old.items < most_in_collection }
     ensures is { values.new.items ≡ noted_in values.old.items value }
     ensures few { length values.new.items ≤ length values.old.items + 1 }
 {
@@ -72,7 +74,7 @@ fn has_value(scene: &Scene, card: Card, name: u16, value: u16) -> bool
 
 // Puts a card behind others, where it passes.
 fn put(cards: &mut Cards, card: Card, passes: bool)
-    requires room { length cards.old.items < 512 }
+    requires room { length cards.old.items < most_in_collection }
     ensures is { values_seen cards.new.items ≡ (if passes then values_seen cards.old.items ++ value_seen card ∷ [] else values_seen cards.old.items) }
     ensures few { length cards.new.items ≤ length cards.old.items + 1 }
 {

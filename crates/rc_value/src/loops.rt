@@ -1,6 +1,7 @@
 //! Loops over the cards of a collection.
 ghost use Rattle.std.specs.Prelude.{◌≡◌, ◌+◌, ◌<◌, ◌++◌, [], ◌≤◌, length, map, fold, pos, ◌+ℤ◌, slice_set, slice_index_or, option_map, int_lt, if◌then◌else◌};
 ghost use Rattle.rc_model.specs.Clamp.{clamped};
+ghost use Rattle.rc_model.specs.Limits.{most_in_collection, most_in_list};
 ghost use Rattle.rc_play_model.specs.Scene.{held};
 ghost use Rattle.rc_play_model.specs.Value.{cut, sum_worth, best_of, int_more, worth};
 ghost use Rattle.rc_value.specs.Cards.{value_seen, values_seen};
@@ -11,7 +12,7 @@ use crate::collection::Collection;
 use crate::leaves::worth_of;
 use crate::scene::Scene;
 use crate::{Card, Cards};
-use rc_names::limits::LARGEST_NUMBER;
+use rc_names::limits::{LARGEST_NUMBER, MOST_IN_COLLECTION};
 
 /// Which card of a collection.
 #[derive(Clone, Copy)]
@@ -37,9 +38,9 @@ pub fn pick_from(scene: &Scene, cards: &Collection, pick: Which) -> Option<Card>
 /// Puts the cards of a collection behind others, as long as there is room.
 pub fn append(all: &mut Cards, more: &Collection)
     ensures is { values_seen all.new.items ≡ cut (values_seen all.old.items ++ more.now) }
-    ensures few { length all.new.items ≤ 512 }
+    ensures few { length all.new.items ≤ most_in_collection }
 {
-    let room = 512 - all.len();
+    let room = MOST_IN_COLLECTION - all.len();
     for place in 0..more.len().min(room) {
         all.push(more.at(place));
     }
@@ -50,8 +51,8 @@ pub fn fill(all: &mut Cards, cards: &Collection)
     requires empty { all.old.items ≡ [] }
     ensures { values_seen all.new.items ≡ cards.now }
 {
-    let _count = cards.len();
     // what a collection keeps
+    let _count = cards.len();
     append(all, cards);
 }
 
@@ -75,7 +76,7 @@ pub fn sum(scene: &Scene, cards: &Collection, map: u16) -> i64
 
 // The same of the cards with these ids.
 fn sum_of_ids(scene: &Scene, ids: &[u16], points: u16) -> i64
-    requires few { length ids.now ≤ 512 }
+    requires few { length ids.now ≤ most_in_list }
     ensures { result ≡ clamped (fold ◌+ℤ◌ (pos 0) (map (λ id. worth (scene_seen scene.now) points (held id)) ids.now)) }
 {
     let mut sum = 0i64;

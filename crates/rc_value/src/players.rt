@@ -3,6 +3,7 @@
 ghost use Rattle.std.specs.Prelude.{◌≡◌, ℕ, ◌≤◌, ◌++◌, ◌∷◌, [], map, IfSome};
 ghost use Rattle.std.specs.List.{list_all, list_any};
 ghost use Rattle.rc_model.specs.Numbers.{below};
+ghost use Rattle.rc_model.specs.Limits.{most_in_list};
 ghost use Rattle.rc_sheet_model.specs.Sheet.{all_of, cards_in, each_player, eq_int, literal, size_of as size_expr, who_var};
 ghost use Rattle.rc_play_model.specs.Value.{player_bound, test_value};
 ghost use Rattle.rc_ast.specs.Names.{loc_seen};
@@ -150,7 +151,7 @@ fn does_hold(scene: &Scene, holding: Holding, player: u8) -> bool
 #[inline(always)]
 fn size_of(scene: &Scene, name: u16, player: u8) -> usize
     ensures is { result ≡ size_held (scene_seen scene.now) name player }
-    ensures few { result ≤ 512 }
+    ensures few { result ≤ most_in_list }
 {
     match scene.lookup.location(name, Class::Player, player) {
         Some(at) => scene.table.list(at).len(),

@@ -1,5 +1,6 @@
 //! What stands in a location, read off its row of ids.
 ghost use Rattle.std.specs.Prelude.{◌≡◌, ◌≤◌, length, map, option_map, slice_get};
+ghost use Rattle.rc_model.specs.Limits.{most_in_list};
 ghost use Rattle.rc_play_model.specs.Ends.{first_of, last_of};
 ghost use Rattle.rc_play_model.specs.Scene.{id_of, value_in};
 ghost use Rattle.rc_play_model.specs.Shape.{holds_references};
@@ -20,7 +21,7 @@ use rc_table::Shape;
 #[inline(always)]
 pub fn ids_of<'a>(scene: &'a Scene, scope: &Bindings, loc: &Loc) -> &'a [u16]
     ensures is { result.now ≡ map id_of (cut (cards_there (scene_seen scene.now) (loc_place (scene_seen scene.now).known scope.now (loc_seen loc.now)))) }
-    ensures few { length result.now ≤ 512 }
+    ensures few { length result.now ≤ most_in_list }
 {
     match loc_at(scene, scope, loc) {
         Some(at) => scene.table.list(at),

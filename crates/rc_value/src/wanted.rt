@@ -1,6 +1,7 @@
 //! Values that cards are to have.
 ghost use Rattle.std.specs.Prelude.{◌≡◌, ◌+◌, ◌<◌, ◌≤◌, true, false, length, filter, option_map, slice_index_or, None, IfSome, if◌then◌else◌};
 ghost use Rattle.std.specs.List.{list_any, list_all};
+ghost use Rattle.rc_model.specs.Limits.{most_in_list};
 ghost use Rattle.rc_sheet_model.specs.Sheet.{card_var};
 ghost use Rattle.rc_ast.specs.Names.{who_seen};
 ghost use Rattle.rc_ast.specs.Expressions.{card_seen, coll_seen, test_seen};
@@ -142,7 +143,7 @@ pub fn some_one_by_one(scene: &Scene, wanted: Wanted, cards: &Collection) -> boo
 /// How many of the cards are so.
 pub(crate) fn count_as_wanted(scene: &Scene, wanted: Wanted, cards: &Collection) -> usize
     ensures is { result ≡ length (filter (wanted_value (scene_seen scene.now) wanted) cards.now) }
-    ensures few { result ≤ 512 }
+    ensures few { result ≤ most_in_list }
 {
     let mut count = 0;
     for place in 0..cards.len() {
@@ -154,7 +155,7 @@ pub(crate) fn count_as_wanted(scene: &Scene, wanted: Wanted, cards: &Collection)
 // One more, where it passes.
 #[inline(always)]
 fn counted(count: usize, passes: bool) -> usize
-    requires { count < 512 }
+    requires { count < most_in_list }
     ensures { result ≡ (if passes then count + 1 else count) }
 {
     if passes { count + 1 } else { count }

@@ -3,6 +3,7 @@
 use Rattle.std.specs.Prelude.{ℕ, Bool, true, false, List, [], ◌∷◌, ◌++◌, length, flat_map, Option, Some, None, ℤ, ◌≤◌, All}
 use Rattle.std.specs.Int.{w16, w32, to_le_bytes, cast_unsigned}
 use Rattle.rc_model.specs.Clamp.{IsWithinClamp}
+use Rattle.rc_model.specs.Limits.{most_in_list}
 use Rattle.rc_play_model.specs.Control.{Control, Frame}
 use Rattle.rc_play_model.specs.View.{Sight, with_faces, with_length, View}
 
@@ -36,8 +37,8 @@ key_of view = view.seat ∷ control_key view.control ++ (flat_map number_key vie
 
 -- a list of faces is no longer than a location can be
 abbrev pub IsShort : Sight → Type 0
-IsShort (with_faces numbers) = length numbers ≤ 512
-IsShort (with_length length) = length ≤ 512
+IsShort (with_faces numbers) = length numbers ≤ most_in_list
+IsShort (with_length length) = length ≤ most_in_list
 
 -- what the bytes have room for: numbers within the clamp, and lists no longer than a location's
 pub record HasKey (view : View) : Type 0 where

@@ -1,6 +1,7 @@
 -- Statements of laws: which views a shape has, and that their bytes tell them apart.
 use Rattle.std.specs.Prelude.{◌≡◌, ◌↔◌, ℕ, ◌<◌, ◌≤◌, ◌^◌, Bool, true, false, List, [], ◌∷◌, length, All, IfSome, Some}
 use Rattle.rc_model.specs.Clamp.{IsWithinClamp}
+use Rattle.rc_model.specs.Limits.{most_in_list}
 use Rattle.rc_sheet_model.specs.WellFormed.{IsWellFormed}
 use Rattle.rc_play_model.specs.About.{About}
 use Rattle.rc_play_model.specs.Fits.{FitsSite}
@@ -24,10 +25,10 @@ pub record HasControlKey (control : Control) : Type 0 where
 
 -- faces where they are seen, and else how many cards there are
 abbrev pub IsSightIn : Bool → Sight → Type 0
-IsSightIn true (with_faces numbers) = (length numbers ≤ 512) × All (λ n. n < 2 ^ 16) numbers
+IsSightIn true (with_faces numbers) = (length numbers ≤ most_in_list) × All (λ n. n < 2 ^ 16) numbers
 IsSightIn true (with_length length) = ⊥
 IsSightIn false (with_faces numbers) = ⊥
-IsSightIn false (with_length length) = length ≤ 512
+IsSightIn false (with_length length) = length ≤ most_in_list
 
 -- one for each location
 abbrev pub AreSightsIn : Shape → ℕ → List Place → List Sight → Type 0

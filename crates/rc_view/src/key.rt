@@ -2,6 +2,7 @@
 ghost use Rattle.std.specs.Prelude.{◌≡◌, ◌∷◌, ◌++◌, ◌≤◌, length, flat_map, map, All, IfOk, OnOk};
 ghost use Rattle.std.specs.Int.{w16, w32, to_le_bytes};
 ghost use Rattle.rc_model.specs.Clamp.{IsWithinClamp};
+ghost use Rattle.rc_model.specs.Limits.{most_in_list};
 ghost use Rattle.rc_rules.specs.Control.{control_seen, frame_seen};
 ghost use Rattle.rc_view.specs.Seen.{sight_seen, view_seen};
 ghost use Rattle.rc_view.specs.Key.{HasKey, IsShort, control_key, frame_key, key_of, number_key, or_none, sight_key};
@@ -125,7 +126,7 @@ fn push_sight(sight: &Sight, bytes: &mut Vec<u8>) -> Result<(), Memory>
 
 // Adds how many faces there are, and their numbers.
 fn push_faces(numbers: &[u16], bytes: &mut Vec<u8>) -> Result<(), Memory>
-    requires { length numbers.now ≤ 512 }
+    requires { length numbers.now ≤ most_in_list }
     ensures { OnOk result (bytes.new.items ≡ bytes.old.items
         ++ (to_le_bytes w16 (length numbers.now) ++ flat_map (to_le_bytes w16) numbers.now)) }
 {
