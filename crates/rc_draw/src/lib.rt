@@ -15,7 +15,7 @@ ghost use Rattle.std.specs.List.Sorted.{IsPermutation};
 ghost use Rattle.rc_model.specs.Limits.{most_cards};
 ghost use Rattle.rc_play_model.specs.Draws as draws;
 
-use crate::word::first_word;
+use crate::word::{WORDS, first_word};
 pub use purpose::Purpose;
 use rand_chacha::ChaCha8Rng;
 use rand_core::SeedableRng;
@@ -41,7 +41,7 @@ fn scaled(word: u32, n: u32) -> u32
     ensures value { result ≡ draws.scaled word n }
     ensures bound { result < n }
 {
-    (word as u64 * n as u64 / 4294967296) as u32
+    (word as u64 * n as u64 / WORDS) as u32
 }
 
 /// The pick of a key below n, by its first word. Below 1 it is 0 whatever the word, and none is drawn.

@@ -1,6 +1,10 @@
 //! What the draws of a seat are for.
-ghost use Rattle.std.specs.Prelude.{◌≡◌, ◌+◌, ◌*◌};
+ghost use Rattle.std.specs.Prelude.{◌≡◌};
+ghost use Rattle.rc_play_model.specs.Draws.{drawn_for};
 ghost use Rattle.rc_draw.specs.Purposes.{purpose_number};
+
+// How many numbers each seat has for what it draws for.
+const PURPOSES: u64 = 1 << 8;
 
 /// What a seat draws for. The draws for each have keys of their own.
 #[derive(Clone, Copy, PartialEq, Eq, Debug)]
@@ -18,7 +22,7 @@ pub enum Purpose {
 impl Purpose {
     /// The second number of the keys of what this seat draws for this.
     pub fn of(self, seat: u8) -> u64
-        ensures { result ≡ 256 * seat + purpose_number self }
+        ensures { result ≡ drawn_for seat (purpose_number self) }
     {
         let number = match self {
             Purpose::Pick => 2,
@@ -26,6 +30,6 @@ impl Purpose {
             Purpose::PlayoutPick => 4,
             Purpose::PlayoutShuffle => 5,
         };
-        256 * seat as u64 + number
+        PURPOSES * seat as u64 + number
     }
 }

@@ -4,6 +4,7 @@ ghost use Rattle.rc_play_model.specs.Draws as draws;
 ghost use Rattle.rc_draw.specs.Series.{AreFirstWords, key_at};
 
 use crate::lanes::first_words;
+use crate::word::WORDS;
 use rc_play_model::keys_pick_and_permute;
 use std::marker::Model;
 
@@ -59,7 +60,7 @@ impl KeySeries {
         if n == 1 {
             return 0;
         }
-        (self.word(number) as u64 * n as u64 / 4294967296) as u32
+        (self.word(number) as u64 * n as u64 / WORDS) as u32
     }
 
     // The first word of the key of this number.
@@ -83,12 +84,12 @@ fn words_from(a: u64, b: u64, c: u64, upper: u32, first: u32) -> [u32; 4]
     ensures { AreFirstWords (record { a = a; b = b; c = c; upper = upper }) first 4 result }
 {
     first_words(&[
-        (a % 4294967296) as u32,
-        (a / 4294967296) as u32,
-        (b % 4294967296) as u32,
-        (b / 4294967296) as u32,
-        (c % 4294967296) as u32,
-        (c / 4294967296) as u32,
+        (a % WORDS) as u32,
+        (a / WORDS) as u32,
+        (b % WORDS) as u32,
+        (b / WORDS) as u32,
+        (c % WORDS) as u32,
+        (c / WORDS) as u32,
         first,
         upper,
     ])

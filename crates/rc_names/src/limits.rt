@@ -55,13 +55,13 @@ pub const MOST_IN_LIST: usize = MOST_IN_MEM;
 pub const MOST_IN_BENCH: u64 = 1000;
 
 /// The most matches of a plan.
-pub const MOST_MATCHES: u64 = 4096;
+pub const MOST_MATCHES: u64 = 1 << 12;
 
 /// The largest turn limit.
 pub const MOST_TURNS: u64 = 100_000;
 
 /// The most turns of all matches of a plan together.
-pub const MOST_TURNS_IN_ALL: u64 = 262_144;
+pub const MOST_TURNS_IN_ALL: u64 = 1 << 18;
 
 /// The most rounds of a rollout.
 pub const MOST_ROUNDS: u64 = 1000;
@@ -73,13 +73,13 @@ pub const LARGEST_SEED: u64 = 999_999_999_999_999_999;
 pub const MOST_WORKERS: u64 = 64;
 
 /// The most entries of a cache.
-pub const MOST_ENTRIES: u64 = 65_536;
+pub const MOST_ENTRIES: u64 = 1 << 16;
 
 /// The most bytes of a sheet with its plan.
-pub const LONGEST_SOURCE: usize = 1_048_576;
+pub const LONGEST_SOURCE: usize = 1 << 20;
 
 /// The most bytes of a sheet with its plan and the transcript of a house.
-pub const LONGEST_TEXT: usize = 8_388_608;
+pub const LONGEST_TEXT: usize = 1 << 23;
 
 /// The largest number of a game. The least one is as far below 0.
 pub const LARGEST_NUMBER: i64 = 1_000_000_000;

@@ -1,6 +1,6 @@
 //! What strategies pick that ask nothing of playouts.
-ghost use Rattle.std.specs.Prelude.{◌≡◌, ◌<◌, ◌+◌, ◌*◌, slice_index, IfSome};
-ghost use Rattle.rc_play_model.specs.Draws.{keyed};
+ghost use Rattle.std.specs.Prelude.{◌≡◌, ◌<◌, slice_index, IfSome};
+ghost use Rattle.rc_play_model.specs.Draws.{keyed, picks, drawn_for};
 ghost use Rattle.rc_play_model.specs.Strategy.{scripted_item};
 ghost use Rattle.rc_rules.specs.Control.{control_seen};
 ghost use Rattle.rc_rules.specs.Offhand.{offhand_of};
@@ -55,7 +55,7 @@ pub fn scripted(numbers: &[u16], decision: u32, size: u16) -> u16
 /// The pick below the size by the key of the strategy's key, the seat, the seed and the turn count.
 pub fn picked(key: u64, seed: u64, seat: u8, turn: u32, size: u16) -> u16
     requires { 0 < size }
-    ensures is { result ≡ keyed.pick key (256 * seat + 2) seed turn size }
+    ensures is { result ≡ keyed.pick key (drawn_for seat picks) seed turn size }
     ensures below { result < size }
 {
     let key = key32(key, Purpose::Pick.of(seat), seed, turn as u64);
