@@ -333,22 +333,22 @@ class Forms(unittest.TestCase):
         specs = ROOT / "crates/rc_grammar/specs"
         self.words = dict(re.findall(r'^text_of keyword\.(\w+) = codes "(.+)"$', (specs / "Keyword.antt").read_text(), re.MULTILINE))
         grammar = (specs / "Grammar.antt").read_text()
-        rows = re.findall(r"^(\w+)_of (?:place|rule)\.(\w+) = (.+)$", grammar, re.MULTILINE)
+        rows = re.findall(r"^(\w+)_of (?:symbol|rule)\.(\w+) = (.+)$", grammar, re.MULTILINE)
         self.table = {(what, name): cells.removesuffix("[]").split(" ∷ ")[:-1] for what, name, cells in rows}
         self.more = {name: cells != "None" for what, name, cells in rows if what == "more"}
 
     def fronts(self, rule: str) -> Iterator[tuple[list[str], bool]]:
         """The first parts of a form of the grammar, each a fixed word or nothing, and whether more may follow. Members are the
         word `player` or a collection."""
-        places = self.table["front", rule]
-        for members in {"player", ""} if "place.Members" in places else {""}:
-            known = {"place.Members": members}
-            yield [known.get(it) or self.words.get(it.removeprefix("place.Word keyword."), "") for it in places], self.more[rule]
+        symbols = self.table["front", rule]
+        for members in {"player", ""} if "symbol.Members" in symbols else {""}:
+            known = {"symbol.Members": members}
+            yield [known.get(it) or self.words.get(it.removeprefix("symbol.Word keyword."), "") for it in symbols], self.more[rule]
 
-    def test_each_place_has_the_lists_of_the_grammar(self) -> None:
-        places = {name: rules for (what, name), rules in self.table.items() if what == "forms" and rules}
-        self.assertEqual(places.keys(), PLACES.keys())
-        for name, rules in places.items():
+    def test_each_symbol_has_the_lists_of_the_grammar(self) -> None:
+        symbols = {name: rules for (what, name), rules in self.table.items() if what == "forms" and rules}
+        self.assertEqual(symbols.keys(), PLACES.keys())
+        for name, rules in symbols.items():
             written = [parts_of(form) for form in forms_of(PLACES[name])]
             fronts = [front for rule in rules for front in self.fronts(rule.removeprefix("rule."))]
             # A sheet holds two more parts than its row has: items, and the scoring behind them.

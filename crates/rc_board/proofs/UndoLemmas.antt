@@ -14,7 +14,7 @@ use Rattle.rc_table.specs.Restored.{put_at, taken_at}
 use Rattle.rc_play_model.specs.Table.{IsSound}
 use Rattle.rc_board.specs.Undo.{Edit, moved, changed, ordered, noted, forgotten, undone, before_of, IsEditOf, CanUndo}
 use Rattle.rc_board.specs.Entry.{entry_seen, log_seen}
-use Rattle.rc_board.specs.declared.entry.Entry.{Entry}
+use Rattle.rc_board.specs.declared.entry.LogEntry.{LogEntry}
 
 -- LISTS
 
@@ -164,7 +164,7 @@ pub some_there : (t : Table) (from place loc : ℕ) → place < length (list_at 
 some_there t from place loc there same = let here = ap (λ l. length (list_at t l)) same in omega (arith, there, here)
 
 -- one entry more, which is the last edit
-pub log_more : (log : List Entry) (entry : Entry) → log_seen (log ++ entry ∷ []) ≡ entry_seen entry ∷ log_seen log
+pub log_more : (log : List LogEntry) (entry : LogEntry) → log_seen (log ++ entry ∷ []) ≡ entry_seen entry ∷ log_seen log
 log_more log entry = ap reverse (map-append entry_seen log (entry ∷ [])) ∙ reverse-append (map entry_seen log) (entry_seen entry ∷ [])
 
 -- as many tables before it as there are entries

@@ -1,10 +1,10 @@
 -- Entries of a log as edits.
 use Rattle.std.specs.Prelude.{List, map, reverse}
 use Rattle.rc_board.specs.Undo.{Edit, moved, changed, ordered, noted, forgotten}
-use Rattle.rc_board.specs.declared.entry.Entry.{Entry}
-use Rattle.rc_board.specs.declared.entry.Entry.TheVariants.{Moved, Changed, Ordered, Noted, Forgotten}
+use Rattle.rc_board.specs.declared.entry.LogEntry.{LogEntry}
+use Rattle.rc_board.specs.declared.entry.LogEntry.TheVariants.{Moved, Changed, Ordered, Noted, Forgotten}
 
-abbrev pub entry_seen : Entry → Edit
+abbrev pub entry_seen : LogEntry → Edit
 entry_seen (Moved from place to at) = moved from place to at
 entry_seen (Changed num value) = changed num value
 entry_seen (Ordered loc list) = ordered loc list.items
@@ -12,5 +12,5 @@ entry_seen (Noted loc at) = noted loc at
 entry_seen (Forgotten id loc place) = forgotten id loc place
 
 -- the edits of a log, the last one first
-abbrev pub log_seen : List Entry → List Edit
+abbrev pub log_seen : List LogEntry → List Edit
 log_seen entries = reverse (map entry_seen entries)

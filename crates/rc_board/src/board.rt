@@ -10,7 +10,7 @@ ghost use Rattle.rc_table.specs.Restored.{taken_at};
 ghost use Rattle.rc_board.specs.Entry.{entry_seen};
 ghost use Rattle.rc_board.specs.Undo.{changed, edited, gone_home, home_at, Keeps, GoesBack};
 
-use crate::entry::{Entry, take_back};
+use crate::entry::{LogEntry, take_back};
 use crate::past::Past;
 use rc_deck::Memory;
 use rc_play_model::edits_keep_tables_sound;
@@ -122,7 +122,7 @@ impl Board {
         let _sound = self.table.shape();
         let (from, place) = self.table.place_of(id);
         let at = top_without(&self.table, from, place, loc);
-        let entry = Entry::Moved {
+        let entry = LogEntry::Moved {
             from,
             place,
             to: loc,
@@ -147,7 +147,7 @@ impl Board {
         // what a table keeps
         let _sound = self.table.shape();
         let (from, place) = self.table.place_of(id);
-        let entry = Entry::Moved {
+        let entry = LogEntry::Moved {
             from,
             place,
             to: loc,
@@ -190,7 +190,7 @@ impl Board {
             return Ok(());
         }
         let at = count_of(&self.table, loc);
-        match self.past.note(Entry::Noted { loc, at }) {
+        match self.past.note(LogEntry::Noted { loc, at }) {
             Ok(()) => {}
             Err(Memory) => return Err(Memory),
         }
@@ -211,7 +211,7 @@ impl Board {
         if !self.table.has_room(loc) {
             return Ok(());
         }
-        match self.past.note(Entry::Noted { loc, at: 0 }) {
+        match self.past.note(LogEntry::Noted { loc, at: 0 }) {
             Ok(()) => {}
             Err(Memory) => return Err(Memory),
         }
@@ -249,7 +249,7 @@ impl Board {
             return Ok(());
         };
         let old = id_at(&self.table, loc, place);
-        let entry = Entry::Forgotten {
+        let entry = LogEntry::Forgotten {
             id: old,
             loc,
             place,
@@ -381,8 +381,8 @@ fn top_without(table: &Table, from: u16, place: u16, loc: u16) -> u16
 }
 
 // An entry of a number's value.
-fn changed_entry(num: u16, value: i64) -> Entry
+fn changed_entry(num: u16, value: i64) -> LogEntry
     ensures { entry_seen result ≡ changed num value }
 {
-    Entry::Changed { num, value }
+    LogEntry::Changed { num, value }
 }

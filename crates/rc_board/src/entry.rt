@@ -10,7 +10,7 @@ use rc_table::Table;
 
 /// What was before an edit.
 #[derive(Drop)]
-pub enum Entry {
+pub enum LogEntry {
     /// A card that moved: it stood at this place of this location, and stands at that place of that one now.
     Moved {
         from: u16,
@@ -42,22 +42,22 @@ pub enum Entry {
 }
 
 /// Takes an edit back.
-pub fn take_back(table: &mut Table, entry: &Entry)
+pub fn take_back(table: &mut Table, entry: &LogEntry)
     requires edit { IsEditOf table.old.shape (entry_seen entry.now) }
     requires sound { IsSound table.old.shape (undone (entry_seen entry.now) table.old.table) }
     ensures { table.new ≡ relaid table.old (undone (entry_seen entry.now) table.old.table) }
 {
     match entry {
-        Entry::Moved {
+        LogEntry::Moved {
             from,
             place,
             to,
             at,
         } => move_back(table, *from, *place, *to, *at),
-        Entry::Changed { num, value } => table.set_number(*num, *value),
-        Entry::Ordered { loc, list } => table.relist(*loc, list),
-        Entry::Noted { loc, at } => take_away(table, *loc, *at),
-        Entry::Forgotten { id, loc, place } => table.put_reference(*id, *loc, *place),
+        LogEntry::Changed { num, value } => table.set_number(*num, *value),
+        LogEntry::Ordered { loc, list } => table.relist(*loc, list),
+        LogEntry::Noted { loc, at } => take_away(table, *loc, *at),
+        LogEntry::Forgotten { id, loc, place } => table.put_reference(*id, *loc, *place),
     }
 }
 

@@ -6,7 +6,7 @@ ghost use Rattle.rc_board.specs.Entry.{entry_seen, log_seen};
 ghost use Rattle.rc_board.specs.Past.{home_kept, edits_of, notes_of, home_table, noted_in, moved_to, IsPast, HasShape, TookLast};
 ghost use Rattle.rc_board.specs.PastSeen.{past_seen};
 
-use crate::entry::Entry;
+use crate::entry::LogEntry;
 use rc_deck::Memory;
 use rc_table::Table;
 use std::alloc::Global;
@@ -16,7 +16,7 @@ pub enum Past {
     /// Nothing.
     Nothing,
     /// What takes each edit back, the last one at the end.
-    Edits(Vec<Entry>),
+    Edits(Vec<LogEntry>),
     /// The table to which it goes home.
     Home(Table),
 }
@@ -66,7 +66,7 @@ impl Past {
 
     /// Notes what takes an edit back, where edits are noted.
     #[inline(always)]
-    pub fn note(&mut self, entry: Entry) -> Result<(), Memory>
+    pub fn note(&mut self, entry: LogEntry) -> Result<(), Memory>
         ensures noted { OnOk result (past_seen self.new ≡ noted_in (entry_seen entry) (past_seen self.old)) }
         ensures lacking { OnErr result (past_seen self.new ≡ past_seen self.old) }
     {
@@ -91,7 +91,7 @@ impl Past {
     }
 
     /// Takes the last edit, if one was noted.
-    pub fn take_last(&mut self) -> Option<Entry>
+    pub fn take_last(&mut self) -> Option<LogEntry>
         ensures { MatchOption result (edits_of (past_seen self.old) ≡ [])
             (λ entry. TookLast (entry_seen entry) (past_seen self.old) (past_seen self.new)) }
     {
@@ -129,7 +129,7 @@ impl Past {
 
 // Puts an entry behind the others.
 #[tactic(auto, using(crate::proofs::UndoLemmas::log_more))]
-fn log_entry(log: &mut Vec<Entry>, entry: Entry) -> Result<(), Memory>
+fn log_entry(log: &mut Vec<LogEntry>, entry: LogEntry) -> Result<(), Memory>
     ensures noted { OnOk result (log_seen log.new.items ≡ entry_seen entry ∷ log_seen log.old.items) }
     ensures lacking { OnErr result (log.new.items ≡ log.old.items) }
 {
@@ -140,19 +140,19 @@ fn log_entry(log: &mut Vec<Entry>, entry: Entry) -> Result<(), Memory>
 }
 
 // Puts the list of a location behind the others.
-fn log_order(alloc: Global, log: &mut Vec<Entry>, loc: u16, list: &[u16]) -> Result<(), Memory>
+fn log_order(alloc: Global, log: &mut Vec<LogEntry>, loc: u16, list: &[u16]) -> Result<(), Memory>
     ensures noted { OnOk result (log_seen log.new.items ≡ ordered loc list.now ∷ log_seen log.old.items) }
     ensures lacking { OnErr result (log.new.items ≡ log.old.items) }
 {
     match Vec::from_slice(alloc, list) {
-        Ok(list) => log_entry(log, Entry::Ordered { loc, list }),
+        Ok(list) => log_entry(log, LogEntry::Ordered { loc, list }),
         Err(_) => Err(Memory),
     }
 }
 
 // Takes the last entry, if there is one.
 #[tactic(auto, using(crate::proofs::UndoLemmas::log_more))]
-fn pop_entry(log: &mut Vec<Entry>) -> Option<Entry>
+fn pop_entry(log: &mut Vec<LogEntry>) -> Option<LogEntry>
     ensures { MatchOption result (log.old.items ≡ []) (λ entry. log_seen log.old.items ≡ entry_seen entry ∷ log_seen log.new.items) }
 {
     log.pop()

@@ -14,8 +14,8 @@ ghost use Rattle.rc_cache.specs.Kept.{about_in};
 use crate::cache::{Cache, bring, find, put};
 use crate::calls::{Call, copied, is_hit, write};
 use crate::lanes::{Lane, Sums};
-use crate::mark::Mark;
-use crate::naming::{Fresh, HitsOf, KeepsOf, LooksOf, Naming};
+use crate::mark::HashedAsk;
+use crate::naming::{BookNaming, Fresh, HitsOf, KeepsOf, LooksOf};
 use lru::LruCache;
 use rc_deck::Memory;
 use rc_redraw::{Entry, Key, Reply};
@@ -28,13 +28,13 @@ use std::sync::ledger::Share;
 /// Entries that were found before, as many as there is room for, and the journal of all calls. It serves one about, which its name
 /// shows, as it shows how many entries there may be. Contracts see the journal, of which the entries are the replay.
 #[derive(Drop)]
-pub struct Book<N: Naming> {
+pub struct Book<N: BookNaming> {
     cache: Cache,
     journal: Vec<Call>,
     sums: Sums<N>,
 }
 
-impl<N: Naming> Model for Book<N> {
+impl<N: BookNaming> Model for Book<N> {
     ghost use Rattle.std.specs.Prelude.{◌≤◌, List, map};
     ghost use Rattle.std.specs.Coded.{codes};
     ghost use Rattle.rc_flow.specs.Codes.{sheet_codes};
@@ -50,7 +50,7 @@ impl<N: Naming> Model for Book<N> {
     ghost invariant = { λ b. (1 ≤ N.lanes) × IsKept N.about N.capacity b.cache (map line_seen b.journal.items) b.sums.looks.total b.sums.hits.total b.sums.keeps.total };
 }
 
-impl<N: Naming> Book<N> {
+impl<N: BookNaming> Book<N> {
     /// An empty book that serves an about, and its lanes, by a name that no book has yet. The capacity is 1 to 65,536, and there are 1
     /// to 64 lanes. Memory may run out.
     pub fn new(
@@ -95,7 +95,7 @@ impl<N: Naming> Book<N> {
         ensures lacking { OnErr result ((self.new ≡ self.old) × (lane.new ≡ lane.old)) }
     {
         let known = copied(key)?;
-        let mark = Mark::of(key)?;
+        let mark = HashedAsk::of(key)?;
         let reply = find(alloc, &self.cache, &mark)?;
         self.journal.reserve(1)?;
         let hit = is_hit(&reply);
@@ -119,7 +119,7 @@ impl<N: Naming> Book<N> {
         ensures lacking { OnErr result ((self.new ≡ self.old) × (lane.new ≡ lane.old)) }
     {
         let known = copied(entry.key())?;
-        let mark = Mark::of(entry.key())?;
+        let mark = HashedAsk::of(entry.key())?;
         self.journal.reserve(1)?;
         put(&mut self.cache, mark, entry)?;
         let call = Call::Kept {
@@ -168,7 +168,7 @@ impl<N: Naming> Book<N> {
 }
 
 // An empty book.
-fn empty<N: Naming>(alloc: Global, capacity: u32, sums: Sums<N>) -> Result<Book<N>, Memory>
+fn empty<N: BookNaming>(alloc: Global, capacity: u32, sums: Sums<N>) -> Result<Book<N>, Memory>
     requires capacity { (1 ≤ capacity) × (capacity ≡ N.capacity) }
     requires lanes { 1 ≤ N.lanes }
     requires none { (sums.looks.total ≡ 0) × (sums.hits.total ≡ 0) × (sums.keeps.total ≡ 0) }
@@ -187,7 +187,7 @@ fn empty<N: Naming>(alloc: Global, capacity: u32, sums: Sums<N>) -> Result<Book<
 
 // The lanes of a book, so many, each with a part of the shares.
 #[tactic(auto, using(crate::proofs::LaneLemmas::idle_more))]
-fn lanes_of<N: Naming>(
+fn lanes_of<N: BookNaming>(
     alloc: Global,
     count: u8,
     looked: Share<LooksOf<N>>,

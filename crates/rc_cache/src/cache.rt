@@ -8,17 +8,17 @@ ghost use Rattle.rc_redraw.specs.Reply.{IfHit, is_hit};
 ghost use Rattle.rc_cache.specs.Replay.{stands, after};
 ghost use Rattle.rc_cache.specs.Kept.{IsOwn, key_by, key_in};
 
-use crate::mark::Mark;
+use crate::mark::HashedAsk;
 use lru::LruCache;
 use rc_deck::Memory;
 use rc_redraw::{Entry, Reply};
 use std::alloc::Global;
 
 /// The entries of a book, each under the mark of its ask.
-pub(crate) type Cache = LruCache<Mark, Entry>;
+pub(crate) type Cache = LruCache<HashedAsk, Entry>;
 
 /// What is known of an ask. Memory may run out.
-pub(crate) fn find(alloc: Global, cache: &Cache, mark: &Mark) -> Result<Reply, Memory>
+pub(crate) fn find(alloc: Global, cache: &Cache, mark: &HashedAsk) -> Result<Reply, Memory>
     ensures hit { IfOk result (λ reply. (about : About) → is_hit reply ≡ stands (key_by about mark.now) (map (key_in about) cache.now.entries)) }
     ensures totals { IfOk result (λ reply. (about : About) → AllByRecursion (IsOwn about) cache.now.entries
         → IfHit reply (λ totals. totals ≡ tally_of about mark.now)) }
@@ -33,7 +33,7 @@ pub(crate) fn find(alloc: Global, cache: &Cache, mark: &Mark) -> Result<Reply, M
 }
 
 /// Brings an ask to the front where it is there, and else changes nothing.
-pub(crate) fn bring(cache: &mut Cache, mark: &Mark)
+pub(crate) fn bring(cache: &mut Cache, mark: &HashedAsk)
     ensures keys { (about : About) → map (key_in about) cache.new.entries
         ≡ after cache.old.cap (map (key_in about) cache.old.entries)
         (looked (key_by about mark.now) (stands (key_by about mark.now) (map (key_in about) cache.old.entries))) }
@@ -44,7 +44,7 @@ pub(crate) fn bring(cache: &mut Cache, mark: &Mark)
 }
 
 /// Puts an entry in front, in the place of one of the same ask, and drops the last one where there is no room. Memory may run out.
-pub(crate) fn put(cache: &mut Cache, mark: Mark, entry: Entry) -> Result<(), Memory>
+pub(crate) fn put(cache: &mut Cache, mark: HashedAsk, entry: Entry) -> Result<(), Memory>
     ensures keys { OnOk result ((about : About) → map (key_in about) cache.new.entries
         ≡ after cache.old.cap (map (key_in about) cache.old.entries) (kept (key_by about mark))) }
     ensures own { OnOk result ((about : About) → AllByRecursion (IsOwn about) cache.old.entries → IsOwn about (mark, entry)

@@ -6,7 +6,7 @@ ghost use Rattle.rc_cache.specs.Sums.{looks_in, hits_in, keeps_in, looks_of, hit
 use crate::book::Book;
 use crate::lanes::{Lane, Together};
 use crate::laws::without_a_keep_none_hits;
-use crate::naming::Naming;
+use crate::naming::BookNaming;
 
 /// What a book was when it was closed: how many entries it held at most, how many lanes it had, and how many calls of each kind these
 /// made together. Only a book that is closed gives them.
@@ -57,7 +57,7 @@ impl Totals {
 }
 
 /// What all lanes of a book called together, which is what its journal has. Without a keep there is no hit.
-pub fn close<N: Naming>(book: Book<N>, lanes: Vec<Lane<N>>) -> Totals
+pub fn close<N: BookNaming>(book: Book<N>, lanes: Vec<Lane<N>>) -> Totals
     requires all { length lanes.items ≡ N.lanes }
     ensures book { (result.capacity ≡ N.capacity) × (result.lanes ≡ N.lanes) }
     ensures looks { (result.looks ≡ looks_of (calls_of book)) × (result.looks ≡ looks_in lanes.items) }
@@ -86,7 +86,7 @@ pub fn close<N: Naming>(book: Book<N>, lanes: Vec<Lane<N>>) -> Totals
 }
 
 /// What the only lane of a book called, which is what its journal has.
-pub(crate) fn close_alone<N: Naming>(book: Book<N>, lane: Lane<N>) -> Totals
+pub(crate) fn close_alone<N: BookNaming>(book: Book<N>, lane: Lane<N>) -> Totals
     requires alone { N.lanes ≡ 1 }
     ensures book { (result.capacity ≡ N.capacity) × (result.lanes ≡ N.lanes) }
     ensures looks { result.looks ≡ lane.looks }

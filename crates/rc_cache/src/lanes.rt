@@ -2,14 +2,14 @@
 ghost use Rattle.std.specs.Prelude.{◌≡◌, ◌+◌, ◌^◌, ◌<◌};
 ghost use Rattle.rc_redraw.specs.Counts.{one_if};
 
-use crate::naming::{HitsOf, KeepsOf, LooksOf, Naming};
+use crate::naming::{BookNaming, HitsOf, KeepsOf, LooksOf};
 use std::marker::Model;
 use std::sync::ledger;
 use std::sync::ledger::Share;
 
 /// Who calls a book, with the numbers of its calls. Only `Book::new` makes lanes.
 #[derive(Drop)]
-pub struct Lane<N: Naming> {
+pub struct Lane<N: BookNaming> {
     pub(crate) number: u8,
     pub(crate) looks: u64,
     pub(crate) hits: u64,
@@ -19,7 +19,7 @@ pub struct Lane<N: Naming> {
     pub(crate) kept: Share<KeepsOf<N>>,
 }
 
-impl<N: Naming> Model for Lane<N> {
+impl<N: BookNaming> Model for Lane<N> {
     ghost use Rattle.std.specs.Prelude.{◌≡◌};
     ghost use Rattle.rc_cache.specs.Sums.{Lane as PureLane};
 
@@ -31,7 +31,7 @@ impl<N: Naming> Model for Lane<N> {
         × (l.looked.amount ≡ l.looks) × (l.hit.amount ≡ l.hits) × (l.kept.amount ≡ l.keeps) };
 }
 
-impl<N: Naming> Lane<N> {
+impl<N: BookNaming> Lane<N> {
     /// Its number.
     pub fn number(&self) -> u8
         ensures { result ≡ self.now.number }
@@ -63,13 +63,13 @@ impl<N: Naming> Lane<N> {
 
 /// The sums over all lanes, in contracts alone.
 #[derive(Drop)]
-pub(crate) struct Sums<N: Naming> {
+pub(crate) struct Sums<N: BookNaming> {
     pub(crate) looks: ledger::Book<LooksOf<N>>,
     pub(crate) hits: ledger::Book<HitsOf<N>>,
     pub(crate) keeps: ledger::Book<KeepsOf<N>>,
 }
 
-impl<N: Naming> Sums<N> {
+impl<N: BookNaming> Sums<N> {
     /// Counts a look, which is call number `made` of the book, so that it fits.
     pub(crate) fn look(&mut self, lane: &mut Lane<N>, hit: bool, made: usize)
         requires looks { self.old.looks.total < made }
@@ -109,7 +109,7 @@ impl<N: Naming> Sums<N> {
 
 /// Some lanes together. Contracts see how many they are, and their sums.
 #[derive(Drop)]
-pub(crate) struct Together<N: Naming> {
+pub(crate) struct Together<N: BookNaming> {
     looks: u64,
     hits: u64,
     keeps: u64,
@@ -118,7 +118,7 @@ pub(crate) struct Together<N: Naming> {
     kept: Share<KeepsOf<N>>,
 }
 
-impl<N: Naming> Model for Together<N> {
+impl<N: BookNaming> Model for Together<N> {
     ghost use Rattle.std.specs.Prelude.{◌≡◌};
     ghost use Rattle.rc_cache.specs.Sums.{Together as PureTogether};
 
@@ -130,7 +130,7 @@ impl<N: Naming> Model for Together<N> {
         × (t.looked.amount ≡ t.looks) × (t.hit.amount ≡ t.hits) × (t.kept.amount ≡ t.keeps) };
 }
 
-impl<N: Naming> Together<N> {
+impl<N: BookNaming> Together<N> {
     /// One lane.
     pub(crate) fn of(lane: Lane<N>) -> Together<N>
         ensures { result ≡ record { lanes = 1; looks = lane.looks; hits = lane.hits; keeps = lane.keeps } }

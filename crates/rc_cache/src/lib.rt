@@ -24,7 +24,7 @@ pub use laws::{
     one_worker_lacking_memory_takes_no_more_steps, same_keys_are_equal, some_look_misses,
     without_a_keep_none_hits,
 };
-pub use naming::{Fresh, HitsOf, KeepsOf, LooksOf, Naming};
+pub use naming::{BookNaming, Fresh, HitsOf, KeepsOf, LooksOf};
 pub use own::OwnBook;
 pub use same::same_ask;
 pub use shared::SharedBook;

@@ -8,7 +8,7 @@ use std::sync::ledger::{Blank, Ledger};
 
 /// Which book it is: the about that it serves, how many entries it holds at most, how many lanes it has, and the names of the ledgers
 /// of its looks, hits and keeps. Each call of a program picks it.
-pub trait Naming {
+pub trait BookNaming {
     ghost about: { About };
 
     ghost capacity: { ℕ };
@@ -22,7 +22,7 @@ pub trait Naming {
     ghost keeps: { ℕ };
 }
 
-impl Naming for Brand {
+impl BookNaming for Brand {
     ghost about = { no_about };
 
     ghost capacity = { 1 };
@@ -41,7 +41,7 @@ pub struct LooksOf<N> {
     of: PhantomData<N>,
 }
 
-impl<N: Naming> Ledger for LooksOf<N> {
+impl<N: BookNaming> Ledger for LooksOf<N> {
     ghost name = { N.looks };
 
     ghost parts = { N.lanes };
@@ -52,7 +52,7 @@ pub struct HitsOf<N> {
     of: PhantomData<N>,
 }
 
-impl<N: Naming> Ledger for HitsOf<N> {
+impl<N: BookNaming> Ledger for HitsOf<N> {
     ghost name = { N.hits };
 
     ghost parts = { N.lanes };
@@ -63,7 +63,7 @@ pub struct KeepsOf<N> {
     of: PhantomData<N>,
 }
 
-impl<N: Naming> Ledger for KeepsOf<N> {
+impl<N: BookNaming> Ledger for KeepsOf<N> {
     ghost name = { N.keeps };
 
     ghost parts = { N.lanes };

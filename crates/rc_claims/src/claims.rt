@@ -7,24 +7,9 @@ ghost use Rattle.rc_claims.specs.Claims.{fresh, joined, with_number};
 
 use crate::views::{Draws, EachOnce, GivesOne, Limits, PassView, TakesIn};
 use atomic_table::{Seat, Table};
-use std::alloc::{AllocError, AllocFailed, Global};
+use rc_deck::Memory;
+use std::alloc::{AllocError, Global};
 use std::marker::Model;
-
-/// No memory was found.
-#[derive(Clone, Copy, Debug, PartialEq, Eq, Hash)]
-pub struct Memory;
-
-impl From<AllocError> for Memory {
-    fn from(_error: AllocError) -> Memory {
-        Memory
-    }
-}
-
-impl<T: Drop> From<AllocFailed<T>> for Memory {
-    fn from(_error: AllocFailed<T>) -> Memory {
-        Memory
-    }
-}
 
 /// Numbers from 0 that are claimed one by one. Who claims waits for nobody. Contracts see the word that they are drawn from, how
 /// many of them count, and how many passes there are.

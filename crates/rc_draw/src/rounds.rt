@@ -6,7 +6,7 @@ ghost use Rattle.rc_draw.specs.Rows.{words_of, state_of};
 use std::simd::u32x4;
 
 /// The four rows of a state.
-pub(crate) type Rows = (u32x4, u32x4, u32x4, u32x4);
+pub(crate) type StateRows = (u32x4, u32x4, u32x4, u32x4);
 
 /// The sums of the words of two rows, modulo 2^32.
 #[inline(always)]
@@ -27,7 +27,7 @@ fn xor_rotate(a: u32x4, b: u32x4, k: u32) -> u32x4
 
 // The quarter round on the words that stand at one place of the four rows, at each of the four places.
 #[inline(always)]
-fn quarter_rounds(a: u32x4, b: u32x4, c: u32x4, d: u32x4) -> Rows
+fn quarter_rounds(a: u32x4, b: u32x4, c: u32x4, d: u32x4) -> StateRows
     ensures { (j : ℕ) → j < 4
         → (slice_index result.0 j, slice_index result.1 j, slice_index result.2 j, slice_index result.3 j)
         ≡ quarter_round (slice_index a j) (slice_index b j) (slice_index c j) (slice_index d j) }
@@ -45,7 +45,7 @@ fn quarter_rounds(a: u32x4, b: u32x4, c: u32x4, d: u32x4) -> Rows
 
 /// The quarter round on each column of a state.
 #[inline(always)]
-pub(crate) fn column_round(rows: Rows) -> Rows
+pub(crate) fn column_round(rows: StateRows) -> StateRows
     ensures { state_of result ≡ column_round (state_of rows) }
 {
     let (a, b, c, d) = rows;
@@ -78,7 +78,7 @@ fn left_by_three(vector: u32x4) -> u32x4
 
 /// The quarter round on each diagonal of a state: the rows are turned so that the diagonals stand in columns, and turned back.
 #[inline(always)]
-pub(crate) fn diagonal_round(rows: Rows) -> Rows
+pub(crate) fn diagonal_round(rows: StateRows) -> StateRows
     ensures { state_of result ≡ diagonal_round (state_of rows) }
 {
     let (a, b, c, d) = rows;

@@ -6,7 +6,7 @@ ghost use Rattle.rand_chacha.specs.ChaCha.{key_of};
 ghost use Rattle.rc_play_model.specs.Draws as draws;
 ghost use Rattle.rc_draw.specs.Rows.{state_of};
 
-use crate::rounds::{Rows, add, column_round, diagonal_round};
+use crate::rounds::{StateRows, add, column_round, diagonal_round};
 use rand_core::utils::read_u32;
 use std::simd::u32x4;
 
@@ -27,7 +27,7 @@ pub(crate) fn first_word(key: &[u8; 32]) -> u32
 
 // The state that the first block of a key is made of.
 #[inline(always)]
-fn first_rows(key: &[u8; 32]) -> Rows
+fn first_rows(key: &[u8; 32]) -> StateRows
     ensures { state_of result ≡ initial_state (key_of key.now) 0 0 }
 {
     (

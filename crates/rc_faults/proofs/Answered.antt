@@ -6,7 +6,7 @@ use Rattle.rc_sheet_model.specs.WellFormed.{Around, outside}
 use Rattle.rc_grammar.specs.Faults.{first, fault_of}
 use Rattle.rc_grammar.specs.FirstOf.{IsFirstOf}
 use Rattle.rc_grammar.specs.declared.fault.SheetFault.{SheetFault}
-use Rattle.rc_grammar.specs.declared.grammar.Place.TheVariants as place
+use Rattle.rc_grammar.specs.declared.grammar.Symbol.TheVariants as symbol
 use Rattle.rc_faults.specs.declared.fault.SheetFail.{SheetFail}
 use Rattle.rc_faults.specs.declared.fault.SheetFail.TheVariants as fails
 use Rattle.rc_faults.specs.SecondParts.{no_role, parts_at, parts_of}
@@ -22,7 +22,7 @@ pub from_start : (tree : Tree) (whole : Whole) (seen : Summary) (around : Around
     ≡ whole_of (parts_of tree)
     → seen ≡ nothing_seen → around ≡ outside → above ≡ []
     → check_all whole seen
-    (parts_at (Some (record { place = place.Sheet; role = no_role; beside = nil; around = around; above = above })) tree)
+    (parts_at (Some (record { place = symbol.Sheet; role = no_role; beside = nil; around = around; above = above })) tree)
     ≡ check_form tree
 from_start tree whole seen around above known none out no_above = rw (known, none, out, no_above) refl
 

@@ -10,8 +10,8 @@ use Rattle.rc_faults.specs.Summary.{Whole, Summary, players_of, is_member_again,
 use Rattle.rc_faults.proofs.DifferentWords.{named_fold}
 use Rattle.rc_faults.proofs.Known.{Knows}
 use Rattle.rc_faults.proofs.Seen.{Recalls}
-use Rattle.rc_grammar.specs.declared.grammar.Place.{Place}
-use Rattle.rc_grammar.specs.declared.grammar.Place.TheVariants as place
+use Rattle.rc_grammar.specs.declared.grammar.Symbol.{Symbol}
+use Rattle.rc_grammar.specs.declared.grammar.Symbol.TheVariants as symbol
 use Rattle.rc_grammar.specs.declared.grammar.Rule.{Rule}
 use Rattle.rc_grammar.specs.declared.grammar.Rule.TheVariants as rule
 
@@ -19,8 +19,8 @@ use Rattle.rc_grammar.specs.declared.grammar.Rule.TheVariants as rule
 module _ (all : List Part) (whole : Whole) (knows : Knows all whole) (earlier : List Part) (seen : Summary)
     (recalls : Recalls whole earlier seen) where
   -- TWICE
-  member_again : (place : Place) (bytes : List ℕ) → is_member_again seen place bytes ≡ is_player_again earlier place bytes
-  member_again place.Member bytes =
+  member_again : (place : Symbol) (bytes : List ℕ) → is_member_again seen place bytes ≡ is_player_again earlier place bytes
+  member_again symbol.Member bytes =
       ap (λ one. one && is_among (number_by bytes) seen.members) recalls.first_seen
       ∙ ap (λ members. eqb (length (flat_map teams_in earlier)) 1 && is_among (number_by bytes) members) recalls.members_seen
   member_again place bytes = refl
@@ -46,8 +46,8 @@ module _ (all : List Part) (whole : Whole) (knows : Knows all whole) (earlier : 
   not_given used_map bytes = ap not (knows.maps_known bytes)
   not_given role bytes = refl
 
-  stranger : (place : Place) (bytes : List ℕ) → is_stranger whole seen place bytes ≡ is_no_player all earlier place bytes
-  stranger place.Member bytes =
+  stranger : (place : Symbol) (bytes : List ℕ) → is_stranger whole seen place bytes ≡ is_no_player all earlier place bytes
+  stranger symbol.Member bytes =
       ap (λ one. one && leb (players_of whole) (number_by bytes)) recalls.first_seen
       ∙ ap (λ n. eqb (length (flat_map teams_in earlier)) 1 && leb n (number_by bytes)) knows.players_known
   stranger place bytes = refl

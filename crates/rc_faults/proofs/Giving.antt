@@ -6,8 +6,8 @@ use Rattle.std.proofs.lemmas.Bool.{and_parts, false≢true}
 use Rattle.rc_model.specs.Tree.{Tree, Trees, word, list, nil, cons}
 use Rattle.rc_grammar.specs.Grammar.{forms_of, front_of}
 use Rattle.rc_grammar.specs.Faults.{rule_of, or_else, place_at, or_behind, behind_front, begins, is_told, second_word, told_rule, plain_rule, count}
-use Rattle.rc_grammar.specs.declared.grammar.Place.{Place}
-use Rattle.rc_grammar.specs.declared.grammar.Place.TheVariants as place
+use Rattle.rc_grammar.specs.declared.grammar.Symbol.{Symbol}
+use Rattle.rc_grammar.specs.declared.grammar.Symbol.TheVariants as symbol
 use Rattle.rc_grammar.specs.declared.grammar.Rule.{Rule}
 use Rattle.rc_grammar.specs.declared.grammar.Rule.TheVariants as rule
 use Rattle.rc_faults.specs.Giving.{gives_nothing, form_gives_nothing, is_given}
@@ -38,46 +38,46 @@ either (Some rule) later is other = is
 either None later is other = other
 
 -- the forms of a place that gives nothing
-forms : (at : Place) → gives_nothing at ≡ true → list_all form_gives_nothing (forms_of at) ≡ true
-forms (place.Word keyword) is = refl
-forms place.Kind is = refl
-forms place.Best is = refl
-forms place.Name is = refl
-forms place.Variable is = refl
-forms place.PlayerCount is = refl
-forms place.Member is = refl
-forms place.Points is = refl
-forms place.Sheet is = absurd (false≢true is)
-forms place.Setup is = absurd (false≢true is)
-forms place.Line is = absurd (false≢true is)
-forms place.Team is = absurd (false≢true is)
-forms place.Deck is = absurd (false≢true is)
-forms place.Group is = absurd (false≢true is)
-forms place.Branches is = absurd (false≢true is)
-forms place.Branch is = absurd (false≢true is)
-forms place.Entries is = absurd (false≢true is)
-forms place.Entry is = absurd (false≢true is)
-forms place.Values is = absurd (false≢true is)
-forms place.Scoring is = refl
-forms place.Item is = refl
-forms place.End is = refl
-forms place.Alternative is = refl
-forms place.Domain is = refl
-forms place.Effect is = refl
-forms place.Spot is = refl
-forms place.Location is = refl
-forms place.Counter is = refl
-forms place.Holder is = refl
-forms place.Owner is = refl
-forms place.Player is = refl
-forms place.Card is = refl
-forms place.Collection is = refl
-forms place.Members is = refl
-forms place.Integer is = refl
-forms place.Test is = refl
-forms place.Side is = refl
+forms : (at : Symbol) → gives_nothing at ≡ true → list_all form_gives_nothing (forms_of at) ≡ true
+forms (symbol.Word keyword) is = refl
+forms symbol.Kind is = refl
+forms symbol.Best is = refl
+forms symbol.Name is = refl
+forms symbol.Variable is = refl
+forms symbol.PlayerCount is = refl
+forms symbol.Member is = refl
+forms symbol.Points is = refl
+forms symbol.Sheet is = absurd (false≢true is)
+forms symbol.Setup is = absurd (false≢true is)
+forms symbol.Line is = absurd (false≢true is)
+forms symbol.Team is = absurd (false≢true is)
+forms symbol.Deck is = absurd (false≢true is)
+forms symbol.Group is = absurd (false≢true is)
+forms symbol.Branches is = absurd (false≢true is)
+forms symbol.Branch is = absurd (false≢true is)
+forms symbol.Entries is = absurd (false≢true is)
+forms symbol.Entry is = absurd (false≢true is)
+forms symbol.Values is = absurd (false≢true is)
+forms symbol.Scoring is = refl
+forms symbol.Item is = refl
+forms symbol.End is = refl
+forms symbol.Alternative is = refl
+forms symbol.Domain is = refl
+forms symbol.Effect is = refl
+forms symbol.Spot is = refl
+forms symbol.Location is = refl
+forms symbol.Counter is = refl
+forms symbol.Holder is = refl
+forms symbol.Owner is = refl
+forms symbol.Player is = refl
+forms symbol.Card is = refl
+forms symbol.Collection is = refl
+forms symbol.Members is = refl
+forms symbol.Integer is = refl
+forms symbol.Test is = refl
+forms symbol.Side is = refl
 
-form_at : (at : Place) (parts : Trees) → gives_nothing at ≡ true → IfSome (rule_of at parts) (λ rule. form_gives_nothing rule ≡ true)
+form_at : (at : Symbol) (parts : Trees) → gives_nothing at ≡ true → IfSome (rule_of at parts) (λ rule. form_gives_nothing rule ≡ true)
 form_at at nil is = tt
 form_at at (cons head parts) is =
     either (told_rule at head parts) (plain_rule at head)
@@ -177,7 +177,7 @@ quiet rule.ForAll is = record { front = refl; more = λ last. tt; same = λ know
 quiet rule.ForAny is = record { front = refl; more = λ last. tt; same = λ known parts. refl; role = λ role index is. front_role (front_roles rule.ForAny) index refl }
 quiet rule.AttributeOf is = record { front = refl; more = λ last. tt; same = λ known parts. refl; role = λ role index is. front_role (front_roles rule.AttributeOf) index refl }
 
-part_place : (front : Option Place) (behind : Option Place) → IfSome front (λ at. gives_nothing at ≡ true)
+part_place : (front : Option Symbol) (behind : Option Symbol) → IfSome front (λ at. gives_nothing at ≡ true)
     → IfSome behind (λ at. gives_nothing at ≡ true) → IfSome (or_behind front behind) (λ at. gives_nothing at ≡ true)
 part_place (Some at) behind is other = is
 part_place None behind is other = other
@@ -209,9 +209,9 @@ of_form known at parts from inner (Some form) is later =
     ap (λ whole. know_all whole (inner form)) (is_quiet.same known parts) ∙ later form is_quiet
 
 -- a part, where nothing is given at the place where it stands, if anywhere
-part_by : (known : Whole) (at : Standing) (form : Rule) (all : Trees) (index : ℕ) (tree : Tree) (found : Option Place)
+part_by : (known : Whole) (at : Standing) (form : Rule) (all : Trees) (index : ℕ) (tree : Tree) (found : Option Symbol)
     → IfSome found (λ there. gives_nothing there ≡ true)
-    → ((there : Place) → gives_nothing there ≡ true → know_all known (parts_at (Some (standing_at at form all index there)) tree) ≡ known)
+    → ((there : Symbol) → gives_nothing there ≡ true → know_all known (parts_at (Some (standing_at at form all index there)) tree) ≡ known)
     → know_all known (parts_at (option_map (standing_at at form all index) found) tree) ≡ known
 part_by known at form all index tree None is there = ap (know_all known) (nowhere tree)
 part_by known at form all index tree (Some place) is there = there place is

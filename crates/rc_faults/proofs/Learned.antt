@@ -4,7 +4,7 @@ use Rattle.rc_model.specs.Tree.{Tree, Trees, word, list}
 use Rattle.rc_form.specs.Form.{tree_of, trees_of, packed}
 use Rattle.rc_form.specs.declared.form.Form.{Form}
 use Rattle.rc_grammar.specs.Faults.{place_at}
-use Rattle.rc_grammar.specs.declared.grammar.Place.{Place}
+use Rattle.rc_grammar.specs.declared.grammar.Symbol.{Symbol}
 use Rattle.rc_grammar.specs.declared.grammar.Rule.{Rule}
 use Rattle.rc_faults.specs.SecondParts.{Standing, standing_in, role_in, around_in, above_in, parts_at, parts_in}
 use Rattle.rc_faults.specs.Summary.{Whole, know_all}
@@ -18,7 +18,7 @@ nowhere (word bytes from to) = refl
 nowhere (list parts from to) = refl
 
 -- where a part stands that has this place
-abbrev pub standing_at : Standing → Rule → Trees → ℕ → Place → Standing
+abbrev pub standing_at : Standing → Rule → Trees → ℕ → Symbol → Standing
 standing_at outer rule parts index place =
     record {
       place = place;
@@ -28,7 +28,7 @@ standing_at outer rule parts index place =
       above = above_in outer.above rule parts index;
     }
 
-pub standing_by : (outer : Standing) (rule : Rule) (forms : List Form) (index : ℕ) (found given : Option Place)
+pub standing_by : (outer : Standing) (rule : Rule) (forms : List Form) (index : ℕ) (found given : Option Symbol)
     → found ≡ place_at rule (length forms) index → found ≡ given
     → standing_in outer rule (packed (trees_of forms)) index
     ≡ option_map (standing_at outer rule (packed (trees_of forms)) index) given

@@ -13,8 +13,8 @@ use Rattle.rc_model.specs.Words.{with_word}
 use Rattle.rc_faults.proofs.Totals.{counted_sum, count_one, counted_each}
 use Rattle.rc_faults.proofs.Owners.{add_mention, first_fold, counts_owned}
 use Rattle.rc_faults.proofs.Known.{hold, held_some, know_value}
-use Rattle.rc_grammar.specs.declared.grammar.Place.{Place}
-use Rattle.rc_grammar.specs.declared.grammar.Place.TheVariants as place
+use Rattle.rc_grammar.specs.declared.grammar.Symbol.{Symbol}
+use Rattle.rc_grammar.specs.declared.grammar.Symbol.TheVariants as symbol
 use Rattle.rc_grammar.specs.declared.grammar.Rule.TheVariants as rule
 
 -- whether a line of teams stood, and whether it was the only one
@@ -48,9 +48,9 @@ module _ (whole : Whole) where
   see_teams seen (form at rule.CreateTeams parts from) = refl
   see_teams seen (form at rule parts from) = refl
 
-  see_member : (place : Place) (bytes members : List ℕ)
+  see_member : (place : Symbol) (bytes members : List ℕ)
       → members ++ member_by place bytes ≡ fold add_member members (member_by place bytes)
-  see_member place.Member bytes members = refl
+  see_member symbol.Member bytes members = refl
   see_member place bytes members = append-nil members
 
   see_members : (seen : Summary) (part : Part) → (see whole seen part).members ≡ fold add_member seen.members (members_in part)

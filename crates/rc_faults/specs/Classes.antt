@@ -5,7 +5,7 @@ use Rattle.rc_sheet_model.specs.Sheet.{Class, game_class, player_class, team_cla
 use Rattle.rc_sheet_model.specs.WellFormed.{Around}
 use Rattle.rc_grammar.specs.Faults.{is_word, rule_of}
 use Rattle.rc_grammar.specs.declared.keyword.Keyword.TheVariants as keyword
-use Rattle.rc_grammar.specs.declared.grammar.Place.TheVariants as place
+use Rattle.rc_grammar.specs.declared.grammar.Symbol.TheVariants as symbol
 use Rattle.rc_grammar.specs.declared.grammar.Rule.{Rule}
 use Rattle.rc_grammar.specs.declared.grammar.Rule.TheVariants as rule
 
@@ -16,7 +16,7 @@ class_of_rule found = team_class
 
 abbrev pub class_at : Tree → Class
 class_at (word bytes from to) = if is_word keyword.Game bytes then game_class else player_class
-class_at (list parts from to) = class_of_rule (rule_of place.Owner parts)
+class_at (list parts from to) = class_of_rule (rule_of symbol.Owner parts)
 
 -- what is around the body of a binder
 abbrev pub bound_in : Around → List ℕ → Sort → Around

@@ -1,24 +1,24 @@
 -- What stands behind the setup gives nothing: no players, teams, attributes, values or point maps, and no deck.
 use Rattle.std.specs.Prelude.{Bool, true, false}
 use Rattle.rc_faults.specs.SecondParts.{Role, given_value}
-use Rattle.rc_grammar.specs.declared.grammar.Place.{Place}
-use Rattle.rc_grammar.specs.declared.grammar.Place.TheVariants as place
+use Rattle.rc_grammar.specs.declared.grammar.Symbol.{Symbol}
+use Rattle.rc_grammar.specs.declared.grammar.Symbol.TheVariants as symbol
 use Rattle.rc_grammar.specs.declared.grammar.Rule.{Rule}
 use Rattle.rc_grammar.specs.declared.grammar.Rule.TheVariants as rule
 
 -- neither a form at this place gives anything, nor one that stands in it
-abbrev pub gives_nothing : Place → Bool
-gives_nothing place.Sheet = false
-gives_nothing place.Setup = false
-gives_nothing place.Line = false
-gives_nothing place.Team = false
-gives_nothing place.Deck = false
-gives_nothing place.Group = false
-gives_nothing place.Branches = false
-gives_nothing place.Branch = false
-gives_nothing place.Entries = false
-gives_nothing place.Entry = false
-gives_nothing place.Values = false
+abbrev pub gives_nothing : Symbol → Bool
+gives_nothing symbol.Sheet = false
+gives_nothing symbol.Setup = false
+gives_nothing symbol.Line = false
+gives_nothing symbol.Team = false
+gives_nothing symbol.Deck = false
+gives_nothing symbol.Group = false
+gives_nothing symbol.Branches = false
+gives_nothing symbol.Branch = false
+gives_nothing symbol.Entries = false
+gives_nothing symbol.Entry = false
+gives_nothing symbol.Values = false
 gives_nothing place = true
 
 -- neither this form gives anything, nor one that stands in it

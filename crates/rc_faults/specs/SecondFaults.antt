@@ -16,8 +16,8 @@ use Rattle.rc_faults.specs.SecondNames.{some_of, is_named, number_by, players_in
 pub use Rattle.rc_faults.specs.declared.role.SideSort.{SideSort}
 pub use Rattle.rc_faults.specs.declared.role.SideSort.TheVariants.{Number as number_side, Card as card_side, Value as value_side, Player as player_side, Team as team_side}
 use Rattle.rc_grammar.specs.declared.keyword.Keyword.TheVariants as keyword
-use Rattle.rc_grammar.specs.declared.grammar.Place.{Place}
-use Rattle.rc_grammar.specs.declared.grammar.Place.TheVariants as place
+use Rattle.rc_grammar.specs.declared.grammar.Symbol.{Symbol}
+use Rattle.rc_grammar.specs.declared.grammar.Symbol.TheVariants as symbol
 use Rattle.rc_grammar.specs.declared.grammar.Rule.{Rule}
 use Rattle.rc_grammar.specs.declared.grammar.Rule.TheVariants as rule
 use Rattle.rc_grammar.specs.declared.fault.SheetKind.{SheetKind}
@@ -35,8 +35,8 @@ is_in_first_teams earlier = length (flat_map teams_in earlier) == 1
 -- TWICE
 
 -- a player, written again in the teams
-abbrev pub is_player_again : List Part → Place → List ℕ → Bool
-is_player_again earlier place.Member bytes =
+abbrev pub is_player_again : List Part → Symbol → List ℕ → Bool
+is_player_again earlier symbol.Member bytes =
     is_in_first_teams earlier && is_among (number_by bytes) (flat_map members_in earlier)
 is_player_again earlier place bytes = false
 
@@ -56,15 +56,15 @@ is_twice earlier (form at rule parts from) = is_binder rule && is_bound at parts
 -- UNKNOWN
 
 -- the sorts of the variables that a place takes
-abbrev pub sorts_at : Place → List Sort
-sorts_at place.Holder = player_sort ∷ []
-sorts_at place.Owner = player_sort ∷ []
-sorts_at place.Player = player_sort ∷ []
-sorts_at place.Card = card_sort ∷ []
-sorts_at place.Collection = group_sort ∷ []
-sorts_at place.Domain = group_sort ∷ []
-sorts_at place.Members = group_sort ∷ []
-sorts_at place.Side = player_sort ∷ card_sort ∷ []
+abbrev pub sorts_at : Symbol → List Sort
+sorts_at symbol.Holder = player_sort ∷ []
+sorts_at symbol.Owner = player_sort ∷ []
+sorts_at symbol.Player = player_sort ∷ []
+sorts_at symbol.Card = card_sort ∷ []
+sorts_at symbol.Collection = group_sort ∷ []
+sorts_at symbol.Domain = group_sort ∷ []
+sorts_at symbol.Members = group_sort ∷ []
+sorts_at symbol.Side = player_sort ∷ card_sort ∷ []
 sorts_at place = []
 
 -- a variable that a place takes isn't in scope
@@ -79,8 +79,8 @@ is_unnamed all used_map bytes = not (is_named bytes (flat_map maps_in all))
 is_unnamed all role bytes = false
 
 -- a member of a team who is none of the players
-abbrev pub is_no_player : List Part → List Part → Place → List ℕ → Bool
-is_no_player all earlier place.Member bytes = is_in_first_teams earlier && nat_le (player_count all) (number_by bytes)
+abbrev pub is_no_player : List Part → List Part → Symbol → List ℕ → Bool
+is_no_player all earlier symbol.Member bytes = is_in_first_teams earlier && nat_le (player_count all) (number_by bytes)
 is_no_player all earlier place bytes = false
 
 -- some player stands in none of the teams of a line
@@ -150,7 +150,7 @@ side_of_form None = None
 abbrev pub side_of : Scope → Tree → Option SideSort
 side_of scope (word bytes from to) =
     if is_variable bytes then side_of_variable (variable_in scope bytes) else Some number_side
-side_of scope (list parts from to) = side_of_form (rule_of place.Side parts)
+side_of scope (list parts from to) = side_of_form (rule_of symbol.Side parts)
 
 -- two sides whose sorts are both known, and differ
 abbrev pub differ : Option SideSort → Option SideSort → Bool
@@ -293,4 +293,4 @@ or_fault None other = other
 
 -- The fault of a form: the first of the first round, else the first of the second.
 abbrev pub sheet_fault : Tree → Option SheetFault
-sheet_fault tree = or_fault (first (faults place.Sheet tree)) (first (second_faults tree))
+sheet_fault tree = or_fault (first (faults symbol.Sheet tree)) (first (second_faults tree))

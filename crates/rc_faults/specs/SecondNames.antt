@@ -9,8 +9,8 @@ use Rattle.rc_grammar.specs.Faults.{count}
 use Rattle.rc_sheet_model.specs.WellFormed.{owner_count_by}
 use Rattle.rc_faults.specs.Classes.{class_at}
 use Rattle.rc_faults.specs.SecondParts.{Role, given_value, Part, atom, form, part_at, word_in}
-use Rattle.rc_grammar.specs.declared.grammar.Place.{Place}
-use Rattle.rc_grammar.specs.declared.grammar.Place.TheVariants as place
+use Rattle.rc_grammar.specs.declared.grammar.Symbol.{Symbol}
+use Rattle.rc_grammar.specs.declared.grammar.Symbol.TheVariants as symbol
 use Rattle.rc_grammar.specs.declared.grammar.Rule.TheVariants as rule
 
 -- there is one
@@ -63,8 +63,8 @@ team_players (cons (word bytes from to) trees) = team_players trees
 team_players (cons (list team from to) trees) = numbers_in team ++ team_players trees
 
 -- the player who is written in a team
-abbrev pub member_by : Place → List ℕ → List ℕ
-member_by place.Member bytes = number_by bytes ∷ []
+abbrev pub member_by : Symbol → List ℕ → List ℕ
+member_by symbol.Member bytes = number_by bytes ∷ []
 member_by place bytes = []
 
 abbrev pub members_in : Part → List ℕ

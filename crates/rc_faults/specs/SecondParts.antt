@@ -8,8 +8,8 @@ use Rattle.rc_faults.specs.Classes.{bound_in}
 pub use Rattle.rc_faults.specs.declared.role.Role.{Role}
 pub use Rattle.rc_faults.specs.declared.role.Role.TheVariants.{No as no_role, UsedAttribute as used_attribute, UsedValue as used_value, UsedMap as used_map, GivenValue as given_value, DeckLocation as deck_location, CardLocation as card_location, ReferenceLocation as reference_location, SecondSide as second_side}
 use Rattle.rc_grammar.specs.declared.keyword.Keyword.TheVariants as keyword
-use Rattle.rc_grammar.specs.declared.grammar.Place.{Place}
-use Rattle.rc_grammar.specs.declared.grammar.Place.TheVariants as place
+use Rattle.rc_grammar.specs.declared.grammar.Symbol.{Symbol}
+use Rattle.rc_grammar.specs.declared.grammar.Symbol.TheVariants as symbol
 use Rattle.rc_grammar.specs.declared.grammar.Rule.{Rule}
 use Rattle.rc_grammar.specs.declared.grammar.Rule.TheVariants as rule
 
@@ -70,7 +70,7 @@ sort_by_form found = card_sort
 
 abbrev pub sort_over : Tree → Sort
 sort_over (word bytes from to) = if is_word keyword.Player bytes then player_sort else card_sort
-sort_over (list parts from to) = sort_by_form (rule_of place.Domain parts)
+sort_over (list parts from to) = sort_by_form (rule_of symbol.Domain parts)
 
 -- what is around the part of a form at this index
 abbrev pub around_in : Around → Rule → Trees → ℕ → Around
@@ -124,7 +124,7 @@ attributes_behind rule tree = []
 -- Where a part stands: its place in the grammar, its role, all parts of its list, what is around it, and which attributes may
 -- stand before it in a face.
 pub record Standing : Type 0 where
-  pub place : Place
+  pub place : Symbol
   pub role : Role
   pub beside : Trees
   pub around : Around
@@ -144,7 +144,7 @@ standing_in outer rule parts index =
     (place_at rule (count parts) index)
 
 abbrev pub standing_alone : Standing
-standing_alone = record { place = place.Sheet; role = no_role; beside = nil; around = outside; above = [] }
+standing_alone = record { place = symbol.Sheet; role = no_role; beside = nil; around = outside; above = [] }
 
 -- A part is an atom or a list of a form, with the offset of its first byte.
 pub data Part : Type 0 where

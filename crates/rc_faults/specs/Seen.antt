@@ -8,7 +8,7 @@ use Rattle.rc_form.specs.Form.{tree_of, trees_of, packed}
 use Rattle.rc_form.specs.declared.form.Form.{Form}
 use Rattle.rc_faults.specs.SecondNames.{OwnedMention}
 use Rattle.rc_faults.specs.SecondParts.{Standing as PureStanding}
-use Rattle.rc_faults.specs.declared.around.Variable.{Variable}
+use Rattle.rc_faults.specs.declared.around.BoundVariable.{BoundVariable}
 use Rattle.rc_faults.specs.declared.around.Inner.{Inner}
 use Rattle.rc_faults.specs.declared.around.Inner.TheVariants.{Same, All, Behind}
 use Rattle.rc_faults.specs.declared.owned.Mention.{Mention}
@@ -23,7 +23,7 @@ part_seen (Some part) = tree_of part.now
 abbrev pub words_seen : List (Bor (List ℕ)) → List (List ℕ)
 words_seen words = map (λ word. word.now) words
 
-abbrev pub variable_seen : Variable → PureVariable
+abbrev pub variable_seen : BoundVariable → PureVariable
 variable_seen variable = record { word = variable.word.now; sort = variable.sort }
 
 abbrev pub mention_seen : Mention → OwnedMention

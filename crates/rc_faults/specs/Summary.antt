@@ -13,8 +13,8 @@ use Rattle.rc_faults.specs.Classes.{class_at}
 use Rattle.rc_faults.specs.SecondParts.{Role, used_attribute, used_value, used_map, given_value, Standing, Part, atom, form, offset_of, is_binder, part_at, word_in}
 use Rattle.rc_faults.specs.SecondNames.{is_named, number_by, number_at, team_players, member_by, faces_of, mention_of, first_mention, OwnedMention}
 use Rattle.rc_faults.specs.SecondFaults.{is_bound, is_unbound, is_in_stage, is_misused, is_other_side, is_other_mention, is_misplaced, is_too_deep}
-use Rattle.rc_grammar.specs.declared.grammar.Place.{Place}
-use Rattle.rc_grammar.specs.declared.grammar.Place.TheVariants as place
+use Rattle.rc_grammar.specs.declared.grammar.Symbol.{Symbol}
+use Rattle.rc_grammar.specs.declared.grammar.Symbol.TheVariants as symbol
 use Rattle.rc_grammar.specs.declared.grammar.Rule.{Rule}
 use Rattle.rc_grammar.specs.declared.grammar.Rule.TheVariants as rule
 use Rattle.rc_grammar.specs.declared.fault.SheetKind.{SheetKind}
@@ -188,8 +188,8 @@ summary_of whole parts = see_all whole nothing_seen parts
 -- THE FIRST FAULT OF A PART BEHIND WHAT WAS SEEN
 
 -- TWICE
-abbrev pub is_member_again : Summary → Place → List ℕ → Bool
-is_member_again seen place.Member bytes = seen.in_first_teams && is_among (number_by bytes) seen.members
+abbrev pub is_member_again : Summary → Symbol → List ℕ → Bool
+is_member_again seen symbol.Member bytes = seen.in_first_teams && is_among (number_by bytes) seen.members
 is_member_again seen place bytes = false
 
 abbrev pub is_form_again : Summary → Standing → Rule → Trees → Bool
@@ -210,8 +210,8 @@ is_not_given whole used_value bytes = not (is_named bytes whole.values)
 is_not_given whole used_map bytes = not (is_named bytes whole.maps)
 is_not_given whole role bytes = false
 
-abbrev pub is_stranger : Whole → Summary → Place → List ℕ → Bool
-is_stranger whole seen place.Member bytes = seen.in_first_teams && nat_le (players_of whole) (number_by bytes)
+abbrev pub is_stranger : Whole → Summary → Symbol → List ℕ → Bool
+is_stranger whole seen symbol.Member bytes = seen.in_first_teams && nat_le (players_of whole) (number_by bytes)
 is_stranger whole seen place bytes = false
 
 -- some of so many players stands in none of the teams of a line

@@ -9,14 +9,14 @@ ghost use Rattle.rc_faults.specs.Seen.{part_seen, variable_seen, inner_seen};
 use crate::fault::SheetFail;
 use crate::parts::{part_at, word_in};
 use rc_form::Form;
-use rc_grammar::{Keyword, Place, Rule, is_word, rule_of};
+use rc_grammar::{Keyword, Rule, Symbol, is_word, rule_of};
 use rc_names::{Sort, is_same};
 use std::alloc::Global;
 use std::marker::Model;
 
 /// A variable that is bound around a place.
 #[derive(Clone, Copy)]
-pub struct Variable<'a> {
+pub struct BoundVariable<'a> {
     pub word: &'a [u8],
     pub sort: Sort,
 }
@@ -25,7 +25,7 @@ pub struct Variable<'a> {
 /// stages, and how many repeats.
 #[derive(Drop)]
 pub struct Around<'a> {
-    scope: Vec<Variable<'a>>,
+    scope: Vec<BoundVariable<'a>>,
     binders: u32,
     player_stage: bool,
     team_stage: bool,
@@ -75,7 +75,7 @@ impl<'a> Around<'a> {
         ensures memory { OnErr result (result ≡ Err SheetFail.Memory) }
     {
         let mut around = Around::outside(alloc);
-        around.scope.push(Variable {
+        around.scope.push(BoundVariable {
             word: b"'SELF",
             sort: Sort::Player,
         })?;
@@ -134,7 +134,7 @@ impl<'a> Around<'a> {
         ensures memory { OnErr result (result ≡ Err SheetFail.Memory) }
     {
         let mut around = self.copied(alloc)?;
-        around.scope.push(Variable { word, sort })?;
+        around.scope.push(BoundVariable { word, sort })?;
         around.binders += 1;
         Ok(around)
     }
@@ -223,7 +223,7 @@ impl<'a> Inner<'a> {
 }
 
 /// What the first variable with this word stands for.
-fn sort_among(scope: &[Variable<'_>], word: &[u8]) -> Option<Sort>
+fn sort_among(scope: &[BoundVariable<'_>], word: &[u8]) -> Option<Sort>
     ensures { result
         ≡ option_map (λ variable. variable.sort) (faults.variable_in (map variable_seen scope.now) word.now) }
 {
@@ -241,7 +241,7 @@ fn sort_over(part: Option<&Form>) -> Sort
 {
     match part {
         Some(Form::Atom { word, .. }) if is_word(Keyword::Player, word.bytes()) => Sort::Player,
-        Some(Form::List { items, .. }) if rule_of(Place::Domain, items) == Some(Rule::Partition) =>
+        Some(Form::List { items, .. }) if rule_of(Symbol::Domain, items) == Some(Rule::Partition) =>
             { Sort::Group }
         _ => Sort::Card,
     }

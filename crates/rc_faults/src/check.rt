@@ -16,7 +16,7 @@ use crate::standing::Setting;
 use crate::walk::Walk;
 use crate::whole::Whole;
 use rc_form::Form;
-use rc_grammar::Place;
+use rc_grammar::Symbol;
 use std::alloc::Global;
 
 /// Looks at what a form means whose shape is right. The error is the fault with the smallest offset of the second round, or
@@ -26,7 +26,7 @@ use std::alloc::Global;
 /// One walk learns what the whole form gives, and a second looks at its parts in the order of the text and stops at the first
 /// fault. Both take time in line with the form, but for look-ups in a face's attributes and among at most 256 names.
 pub fn check_semantics(alloc: Global, form: &Form) -> Result<(), SheetFail>
-    requires shaped { faults Place.Sheet (tree_of form.now) ≡ [] }
+    requires shaped { faults Symbol.Sheet (tree_of form.now) ≡ [] }
     ensures fine { IfOk result (λ _. second_faults (tree_of form.now) ≡ []) }
     ensures found { IfErr result (λ fail. IfSheetFault fail (λ fault. first (second_faults (tree_of form.now)) ≡ Some fault)) }
     // In a form that stands in a text, no other fault of the list comes before it.
@@ -45,7 +45,7 @@ fn check_parts<'a>(alloc: Global, whole: &Whole<'a>, form: &'a Form) -> Result<(
 {
     let around = Around::outside(alloc);
     let at = Setting {
-        place: Place::Sheet,
+        place: Symbol::Sheet,
         role: Role::No,
         beside: &[],
         around: &around,

@@ -13,7 +13,7 @@ use crate::parts::{part_at, word_in};
 use crate::role::Role;
 use crate::whole::Whole;
 use rc_form::Form;
-use rc_grammar::{Keyword, Place, Rule, is_word, rule_of};
+use rc_grammar::{Keyword, Rule, Symbol, is_word, rule_of};
 use rc_names::{Class, is_same};
 use std::alloc::Global;
 use std::marker::Model;
@@ -45,7 +45,7 @@ pub fn class_at(part: Option<&Form>) -> Class
         Some(Form::Atom { word, .. }) if is_word(Keyword::Game, word.bytes()) => Class::Game,
         Some(Form::Atom { .. }) => Class::Player,
         Some(Form::List { items, .. })
-            if rule_of(Place::Owner, items) == Some(Rule::CurrentPlayer) => { Class::Player }
+            if rule_of(Symbol::Owner, items) == Some(Rule::CurrentPlayer) => { Class::Player }
         _ => Class::Team,
     }
 }

@@ -11,7 +11,7 @@ use crate::parts::part_at;
 use crate::role::{Role, SideSort};
 use crate::standing::Setting;
 use rc_form::Form;
-use rc_grammar::{Place, Rule, is_variable, rule_of};
+use rc_grammar::{Rule, Symbol, is_variable, rule_of};
 use rc_names::Sort;
 
 /// Whether a variable that a place takes isn't in scope.
@@ -34,25 +34,25 @@ pub fn is_misused(at: &Setting<'_, '_>, word: &[u8]) -> bool
 }
 
 /// Whether a place takes variables.
-fn takes_variables(place: Place) -> bool
+fn takes_variables(place: Symbol) -> bool
     ensures { result ≡ some_of (faults.sorts_at place) }
 {
     match place {
-        Place::Holder | Place::Owner | Place::Player | Place::Card => true,
-        Place::Collection | Place::Domain | Place::Members | Place::Side => true,
+        Symbol::Holder | Symbol::Owner | Symbol::Player | Symbol::Card => true,
+        Symbol::Collection | Symbol::Domain | Symbol::Members | Symbol::Side => true,
         _ => false,
     }
 }
 
 /// Whether a place takes variables of this sort.
-fn takes_sort(place: Place, sort: Sort) -> bool
+fn takes_sort(place: Symbol, sort: Sort) -> bool
     ensures { result ≡ list_any (same_sort sort) (faults.sorts_at place) }
 {
     match place {
-        Place::Holder | Place::Owner | Place::Player => sort == Sort::Player,
-        Place::Card => sort == Sort::Card,
-        Place::Collection | Place::Domain | Place::Members => sort == Sort::Group,
-        Place::Side => sort != Sort::Group,
+        Symbol::Holder | Symbol::Owner | Symbol::Player => sort == Sort::Player,
+        Symbol::Card => sort == Sort::Card,
+        Symbol::Collection | Symbol::Domain | Symbol::Members => sort == Sort::Group,
+        Symbol::Side => sort != Sort::Group,
         _ => false,
     }
 }
@@ -88,7 +88,7 @@ fn side_of(around: &Around<'_>, part: Option<&Form>) -> Option<SideSort>
             side_of_sort(around.sort_of(word.bytes()))
         }
         Some(Form::Atom { .. }) => Some(SideSort::Number),
-        Some(Form::List { items, .. }) => side_of_form(rule_of(Place::Side, items)?),
+        Some(Form::List { items, .. }) => side_of_form(rule_of(Symbol::Side, items)?),
         None => None,
     }
 }

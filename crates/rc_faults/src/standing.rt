@@ -7,12 +7,12 @@ ghost use Rattle.rc_faults.specs.SecondParts as spec;
 use crate::around::{Around, Inner};
 use crate::role::Role;
 use rc_form::Form;
-use rc_grammar::{Place, Rule};
+use rc_grammar::{Rule, Symbol};
 
 /// Where a part stands: its place in the grammar, its role, all parts of its list, and what is around it.
 #[derive(Clone, Copy)]
 pub struct Setting<'s, 'a> {
-    pub place: Place,
+    pub place: Symbol,
     pub role: Role,
     pub beside: &'a [Form],
     pub around: &'s Around<'a>,

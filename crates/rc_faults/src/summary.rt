@@ -15,7 +15,7 @@ use crate::role::Role;
 use crate::standing::Setting;
 use crate::whole::Whole;
 use rc_form::Form;
-use rc_grammar::{Place, Rule};
+use rc_grammar::{Rule, Symbol};
 use rc_names::limits;
 use std::alloc::Global;
 use std::marker::Model;
@@ -90,7 +90,7 @@ impl<'a> Summary<'a> {
         ensures after { OnOk result (self.new ≡ spec.see_atom self.old (standing_seen at.now []) word.now) }
         ensures memory { OnErr result (result ≡ Err SheetFail.Memory) }
     {
-        if at.place == Place::Member {
+        if at.place == Symbol::Member {
             self.members.push(number_by(word))?;
         }
         if at.role == Role::GivenValue {
@@ -147,10 +147,10 @@ impl<'a> Summary<'a> {
     }
 
     /// Whether an atom is a player who stands in the teams again.
-    pub fn is_member_again(&self, place: Place, word: &[u8]) -> bool
+    pub fn is_member_again(&self, place: Symbol, word: &[u8]) -> bool
         ensures { result ≡ spec.is_member_again self.now place word.now }
     {
-        place == Place::Member && self.in_first_teams && self.has_member(number_by(word))
+        place == Symbol::Member && self.in_first_teams && self.has_member(number_by(word))
     }
 
     fn has_member(&self, number: u64) -> bool
@@ -160,10 +160,10 @@ impl<'a> Summary<'a> {
     }
 
     /// Whether an atom is a member of a team who is none of the players.
-    pub fn is_stranger(&self, whole: &Whole<'a>, place: Place, word: &[u8]) -> bool
+    pub fn is_stranger(&self, whole: &Whole<'a>, place: Symbol, word: &[u8]) -> bool
         ensures { result ≡ spec.is_stranger whole.now self.now place word.now }
     {
-        place == Place::Member && self.in_first_teams && whole.players() <= number_by(word)
+        place == Symbol::Member && self.in_first_teams && whole.players() <= number_by(word)
     }
 
     /// Whether a point map of this name stood.

@@ -13,7 +13,7 @@ use crate::parts::{number_at, part_at, word_in};
 use crate::role::Role;
 use crate::standing::role_in;
 use rc_form::Form;
-use rc_grammar::{Place, Rule, rule_of};
+use rc_grammar::{Rule, Symbol, rule_of};
 use std::alloc::Global;
 use std::marker::Model;
 
@@ -53,7 +53,7 @@ impl<'a> Whole<'a> {
             maps: DifferentNames::new(alloc),
             has_deck: false,
         };
-        whole.learn(Place::Sheet, Role::No, form)?;
+        whole.learn(Symbol::Sheet, Role::No, form)?;
         Ok(whole)
     }
 
@@ -95,7 +95,7 @@ impl<'a> Whole<'a> {
 
     /// Learns of a part and of those in it.
     #[cycle(learning)]
-    fn learn(&mut self, place: Place, role: Role, form: &'a Form) -> Result<(), SheetFail>
+    fn learn(&mut self, place: Symbol, role: Role, form: &'a Form) -> Result<(), SheetFail>
         ensures known { (at : Standing) → at.place ≡ place → at.role ≡ role
             → OnOk result (self.new ≡ spec.know_all self.old (parts_spec.parts_at (Some at) (tree_of form.now))) }
         ensures memory { OnErr result (result ≡ Err SheetFail.Memory) }
@@ -108,7 +108,7 @@ impl<'a> Whole<'a> {
 
     /// Learns of a list and of its parts.
     #[cycle(learning)]
-    fn learn_list(&mut self, place: Place, role: Role, parts: &'a [Form]) -> Result<(), SheetFail>
+    fn learn_list(&mut self, place: Symbol, role: Role, parts: &'a [Form]) -> Result<(), SheetFail>
         ensures known { (at : Standing) (from to : ℕ) → at.place ≡ place → at.role ≡ role
             → OnOk result (self.new
             ≡ spec.know_all self.old (parts_spec.parts_at (Some at) (list (packed (trees_of parts.now)) from to))) }
@@ -181,21 +181,21 @@ impl<'a> Whole<'a> {
 }
 
 /// Whether neither a form at this place gives anything, nor one that stands in it.
-fn gives_nothing(place: Place) -> bool
+fn gives_nothing(place: Symbol) -> bool
     ensures { result ≡ giving.gives_nothing place }
 {
     match place {
-        Place::Sheet
-        | Place::Setup
-        | Place::Line
-        | Place::Team
-        | Place::Deck
-        | Place::Group
-        | Place::Branches
-        | Place::Branch
-        | Place::Entries
-        | Place::Entry
-        | Place::Values => false,
+        Symbol::Sheet
+        | Symbol::Setup
+        | Symbol::Line
+        | Symbol::Team
+        | Symbol::Deck
+        | Symbol::Group
+        | Symbol::Branches
+        | Symbol::Branch
+        | Symbol::Entries
+        | Symbol::Entry
+        | Symbol::Values => false,
         _ => true,
     }
 }

@@ -19,24 +19,24 @@ pub struct OpenList {
 
 /// What is read so far. The innermost open list is the last.
 #[derive(Drop)]
-pub struct Reader {
+pub struct FormReader {
     alloc: Global,
     want: usize,
     list: Vec<Form>,
     open_lists: Vec<OpenList>,
 }
 
-impl Reader {
+impl FormReader {
     ghost use Rattle.rc_form.specs.Read.{read};
     ghost use Rattle.rc_form.specs.Reader.{reads, reads_with, is_reading, FaultIs};
     ghost use Rattle.rc_form.specs.Form.{tree_of, trees_of};
     ghost use Rattle.rc_form.specs.Lexer.{tokens_at, begins_token};
 
     /// A reader that has read nothing, and wants this number of lists.
-    pub fn new(alloc: Global, want: usize) -> Reader
+    pub fn new(alloc: Global, want: usize) -> FormReader
         ensures { (ts : List Token) → reads result ts ≡ read want [] [] ts }
     {
-        Reader {
+        FormReader {
             alloc,
             want,
             list: Vec::new(alloc),

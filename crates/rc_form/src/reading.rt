@@ -15,7 +15,7 @@ ghost use Rattle.rc_model.specs.Limits.{longest_text};
 use crate::fault::{FormFail, FormKind};
 use crate::form::Form;
 use crate::lexer::token_start;
-use crate::reader::Reader;
+use crate::reader::FormReader;
 use std::alloc::Global;
 
 /// The lists that a text begins with, and the offset of what follows them.
@@ -72,7 +72,7 @@ fn read_lists(alloc: Global, text: &[u8], want: usize) -> Result<Forms, FormFail
     ensures within { IfOk result (λ f. f.rest ≤ length text.now) }
     ensures fault { IfErr result (FaultIs (read want [] [] (tokens text.now))) }
 {
-    let mut reader = Reader::new(alloc, want);
+    let mut reader = FormReader::new(alloc, want);
     let mut at = token_start(text, 0);
     while at < text.len() && reader.is_reading() {
         match reader.take(text, at) {

@@ -11,7 +11,7 @@ use Rattle.rc_grammar.specs.FirstOf.{ComesBefore, IsFirstOf}
 use Rattle.rc_grammar.specs.Faults.{first, faults, faults_at, place_at, faults_in, told_faults, fault_place, first_start, start_of, atom_kind, some_form_fits, fits, lacks_players, count, rule_of, shape}
 use Rattle.rc_grammar.specs.declared.fault.SheetKind.{SheetKind}
 use Rattle.rc_grammar.specs.declared.fault.SheetFault.{SheetFault}
-use Rattle.rc_grammar.specs.declared.grammar.Place.{Place}
+use Rattle.rc_grammar.specs.declared.grammar.Symbol.{Symbol}
 use Rattle.rc_grammar.specs.declared.grammar.Rule.{Rule}
 
 -- the offsets rise, and none is below this one
@@ -101,7 +101,7 @@ either_fault : (b : Bool) (x y low : ℕ) (others : List SheetFault) → Ordered
 either_fault true x y low others first second = first
 either_fault false x y low others first second = second
 
-no_form : (place : Place) (parts : Trees) (from low high : ℕ) (more : List ℕ) (others : List SheetFault) → low ≤ from
+no_form : (place : Symbol) (parts : Trees) (from low high : ℕ) (more : List ℕ) (others : List SheetFault) → low ≤ from
     → Rise (from + 1) high (all_starts parts ++ more) → Follows high more others
     → Ordered low (shape (fault_place place from parts) ∷ others)
 no_form place nil from low high more others above rise follows = one_fault (shape from) low high more others above rise follows
@@ -119,7 +119,7 @@ rule_choice true false inner others from low above within behind =
     Ordered-lower low (from + 1) (inner ++ others) (omega arith) within
 rule_choice false lacks inner others from low above within behind = (above, behind)
 
-told_choice : (rule : Option Rule) (inner : Rule → List SheetFault) (place : Place) (parts : Trees) (from low high : ℕ) (more : List ℕ)
+told_choice : (rule : Option Rule) (inner : Rule → List SheetFault) (place : Symbol) (parts : Trees) (from low high : ℕ) (more : List ℕ)
     (others : List SheetFault) → low ≤ from → Rise (from + 1) high (all_starts parts ++ more) → Follows high more others
     → ((rule : Rule) → Ordered (from + 1) (inner rule ++ others)) → Ordered low (told_faults place from parts inner rule ++ others)
 told_choice None inner place parts from low high more others above rise follows within =
@@ -130,7 +130,7 @@ told_choice (Some rule) inner place parts from low high more others above rise f
 
 mutual
   -- the faults of a tree, and then others
-  pub Ordered-tree : (place : Option Place) (tree : Tree) (low high : ℕ) (more : List ℕ) (others : List SheetFault)
+  pub Ordered-tree : (place : Option Symbol) (tree : Tree) (low high : ℕ) (more : List ℕ) (others : List SheetFault)
       → Rise low high (starts tree ++ more) → Follows high more others → Ordered low (faults_at place tree ++ others)
   Ordered-tree (Some place) (word bytes from to) low high more others rise follows =
       atom_fault (atom_kind place bytes) from low high more others rise.0 rise.1 follows
@@ -158,6 +158,6 @@ Follows-none : (high : ℕ) → Follows high [] []
 Follows-none high next rise = tt
 
 -- all faults of a tree that is placed
-pub Ordered-faults : (place : Place) (tree : Tree) (high : ℕ) → IsPlaced high tree → Ordered 0 (faults place tree)
+pub Ordered-faults : (place : Symbol) (tree : Tree) (high : ℕ) → IsPlaced high tree → Ordered 0 (faults place tree)
 Ordered-faults place tree high placed =
     subst (Ordered 0) (append-nil (faults place tree)) (Ordered-tree (Some place) tree 0 high [] [] (subst (Rise 0 high) (sym (append-nil (starts tree))) placed) (Follows-none high))

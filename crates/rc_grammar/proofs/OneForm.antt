@@ -8,8 +8,8 @@ use Rattle.rc_grammar.specs.Keyword.{text_of}
 use Rattle.rc_grammar.specs.Grammar.{forms_of, front_of}
 use Rattle.rc_grammar.specs.Faults.{atom_kind, may_begin, fits_head, begins, is_form_word, is_told, second_word, told_forms, plain_forms}
 use Rattle.rc_grammar.specs.declared.keyword.Keyword.{Keyword}
-use Rattle.rc_grammar.specs.declared.grammar.Place.{Place}
-use Rattle.rc_grammar.specs.declared.grammar.Place.TheVariants as place
+use Rattle.rc_grammar.specs.declared.grammar.Symbol.{Symbol}
+use Rattle.rc_grammar.specs.declared.grammar.Symbol.TheVariants as symbol
 use Rattle.rc_grammar.specs.declared.grammar.Rule.{Rule}
 
 -- what a list may begin with where this is the place of its first part: a fixed word, a holder, or any part
@@ -18,97 +18,97 @@ data Opening : Type 0 where
   owner : Opening
   other : Opening
 
-abbrev opening : Place → Opening
-opening (place.Word keyword) = fixed keyword
-opening place.Holder = owner
-opening place.Kind = other
-opening place.Best = other
-opening place.Name = other
-opening place.Variable = other
-opening place.PlayerCount = other
-opening place.Member = other
-opening place.Points = other
-opening place.Sheet = other
-opening place.Setup = other
-opening place.Line = other
-opening place.Team = other
-opening place.Deck = other
-opening place.Group = other
-opening place.Branches = other
-opening place.Branch = other
-opening place.Entries = other
-opening place.Entry = other
-opening place.Values = other
-opening place.Scoring = other
-opening place.Item = other
-opening place.End = other
-opening place.Alternative = other
-opening place.Domain = other
-opening place.Effect = other
-opening place.Spot = other
-opening place.Location = other
-opening place.Counter = other
-opening place.Owner = other
-opening place.Player = other
-opening place.Card = other
-opening place.Collection = other
-opening place.Members = other
-opening place.Integer = other
-opening place.Test = other
-opening place.Side = other
+abbrev opening : Symbol → Opening
+opening (symbol.Word keyword) = fixed keyword
+opening symbol.Holder = owner
+opening symbol.Kind = other
+opening symbol.Best = other
+opening symbol.Name = other
+opening symbol.Variable = other
+opening symbol.PlayerCount = other
+opening symbol.Member = other
+opening symbol.Points = other
+opening symbol.Sheet = other
+opening symbol.Setup = other
+opening symbol.Line = other
+opening symbol.Team = other
+opening symbol.Deck = other
+opening symbol.Group = other
+opening symbol.Branches = other
+opening symbol.Branch = other
+opening symbol.Entries = other
+opening symbol.Entry = other
+opening symbol.Values = other
+opening symbol.Scoring = other
+opening symbol.Item = other
+opening symbol.End = other
+opening symbol.Alternative = other
+opening symbol.Domain = other
+opening symbol.Effect = other
+opening symbol.Spot = other
+opening symbol.Location = other
+opening symbol.Counter = other
+opening symbol.Owner = other
+opening symbol.Player = other
+opening symbol.Card = other
+opening symbol.Collection = other
+opening symbol.Members = other
+opening symbol.Integer = other
+opening symbol.Test = other
+opening symbol.Side = other
 
 abbrev Opens : Opening → Tree → Type 0
 Opens (fixed keyword) head = is_form_word keyword head ≡ true
-Opens owner (word bytes from to) = is_none (atom_kind place.Holder bytes) ≡ true
+Opens owner (word bytes from to) = is_none (atom_kind symbol.Holder bytes) ≡ true
 Opens owner (list parts from to) = Unit {0}
 Opens other head = Unit {0}
 
-opens : (p : Place) (head : Tree) → may_begin p head ≡ true → Opens (opening p) head
-opens (place.Word keyword) head is = is
-opens place.Holder (word bytes from to) is = is
-opens place.Holder (list parts from to) is = tt
-opens place.Kind head is = tt
-opens place.Best head is = tt
-opens place.Name head is = tt
-opens place.Variable head is = tt
-opens place.PlayerCount head is = tt
-opens place.Member head is = tt
-opens place.Points head is = tt
-opens place.Sheet head is = tt
-opens place.Setup head is = tt
-opens place.Line head is = tt
-opens place.Team head is = tt
-opens place.Deck head is = tt
-opens place.Group head is = tt
-opens place.Branches head is = tt
-opens place.Branch head is = tt
-opens place.Entries head is = tt
-opens place.Entry head is = tt
-opens place.Values head is = tt
-opens place.Scoring head is = tt
-opens place.Item head is = tt
-opens place.End head is = tt
-opens place.Alternative head is = tt
-opens place.Domain head is = tt
-opens place.Effect head is = tt
-opens place.Spot head is = tt
-opens place.Location head is = tt
-opens place.Counter head is = tt
-opens place.Owner head is = tt
-opens place.Player head is = tt
-opens place.Card head is = tt
-opens place.Collection head is = tt
-opens place.Members head is = tt
-opens place.Integer head is = tt
-opens place.Test head is = tt
-opens place.Side head is = tt
+opens : (p : Symbol) (head : Tree) → may_begin p head ≡ true → Opens (opening p) head
+opens (symbol.Word keyword) head is = is
+opens symbol.Holder (word bytes from to) is = is
+opens symbol.Holder (list parts from to) is = tt
+opens symbol.Kind head is = tt
+opens symbol.Best head is = tt
+opens symbol.Name head is = tt
+opens symbol.Variable head is = tt
+opens symbol.PlayerCount head is = tt
+opens symbol.Member head is = tt
+opens symbol.Points head is = tt
+opens symbol.Sheet head is = tt
+opens symbol.Setup head is = tt
+opens symbol.Line head is = tt
+opens symbol.Team head is = tt
+opens symbol.Deck head is = tt
+opens symbol.Group head is = tt
+opens symbol.Branches head is = tt
+opens symbol.Branch head is = tt
+opens symbol.Entries head is = tt
+opens symbol.Entry head is = tt
+opens symbol.Values head is = tt
+opens symbol.Scoring head is = tt
+opens symbol.Item head is = tt
+opens symbol.End head is = tt
+opens symbol.Alternative head is = tt
+opens symbol.Domain head is = tt
+opens symbol.Effect head is = tt
+opens symbol.Spot head is = tt
+opens symbol.Location head is = tt
+opens symbol.Counter head is = tt
+opens symbol.Owner head is = tt
+opens symbol.Player head is = tt
+opens symbol.Card head is = tt
+opens symbol.Collection head is = tt
+opens symbol.Members head is = tt
+opens symbol.Integer head is = tt
+opens symbol.Test head is = tt
+opens symbol.Side head is = tt
 
 -- no part opens both
 abbrev openings_apart : Opening → Opening → Bool
 openings_apart (fixed a) (fixed b) = not (bytes_eq (text_of a) (text_of b))
-openings_apart (fixed a) owner = not (is_none (atom_kind place.Holder (text_of a)))
+openings_apart (fixed a) owner = not (is_none (atom_kind symbol.Holder (text_of a)))
 openings_apart (fixed a) other = false
-openings_apart owner (fixed b) = not (is_none (atom_kind place.Holder (text_of b)))
+openings_apart owner (fixed b) = not (is_none (atom_kind symbol.Holder (text_of b)))
 openings_apart owner owner = false
 openings_apart owner other = false
 openings_apart other p = false
@@ -123,10 +123,10 @@ two_words a b bytes apart is_a is_b =
     not_both _ apart ((bytes_eq-Decides (text_of a) (text_of b)).1
     (sym ((bytes_eq-Decides bytes (text_of a)).0 is_a) ∙ (bytes_eq-Decides bytes (text_of b)).0 is_b))
 
-word_and_owner : (a : Keyword) (bytes : List ℕ) → not (is_none (atom_kind place.Holder (text_of a))) ≡ true
-    → bytes_eq bytes (text_of a) ≡ true → is_none (atom_kind place.Holder bytes) ≡ true → ⊥
+word_and_owner : (a : Keyword) (bytes : List ℕ) → not (is_none (atom_kind symbol.Holder (text_of a))) ≡ true
+    → bytes_eq bytes (text_of a) ≡ true → is_none (atom_kind symbol.Holder bytes) ≡ true → ⊥
 word_and_owner a bytes apart is_a is_owner =
-    not_both _ apart (subst (λ bytes. is_none (atom_kind place.Holder bytes) ≡ true) ((bytes_eq-Decides bytes (text_of a)).0 is_a) is_owner)
+    not_both _ apart (subst (λ bytes. is_none (atom_kind symbol.Holder bytes) ≡ true) ((bytes_eq-Decides bytes (text_of a)).0 is_a) is_owner)
 
 never_both : (p q : Opening) (head : Tree) → openings_apart p q ≡ true → Opens p head → Opens q head → ⊥
 never_both (fixed a) (fixed b) (word bytes from to) apart first second = two_words a b bytes apart first second
@@ -141,12 +141,12 @@ never_both owner other head apart first second = absurd cc
 never_both other q head apart first second = absurd cc
 
 -- the same for the places of two forms' first parts
-abbrev heads_apart : List Place → List Place → Bool
+abbrev heads_apart : List Symbol → List Symbol → Bool
 heads_apart [] qs = false
 heads_apart (p ∷ ps) [] = false
 heads_apart (p ∷ ps) (q ∷ qs) = openings_apart (opening p) (opening q)
 
-never_two_heads : (ps qs : List Place) (head : Tree) → heads_apart ps qs ≡ true → fits_head ps head ≡ true → fits_head qs head ≡ true → ⊥
+never_two_heads : (ps qs : List Symbol) (head : Tree) → heads_apart ps qs ≡ true → fits_head ps head ≡ true → fits_head qs head ≡ true → ⊥
 never_two_heads [] qs head apart first second = absurd cc
 never_two_heads (p ∷ ps) [] head apart first second = absurd cc
 never_two_heads (p ∷ ps) (q ∷ qs) head apart first second =
@@ -180,44 +180,44 @@ all_apart [] = true
 all_apart (r ∷ rules) = list_all (apart r) rules && all_apart rules
 
 -- the forms of each place are
-table_apart : (p : Place) → all_apart (forms_of p) ≡ true
-table_apart (place.Word keyword) = refl
-table_apart place.Holder = refl
-table_apart place.Kind = refl
-table_apart place.Best = refl
-table_apart place.Name = refl
-table_apart place.Variable = refl
-table_apart place.PlayerCount = refl
-table_apart place.Member = refl
-table_apart place.Points = refl
-table_apart place.Sheet = refl
-table_apart place.Setup = refl
-table_apart place.Line = refl
-table_apart place.Team = refl
-table_apart place.Deck = refl
-table_apart place.Group = refl
-table_apart place.Branches = refl
-table_apart place.Branch = refl
-table_apart place.Entries = refl
-table_apart place.Entry = refl
-table_apart place.Values = refl
-table_apart place.Scoring = refl
-table_apart place.Item = refl
-table_apart place.End = refl
-table_apart place.Alternative = refl
-table_apart place.Domain = refl
-table_apart place.Effect = refl
-table_apart place.Spot = refl
-table_apart place.Location = refl
-table_apart place.Counter = refl
-table_apart place.Owner = refl
-table_apart place.Player = refl
-table_apart place.Card = refl
-table_apart place.Collection = refl
-table_apart place.Members = refl
-table_apart place.Integer = refl
-table_apart place.Test = refl
-table_apart place.Side = refl
+table_apart : (p : Symbol) → all_apart (forms_of p) ≡ true
+table_apart (symbol.Word keyword) = refl
+table_apart symbol.Holder = refl
+table_apart symbol.Kind = refl
+table_apart symbol.Best = refl
+table_apart symbol.Name = refl
+table_apart symbol.Variable = refl
+table_apart symbol.PlayerCount = refl
+table_apart symbol.Member = refl
+table_apart symbol.Points = refl
+table_apart symbol.Sheet = refl
+table_apart symbol.Setup = refl
+table_apart symbol.Line = refl
+table_apart symbol.Team = refl
+table_apart symbol.Deck = refl
+table_apart symbol.Group = refl
+table_apart symbol.Branches = refl
+table_apart symbol.Branch = refl
+table_apart symbol.Entries = refl
+table_apart symbol.Entry = refl
+table_apart symbol.Values = refl
+table_apart symbol.Scoring = refl
+table_apart symbol.Item = refl
+table_apart symbol.End = refl
+table_apart symbol.Alternative = refl
+table_apart symbol.Domain = refl
+table_apart symbol.Effect = refl
+table_apart symbol.Spot = refl
+table_apart symbol.Location = refl
+table_apart symbol.Counter = refl
+table_apart symbol.Owner = refl
+table_apart symbol.Player = refl
+table_apart symbol.Card = refl
+table_apart symbol.Collection = refl
+table_apart symbol.Members = refl
+table_apart symbol.Integer = refl
+table_apart symbol.Test = refl
+table_apart symbol.Side = refl
 
 -- tests that no two forms pass that are told apart
 abbrev Tells : (Rule → Bool) → Type 0
@@ -260,8 +260,8 @@ tells_plain head r s is first second =
     (λ words. never_plain_twice (second_word r) (second_word s) words of_r.1 of_s.1)
     (or_cases (heads_apart (front_of r) (front_of s)) (seconds_apart (second_word r) (second_word s)) is)
 
-pub one_told : (p : Place) (head : Tree) (parts : Trees) → length (told_forms p head parts) ≤ 1
+pub one_told : (p : Symbol) (head : Tree) (parts : Trees) → length (told_forms p head parts) ≤ 1
 one_told p head parts = one_at_most _ (tells_told head parts) (forms_of p) (table_apart p)
 
-pub one_plain : (p : Place) (head : Tree) → length (plain_forms p head) ≤ 1
+pub one_plain : (p : Symbol) (head : Tree) → length (plain_forms p head) ≤ 1
 one_plain p head = one_at_most _ (tells_plain head) (forms_of p) (table_apart p)

@@ -4,39 +4,39 @@ ghost use Rattle.rc_model.specs.Literal as literal;
 ghost use Rattle.rc_grammar.specs.Faults as spec;
 
 use crate::fault::SheetKind;
-use crate::grammar::Place;
+use crate::grammar::Symbol;
 use crate::keyword::Keyword;
 use rc_form::integer;
 use rc_names::is_same;
 use rc_names::limits::LARGEST_NUMBER;
 
 /// What is wrong with an atom at a place.
-pub fn atom_kind(place: Place, word: &[u8]) -> Option<SheetKind>
+pub fn atom_kind(place: Symbol, word: &[u8]) -> Option<SheetKind>
     ensures { result ≡ spec.atom_kind place word.now }
 {
     match place {
-        Place::Word(keyword) => unless(is_word(keyword, word), SheetKind::Shape),
-        Place::Kind => unless(is_kind(word), SheetKind::Shape),
-        Place::Best => unless(
+        Symbol::Word(keyword) => unless(is_word(keyword, word), SheetKind::Shape),
+        Symbol::Kind => unless(is_kind(word), SheetKind::Shape),
+        Symbol::Best => unless(
             is_word(Keyword::Max, word) || is_word(Keyword::Min, word),
             SheetKind::Shape,
         ),
-        Place::Name | Place::Branch => unless(!is_variable(word), SheetKind::Shape),
-        Place::Variable | Place::Owner | Place::Player | Place::Card | Place::Collection => {
+        Symbol::Name | Symbol::Branch => unless(!is_variable(word), SheetKind::Shape),
+        Symbol::Variable | Symbol::Owner | Symbol::Player | Symbol::Card | Symbol::Collection => {
             unless(is_variable(word), SheetKind::Shape)
         }
-        Place::Domain | Place::Members => unless(
+        Symbol::Domain | Symbol::Members => unless(
             is_word(Keyword::Player, word) || is_variable(word),
             SheetKind::Shape,
         ),
-        Place::Holder => unless(
+        Symbol::Holder => unless(
             is_word(Keyword::Game, word) || is_variable(word),
             SheetKind::Shape,
         ),
-        Place::PlayerCount => unless(is_within(1, 8, word), SheetKind::Number),
-        Place::Member => unless(is_within(0, 7, word), SheetKind::Number),
-        Place::Points | Place::Integer => unless(is_number(word), SheetKind::Number),
-        Place::Side => unless(is_variable(word) || is_number(word), SheetKind::Number),
+        Symbol::PlayerCount => unless(is_within(1, 8, word), SheetKind::Number),
+        Symbol::Member => unless(is_within(0, 7, word), SheetKind::Number),
+        Symbol::Points | Symbol::Integer => unless(is_number(word), SheetKind::Number),
+        Symbol::Side => unless(is_variable(word) || is_number(word), SheetKind::Number),
         _ => Some(SheetKind::Shape),
     }
 }

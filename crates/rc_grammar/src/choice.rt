@@ -6,7 +6,7 @@ ghost use Rattle.rc_grammar.specs.Faults as spec;
 ghost use Rattle.rc_grammar.specs.Faults.{has_second_word};
 
 use crate::atoms::{atom_kind, is_word};
-use crate::grammar::{Place, Rule};
+use crate::grammar::{Rule, Symbol};
 use crate::keyword::Keyword;
 use rc_form::Form;
 
@@ -16,7 +16,7 @@ impl Rule {
         ensures { result ≡ spec.second_word self }
     {
         match self.front() {
-            [Place::Word(_), Place::Word(second), ..] => Some(*second),
+            [Symbol::Word(_), Symbol::Word(second), ..] => Some(*second),
             _ => None,
         }
     }
@@ -40,72 +40,72 @@ impl Rule {
 
     /// The place of a part, where the form has so many.
     #[inline(always)]
-    pub fn place_at(self, count: usize, index: usize) -> Option<Place>
+    pub fn place_at(self, count: usize, index: usize) -> Option<Symbol>
         requires { index < count }
         ensures { result ≡ spec.place_at self count index }
     {
         match self.front().get(index) {
             Some(place) => Some(*place),
-            None if self == Rule::Game && index + 1 == count => Some(Place::Scoring),
+            None if self == Rule::Game && index + 1 == count => Some(Symbol::Scoring),
             None => self.more(),
         }
     }
 }
 
-impl Place {
+impl Symbol {
     /// Those of its forms that begin with two fixed words.
     fn two_word_forms(self) -> &'static [Rule]
         ensures { result.now ≡ filter has_second_word (forms_of self) }
     {
         match self {
-            Place::Line => &[
+            Symbol::Line => &[
                 Rule::CreatePlayers,
                 Rule::CreateTeams,
                 Rule::CreateDeck,
                 Rule::PutPoints,
             ],
-            Place::Item => &[Rule::PlayerStage, Rule::TeamStage],
-            Place::Effect => &[Rule::MoveAll, Rule::Next, Rule::Reverse],
-            Place::Holder | Place::Owner | Place::Side => {
+            Symbol::Item => &[Rule::PlayerStage, Rule::TeamStage],
+            Symbol::Effect => &[Rule::MoveAll, Rule::Next, Rule::Reverse],
+            Symbol::Holder | Symbol::Owner | Symbol::Side => {
                 &[Rule::CurrentPlayer, Rule::CurrentTeam, Rule::TeamOf]
             }
-            Place::Player => &[Rule::CurrentPlayer],
-            Place::Word(_)
-            | Place::Kind
-            | Place::Best
-            | Place::Name
-            | Place::Variable
-            | Place::PlayerCount
-            | Place::Member
-            | Place::Points
-            | Place::Sheet
-            | Place::Setup
-            | Place::Team
-            | Place::Deck
-            | Place::Group
-            | Place::Branches
-            | Place::Branch
-            | Place::Entries
-            | Place::Entry
-            | Place::Values
-            | Place::Scoring
-            | Place::End
-            | Place::Alternative
-            | Place::Domain
-            | Place::Spot
-            | Place::Location
-            | Place::Counter
-            | Place::Card
-            | Place::Collection
-            | Place::Members
-            | Place::Integer
-            | Place::Test => &[],
+            Symbol::Player => &[Rule::CurrentPlayer],
+            Symbol::Word(_)
+            | Symbol::Kind
+            | Symbol::Best
+            | Symbol::Name
+            | Symbol::Variable
+            | Symbol::PlayerCount
+            | Symbol::Member
+            | Symbol::Points
+            | Symbol::Sheet
+            | Symbol::Setup
+            | Symbol::Team
+            | Symbol::Deck
+            | Symbol::Group
+            | Symbol::Branches
+            | Symbol::Branch
+            | Symbol::Entries
+            | Symbol::Entry
+            | Symbol::Values
+            | Symbol::Scoring
+            | Symbol::End
+            | Symbol::Alternative
+            | Symbol::Domain
+            | Symbol::Spot
+            | Symbol::Location
+            | Symbol::Counter
+            | Symbol::Card
+            | Symbol::Collection
+            | Symbol::Members
+            | Symbol::Integer
+            | Symbol::Test => &[],
         }
     }
 }
 
 /// The form that a list of these parts is to be, where it may be one.
-pub fn rule_of(place: Place, parts: &[Form]) -> Option<Rule>
+pub fn rule_of(place: Symbol, parts: &[Form]) -> Option<Rule>
     ensures { result ≡ spec.rule_of place (packed (trees_of parts.now)) }
 {
     let (head, others) = parts.split_first()?;
@@ -116,7 +116,7 @@ pub fn rule_of(place: Place, parts: &[Form]) -> Option<Rule>
 }
 
 /// The form that the word behind the head tells.
-fn told_rule(place: Place, head: &Form, others: &[Form]) -> Option<Rule>
+fn told_rule(place: Symbol, head: &Form, others: &[Form]) -> Option<Rule>
     ensures { result ≡ spec.told_rule place (tree_of head.now) (packed (trees_of others.now)) }
 {
     for rule in place.two_word_forms() {
@@ -128,7 +128,7 @@ fn told_rule(place: Place, head: &Form, others: &[Form]) -> Option<Rule>
 }
 
 /// The form that no word behind the head tells.
-fn plain_rule(place: Place, head: &Form) -> Option<Rule>
+fn plain_rule(place: Symbol, head: &Form) -> Option<Rule>
     ensures { result ≡ spec.plain_rule place (tree_of head.now) }
 {
     for rule in place.forms() {
@@ -153,12 +153,12 @@ fn begins(head: &Form, rule: Rule) -> bool
 /// Whether a list may begin with this part, where this is the place of its first part. Fixed words and holders alone tell a
 /// form; any other part is looked at with those behind it.
 #[inline(always)]
-fn may_begin(place: Place, head: &Form) -> bool
+fn may_begin(place: Symbol, head: &Form) -> bool
     ensures { result ≡ spec.may_begin place (tree_of head.now) }
 {
     match (place, head) {
-        (Place::Word(keyword), _) => is_form_word(keyword, head),
-        (Place::Holder, Form::Atom { word, .. }) => atom_kind(place, word.bytes()).is_none(),
+        (Symbol::Word(keyword), _) => is_form_word(keyword, head),
+        (Symbol::Holder, Form::Atom { word, .. }) => atom_kind(place, word.bytes()).is_none(),
         _ => true,
     }
 }
@@ -185,7 +185,7 @@ pub fn is_told(second: Option<Keyword>, others: &[Form]) -> bool
 }
 
 /// Whether a list that begins so may have so many parts at this place.
-pub fn some_form_fits(place: Place, head: &Form, count: usize) -> bool
+pub fn some_form_fits(place: Symbol, head: &Form, count: usize) -> bool
     ensures { result ≡ spec.some_form_fits place (tree_of head.now) count }
 {
     place

@@ -12,7 +12,7 @@ mod shape;
 pub use atoms::{is_variable, is_word};
 pub use choice::{is_form_word, rule_of};
 pub use fault::{SheetFault, SheetKind};
-pub use grammar::{Place, Rule};
+pub use grammar::{Rule, Symbol};
 pub use keyword::Keyword;
 pub use laws::one_form_at_most;
 pub use shape::{check_shape, start_of};

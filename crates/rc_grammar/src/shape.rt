@@ -9,7 +9,7 @@ ghost use Rattle.rc_grammar.specs.FirstOf.{IsFirstOf};
 use crate::atoms::atom_kind;
 use crate::choice::{is_form_word, is_told, rule_of, some_form_fits};
 use crate::fault::SheetFault;
-use crate::grammar::{Place, Rule};
+use crate::grammar::{Rule, Symbol};
 use crate::keyword::Keyword;
 use rc_form::{Form, Span};
 
@@ -22,15 +22,15 @@ pub fn check_shape(form: &Form) -> Result<(), SheetFault>
     // The faults are listed in the order of the text; this is the first of them.
     ensures first { spec.fault_of result ≡ spec.first_fault (tree_of form.now) }
 
-    ensures fine { OnOk result (spec.faults Place.Sheet (tree_of form.now) ≡ []) }
-    ensures least { IfErr result (λ fault. IsFirstOf (spec.faults Place.Sheet (tree_of form.now)) fault) }
+    ensures fine { OnOk result (spec.faults Symbol.Sheet (tree_of form.now) ≡ []) }
+    ensures least { IfErr result (λ fault. IsFirstOf (spec.faults Symbol.Sheet (tree_of form.now)) fault) }
 {
-    check_form(Place::Sheet, form)
+    check_form(Symbol::Sheet, form)
 }
 
 /// The first fault of a form at a place, in the order of the text.
 #[cycle(shapes)]
-fn check_form(place: Place, form: &Form) -> Result<(), SheetFault>
+fn check_form(place: Symbol, form: &Form) -> Result<(), SheetFault>
     ensures { spec.fault_of result ≡ spec.first (spec.faults place (tree_of form.now)) }
 {
     match form {
@@ -47,7 +47,7 @@ fn check_form(place: Place, form: &Form) -> Result<(), SheetFault>
 
 /// The first fault of a list at a place.
 #[cycle(shapes)]
-fn check_list(place: Place, parts: &[Form], span: Span) -> Result<(), SheetFault>
+fn check_list(place: Symbol, parts: &[Form], span: Span) -> Result<(), SheetFault>
     ensures { spec.fault_of result ≡ spec.first (spec.faults place (list (packed (trees_of parts.now)) span.from span.to)) }
 {
     match rule_of(place, parts) {
@@ -84,7 +84,7 @@ fn check_parts(rule: Rule, parts: &[Form]) -> Result<(), SheetFault>
 
 /// The first fault of a part, where there is a place for it.
 #[cycle(shapes)]
-fn check_part(place: Option<Place>, part: &Form) -> Result<(), SheetFault>
+fn check_part(place: Option<Symbol>, part: &Form) -> Result<(), SheetFault>
     ensures { spec.fault_of result ≡ spec.first (spec.faults_at place (tree_of part.now)) }
 {
     match place {
@@ -127,7 +127,7 @@ fn names_players(line: &Form) -> bool
 /// Where a list is at fault that is to be no form: at the part behind its head, where a fixed word is missing there and a
 /// form with that head has as many parts; else the list itself.
 #[tactic(auto, using(crate::proofs::Counts::count_packed))]
-fn fault_place(place: Place, parts: &[Form], from: u32) -> u32
+fn fault_place(place: Symbol, parts: &[Form], from: u32) -> u32
     ensures { result ≡ spec.fault_place place from (packed (trees_of parts.now)) }
 {
     match parts.split_first() {

@@ -8,21 +8,21 @@ use Rattle.rc_play_model.specs.Value.{Scene as PureScene, Bind as PureBind, coll
 use Rattle.rc_ast.specs.Names.{loc_seen}
 use Rattle.rc_asked.specs.declared.guards.Guard.{Guard}
 use Rattle.rc_asked.specs.Guards.{guard_meant, IsGuardOf}
-use Rattle.rc_menu.specs.declared.asks.Ask.{Ask}
-use Rattle.rc_menu.specs.declared.asks.Ask.TheVariants.{Value, Wish, Whole}
+use Rattle.rc_menu.specs.declared.asks.CardAsk.{CardAsk}
+use Rattle.rc_menu.specs.declared.asks.CardAsk.TheVariants.{Value, Wish, Whole}
 use Rattle.rc_menu.specs.declared.asks.Parts.{Parts}
 use Rattle.rc_menu.specs.Asks.{ask_value, asks_value, met_value, joined, told_of, IsInParts}
 use Rattle.rc_menu.proofs.Offers.{each_mapped, offered_if, same_offers}
 
 -- where values are all that is asked, a card's id tells all
 module _ (s : PureScene CardValue) (vars : List (PureBind CardValue)) where
-  met_all : (c : CardValue) (asks : List Ask) → list_all asks_value asks ≡ true → map (met_value (id_of c)) asks ≡ map (ask_value s vars c) asks
+  met_all : (c : CardValue) (asks : List CardAsk) → list_all asks_value asks ≡ true → map (met_value (id_of c)) asks ≡ map (ask_value s vars c) asks
   met_all c [] sought = refl
   met_all c (Value value row ∷ asks) sought = ap (λ bs. met_value (id_of c) (Value value row) ∷ bs) (met_all c asks sought)
   met_all c (Wish equal value row ∷ asks) sought = ap (λ bs. met_value (id_of c) (Wish equal value row) ∷ bs) (met_all c asks sought)
   met_all c (Whole t ∷ asks) sought = absurd (cc)
 
-  pub row_offers : (asks : List Ask) (any sought : Bool) (ids : List ℕ) (cards : List CardValue) → sought ≡ list_all asks_value asks → sought ≡ true → ids ≡ map id_of cards →
+  pub row_offers : (asks : List CardAsk) (any sought : Bool) (ids : List ℕ) (cards : List CardValue) → sought ≡ list_all asks_value asks → sought ≡ true → ids ≡ map id_of cards →
       from_each (λ id. cond (joined any (map (met_value id) asks)) ([] ∷ []) []) 0 ids
       ≡ from_each (λ c. cond (joined any (map (ask_value s vars c) asks)) ([] ∷ []) []) 0 cards
   row_offers asks any sought ids cards is so are =
@@ -32,7 +32,7 @@ module _ (s : PureScene CardValue) (vars : List (PureBind CardValue)) where
       (λ c. ap (joined any) (met_all c asks (sym is ∙ so)))
 
   -- the same of a guard in parts
-  pub part_offers : (t : PureTest) (parts : Parts) (asks : List Ask) (ids : List ℕ) (cards : List CardValue) → list_all asks_value asks ≡ true → ids ≡ map id_of cards →
+  pub part_offers : (t : PureTest) (parts : Parts) (asks : List CardAsk) (ids : List ℕ) (cards : List CardValue) → list_all asks_value asks ≡ true → ids ≡ map id_of cards →
       IsInParts s vars t parts asks →
       from_each (λ id. cond (cond parts.settled parts.any (joined parts.any (map (met_value id) asks))) ([] ∷ []) []) 0 ids
       ≡ from_each (λ c. cond (told_of s vars t c) ([] ∷ []) []) 0 cards

@@ -5,7 +5,7 @@ ghost use Rattle.rc_play_model.specs.Value.{card_bound, both, nat_same, tests_va
 ghost use Rattle.rc_play_model.specs.Scene.{CardValue};
 ghost use Rattle.rc_ast.specs.Expressions.{test_seen, tests_seen};
 ghost use Rattle.rc_menu.specs.Asks.{ask_value, asks_value, met_value, ask_depth, AllFit, joined, told_of, IsJoined, IsInParts};
-ghost use Rattle.rc_menu.specs.declared.asks.Ask.TheVariants.{Whole};
+ghost use Rattle.rc_menu.specs.declared.asks.CardAsk.TheVariants.{Whole};
 ghost use Rattle.rc_value.specs.Cards.{value_seen};
 ghost use Rattle.rc_value.specs.Depth.{test_depth, tests_depth};
 ghost use Rattle.rc_value.specs.Scene.{scene_seen};
@@ -20,7 +20,7 @@ use rc_value::{Bind, Bindings, Card, Scene, Wanted, is_so, test_of, value_in, wa
 /// What is asked of each card that the innermost variable stands for. Most guards ask for values, which stand apart from other wishes:
 /// for a value, or as a value is to be or not to be, in the row of all cards' values for an attribute.
 #[derive(Clone, Copy)]
-pub(crate) enum Ask<'t> {
+pub(crate) enum CardAsk<'t> {
     Value {
         value: u16,
         row: &'t [Option<u16>],
@@ -33,14 +33,14 @@ pub(crate) enum Ask<'t> {
     Whole(&'t Test),
 }
 
-impl<'t> Default for Ask<'t> {
-    fn default() -> Ask<'t> {
-        Ask::Value { value: 0, row: &[] }
+impl<'t> Default for CardAsk<'t> {
+    fn default() -> CardAsk<'t> {
+        CardAsk::Value { value: 0, row: &[] }
     }
 }
 
 /// What a guard asks of each card.
-pub(crate) type Asks<'t> = ArrayVec<Ask<'t>, 4>;
+pub(crate) type Asks<'t> = ArrayVec<CardAsk<'t>, 4>;
 
 /// What is known of a guard for all cards: whether it is settled, and, where it isn't, whether one yes is enough. Where it is settled,
 /// the second says which way.
@@ -52,13 +52,13 @@ pub(crate) struct Parts {
 
 /// How a value is wanted, asked by the row of all cards' values.
 #[inline(always)]
-pub(crate) fn ask_in<'t>(row: &'t [Option<u16>], wanted: Wanted) -> Ask<'t>
+pub(crate) fn ask_in<'t>(row: &'t [Option<u16>], wanted: Wanted) -> CardAsk<'t>
     ensures is { (id : ℕ) → met_value id result ≡ meets wanted (slice_index_or row.now id None) }
     ensures by_row { asks_value result ≡ true }
 {
     match wanted.value {
-        Some(value) if wanted.equal => Ask::Value { value, row },
-        value => Ask::Wish {
+        Some(value) if wanted.equal => CardAsk::Value { value, row },
+        value => CardAsk::Wish {
             equal: wanted.equal,
             value,
             row,
@@ -68,7 +68,7 @@ pub(crate) fn ask_in<'t>(row: &'t [Option<u16>], wanted: Wanted) -> Ask<'t>
 
 // A test of which it is known which value the cards are to have. It is asked by the row of their values, and as a test if there is none.
 #[inline(always)]
-fn ask_by<'t>(scene: &'t Scene, scope: &Bindings, wanted: Wanted, test: &'t Test) -> Ask<'t>
+fn ask_by<'t>(scene: &'t Scene, scope: &Bindings, wanted: Wanted, test: &'t Test) -> CardAsk<'t>
     requires wanted { IsWanted (scene_seen scene.now) scope.now (test_seen test.now) wanted }
     requires deep { length scope.now + (1 + test_depth (test_seen test.now)) ≤ 5 }
     ensures is { (c : CardValue) → told_of (scene_seen scene.now) scope.now (test_seen test.now) c ≡ ask_value (scene_seen scene.now) scope.now c result }
@@ -76,18 +76,18 @@ fn ask_by<'t>(scene: &'t Scene, scope: &Bindings, wanted: Wanted, test: &'t Test
 {
     match scene.lookup.values(wanted.name) {
         Some(row) => ask_in(row, wanted),
-        None => Ask::Whole(test),
+        None => CardAsk::Whole(test),
     }
 }
 
-fn ask_of<'t>(scene: &'t Scene, scope: &Bindings, test: &'t Test) -> Ask<'t>
+fn ask_of<'t>(scene: &'t Scene, scope: &Bindings, test: &'t Test) -> CardAsk<'t>
     requires deep { length scope.now + (1 + test_depth (test_seen test.now)) ≤ 5 }
     ensures is { (c : CardValue) → told_of (scene_seen scene.now) scope.now (test_seen test.now) c ≡ ask_value (scene_seen scene.now) scope.now c result }
     ensures fits { length scope.now + ask_depth result ≤ 5 }
 {
     match wanted_of(scene, scope, &scope.with(Bind::Player(0)), test) {
         Some(wanted) => ask_by(scene, scope, wanted, test),
-        None => Ask::Whole(test),
+        None => CardAsk::Whole(test),
     }
 }
 
@@ -100,14 +100,14 @@ fn has_value(row: &[Option<u16>], value: u16, id: u16) -> bool
 
 // The answer for a card.
 #[inline(always)]
-fn answer(scene: &Scene, scope: &Bindings, ask: &Ask, card: Card) -> bool
+fn answer(scene: &Scene, scope: &Bindings, ask: &CardAsk, card: Card) -> bool
     requires fits { length scope.now + ask_depth ask.now ≤ 5 }
     ensures { result ≡ ask_value (scene_seen scene.now) scope.now (value_seen card) ask.now }
 {
     match ask {
-        Ask::Value { value, row } => has_value(*row, *value, card.id()),
-        Ask::Wish { equal, value, row } => is_so(*equal, *value, value_in(*row, card.id())),
-        Ask::Whole(test) => holds_for(scene, scope, *test, card),
+        CardAsk::Value { value, row } => has_value(*row, *value, card.id()),
+        CardAsk::Wish { equal, value, row } => is_so(*equal, *value, value_in(*row, card.id())),
+        CardAsk::Whole(test) => holds_for(scene, scope, *test, card),
     }
 }
 
@@ -125,7 +125,7 @@ fn holds_for(scene: &Scene, scope: &Bindings, test: &Test, card: Card) -> bool
 pub(crate) fn joined_answer(
     scene: &Scene,
     scope: &Bindings,
-    asks: &[Ask],
+    asks: &[CardAsk],
     any: bool,
     card: Card,
 ) -> bool
@@ -269,7 +269,7 @@ fn outer_parts<'t>(
 }
 
 /// Whether values are all that is asked.
-pub(crate) fn are_sought(asks: &[Ask]) -> bool
+pub(crate) fn are_sought(asks: &[CardAsk]) -> bool
     ensures { result ≡ list_all asks_value asks.now }
 {
     for place in 0..asks.len() {
@@ -281,23 +281,23 @@ pub(crate) fn are_sought(asks: &[Ask]) -> bool
 }
 
 #[inline(always)]
-fn is_sought(ask: &Ask) -> bool
+fn is_sought(ask: &CardAsk) -> bool
     ensures { result ≡ asks_value ask.now }
 {
     match ask {
-        Ask::Value { value: _, row: _ } => true,
-        Ask::Wish {
+        CardAsk::Value { value: _, row: _ } => true,
+        CardAsk::Wish {
             equal: _,
             value: _,
             row: _,
         } => true,
-        Ask::Whole(_) => false,
+        CardAsk::Whole(_) => false,
     }
 }
 
 /// All the answers for the card with an id in one, where values are all that is asked.
 #[inline(always)]
-pub(crate) fn joined_met(asks: &[Ask], any: bool, id: u16) -> bool
+pub(crate) fn joined_met(asks: &[CardAsk], any: bool, id: u16) -> bool
     ensures { result ≡ joined any (map (met_value id) asks.now) }
 {
     for place in 0..asks.len() {
@@ -309,13 +309,13 @@ pub(crate) fn joined_met(asks: &[Ask], any: bool, id: u16) -> bool
 }
 
 #[inline(always)]
-fn is_met(ask: &Ask, id: u16) -> bool
+fn is_met(ask: &CardAsk, id: u16) -> bool
     ensures { result ≡ met_value id ask.now }
 {
     match ask {
-        Ask::Value { value, row } => has_value(*row, *value, id),
-        Ask::Wish { equal, value, row } => is_so(*equal, *value, value_in(*row, id)),
-        Ask::Whole(_) => false,
+        CardAsk::Value { value, row } => has_value(*row, *value, id),
+        CardAsk::Wish { equal, value, row } => is_so(*equal, *value, value_in(*row, id)),
+        CardAsk::Whole(_) => false,
     }
 }
 
@@ -327,7 +327,7 @@ fn sole_list<'t>(asks: &Asks<'t>) -> Option<&'t Test>
         return None;
     }
     match asks[0] {
-        Ask::Whole(test) => listed(test),
+        CardAsk::Whole(test) => listed(test),
         _ => None,
     }
 }

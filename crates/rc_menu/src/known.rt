@@ -37,25 +37,25 @@ pub(crate) fn at_hand(scene: &Scene, scope: &Bindings, test: &Test) -> AtHand
 
 // A test, or the test of which it is the opposite.
 #[derive(Clone, Copy)]
-struct Plain<'t> {
+struct PlainTest<'t> {
     test: &'t Test,
     opposite: bool,
 }
 
 #[inline(always)]
-fn plain_of<'t>(test: &'t Test) -> Plain<'t>
+fn plain_of<'t>(test: &'t Test) -> PlainTest<'t>
     ensures { IsTurned result.opposite (test_seen result.test.now) (test_seen test.now) }
 {
     match test {
-        Test::Ne(inner) => Plain {
+        Test::Ne(inner) => PlainTest {
             test: inner,
             opposite: true,
         },
-        Test::Not(inner) => Plain {
+        Test::Not(inner) => PlainTest {
             test: inner,
             opposite: true,
         },
-        _ => Plain {
+        _ => PlainTest {
             test,
             opposite: false,
         },

@@ -13,7 +13,7 @@ ghost use Rattle.rc_value.specs.Depth.{test_depth};
 ghost use Rattle.rc_menu.specs.Menu.{extended};
 ghost use Rattle.rc_value.specs.Scene.{scene_seen};
 
-use crate::asks::{Ask, Asks, Parts, are_sought, joined_answer, joined_met, parts_of};
+use crate::asks::{Asks, CardAsk, Parts, are_sought, joined_answer, joined_met, parts_of};
 use crate::parts::known_parts;
 use rc_asked::Guard;
 use rc_ast::Test;
@@ -125,7 +125,7 @@ fn offer_asked(
     scene: &Scene,
     scope: &Bindings,
     cards: &Collection,
-    asks: &[Ask],
+    asks: &[CardAsk],
     any: bool,
     item: &Item,
     menu: &mut Menu,
@@ -148,7 +148,7 @@ fn offer_some(
     scene: &Scene,
     scope: &Bindings,
     cards: &Collection,
-    asks: &[Ask],
+    asks: &[CardAsk],
     any: bool,
     item: &Item,
     menu: &mut Menu,

@@ -10,7 +10,7 @@ ghost use Rattle.rc_naming.specs.Known.{loc_seen, num_seen};
 
 use rc_ast::{Class, LocKind};
 use rc_form::{Form, Word};
-use rc_grammar::{Keyword, Place, Rule, is_form_word, rule_of};
+use rc_grammar::{Keyword, Rule, Symbol, is_form_word, rule_of};
 
 /// What a mention says of a location.
 #[derive(Clone, Copy, PartialEq, Eq, Debug)]
@@ -108,7 +108,7 @@ fn class_of(holder: &Form) -> Class
             }
         }
         Form::List { items, .. } => {
-            if rule_of(Place::Owner, items) == Some(Rule::CurrentPlayer) {
+            if rule_of(Symbol::Owner, items) == Some(Rule::CurrentPlayer) {
                 Class::Player
             } else {
                 Class::Team

@@ -3,7 +3,7 @@ ghost use Rattle.std.specs.Prelude.{◌≡◌, length};
 
 use crate::expect::expect_same;
 use crate::twice::{about_in, plan_in};
-use rc_cache::{Book, Call, Fresh, Lane, Naming, SharedBook};
+use rc_cache::{Book, BookNaming, Call, Fresh, Lane, SharedBook};
 use rc_outside::OpenGate;
 use rc_redraw::Ask;
 use rc_rules::{About, Plan};
@@ -16,7 +16,7 @@ use std::test::Fail;
 use std::thread::Threads;
 
 /// A memo for each lane to a book.
-fn memos<'a, N: Naming, R: Wait>(
+fn memos<'a, N: BookNaming, R: Wait>(
     rt: &'a R,
     alloc: Global,
     book: &'a Mutex<Book<N>>,
@@ -30,7 +30,7 @@ fn memos<'a, N: Naming, R: Wait>(
 }
 
 /// Two workers play the matches of the plan over a book.
-fn play_over<N: Naming + Send + Sync, R: AllocGlobal + Abort + Threads + Wait + Sync>(
+fn play_over<N: BookNaming + Send + Sync, R: AllocGlobal + Abort + Threads + Wait + Sync>(
     rt: &R,
     book: &Mutex<Book<N>>,
     lanes: Vec<Lane<N>>,
@@ -84,7 +84,7 @@ fn expect_calls(rt: &impl Abort, calls: &[Call]) {
 }
 
 /// Fails unless a new book has these calls behind the matches of the plan.
-fn expect_book<N: Naming + Send + Sync, R: AllocGlobal + Abort + Threads + Wait + Sync>(
+fn expect_book<N: BookNaming + Send + Sync, R: AllocGlobal + Abort + Threads + Wait + Sync>(
     rt: &R,
     fresh: Fresh,
     about: &Arc<About>,

@@ -2,7 +2,8 @@
 ghost use Rattle.std.specs.Prelude.{◌≡◌, [], map, All, IfOk};
 
 use crate::expect::expect_same;
-use rc_claims::{Claims, Memory, Pass};
+use rc_claims::{Claims, Pass};
+use rc_deck::Memory;
 use std::alloc::Global;
 use std::test::Fail;
 use std::thread::{self, Threads};

@@ -10,9 +10,9 @@ use Rattle.rc_rules.specs.Menu.{menu_seen}
 use Rattle.rc_rules.specs.declared.control.Stop.{Stop}
 use Rattle.rc_plain.specs.Paths.{item_at}
 use Rattle.rc_plain.specs.Plain.{Plain, config_of, IsInPlay}
-use Rattle.rc_plain.specs.declared.state.State.{State}
+use Rattle.rc_plain.specs.declared.state.PlainState.{PlainState}
 
-abbrev pub plain_of : About → State → Plain
+abbrev pub plain_of : About → PlainState → Plain
 plain_of about state =
     record { about = about; path = state.path; table = state.table.table; control = control_seen state.control }
 
@@ -22,18 +22,18 @@ pub record IsOffered (m : Plain) (site : ℕ) : Type 0 where
   pub some : 0 < length (menu_at m.about site m.table m.control)
 
 -- its menu is kept
-pub record KeepsMenu (about : About) (state : State) (site : ℕ) : Type 0 where
+pub record KeepsMenu (about : About) (state : PlainState) (site : ℕ) : Type 0 where
   pub offered : IsOffered (plain_of about state) site
   pub menu : menu_seen state.menu.items ≡ menu_at about site state.table.table (control_seen state.control)
 
 -- The table is laid for the shape, and the state is one of a match. Where the control has a site, the choice with it is next,
 -- and its menu is kept.
-pub record IsReady (about : About) (state : State) : Type 0 where
+pub record IsReady (about : About) (state : PlainState) : Type 0 where
   pub laid : state.table.shape ≡ about.shape
   pub play : IsInPlay (plain_of about state)
   pub kept : (site : ℕ) → state.control.site ≡ Some site → KeepsMenu about state site
 
-abbrev pub config_at : About → State → Config
+abbrev pub config_at : About → PlainState → Config
 config_at about state = config_of (plain_of about state)
 
 -- what a step leads to: on, or to a stop

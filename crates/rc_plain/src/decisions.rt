@@ -10,14 +10,14 @@ ghost use Rattle.rc_plain.specs.Paths.{item_at};
 ghost use Rattle.rc_plain.specs.Plain.{IsInPlay, chosen_item};
 ghost use Rattle.rc_plain.specs.State.{IsReady, plain_of, config_at};
 
-use crate::state::State;
+use crate::state::PlainState;
 use rc_ast::Alt;
 use rc_effects::do_item;
 use rc_rules::{About, Dealer, Item};
 use rc_state::count_decision;
 use rc_value::current_of;
 
-impl State {
+impl PlainState {
     /// Takes an item out of the menu of the decision that is next, and does its effects.
     pub fn apply<D: Dealer>(&mut self, about: &About, item: u16, dealer: &mut D)
         requires ready { IsReady about.now self.old }

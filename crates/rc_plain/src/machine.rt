@@ -13,7 +13,7 @@ ghost use Rattle.rc_plain.specs.Plain.{config_of};
 
 use crate::path::Path;
 use crate::site::{path_of, site_of};
-use crate::state::State;
+use crate::state::PlainState;
 use rc_deck::Memory;
 use rc_flow::Checked;
 use rc_menu::{copy_menu, fill_menu_at};
@@ -30,7 +30,7 @@ use std::sync::Arc;
 #[derive(Drop)]
 pub struct PlainMachine {
     about: About,
-    state: State,
+    state: PlainState,
 }
 
 impl Model for PlainMachine {
@@ -113,7 +113,7 @@ impl PlainMachine {
         let control = new_control(&about);
         PlainMachine {
             about,
-            state: State {
+            state: PlainState {
                 table,
                 control,
                 path: Path::start(),
@@ -138,7 +138,7 @@ impl PlainMachine {
         fill_menu_at(&about, &table, &control, site, path.alts(&about), &mut menu);
         PlainMachine {
             about,
-            state: State {
+            state: PlainState {
                 table,
                 control,
                 path,

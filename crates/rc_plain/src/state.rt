@@ -7,7 +7,7 @@ use rc_table::Table;
 /// The table, the control, the path to the item that is next, and the menu of the decision at which the match stands. Where it
 /// stands at none, the menu is any.
 #[derive(Drop)]
-pub struct State {
+pub struct PlainState {
     pub table: Table,
     pub control: Control,
     pub path: Path,

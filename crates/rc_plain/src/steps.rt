@@ -11,7 +11,7 @@ ghost use Rattle.rc_rules.specs.Machine.{StandsWhereItStops};
 ghost use Rattle.rc_plain.specs.Paths.{item_at};
 ghost use Rattle.rc_plain.specs.State.{KeepsMenu, IsReady, config_at, next_seen, LeadsTo};
 
-use crate::state::State;
+use crate::state::PlainState;
 use rc_ast::{Alt, Class, Effect, SheetItem, Test};
 use rc_effects::do_effects;
 use rc_menu::fill_menu_at;
@@ -20,7 +20,7 @@ use rc_rules::{About, Dealer, Stop};
 use rc_state::{close_frame, has_ended, member_count, open_frame, pass_frame};
 use rc_value::{Bindings, current_of};
 
-impl State {
+impl PlainState {
     /// Does the effects that are next.
     fn do_next<D: Dealer>(&mut self, about: &About, effects: &Vec<Effect>, dealer: &mut D)
         requires ready { IsReady about.now self.old }

@@ -6,7 +6,7 @@ use Rattle.rc_form.specs.declared.form.Form.{Form}
 use Rattle.rc_sheet_model.specs.Sheet.{Domain, any_alt}
 use Rattle.rc_sheet_model.specs.Naming.{Naming, Scope, bind, sort_of}
 use Rattle.rc_grammar.specs.Faults.{fits}
-use Rattle.rc_grammar.specs.declared.grammar.Place.TheVariants as place
+use Rattle.rc_grammar.specs.declared.grammar.Symbol.TheVariants as symbol
 use Rattle.rc_grammar.specs.declared.grammar.Rule.{Rule}
 use Rattle.rc_grammar.specs.declared.grammar.Rule.TheVariants as rules
 use Rattle.rc_reading.specs.ReadNames.{both, rule_at, binder_at}
@@ -16,7 +16,7 @@ use Rattle.rc_reading.proofs.Readings.{of_rule, fits_known, behind_both}
 
 pub any_read : (naming : Naming) (scope inner : Scope) (parts : List Form) (rule : Rule) (over variable form : Form)
     (domain : Domain) (bound : ℕ)
-    → rule_at place.Alternative (packed (trees_of parts)) ≡ Some rule → IsTrue (fits (length parts) rule) → rule ≡ rules.AnyOf
+    → rule_at symbol.Alternative (packed (trees_of parts)) ≡ Some rule → IsTrue (fits (length parts) rule) → rule ≡ rules.AnyOf
     → over ≡ get_or parts 1 over → variable ≡ get_or parts 2 variable → form ≡ get_or parts 3 form
     → both (domain_at naming scope (tree_of over)) (binder_at naming.names.vars scope (tree_of variable)) ≡ Some (domain, bound)
     → inner ≡ bind naming scope bound (sort_of domain)
@@ -30,6 +30,6 @@ any_read naming scope inner parts rule over variable form domain bound given siz
     ap (λ inner. option_map (λ alt. any_alt domain bound alt) (alt_at naming inner (tree_of form))) inside
     ∙ behind_both (domain_at naming scope (tree_of over))
     (binder_at naming.names.vars scope (tree_of variable)) read domain bound members
-    ∙ sym (of_rule place.Alternative (packed (trees_of parts))
+    ∙ sym (of_rule symbol.Alternative (packed (trees_of parts))
     (λ rule. alt_rule naming scope rule (packed (trees_of parts))) rule rules.AnyOf given is
     ∙ ap (alt_rule naming scope rules.AnyOf) (four_parts parts over variable form four at also last))

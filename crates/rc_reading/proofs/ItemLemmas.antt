@@ -8,7 +8,7 @@ use Rattle.rc_form.specs.declared.form.Form.{Form}
 use Rattle.rc_sheet_model.specs.Sheet.{player_class, team_class, SheetItems, Best, IntExpr}
 use Rattle.rc_sheet_model.specs.Naming.{Naming}
 use Rattle.rc_grammar.specs.Faults.{fits, count}
-use Rattle.rc_grammar.specs.declared.grammar.Place.TheVariants as place
+use Rattle.rc_grammar.specs.declared.grammar.Symbol.TheVariants as symbol
 use Rattle.rc_grammar.specs.declared.grammar.Rule.{Rule}
 use Rattle.rc_grammar.specs.declared.grammar.Rule.TheVariants as rules
 use Rattle.rc_reading.specs.ReadNames.{◌>>=◌, both, ensure, rule_at}
@@ -18,26 +18,26 @@ use Rattle.rc_reading.proofs.Parts.{rest, behind_third}
 use Rattle.rc_reading.proofs.Readings.{of_rule, fits_known}
 
 pub player_stage_read : (naming : Naming) (begun : Begun) (parts : List Form) (rule : Rule) (end : Form)
-    → rule_at place.Item (packed (trees_of parts)) ≡ Some rule → IsTrue (fits (length parts) rule) → rule ≡ rules.PlayerStage
+    → rule_at symbol.Item (packed (trees_of parts)) ≡ Some rule → IsTrue (fits (length parts) rule) → rule ≡ rules.PlayerStage
     → end ≡ get_or parts 2 end
     → stage_of begun player_class (end_at naming (tree_of end)) (items_at naming (with_stage begun) (rest 3 parts))
     ≡ item_of_list naming begun (packed (trees_of parts))
 player_stage_read naming begun parts rule end given sized is at =
     let fit = fits_known (length parts) rule rules.PlayerStage sized is in
     let few : 2 < length parts = grind arith in
-    sym (of_rule place.Item (packed (trees_of parts))
+    sym (of_rule symbol.Item (packed (trees_of parts))
     (λ rule. item_rule naming begun rule (packed (trees_of parts))) rule rules.PlayerStage given is
     ∙ ap (item_rule naming begun rules.PlayerStage) (behind_third parts end few at))
 
 pub team_stage_read : (naming : Naming) (begun : Begun) (parts : List Form) (rule : Rule) (end : Form)
-    → rule_at place.Item (packed (trees_of parts)) ≡ Some rule → IsTrue (fits (length parts) rule) → rule ≡ rules.TeamStage
+    → rule_at symbol.Item (packed (trees_of parts)) ≡ Some rule → IsTrue (fits (length parts) rule) → rule ≡ rules.TeamStage
     → end ≡ get_or parts 2 end
     → stage_of begun team_class (end_at naming (tree_of end)) (items_at naming (with_stage begun) (rest 3 parts))
     ≡ item_of_list naming begun (packed (trees_of parts))
 team_stage_read naming begun parts rule end given sized is at =
     let fit = fits_known (length parts) rule rules.TeamStage sized is in
     let few : 2 < length parts = grind arith in
-    sym (of_rule place.Item (packed (trees_of parts))
+    sym (of_rule symbol.Item (packed (trees_of parts))
     (λ rule. item_rule naming begun rule (packed (trees_of parts))) rule rules.TeamStage given is
     ∙ ap (item_rule naming begun rules.TeamStage) (behind_third parts end few at))
 

@@ -11,7 +11,7 @@ use Rattle.rc_form.specs.declared.form.Form.TheViews.{sized-List}
 use Rattle.rc_form.proofs.form.Form.TheLaws.{the_size}
 use Rattle.rc_form.specs.declared.form.Span.{Span}
 use Rattle.rc_setup.proofs.FormLemmas.{tree_of_list}
-use Rattle.rc_grammar.specs.declared.grammar.Place.{Place}
+use Rattle.rc_grammar.specs.declared.grammar.Symbol.{Symbol}
 use Rattle.rc_grammar.specs.declared.grammar.Rule.{Rule}
 use Rattle.rc_reading.specs.ReadNames.{◌>>=◌, rule_at}
 use Rattle.rc_reading.specs.Gives.{Gives}
@@ -27,7 +27,7 @@ gives_same view (Err Meaningless) reading other same gives = same ∙ gives
 
 -- What is read off a list is what its form says, which is read off its parts: `rules` as the reading has it, `forms` as the
 -- reader takes it apart.
-pub list_gives : {X Y : Type 0} (view : X → Y) (reading : Tree → Option Y) (place : Place)
+pub list_gives : {X Y : Type 0} (view : X → Y) (reading : Tree → Option Y) (place : Symbol)
     (rules forms : ℕ → Rule → Trees → Option Y)
     → ((parts : Trees) (from to : ℕ) → reading (list parts from to) ≡ (rule_at place parts >>= λ rule. rules from rule parts))
     → ((from : ℕ) (rule : Rule) (parts : Trees) → rules from rule parts ≡ forms from rule parts)

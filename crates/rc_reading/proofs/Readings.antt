@@ -2,12 +2,12 @@
 use Rattle.std.proofs.Common.{◌≡◌, ◌∙◌, ℕ, IsTrue, Option, Some, None, sym, ap, subst, arith}
 use Rattle.rc_model.specs.Tree.{Trees}
 use Rattle.rc_grammar.specs.Faults.{fits}
-use Rattle.rc_grammar.specs.declared.grammar.Place.{Place}
+use Rattle.rc_grammar.specs.declared.grammar.Symbol.{Symbol}
 use Rattle.rc_grammar.specs.declared.grammar.Rule.{Rule}
 use Rattle.rc_reading.specs.ReadNames.{◌>>=◌, both, rule_at}
 
 -- what a list of a known form says
-pub of_rule : {A : Type 0} (place : Place) (parts : Trees) (read : Rule → Option A) (rule known : Rule)
+pub of_rule : {A : Type 0} (place : Symbol) (parts : Trees) (read : Rule → Option A) (rule known : Rule)
     → rule_at place parts ≡ Some rule → rule ≡ known → (rule_at place parts >>= read) ≡ read known
 of_rule place parts read rule known given is = ap (λ found. found >>= read) given ∙ ap read is
 

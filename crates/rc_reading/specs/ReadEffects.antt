@@ -5,7 +5,7 @@ use Rattle.rc_sheet_model.specs.Sheet.{End, top, bottom, Loc, Domain, each_card,
 use Rattle.rc_sheet_model.specs.Naming.{Naming, Scope, bind, sort_of}
 use Rattle.rc_reading.specs.ReadNames.{◌>>=◌, both, rule_at, name_at, binder_at, owner_at, loc_at, num_at}
 use Rattle.rc_reading.specs.ReadExpressions.{card_at, coll_at, coll_rule, int_at, test_at, range_at}
-use Rattle.rc_grammar.specs.declared.grammar.Place.TheVariants as place
+use Rattle.rc_grammar.specs.declared.grammar.Symbol.TheVariants as symbol
 use Rattle.rc_grammar.specs.declared.grammar.Rule.{Rule}
 use Rattle.rc_grammar.specs.declared.grammar.Rule.TheVariants as rule
 
@@ -17,7 +17,7 @@ spot_rule naming scope rule parts = None
 
 abbrev pub spot_at : Naming → Scope → Tree → Option (End × Loc)
 spot_at naming scope (word bytes from to) = None
-spot_at naming scope (list parts from to) = rule_at place.Spot parts >>= λ rule. spot_rule naming scope rule parts
+spot_at naming scope (list parts from to) = rule_at symbol.Spot parts >>= λ rule. spot_rule naming scope rule parts
 
 -- an effect on numbers or on stages
 abbrev pub number_rule : Naming → Scope → Rule → Trees → Option Effect
@@ -47,7 +47,7 @@ abbrev mutual
   -- EFFECT
   pub effect_at : Naming → Scope → Tree → Option Effect
   effect_at naming scope (word bytes from to) = None
-  effect_at naming scope (list parts from to) = rule_at place.Effect parts >>= λ rule. effect_rule naming scope rule parts
+  effect_at naming scope (list parts from to) = rule_at symbol.Effect parts >>= λ rule. effect_rule naming scope rule parts
 
   pub effect_rule : Naming → Scope → Rule → Trees → Option Effect
   effect_rule naming scope rule.If (cons head (cons t effects)) =
@@ -68,7 +68,7 @@ abbrev mutual
 
 -- an effect that is a list of these parts
 abbrev pub effect_of_list : Naming → Scope → Trees → Option Effect
-effect_of_list naming scope parts = rule_at place.Effect parts >>= λ rule. effect_rule naming scope rule parts
+effect_of_list naming scope parts = rule_at symbol.Effect parts >>= λ rule. effect_rule naming scope rule parts
 
 -- DOMAIN
 abbrev pub domain_rule : Naming → Scope → ℕ → Rule → Trees → Option Domain
@@ -79,7 +79,7 @@ domain_rule naming scope from rule parts = option_map each_card (coll_rule namin
 abbrev pub domain_at : Naming → Scope → Tree → Option Domain
 domain_at naming scope (word bytes from to) = range_at naming scope (word bytes from to)
 domain_at naming scope (list parts from to) =
-    rule_at place.Domain parts >>= λ rule. domain_rule naming scope from rule parts
+    rule_at symbol.Domain parts >>= λ rule. domain_rule naming scope from rule parts
 
 -- an alternative with no alternative in it
 abbrev pub plain_alt : Naming → Scope → Rule → Trees → Option Alt
@@ -92,7 +92,7 @@ abbrev mutual
   -- ALT
   pub alt_at : Naming → Scope → Tree → Option Alt
   alt_at naming scope (word bytes from to) = None
-  alt_at naming scope (list parts from to) = rule_at place.Alternative parts >>= λ rule. alt_rule naming scope rule parts
+  alt_at naming scope (list parts from to) = rule_at symbol.Alternative parts >>= λ rule. alt_rule naming scope rule parts
 
   pub alt_rule : Naming → Scope → Rule → Trees → Option Alt
   alt_rule naming scope rule.AnyOf (cons head (cons domain (cons variable (cons alt nil)))) =
@@ -103,7 +103,7 @@ abbrev mutual
 
 -- an alternative that is a list of these parts
 abbrev pub alt_of_list : Naming → Scope → Trees → Option Alt
-alt_of_list naming scope parts = rule_at place.Alternative parts >>= λ rule. alt_rule naming scope rule parts
+alt_of_list naming scope parts = rule_at symbol.Alternative parts >>= λ rule. alt_rule naming scope rule parts
 
 abbrev pub alts_at : Naming → Trees → Option (List Alt)
 alts_at naming nil = Some []

@@ -8,7 +8,7 @@ use Rattle.rc_sheet_model.specs.Sheet.{same_class}
 use Rattle.rc_grammar.specs.Faults.{is_variable, is_form_word}
 use Rattle.rc_reading.specs.ReadNames.{◌>>=◌, both, rule_at, name_at, binder_at, place_in, variable_in, owner_rule, loc_parts, num_parts, map_at}
 use Rattle.rc_grammar.specs.declared.keyword.Keyword.TheVariants as keyword
-use Rattle.rc_grammar.specs.declared.grammar.Place.TheVariants as place
+use Rattle.rc_grammar.specs.declared.grammar.Symbol.TheVariants as symbol
 use Rattle.rc_grammar.specs.declared.grammar.Rule.{Rule}
 use Rattle.rc_grammar.specs.declared.grammar.Rule.TheVariants as rule
 
@@ -63,7 +63,7 @@ abbrev mutual
   -- CARD
   pub card_at : Naming → Scope → Tree → Option CardExpr
   card_at naming scope (word bytes from to) = option_map card_var (variable_in scope card_sort bytes)
-  card_at naming scope (list parts from to) = rule_at place.Card parts >>= λ rule. card_rule naming scope rule parts
+  card_at naming scope (list parts from to) = rule_at symbol.Card parts >>= λ rule. card_rule naming scope rule parts
 
   pub card_rule : Naming → Scope → Rule → Trees → Option CardExpr
   card_rule naming scope rule.TopCard (cons head (cons cards nil)) = option_map top_card (coll_at naming scope cards)
@@ -78,7 +78,7 @@ abbrev mutual
   pub coll_at : Naming → Scope → Tree → Option CollExpr
   coll_at naming scope (word bytes from to) = option_map group_var (variable_in scope group_sort bytes)
   coll_at naming scope (list parts from to) =
-      rule_at place.Collection parts >>= λ rule. coll_rule naming scope from rule parts
+      rule_at symbol.Collection parts >>= λ rule. coll_rule naming scope from rule parts
 
   pub coll_rule : Naming → Scope → ℕ → Rule → Trees → Option CollExpr
   coll_rule naming scope from rule.Location parts = option_map cards_in (loc_parts naming scope from parts)
@@ -97,7 +97,7 @@ abbrev mutual
   -- INT
   pub int_at : Naming → Scope → Tree → Option IntExpr
   int_at naming scope (word bytes from to) = option_map literal (integer bytes)
-  int_at naming scope (list parts from to) = rule_at place.Integer parts >>= λ rule. int_rule naming scope rule parts
+  int_at naming scope (list parts from to) = rule_at symbol.Integer parts >>= λ rule. int_rule naming scope rule parts
 
   pub int_rule : Naming → Scope → Rule → Trees → Option IntExpr
   int_rule naming scope rule.Counter parts = option_map number (num_parts naming scope parts)
@@ -118,7 +118,7 @@ abbrev mutual
   pub side_at : Naming → Scope → Tree → Option Side
   side_at naming scope (word bytes from to) = side_word scope bytes
   side_at naming scope (list parts from to) =
-      rule_at place.Side parts >>= λ rule.
+      rule_at symbol.Side parts >>= λ rule.
       side_by rule (int_rule naming scope rule parts) (card_rule naming scope rule parts) (value_parts naming scope parts)
       (owner_rule scope rule parts)
 
@@ -131,7 +131,7 @@ abbrev mutual
   -- BOOL
   pub test_at : Naming → Scope → Tree → Option Test
   test_at naming scope (word bytes from to) = None
-  test_at naming scope (list parts from to) = rule_at place.Test parts >>= λ rule. test_rule naming scope rule parts
+  test_at naming scope (list parts from to) = rule_at symbol.Test parts >>= λ rule. test_rule naming scope rule parts
 
   pub test_rule : Naming → Scope → Rule → Trees → Option Test
   test_rule naming scope rule.Equal (cons head (cons a (cons b nil))) =

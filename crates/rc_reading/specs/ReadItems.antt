@@ -10,7 +10,7 @@ use Rattle.rc_reading.specs.ReadNames.{◌>>=◌, ensure, both, rule_at}
 use Rattle.rc_reading.specs.ReadExpressions.{int_at, test_at}
 use Rattle.rc_reading.specs.ReadEffects.{effects_at, alts_at}
 use Rattle.rc_grammar.specs.declared.keyword.Keyword.TheVariants as keyword
-use Rattle.rc_grammar.specs.declared.grammar.Place.TheVariants as place
+use Rattle.rc_grammar.specs.declared.grammar.Symbol.TheVariants as symbol
 use Rattle.rc_grammar.specs.declared.grammar.Rule.{Rule}
 use Rattle.rc_grammar.specs.declared.grammar.Rule.TheVariants as rule
 
@@ -47,7 +47,7 @@ end_rule naming rule parts = None
 
 abbrev pub end_at : Naming → Tree → Option Test
 end_at naming (word bytes from to) = None
-end_at naming (list parts from to) = rule_at place.End parts >>= λ rule. end_rule naming rule parts
+end_at naming (list parts from to) = rule_at symbol.End parts >>= λ rule. end_rule naming rule parts
 
 -- an item with no item in it, and what has begun behind it
 abbrev pub plain_item : Naming → Begun → Rule → Trees → Option (SheetItem × Begun)
@@ -60,7 +60,7 @@ abbrev mutual
   -- ITEM, and what has begun behind it
   pub item_at : Naming → Begun → Tree → Option (SheetItem × Begun)
   item_at naming begun (word bytes from to) = None
-  item_at naming begun (list parts from to) = rule_at place.Item parts >>= λ rule. item_rule naming begun rule parts
+  item_at naming begun (list parts from to) = rule_at symbol.Item parts >>= λ rule. item_rule naming begun rule parts
 
   pub item_rule : Naming → Begun → Rule → Trees → Option (SheetItem × Begun)
   item_rule naming begun rule.PlayerStage (cons head (cons class (cons end items))) =
@@ -77,7 +77,7 @@ abbrev mutual
 
 -- an item that is a list of these parts
 abbrev pub item_of_list : Naming → Begun → Trees → Option (SheetItem × Begun)
-item_of_list naming begun parts = rule_at place.Item parts >>= λ rule. item_rule naming begun rule parts
+item_of_list naming begun parts = rule_at symbol.Item parts >>= λ rule. item_rule naming begun rule parts
 
 -- BEST
 abbrev pub best_at : Tree → Option Best
@@ -92,7 +92,7 @@ score_rule naming rule parts = None
 
 abbrev pub score_at : Naming → Tree → Option (Best × IntExpr)
 score_at naming (word bytes from to) = None
-score_at naming (list parts from to) = rule_at place.Scoring parts >>= λ rule. score_rule naming rule parts
+score_at naming (list parts from to) = rule_at symbol.Scoring parts >>= λ rule. score_rule naming rule parts
 
 -- all trees but the last, and the last
 abbrev pub but_last : Trees → Trees

@@ -9,8 +9,8 @@ use Rattle.rc_sheet_model.specs.Sheet.{same_sort, same_class}
 use Rattle.rc_grammar.specs.Faults.{is_variable, is_form_word, rule_of, fits, count}
 use Rattle.rc_grammar.specs.declared.keyword.Keyword.{Keyword}
 use Rattle.rc_grammar.specs.declared.keyword.Keyword.TheVariants as keyword
-use Rattle.rc_grammar.specs.declared.grammar.Place.{Place}
-use Rattle.rc_grammar.specs.declared.grammar.Place.TheVariants as place
+use Rattle.rc_grammar.specs.declared.grammar.Symbol.{Symbol}
+use Rattle.rc_grammar.specs.declared.grammar.Symbol.TheVariants as symbol
 use Rattle.rc_grammar.specs.declared.grammar.Rule.{Rule}
 use Rattle.rc_grammar.specs.declared.grammar.Rule.TheVariants as rule
 
@@ -36,7 +36,7 @@ abbrev pub sized : ℕ → Option Rule → Option Rule
 sized n None = None
 sized n (Some rule) = if fits n rule then Some rule else None
 
-abbrev pub rule_at : Place → Trees → Option Rule
+abbrev pub rule_at : Symbol → Trees → Option Rule
 rule_at place parts = sized (count parts) (rule_of place parts)
 
 -- the number of a plain word among these
@@ -72,7 +72,7 @@ player_of_rule rule = None
 
 unfoldable pub player_at : Scope → Tree → Option Who
 player_at scope (word bytes from to) = option_map who_var (variable_in scope player_sort bytes)
-player_at scope (list parts from to) = rule_at place.Player parts >>= player_of_rule
+player_at scope (list parts from to) = rule_at symbol.Player parts >>= player_of_rule
 
 -- the team of a player
 abbrev pub team_of : Who → Who
@@ -92,7 +92,7 @@ owner_rule scope rule parts = None
 
 unfoldable pub owner_at : Scope → Tree → Option Who
 owner_at scope (word bytes from to) = option_map who_var (variable_in scope player_sort bytes)
-owner_at scope (list parts from to) = rule_at place.Owner parts >>= λ rule. owner_rule scope rule parts
+owner_at scope (list parts from to) = rule_at symbol.Owner parts >>= λ rule. owner_rule scope rule parts
 
 -- HOLDER: `game` or an owner
 abbrev pub holder_at : Scope → Tree → Option Who
@@ -129,7 +129,7 @@ loc_rule naming scope from parts rule = None
 
 unfoldable pub loc_at : Naming → Scope → Tree → Option Loc
 loc_at naming scope (word bytes from to) = None
-loc_at naming scope (list parts from to) = rule_at place.Location parts >>= loc_rule naming scope from parts
+loc_at naming scope (list parts from to) = rule_at symbol.Location parts >>= loc_rule naming scope from parts
 
 -- `(HOLDER sto NAME)`
 unfoldable pub num_parts : Naming → Scope → Trees → Option Num
@@ -147,7 +147,7 @@ num_rule naming scope parts rule = None
 
 unfoldable pub num_at : Naming → Scope → Tree → Option Num
 num_at naming scope (word bytes from to) = None
-num_at naming scope (list parts from to) = rule_at place.Counter parts >>= num_rule naming scope parts
+num_at naming scope (list parts from to) = rule_at symbol.Counter parts >>= num_rule naming scope parts
 
 -- `using MAP`, behind what is measured
 unfoldable pub map_at : Naming → Tree → Tree → Option ℕ

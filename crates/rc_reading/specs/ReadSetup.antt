@@ -9,7 +9,7 @@ use Rattle.rc_model.specs.Limits.{most_players}
 use Rattle.rc_sheet_model.specs.Naming.{Naming}
 use Rattle.rc_setup.specs.Reading.{read_deck, read_entries}
 use Rattle.rc_reading.specs.ReadNames.{◌>>=◌, both, ensure, rule_at, name_at, loc_at}
-use Rattle.rc_grammar.specs.declared.grammar.Place.TheVariants as place
+use Rattle.rc_grammar.specs.declared.grammar.Symbol.TheVariants as symbol
 use Rattle.rc_grammar.specs.declared.grammar.Rule.{Rule}
 use Rattle.rc_grammar.specs.declared.grammar.Rule.TheVariants as rule
 
@@ -50,7 +50,7 @@ team_rule rule parts = None
 
 unfoldable pub team_at : Tree → Option (List ℕ)
 team_at (word bytes from to) = None
-team_at (list parts from to) = rule_at place.Team parts >>= λ rule. team_rule rule parts
+team_at (list parts from to) = rule_at symbol.Team parts >>= λ rule. team_rule rule parts
 
 abbrev pub teams_at : Trees → Option Teams
 teams_at nil = Some []
@@ -112,7 +112,7 @@ line_rule naming before rule parts = None
 
 unfoldable pub line_at : Naming → Lines → Tree → Option Lines
 line_at naming before (word bytes from to) = None
-line_at naming before (list parts from to) = rule_at place.Line parts >>= λ rule. line_rule naming before rule parts
+line_at naming before (list parts from to) = rule_at symbol.Line parts >>= λ rule. line_rule naming before rule parts
 
 abbrev pub lines_at : Naming → Lines → Trees → Option Lines
 lines_at naming before nil = Some before

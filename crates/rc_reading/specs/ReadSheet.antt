@@ -6,7 +6,7 @@ use Rattle.rc_sheet_model.specs.Naming.{Naming}
 use Rattle.rc_reading.specs.ReadNames.{◌>>=◌, rule_at}
 use Rattle.rc_reading.specs.ReadSetup.{Setup, setup_at}
 use Rattle.rc_reading.specs.ReadItems.{body_at}
-use Rattle.rc_grammar.specs.declared.grammar.Place.TheVariants as place
+use Rattle.rc_grammar.specs.declared.grammar.Symbol.TheVariants as symbol
 use Rattle.rc_grammar.specs.declared.grammar.Rule.{Rule}
 use Rattle.rc_grammar.specs.declared.grammar.Rule.TheVariants as rule
 
@@ -17,7 +17,7 @@ setup_rule naming rule parts = None
 
 unfoldable pub setup_form_at : Naming → Tree → Option Setup
 setup_form_at naming (word bytes from to) = None
-setup_form_at naming (list parts from to) = rule_at place.Setup parts >>= λ rule. setup_rule naming rule parts
+setup_form_at naming (list parts from to) = rule_at symbol.Setup parts >>= λ rule. setup_rule naming rule parts
 
 -- the sheet of a setup, items and a scoring, with these names
 abbrev pub sheet_with : Naming → Setup → SheetItems × (Best × IntExpr) → Sheet
@@ -49,4 +49,4 @@ game_rule naming rule parts = None
 
 unfoldable pub sheet_at : Naming → Tree → Option Sheet
 sheet_at naming (word bytes from to) = None
-sheet_at naming (list parts from to) = rule_at place.Sheet parts >>= λ rule. game_rule naming rule parts
+sheet_at naming (list parts from to) = rule_at symbol.Sheet parts >>= λ rule. game_rule naming rule parts

@@ -6,11 +6,11 @@ use Rattle.rc_sheet_model.specs.Naming.{Naming}
 use Rattle.rc_sheet_model.specs.Naming.{Variable as PureVariable}
 use Rattle.rc_sheet_model.specs.Naming.{Scope as PureScope}
 use Rattle.rc_ast.specs.Names.{names_seen, loc_name_seen, num_name_seen}
-use Rattle.rc_reading.specs.declared.scope.Variable.{Variable}
+use Rattle.rc_reading.specs.declared.scope.ScopedVariable.{ScopedVariable}
 use Rattle.rc_reading.specs.declared.scope.Scope.TheInside.{Inside as ScopeFields}
 use Rattle.rc_reading.specs.declared.reader.Reader.TheInside.{Inside as Fields}
 
-abbrev pub variable_seen : Variable → PureVariable
+abbrev pub variable_seen : ScopedVariable → PureVariable
 variable_seen variable = record { word = variable.word; sort = variable.sort }
 
 abbrev pub scope_seen : ScopeFields → PureScope

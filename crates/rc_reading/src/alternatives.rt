@@ -19,7 +19,7 @@ use crate::reader::Reader;
 use crate::scope::Scope;
 use rc_ast::{Alt, Domain};
 use rc_form::Form;
-use rc_grammar::{Place, Rule};
+use rc_grammar::{Rule, Symbol};
 use std::alloc::Global;
 
 impl Reader {
@@ -30,7 +30,7 @@ impl Reader {
         match form {
             Form::Atom { .. } => self.range(alloc, scope, form),
             Form::List { items, span } => {
-                let rule = rule_at(Place::Domain, items)?;
+                let rule = rule_at(Symbol::Domain, items)?;
                 self.domain_list(alloc, scope, span.from, rule, items)
             }
         }
@@ -145,7 +145,7 @@ impl Reader {
     fn alternative_list(&self, alloc: Global, scope: &Scope, parts: &[Form]) -> Result<Alt, Unread>
         ensures { Gives alt_seen result (reading.alt_of_list self.now scope.now (packed (trees_of parts.now))) }
     {
-        match rule_at(Place::Alternative, parts)? {
+        match rule_at(Symbol::Alternative, parts)? {
             Rule::AnyOf => {
                 let (domain, bound, inner) = self.domain_and_scope(
                     alloc, scope, &parts[1], &parts[2],

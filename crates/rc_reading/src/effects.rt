@@ -24,7 +24,7 @@ use crate::reader::Reader;
 use crate::scope::Scope;
 use rc_ast::{CardExpr, CollExpr, Domain, Effect, End, IntExpr, Loc, Num};
 use rc_form::Form;
-use rc_grammar::{Place, Rule};
+use rc_grammar::{Rule, Symbol};
 use std::alloc::Global;
 
 impl Reader {
@@ -36,7 +36,7 @@ impl Reader {
         match form {
             Form::Atom { .. } => Err(Unread::Meaningless),
             Form::List { items, .. } => {
-                let rule = rule_at(Place::Spot, items)?;
+                let rule = rule_at(Symbol::Spot, items)?;
                 self.spot_list(scope, rule, items)
             }
         }
@@ -228,7 +228,7 @@ impl Reader {
     fn effect_list(&self, alloc: Global, scope: &Scope, parts: &[Form]) -> Result<Effect, Unread>
         ensures { Gives effect_seen result (reading.effect_of_list self.now scope.now (packed (trees_of parts.now))) }
     {
-        match rule_at(Place::Effect, parts)? {
+        match rule_at(Symbol::Effect, parts)? {
             Rule::If => {
                 let effects = self.effects(alloc, scope, &parts[2..]);
                 self.when(alloc, scope, &parts[1], effects)

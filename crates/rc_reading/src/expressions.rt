@@ -18,7 +18,7 @@ use crate::scope::Scope;
 use crate::sides::{Side, equal_read, side_word};
 use rc_ast::{CardExpr, CollExpr, Domain, IntExpr, Sort, Test};
 use rc_form::{Form, integer};
-use rc_grammar::{Keyword, Place, Rule, is_form_word};
+use rc_grammar::{Keyword, Rule, Symbol, is_form_word};
 use std::alloc::Global;
 
 impl Reader {
@@ -34,7 +34,7 @@ impl Reader {
             }
             Form::List { items, .. } => {
                 let parts = items.as_slice();
-                let rule = rule_at(Place::Card, parts)?;
+                let rule = rule_at(Symbol::Card, parts)?;
                 self.card_list(alloc, scope, rule, parts)
             }
         }
@@ -139,7 +139,7 @@ impl Reader {
             }
             Form::List { items, span } => {
                 let parts = items.as_slice();
-                let rule = rule_at(Place::Collection, parts)?;
+                let rule = rule_at(Symbol::Collection, parts)?;
                 self.collection_form(alloc, scope, span.from, rule, parts)
             }
         }
@@ -293,7 +293,7 @@ impl Reader {
             },
             Form::List { items, .. } => {
                 let parts = items.as_slice();
-                let rule = rule_at(Place::Integer, parts)?;
+                let rule = rule_at(Symbol::Integer, parts)?;
                 self.integer_list(alloc, scope, rule, parts)
             }
         }
@@ -384,7 +384,7 @@ impl Reader {
             Form::Atom { .. } => Err(Unread::Meaningless),
             Form::List { items, .. } => {
                 let parts = items.as_slice();
-                let rule = rule_at(Place::Test, parts)?;
+                let rule = rule_at(Symbol::Test, parts)?;
                 self.test_list(alloc, scope, rule, parts)
             }
         }
@@ -561,7 +561,7 @@ impl Reader {
             Form::Atom { word, .. } => side_word(scope, word.bytes()),
             Form::List { items, .. } => {
                 let parts = items.as_slice();
-                let rule = rule_at(Place::Side, parts)?;
+                let rule = rule_at(Symbol::Side, parts)?;
                 self.side_list(alloc, scope, rule, parts)
             }
         }

@@ -19,7 +19,7 @@ use crate::reader::Reader;
 use crate::scope::Scope;
 use rc_ast::{Best, Class, IntExpr, SheetItem, Test};
 use rc_form::Form;
-use rc_grammar::{Keyword, Place, Rule, is_form_word};
+use rc_grammar::{Keyword, Rule, Symbol, is_form_word};
 use rc_names::limits::{MOST_SITES, MOST_STAGES};
 use std::alloc::Global;
 
@@ -53,7 +53,7 @@ impl Reader {
         match form {
             Form::Atom { .. } => Err(Unread::Meaningless),
             Form::List { items, .. } => {
-                let rule = rule_at(Place::End, items)?;
+                let rule = rule_at(Symbol::End, items)?;
                 self.end_list(alloc, rule, items)
             }
         }
@@ -178,7 +178,7 @@ impl Reader {
         ensures { Gives item_read result
             (reading.item_of_list self.now (begun_seen begun) (packed (trees_of parts.now))) }
     {
-        match rule_at(Place::Item, parts)? {
+        match rule_at(Symbol::Item, parts)? {
             Rule::PlayerStage => { self.stage(alloc, begun, Class::Player, &parts[2], &parts[3..]) }
             Rule::TeamStage => self.stage(alloc, begun, Class::Team, &parts[2], &parts[3..]),
             rule => self.plain_item(alloc, begun, rule, parts),
@@ -238,7 +238,7 @@ impl Reader {
         match form {
             Form::Atom { .. } => Err(Unread::Meaningless),
             Form::List { items, .. } => {
-                let rule = rule_at(Place::Scoring, items)?;
+                let rule = rule_at(Symbol::Scoring, items)?;
                 self.score_list(alloc, rule, items)
             }
         }

@@ -13,7 +13,7 @@ use crate::reader::Reader;
 use crate::scope::Scope;
 use rc_ast::{Class, Loc, LocKind, Num, Who};
 use rc_form::Form;
-use rc_grammar::{Keyword, Place, Rule, is_form_word};
+use rc_grammar::{Keyword, Rule, Symbol, is_form_word};
 
 impl Reader {
     /// A location.
@@ -23,7 +23,7 @@ impl Reader {
     {
         match form {
             Form::Atom { .. } => Err(Unread::Meaningless),
-            Form::List { items, span } => match rule_at(Place::Location, items)? {
+            Form::List { items, span } => match rule_at(Symbol::Location, items)? {
                 Rule::Location => self.location_parts(scope, span.from, items),
                 _ => Err(Unread::Meaningless),
             },
@@ -73,7 +73,7 @@ impl Reader {
     {
         match form {
             Form::Atom { .. } => Err(Unread::Meaningless),
-            Form::List { items, .. } => match rule_at(Place::Counter, items)? {
+            Form::List { items, .. } => match rule_at(Symbol::Counter, items)? {
                 Rule::Counter => self.counter_parts(scope, items),
                 _ => Err(Unread::Meaningless),
             },

@@ -14,13 +14,13 @@ use crate::reader::Reader;
 use crate::scope::Scope;
 use rc_ast::{Sort, Word};
 use rc_form::Form;
-use rc_grammar::{Keyword, Place, Rule, is_form_word, is_variable, rule_of};
+use rc_grammar::{Keyword, Rule, Symbol, is_form_word, is_variable, rule_of};
 use rc_names::limits::MOST_VARIABLES;
 use std::alloc::Global;
 
 /// The form that a list has at a place, which has as many parts.
 #[tactic(auto, using(crate::proofs::Counts::count_packed))]
-pub fn rule_at(place: Place, parts: &[Form]) -> Result<Rule, Unread>
+pub fn rule_at(place: Symbol, parts: &[Form]) -> Result<Rule, Unread>
     ensures given { Gives (λ rule. rule) result (reading.rule_at place (packed (trees_of parts.now))) }
     ensures sized { IfOk result (λ rule. IsTrue (fits (length parts.now) rule)) }
 {

@@ -11,7 +11,7 @@ use crate::names::rule_at;
 use crate::scope::Scope;
 use rc_ast::{Sort, Who};
 use rc_form::Form;
-use rc_grammar::{Keyword, Place, Rule, is_form_word};
+use rc_grammar::{Keyword, Rule, Symbol, is_form_word};
 
 /// `game` or an owner.
 pub fn holder_at(scope: &Scope, form: &Form) -> Result<Who, Unread>
@@ -30,7 +30,7 @@ pub fn owner_at(scope: &Scope, form: &Form) -> Result<Who, Unread>
 {
     match form {
         Form::Atom { word, .. } => Ok(Who::Var(scope.variable(Sort::Player, word.bytes())?)),
-        Form::List { items, .. } => owner_rule(scope, rule_at(Place::Owner, items)?, items),
+        Form::List { items, .. } => owner_rule(scope, rule_at(Symbol::Owner, items)?, items),
     }
 }
 
@@ -65,7 +65,7 @@ fn player_at(scope: &Scope, form: &Form) -> Result<Who, Unread>
 {
     match form {
         Form::Atom { word, .. } => Ok(Who::Var(scope.variable(Sort::Player, word.bytes())?)),
-        Form::List { items, .. } => match rule_at(Place::Player, items)? {
+        Form::List { items, .. } => match rule_at(Symbol::Player, items)? {
             Rule::CurrentPlayer => Ok(Who::CurrentPlayer),
             _ => Err(Unread::Meaningless),
         },

@@ -9,7 +9,7 @@ use crate::fail::Unread;
 use crate::names::rule_at;
 use rc_ast::Teams;
 use rc_form::{Form, integer};
-use rc_grammar::{Place, Rule};
+use rc_grammar::{Rule, Symbol};
 use rc_names::limits::MOST_PLAYERS;
 use std::alloc::Global;
 
@@ -53,7 +53,7 @@ fn team_at(alloc: Global, form: &Form) -> Result<Vec<u8>, Unread>
     let Form::List { items, .. } = form else {
         return Err(Unread::Meaningless);
     };
-    match rule_at(Place::Team, items)? {
+    match rule_at(Symbol::Team, items)? {
         Rule::Team => members_at(alloc, items),
         _ => Err(Unread::Meaningless),
     }

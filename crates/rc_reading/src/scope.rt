@@ -11,7 +11,7 @@ use std::marker::Model;
 
 /// A variable that is bound around a place.
 #[derive(Clone, Copy, PartialEq, Eq, Debug)]
-pub struct Variable {
+pub struct ScopedVariable {
     pub word: Word,
     pub sort: Sort,
 }
@@ -19,7 +19,7 @@ pub struct Variable {
 /// The variables that are bound around a place, from outside to inside: `'SELF` and four more at most.
 #[derive(Drop)]
 pub struct Scope {
-    variables: Vec<Variable>,
+    variables: Vec<ScopedVariable>,
 }
 
 impl Model for Scope {
@@ -54,7 +54,7 @@ impl Scope {
         ensures memory { OnErr result (result ≡ Err Memory) }
     {
         let mut variables = Vec::new(alloc);
-        variables.push(Variable {
+        variables.push(ScopedVariable {
             word: Word::of(b"'SELF"),
             sort: Sort::Player,
         })?;
@@ -68,7 +68,7 @@ impl Scope {
         ensures memory { OnErr result (result ≡ Err Memory) }
     {
         let mut variables = Vec::from_slice(alloc, &self.variables)?;
-        variables.push(Variable { word: *word, sort })?;
+        variables.push(ScopedVariable { word: *word, sort })?;
         Ok(Scope { variables })
     }
 
@@ -125,7 +125,7 @@ impl Scope {
 }
 
 /// The place of a variable among these.
-fn place_among(variables: &[Variable], word: &[u8]) -> Option<usize>
+fn place_among(variables: &[ScopedVariable], word: &[u8]) -> Option<usize>
     ensures place { result ≡ position (λ variable. bytes_eq word.now variable.word) variables.now }
     ensures within { IfSome result (λ place. place < length variables.now) }
 {

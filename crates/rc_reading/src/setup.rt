@@ -13,7 +13,7 @@ use crate::reader::Reader;
 use rc_ast::{DeckLine, Teams};
 use rc_deck::PointMap;
 use rc_form::Form;
-use rc_grammar::{Place, Rule};
+use rc_grammar::{Rule, Symbol};
 use rc_names::limits::MOST_PLAYERS;
 use std::alloc::Global;
 
@@ -110,7 +110,7 @@ impl Reader {
         let Form::List { items, .. } = form else {
             return Err(Unread::Meaningless);
         };
-        self.line_rule(alloc, lines, rule_at(Place::Line, items)?, items)
+        self.line_rule(alloc, lines, rule_at(Symbol::Line, items)?, items)
     }
 
     /// One more line, of this form.

@@ -17,7 +17,7 @@ use crate::reader::Reader;
 use crate::setup::Setup;
 use rc_ast::Sheet;
 use rc_form::Form;
-use rc_grammar::{Place, Rule};
+use rc_grammar::{Rule, Symbol};
 use std::alloc::Global;
 
 impl Reader {
@@ -29,7 +29,7 @@ impl Reader {
         let Form::List { items, .. } = form else {
             return Err(Unread::Meaningless);
         };
-        match rule_at(Place::Sheet, items)? {
+        match rule_at(Symbol::Sheet, items)? {
             Rule::Game => self.game(alloc, items),
             _ => Err(Unread::Meaningless),
         }
@@ -65,7 +65,7 @@ impl Reader {
         let Form::List { items, .. } = form else {
             return Err(Unread::Meaningless);
         };
-        let Rule::Setup = rule_at(Place::Setup, items)? else {
+        let Rule::Setup = rule_at(Symbol::Setup, items)? else {
             return Err(Unread::Meaningless);
         };
         let Some((_, lines)) = items.split_first() else {

@@ -13,7 +13,7 @@ ghost use Rattle.rc_cache.specs.Hits.{hits, cost};
 ghost use Rattle.rc_cache.specs.Sums.{idle};
 
 use rc_cache::{
-    Book, Fresh, Naming, OwnBook, one_worker_has_the_hits_of_its_looks,
+    Book, BookNaming, Fresh, OwnBook, one_worker_has_the_hits_of_its_looks,
     one_worker_lacking_memory_takes_no_more_steps,
 };
 use rc_code::Code;
@@ -58,7 +58,7 @@ pub fn series_of<L: Ledger>(
 }
 
 // The matches of a plan, with a book of so many entries, and the standings.
-fn played<N: Naming, L: Ledger>(
+fn played<N: BookNaming, L: Ledger>(
     alloc: Global,
     fresh: Fresh,
     about: &Arc<About>,
@@ -97,7 +97,7 @@ fn played<N: Naming, L: Ledger>(
 }
 
 // Choices by a new book for one worker, on this code.
-fn own_choices<N: Naming>(
+fn own_choices<N: BookNaming>(
     alloc: Global,
     fresh: Fresh,
     about: &About,
@@ -117,7 +117,7 @@ fn own_choices<N: Naming>(
 }
 
 // A new book for one worker.
-fn own_book<N: Naming>(
+fn own_book<N: BookNaming>(
     alloc: Global,
     fresh: Fresh,
     about: &About,

@@ -11,7 +11,7 @@ use Rattle.rc_sheet_model.specs.Stands.{Stands}
 use Rattle.rc_sheet_model.specs.WellFormed.{IsWellFormed}
 use Rattle.rc_naming.specs.Naming.{naming_of}
 use Rattle.rc_grammar.specs.Faults.{faults, first}
-use Rattle.rc_grammar.specs.declared.grammar.Place.TheVariants as place
+use Rattle.rc_grammar.specs.declared.grammar.Symbol.TheVariants as symbol
 use Rattle.rc_grammar.specs.declared.fault.SheetFault.{SheetFault}
 use Rattle.rc_faults.specs.SecondFaults.{second_faults, or_fault, sheet_fault}
 use Rattle.rc_reading.specs.ReadSheet.{setup_form_at, sheet_at}
@@ -38,8 +38,8 @@ none_first [] [] none = (refl, refl)
 none_first [] (y ∷ ys) none = absurd cc
 none_first (x ∷ xs) ys none = absurd cc
 
-pub faultless : (tree : Tree) → sheet_fault tree ≡ None → (faults place.Sheet tree ≡ []) × (second_faults tree ≡ [])
-faultless tree none = none_first (faults place.Sheet tree) (second_faults tree) none
+pub faultless : (tree : Tree) → sheet_fault tree ≡ None → (faults symbol.Sheet tree ≡ []) × (second_faults tree ≡ [])
+faultless tree none = none_first (faults symbol.Sheet tree) (second_faults tree) none
 
 -- a form without a fault is a list, and what may be printed is none too deep
 pub printable : (tree : Tree) → sheet_fault tree ≡ None → IsOpenAtMost 64 tree → IsPrintable tree
@@ -62,7 +62,7 @@ none_read naming tree same none = ap (λ n. sheet_at n tree) (sym same) ∙ none
 -- A FORM WITHOUT A FAULT IS READ
 
 -- its setup is, and has what the form gives
-setup_is_fine : (tree : Tree) → faults place.Sheet tree ≡ [] → second_faults tree ≡ []
+setup_is_fine : (tree : Tree) → faults symbol.Sheet tree ≡ [] → second_faults tree ≡ []
     → SetupFinds (naming_of tree) (given_of tree) tree
 setup_is_fine tree shaped sound head setup rest from to is good =
     let naming = naming_of tree in

@@ -8,7 +8,7 @@ use Rattle.rc_model.specs.Limits.{most_variables}
 use Rattle.rc_sheet_model.specs.Naming.{Naming}
 use Rattle.rc_sheet_model.specs.FormMentions.{attr_mentions, value_mentions, map_mentions, var_mentions}
 use Rattle.rc_grammar.specs.Faults.{faults}
-use Rattle.rc_grammar.specs.declared.grammar.Place.TheVariants as place
+use Rattle.rc_grammar.specs.declared.grammar.Symbol.TheVariants as symbol
 use Rattle.rc_grammar.specs.declared.grammar.Rule.{Rule}
 use Rattle.rc_grammar.specs.declared.grammar.Rule.TheVariants as rule
 use Rattle.rc_faults.specs.Classes.{class_at}
@@ -48,7 +48,7 @@ fits_numbers all before (form at rule.Counter parts from) fine =
 fits_numbers all before (form at r parts from) fine = inl refl
 
 -- What is known of a form without a fault.
-module _ (tree : Tree) (shaped : faults place.Sheet tree ≡ []) (sound : second_faults tree ≡ []) where
+module _ (tree : Tree) (shaped : faults symbol.Sheet tree ≡ []) (sound : second_faults tree ≡ []) where
   abbrev all : List Part
   all = parts_of tree
 
@@ -212,7 +212,7 @@ module _ (tree : Tree) (shaped : faults place.Sheet tree ≡ []) (sound : second
       (one_of_all Roomy part all (all_roomy tree) is))
 
 -- THE LAW: a form without a fault has fine parts only.
-pub all_fine : (tree : Tree) → faults place.Sheet tree ≡ [] → second_faults tree ≡ []
+pub all_fine : (tree : Tree) → faults symbol.Sheet tree ≡ [] → second_faults tree ≡ []
     → All (IsFine (given_of tree) (naming_of tree)) (parts_of tree)
 all_fine tree shaped sound =
     All-from_recursion (IsFine (given_of tree) (naming_of tree)) (parts_of tree) (each_fine tree shaped sound)

@@ -6,8 +6,8 @@ use Rattle.std.proofs.lemmas.Option.{same_Some}
 use Rattle.rc_model.specs.Tree.{Trees}
 use Rattle.rc_grammar.specs.Grammar.{forms_of, front_of, more_of}
 use Rattle.rc_grammar.specs.Faults.{rule_of, behind_front, or_behind, place_at, count}
-use Rattle.rc_grammar.specs.declared.grammar.Place.{Place}
-use Rattle.rc_grammar.specs.declared.grammar.Place.TheVariants as place
+use Rattle.rc_grammar.specs.declared.grammar.Symbol.{Symbol}
+use Rattle.rc_grammar.specs.declared.grammar.Symbol.TheVariants as symbol
 use Rattle.rc_grammar.specs.declared.grammar.Rule.{Rule}
 use Rattle.rc_grammar.specs.declared.grammar.Rule.TheVariants as rule
 use Rattle.rc_faults.specs.declared.role.Role.{Role}
@@ -17,25 +17,25 @@ pub use Rattle.rc_faults.proofs.Learned.{standing_at}
 use Rattle.rc_sheet.proofs.Shapes.{rule_holds, refuses}
 
 -- no place of the setup
-abbrev pub is_body : Place → Bool
-is_body place.Sheet = false
-is_body place.Setup = false
-is_body place.Line = false
-is_body place.PlayerCount = false
-is_body place.Team = false
-is_body place.Member = false
-is_body place.Deck = false
-is_body place.Group = false
-is_body place.Branches = false
-is_body place.Branch = false
-is_body place.Entries = false
-is_body place.Entry = false
-is_body place.Values = false
-is_body place.Points = false
+abbrev pub is_body : Symbol → Bool
+is_body symbol.Sheet = false
+is_body symbol.Setup = false
+is_body symbol.Line = false
+is_body symbol.PlayerCount = false
+is_body symbol.Team = false
+is_body symbol.Member = false
+is_body symbol.Deck = false
+is_body symbol.Group = false
+is_body symbol.Branches = false
+is_body symbol.Branch = false
+is_body symbol.Entries = false
+is_body symbol.Entry = false
+is_body symbol.Values = false
+is_body symbol.Points = false
 is_body place = true
 
 -- a place or none
-abbrev pub is_body_or_none : Option Place → Bool
+abbrev pub is_body_or_none : Option Symbol → Bool
 is_body_or_none None = true
 is_body_or_none (Some place) = is_body place
 
@@ -52,11 +52,11 @@ is_used used_map = true
 is_used role = false
 
 -- only names are used
-abbrev pub fits_role : Place → Role → Bool
-fits_role place.Name role = true
+abbrev pub fits_role : Symbol → Role → Bool
+fits_role symbol.Name role = true
 fits_role place role = not (is_used role)
 
-abbrev pub fit_roles : List Place → List Role → Bool
+abbrev pub fit_roles : List Symbol → List Role → Bool
 fit_roles places [] = true
 fit_roles [] (role ∷ roles) = false
 fit_roles (place ∷ places) (role ∷ roles) = fits_role place role && fit_roles places roles
@@ -73,7 +73,7 @@ each_passes test (x ∷ xs) all =
     let both = and_parts (test x) (list_all test xs) all in (both.0, each_passes test xs both.1)
 
 -- a form behind a setup refuses words at a place where it must, as it is none of those that may take them
-pub all_refused : (takes : Bool) (r : Rule) (at : Option Place) (words : List (List ℕ))
+pub all_refused : (takes : Bool) (r : Rule) (at : Option Symbol) (words : List (List ℕ))
     → (takes || (not (is_body_rule r) || list_all (refuses at) words)) ≡ true → is_body_rule r ≡ true → takes ≡ false
     → AllByRecursion (λ bytes. refuses at bytes ≡ true) words
 all_refused takes r at words alone body quiet =
@@ -85,11 +85,11 @@ all_refused takes r at words alone body quiet =
     by false false c is body quiet = absurd cc
 
 -- the forms of such a place are such forms
-body_forms : (p : Place) → is_body p ≡ true → list_all is_body_rule (forms_of p) ≡ true
-body_forms place.Sheet is = absurd cc
+body_forms : (p : Symbol) → is_body p ≡ true → list_all is_body_rule (forms_of p) ≡ true
+body_forms symbol.Sheet is = absurd cc
 body_forms p is = cc
 
-pub body_rule : (p : Place) (parts : Trees) (r : Rule) → is_body p ≡ true → rule_of p parts ≡ Some r → is_body_rule r ≡ true
+pub body_rule : (p : Symbol) (parts : Trees) (r : Rule) → is_body p ≡ true → rule_of p parts ≡ Some r → is_body_rule r ≡ true
 body_rule p parts r is told = rule_holds (λ r. is_body_rule r ≡ true) p parts r told
     (each_passes is_body_rule (forms_of p) (body_forms p is))
 
@@ -108,18 +108,18 @@ all_pass test (y ∷ xs) zero x all is =
 all_pass test (y ∷ xs) (suc i) x all is = all_pass test xs i x (and_parts (test y) (list_all test xs) all).1 is
 
 -- the places behind the front, but for a sheet's, are those of more parts
-behind_body : (r : Rule) (last : Bool) (q : Place) → is_body_rule r ≡ true → is_body_or_none (more_of r) ≡ true
+behind_body : (r : Rule) (last : Bool) (q : Symbol) → is_body_rule r ≡ true → is_body_or_none (more_of r) ≡ true
     → behind_front r last ≡ Some q → is_body q ≡ true
 behind_body rule.Game last q body more is = absurd cc
 behind_body r last q body more is = subst (λ o. is_body_or_none o ≡ true) is more
 
-or_body : (found behind : Option Place) (q : Place) → or_behind found behind ≡ Some q → (found ≡ Some q → is_body q ≡ true)
+or_body : (found behind : Option Symbol) (q : Symbol) → or_behind found behind ≡ Some q → (found ≡ Some q → is_body q ≡ true)
     → (behind ≡ Some q → is_body q ≡ true) → is_body q ≡ true
 or_body (Some p) behind q is first second = first is
 or_body None behind q is first second = second is
 
 -- the parts of such a form stand behind the setup
-pub body_place : (r : Rule) (n i : ℕ) (q : Place) → is_body_rule r ≡ true → place_at r n i ≡ Some q → is_body q ≡ true
+pub body_place : (r : Rule) (n i : ℕ) (q : Symbol) → is_body_rule r ≡ true → place_at r n i ≡ Some q → is_body q ≡ true
 body_place r n i q body is =
     let both = body_places r body in
     or_body (slice_get (front_of r) i) (behind_front r (i + 1 == n)) q is
@@ -127,16 +127,16 @@ body_place r n i q body is =
     (λ found. behind_body r (i + 1 == n) q body both.1 found)
 
 -- any place takes no role
-pub no_role_fits : (p : Place) → fits_role p no_role ≡ true
-no_role_fits place.Name = refl
+pub no_role_fits : (p : Symbol) → fits_role p no_role ≡ true
+no_role_fits symbol.Name = refl
 no_role_fits p = refl
 
 -- any place takes a role that uses nothing
-unused_fits : (p : Place) (role : Role) → is_used role ≡ false → fits_role p role ≡ true
-unused_fits place.Name role is = refl
+unused_fits : (p : Symbol) (role : Role) → is_used role ≡ false → fits_role p role ≡ true
+unused_fits symbol.Name role is = refl
 unused_fits p role is = ap not is
 
-role_fits_place : (places : List Place) (roles : List Role) (i : ℕ) (behind : Option Place) (q : Place)
+role_fits_place : (places : List Symbol) (roles : List Role) (i : ℕ) (behind : Option Symbol) (q : Symbol)
     → fit_roles places roles ≡ true → or_behind (slice_get places i) behind ≡ Some q
     → fits_role q (slice_index_or roles i no_role) ≡ true
 role_fits_place places [] i behind q fit is = no_role_fits q
@@ -147,12 +147,12 @@ role_fits_place (p ∷ places) (role ∷ roles) (suc i) behind q fit is =
     role_fits_place places roles i behind q (and_parts (fits_role p role) (fit_roles places roles) fit).1 is
 
 -- a list is nothing that is used
-pub unused_list : (p : Place) (role : Role) (parts : Trees) (r : Rule) → fits_role p role ≡ true → rule_of p parts ≡ Some r
+pub unused_list : (p : Symbol) (role : Role) (parts : Trees) (r : Rule) → fits_role p role ≡ true → rule_of p parts ≡ Some r
     → is_used role ≡ false
 unused_list p role parts r fit told = by (is_used role) refl
   where
-    nameless : (p : Place) → is_used role ≡ true → fits_role p role ≡ true → forms_of p ≡ []
-    nameless place.Name used fit = refl
+    nameless : (p : Symbol) → is_used role ≡ true → fits_role p role ≡ true → forms_of p ≡ []
+    nameless symbol.Name used fit = refl
     nameless p used fit = absurd cc
 
     by : (b : Bool) → is_used role ≡ b → is_used role ≡ false
@@ -160,7 +160,7 @@ unused_list p role parts r fit told = by (is_used role) refl
     by true is =
         absurd (rule_holds (λ r. ⊥) p parts r told (subst (AllByRecursion (λ r. ⊥)) (sym (nameless p is fit)) tt))
 
-role_in_fits : (r : Rule) (outer : Role) (n i : ℕ) (q : Place) → is_used outer ≡ false → is_body_rule r ≡ true
+role_in_fits : (r : Rule) (outer : Role) (n i : ℕ) (q : Symbol) → is_used outer ≡ false → is_body_rule r ≡ true
     → place_at r n i ≡ Some q → fits_role q (role_in outer r i) ≡ true
 role_in_fits rule.TopOf outer n i q unused body is = unused_fits q outer unused
 role_in_fits rule.BottomOf outer n i q unused body is = unused_fits q outer unused
@@ -170,7 +170,7 @@ role_in_fits r outer n i q unused body is =
     role_fits_place (front_of r) (front_roles r) i (behind_front r (i + 1 == n)) q refl is
 
 -- a part of a form behind the setup stands there too
-pub body_inner : (at : Standing) (r : Rule) (parts : Trees) (i : ℕ) (q : Place) → IsBody at → rule_of at.place parts ≡ Some r
+pub body_inner : (at : Standing) (r : Rule) (parts : Trees) (i : ℕ) (q : Symbol) → IsBody at → rule_of at.place parts ≡ Some r
     → place_at r (count parts) i ≡ Some q → IsBody (standing_at at r parts i q)
 body_inner at r parts i q body told is =
     let form = body_rule at.place parts r body.placed told in

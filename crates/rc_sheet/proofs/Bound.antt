@@ -13,8 +13,8 @@ use Rattle.rc_grammar.specs.Keyword.{text_of}
 use Rattle.rc_grammar.specs.Faults.{faults, faults_at, faults_in, place_at, count, fits}
 use Rattle.rc_grammar.specs.declared.keyword.Keyword.{Keyword}
 use Rattle.rc_grammar.specs.declared.keyword.Keyword.TheVariants as keyword
-use Rattle.rc_grammar.specs.declared.grammar.Place.{Place}
-use Rattle.rc_grammar.specs.declared.grammar.Place.TheVariants as place
+use Rattle.rc_grammar.specs.declared.grammar.Symbol.{Symbol}
+use Rattle.rc_grammar.specs.declared.grammar.Symbol.TheVariants as symbol
 use Rattle.rc_grammar.specs.declared.grammar.Rule.{Rule}
 use Rattle.rc_grammar.specs.declared.grammar.Rule.TheVariants as rule
 use Rattle.rc_faults.specs.SecondParts.{Standing, Part, atom, form, parts_at, parts_in, parts_of, with_form, standing_in, standing_alone, is_binder, word_in}
@@ -95,8 +95,8 @@ plain_within r (cons h (cons t (cons v rest))) body quiet none =
 abbrev Binds : Trees → Type 0
 Binds parts = Among (word_in 2 parts) (bound_words parts) × Within (all_var_words parts) (bound_words parts)
 
-binder_within : (r : Rule) (k : Keyword) (parts : Trees) → (3 ≤ count parts) → ((n : ℕ) → place_at r n 0 ≡ Some (place.Word k))
-    → ((n : ℕ) → place_at r n 2 ≡ Some place.Variable) → ((from to : ℕ) → is_binder_head (word (text_of k) from to) ≡ true)
+binder_within : (r : Rule) (k : Keyword) (parts : Trees) → (3 ≤ count parts) → ((n : ℕ) → place_at r n 0 ≡ Some (symbol.Word k))
+    → ((n : ℕ) → place_at r n 2 ≡ Some symbol.Variable) → ((from to : ℕ) → is_binder_head (word (text_of k) from to) ≡ true)
     → faults_in r (count parts) 0 parts ≡ [] → Binds parts
 binder_within r k nil long first third begins none = absurd (omega (arith, long))
 binder_within r k (cons h nil) long first third begins none = absurd (omega (arith, long))
@@ -108,7 +108,7 @@ binder_within r k (cons h (cons t (cons v rest))) long first third begins none =
     let variable = none_in_both (faults_at (place_at r n 2) v) (faults_in r n 3 rest) second.1 in
     fixed_only k (λ h. Binds (cons h (cons t (cons v rest)))) h (subst (λ o. faults_at o h ≡ []) (first n) head.0)
     (λ from to.
-    atom_only place.Variable (λ v. Binds (cons (word (text_of k) from to) (cons t (cons v rest)))) v refl
+    atom_only symbol.Variable (λ v. Binds (cons (word (text_of k) from to) (cons t (cons v rest)))) v refl
     (subst (λ o. faults_at o v ≡ []) (third n) variable.0)
     (λ bytes from' to' is. (
       among_left bytes _ (all_var_words rest)
@@ -166,7 +166,7 @@ mutual
   row_binds : (at : Standing) (r : Rule) (all : Trees) (low index : ℕ) (trees : Trees) → low ≤ index
       → index + count trees ≡ count all
       → fits (count all) r ≡ true → faults_in r (count all) index trees ≡ []
-      → ((j : ℕ) (q : Place) → low ≤ j → place_at r (count all) j ≡ Some q → IsBody (standing_at at r all j q))
+      → ((j : ℕ) (q : Symbol) → low ≤ j → place_at r (count all) j ≡ Some q → IsBody (standing_at at r all j q))
       → Within (flat_map bound_by (parts_in at r all index trees)) (all_var_words trees)
   row_binds at r all low index nil above counted fit none each = λ x is. is
   row_binds at r all low index (cons tree trees) above counted fit none each =
@@ -188,8 +188,8 @@ abbrev no_binder : Rule → Bool
 no_binder rule.Game = false
 no_binder r = not (is_binder r)
 
-setup_lawful : (p : Place) → in_setup p ≡ true → list_all (λ r. no_binder r && lies_in in_setup r) (forms_of p) ≡ true
-setup_lawful place.Setup inside = refl
+setup_lawful : (p : Symbol) → in_setup p ≡ true → list_all (λ r. no_binder r && lies_in in_setup r) (forms_of p) ≡ true
+setup_lawful symbol.Setup inside = refl
 setup_lawful p inside = cc
 
 binds_nothing : (at : Standing) (r : Rule) (parts : Trees) (from : ℕ) → no_binder r ≡ true → bound_by (form at r parts from) ≡ []
@@ -197,13 +197,13 @@ binds_nothing at rule.Game parts from is = refl
 binds_nothing at r parts from is = cc
 
 -- what is bound in a form it mentions
-pub form_binds : (tree : Tree) → faults place.Sheet tree ≡ [] → Within (flat_map bound_by (parts_of tree)) (var_mentions tree)
+pub form_binds : (tree : Tree) → faults symbol.Sheet tree ≡ [] → Within (flat_map bound_by (parts_of tree)) (var_mentions tree)
 form_binds tree none =
     sheet_only (λ tree. Within (flat_map bound_by (parts_of tree)) (var_mentions tree)) tree none
     (λ a b c d e f from to lines rest shaped.
     let setup = setup_of c d e f lines in
     let all = parts_with a b setup rest in
-    let setup_at = standing_at standing_alone rule.Game all 1 place.Setup in
+    let setup_at = standing_at standing_alone rule.Game all 1 symbol.Setup in
     subst (λ l. Within l (all_var_words rest))
     (sym (flat_map-append bound_by (parts_at (Some setup_at) setup) (parts_in standing_alone rule.Game all 2 rest)
     ∙ ap (λ l. l ++ flat_map bound_by (parts_in standing_alone rule.Game all 2 rest))

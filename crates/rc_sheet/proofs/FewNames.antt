@@ -12,7 +12,7 @@ use Rattle.rc_model.specs.Limits.{most_attrs, most_values, most_maps}
 use Rattle.rc_model.specs.Words.{different, different_from}
 use Rattle.rc_sheet_model.specs.FormMentions.{attr_mentions, value_mentions, map_mentions, names_of}
 use Rattle.rc_grammar.specs.Faults.{faults}
-use Rattle.rc_grammar.specs.declared.grammar.Place.TheVariants as place
+use Rattle.rc_grammar.specs.declared.grammar.Symbol.TheVariants as symbol
 use Rattle.rc_grammar.specs.declared.grammar.Rule.TheVariants as rule
 use Rattle.rc_faults.specs.declared.role.Role.{Role}
 use Rattle.rc_faults.specs.declared.role.Role.TheVariants.{UsedAttribute as used_attribute, UsedValue as used_value, UsedMap as used_map, GivenValue as given_value}
@@ -181,7 +181,7 @@ either_within xs first second ys both one other x is =
     ⊎_elim (λ a. one x a) (λ b. other x b) (among_either x first second (both x is))
 
 -- THE LAWS: there are few attributes, values and point maps.
-module _ (tree : Tree) (shaped : faults place.Sheet tree ≡ []) (sound : second_faults tree ≡ []) where
+module _ (tree : Tree) (shaped : faults symbol.Sheet tree ≡ []) (sound : second_faults tree ≡ []) where
   faultless_parts : AllByRecursion (λ part. (before : List Part) × IsFaultless (parts_of tree) before part) (parts_of tree)
   faultless_parts = each_faultless (parts_of tree) [] (parts_of tree) sound
 

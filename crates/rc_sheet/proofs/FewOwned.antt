@@ -10,7 +10,7 @@ use Rattle.rc_model.specs.Limits.{most_locations, most_numbers}
 use Rattle.rc_model.specs.Words.{different}
 use Rattle.rc_sheet_model.specs.FormMentions.{names_of}
 use Rattle.rc_grammar.specs.Faults.{faults}
-use Rattle.rc_grammar.specs.declared.grammar.Place.TheVariants as place
+use Rattle.rc_grammar.specs.declared.grammar.Symbol.TheVariants as symbol
 use Rattle.rc_grammar.specs.declared.grammar.Rule.TheVariants as rule
 use Rattle.rc_sheet_model.specs.WellFormed.{owner_count_by}
 use Rattle.rc_faults.specs.SecondParts.{Part, atom, form, parts_of}
@@ -77,7 +77,7 @@ names_within mentions others within x is =
     subst (λ w. Among w (map name_of others)) (sym found.2) (among_map name_of found.0 others (within found.0 found.1))
 
 -- THE LAWS: there are few locations and stored numbers.
-module _ (tree : Tree) (shaped : faults place.Sheet tree ≡ []) (sound : second_faults tree ≡ [])
+module _ (tree : Tree) (shaped : faults symbol.Sheet tree ≡ []) (sound : second_faults tree ≡ [])
     (some : 1 ≤ player_count (parts_of tree)) (many : 1 ≤ team_count (parts_of tree)) where
   pub few_locations : length (names_of tree).locs ≤ most_locations
   few_locations =

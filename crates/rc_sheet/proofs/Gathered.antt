@@ -6,7 +6,7 @@ use Rattle.std.proofs.lemmas.Grind.{flat_map-append}
 use Rattle.rc_model.specs.Tree.{Tree, word, list, Trees, nil, cons}
 use Rattle.rc_sheet_model.specs.FormMentions.{gathered, all_gathered}
 use Rattle.rc_grammar.specs.Faults.{faults_at, faults_in, place_at, count, fits}
-use Rattle.rc_grammar.specs.declared.grammar.Place.{Place}
+use Rattle.rc_grammar.specs.declared.grammar.Symbol.{Symbol}
 use Rattle.rc_grammar.specs.declared.grammar.Rule.{Rule}
 use Rattle.rc_grammar.specs.declared.grammar.Rule.TheVariants as rule
 use Rattle.rc_faults.specs.declared.role.Role.{Role}
@@ -62,7 +62,7 @@ module _ {X : Type 0} (own : Trees → List X) (given : Part → List X) where
       -- the same of the parts of a form, where each stands behind the setup
       pub row_gives : (at : Standing) (r : Rule) (all : Trees) (low index : ℕ) (trees : Trees) → low ≤ index
           → index + count trees ≡ count all → fits (count all) r ≡ true → faults_in r (count all) index trees ≡ []
-          → ((j : ℕ) (q : Place) → low ≤ j → place_at r (count all) j ≡ Some q → IsBody (standing_at at r all j q))
+          → ((j : ℕ) (q : Symbol) → low ≤ j → place_at r (count all) j ≡ Some q → IsBody (standing_at at r all j q))
           → in_row at r all index trees ≡ flat_map given (parts_in at r all index trees)
       row_gives at r all low index nil above counted fit none each = refl
       row_gives at r all low index (cons tree trees) above counted fit none each =

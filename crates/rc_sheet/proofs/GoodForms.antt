@@ -7,7 +7,7 @@ use Rattle.rc_faults.specs.SecondParts.{Standing, standing_in}
 use Rattle.rc_faults.specs.declared.role.Role.TheVariants.{No as no_role}
 use Rattle.rc_grammar.specs.Grammar.{forms_of}
 use Rattle.rc_grammar.specs.Faults.{rule_of, count, fits}
-use Rattle.rc_grammar.specs.declared.grammar.Place.{Place}
+use Rattle.rc_grammar.specs.declared.grammar.Symbol.{Symbol}
 use Rattle.rc_grammar.specs.declared.grammar.Rule.{Rule}
 use Rattle.rc_reading.specs.ReadNames.{◌>>=◌, rule_at}
 use Rattle.rc_sheet.proofs.Fine.Common.{Given}
@@ -34,7 +34,7 @@ from_three P more (suc (suc zero)) le = absurd (omega (arith, le))
 from_three P more (suc (suc (suc i))) le = more i
 
 -- how a part stands that has no role of its own and nothing more around it
-abbrev pub plain_part : Standing → Place → Trees → Standing
+abbrev pub plain_part : Standing → Symbol → Trees → Standing
 plain_part at place all =
     record { place = place; role = no_role; beside = all; around = at.around; above = at.above ++ [] }
 
@@ -105,7 +105,7 @@ module _ (given : Given) (naming : Naming) (R : Tree → Type 0) where
       }
 
   -- a list says what each of the forms of its place says, or of another place with the same forms
-  pub list_says_by : {A : Type 0} {P : A → Type 0} (read : Rule → Trees → Option A) (place : Place) (at : Standing)
+  pub list_says_by : {A : Type 0} {P : A → Type 0} (read : Rule → Trees → Option A) (place : Symbol) (at : Standing)
       (parts : Trees) (from to : ℕ) → rule_of at.place parts ≡ rule_of place parts → Each R parts
       → IsGood given naming at (list parts from to) → AllByRecursion (λ rule. Says at rule read P parts) (forms_of place)
       → Finds (rule_at place parts >>= λ rule. read rule parts) P
@@ -118,7 +118,7 @@ module _ (given : Given) (naming : Naming) (R : Tree → Type 0) where
       told (rule ∷ rules) all = ((λ form. (all.0).says each form), told rules all.1)
 
   -- by its own place
-  pub list_says : {A : Type 0} {P : A → Type 0} (read : Rule → Trees → Option A) (place : Place) (at : Standing)
+  pub list_says : {A : Type 0} {P : A → Type 0} (read : Rule → Trees → Option A) (place : Symbol) (at : Standing)
       (parts : Trees) (from to : ℕ) → at.place ≡ place → Each R parts → IsGood given naming at (list parts from to)
       → AllByRecursion (λ rule. Says at rule read P parts) (forms_of place)
       → Finds (rule_at place parts >>= λ rule. read rule parts) P

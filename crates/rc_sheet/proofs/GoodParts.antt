@@ -7,7 +7,7 @@ use Rattle.rc_sheet_model.specs.Naming.{Naming}
 use Rattle.rc_faults.specs.SecondParts.{Standing, parts_at, parts_in, standing_in, with_form}
 use Rattle.rc_grammar.specs.Grammar.{forms_of}
 use Rattle.rc_grammar.specs.Faults.{faults_at, faults_in, told_faults, lacks_players, rule_of, place_at, count, fits}
-use Rattle.rc_grammar.specs.declared.grammar.Place.{Place}
+use Rattle.rc_grammar.specs.declared.grammar.Symbol.{Symbol}
 use Rattle.rc_grammar.specs.declared.grammar.Rule.{Rule}
 use Rattle.rc_reading.specs.ReadNames.{◌>>=◌, sized, rule_at}
 use Rattle.rc_sheet.proofs.Fine.Common.{Given, IsFine, IsFineForm}
@@ -100,7 +100,7 @@ module _ (given : Given) (naming : Naming) where
     pub good : AreGood at rule parts 0 parts
 
   -- where a place is known, a tree stands in it as its shape and its parts say
-  good_at : (found : Option Place) (stand : Place → Standing) (tree : Tree) → ((place : Place) → (stand place).place ≡ place)
+  good_at : (found : Option Symbol) (stand : Symbol → Standing) (tree : Tree) → ((place : Symbol) → (stand place).place ≡ place)
       → faults_at found tree ≡ [] → AllByRecursion (IsFine given naming) (parts_at (option_map stand found) tree)
       → GoodAt (option_map stand found) tree
   good_at None stand tree same shaped fine = tt
@@ -135,7 +135,7 @@ module _ (given : Given) (naming : Naming) where
   good_form at parts from to good = form_at at parts from (rule_of at.place parts) refl good.shaped good.fine
 
   -- a list at a place with one form is of that form
-  pub only_form : (p : Place) (r : Rule) (at : Standing) (parts : Trees) (from to : ℕ) → at.place ≡ p
+  pub only_form : (p : Symbol) (r : Rule) (at : Standing) (parts : Trees) (from to : ℕ) → at.place ≡ p
       → AllByRecursion (λ x. x ≡ r) (forms_of p) → IsGood at (list parts from to) → IsGoodForm at r parts
   only_form p r at parts from to here only good =
       let found = good_form at parts from to good in
@@ -144,7 +144,7 @@ module _ (given : Given) (naming : Naming) where
 
   -- What a list says is found where it is found by each of the forms that it may have. The forms may be told of another place
   -- that has the same.
-  pub finds_by : {A : Type 0} {P : A → Type 0} (read : Rule → Option A) (place : Place) (at : Standing) (parts : Trees)
+  pub finds_by : {A : Type 0} {P : A → Type 0} (read : Rule → Option A) (place : Symbol) (at : Standing) (parts : Trees)
       (from to : ℕ) → rule_of at.place parts ≡ rule_of place parts → IsGood at (list parts from to)
       → AllByRecursion (λ rule. IsGoodForm at rule parts → Finds (read rule) P) (forms_of place)
       → Finds (rule_at place parts >>= read) P
@@ -156,7 +156,7 @@ module _ (given : Given) (naming : Naming) where
       (sized_finds (count parts) found.0 read found.1.fit (found_form found.1))
 
   -- the same by its own place
-  pub list_finds : {A : Type 0} {P : A → Type 0} (read : Rule → Option A) (place : Place) (at : Standing) (parts : Trees)
+  pub list_finds : {A : Type 0} {P : A → Type 0} (read : Rule → Option A) (place : Symbol) (at : Standing) (parts : Trees)
       (from to : ℕ) → at.place ≡ place → IsGood at (list parts from to)
       → AllByRecursion (λ rule. IsGoodForm at rule parts → Finds (read rule) P) (forms_of place)
       → Finds (rule_at place parts >>= read) P
@@ -164,7 +164,7 @@ module _ (given : Given) (naming : Naming) where
       finds_by read place at parts from to (ap (λ p. rule_of p parts) here) good each
 
   -- no list stands where there are no forms
-  pub no_list : (place : Place) (at : Standing) (parts : Trees) (from to : ℕ) → at.place ≡ place → IsGood at (list parts from to)
+  pub no_list : (place : Symbol) (at : Standing) (parts : Trees) (from to : ℕ) → at.place ≡ place → IsGood at (list parts from to)
       → forms_of place ≡ [] → ⊥
   no_list place at parts from to here good none =
       let found = good_form at parts from to good in

@@ -4,8 +4,8 @@ use Rattle.std.specs.List.{list_any, list_all}
 use Rattle.std.proofs.lemmas.Bool.{cond-false, not-true}
 use Rattle.rc_model.specs.Tree.{Tree, Trees}
 use Rattle.rc_grammar.specs.Grammar.{forms_of}
-use Rattle.rc_grammar.specs.declared.grammar.Place.{Place}
-use Rattle.rc_grammar.specs.declared.grammar.Place.TheVariants as place
+use Rattle.rc_grammar.specs.declared.grammar.Symbol.{Symbol}
+use Rattle.rc_grammar.specs.declared.grammar.Symbol.TheVariants as symbol
 use Rattle.rc_grammar.specs.declared.grammar.Rule.{Rule}
 use Rattle.rc_grammar.specs.declared.grammar.Rule.TheVariants as rule
 use Rattle.rc_faults.specs.declared.role.Role.{Role}
@@ -26,26 +26,26 @@ pub never_roles : (quiet : Rule → Bool) (r : Rule) (outer : Role) (index : ℕ
 never_roles quiet r outer index is none = refl
 
 -- the places of a setup
-abbrev pub in_setup : Place → Bool
-in_setup place.Setup = true
-in_setup place.Line = true
-in_setup place.PlayerCount = true
-in_setup place.Team = true
-in_setup place.Member = true
-in_setup place.Deck = true
-in_setup place.Group = true
-in_setup place.Branches = true
-in_setup place.Branch = true
-in_setup place.Entries = true
-in_setup place.Entry = true
-in_setup place.Values = true
-in_setup place.Points = true
-in_setup (place.Word keyword) = true
-in_setup place.Name = true
-in_setup place.Location = true
-in_setup place.Holder = true
-in_setup place.Kind = true
-in_setup place.Player = true
+abbrev pub in_setup : Symbol → Bool
+in_setup symbol.Setup = true
+in_setup symbol.Line = true
+in_setup symbol.PlayerCount = true
+in_setup symbol.Team = true
+in_setup symbol.Member = true
+in_setup symbol.Deck = true
+in_setup symbol.Group = true
+in_setup symbol.Branches = true
+in_setup symbol.Branch = true
+in_setup symbol.Entries = true
+in_setup symbol.Entry = true
+in_setup symbol.Values = true
+in_setup symbol.Points = true
+in_setup (symbol.Word keyword) = true
+in_setup symbol.Name = true
+in_setup symbol.Location = true
+in_setup symbol.Holder = true
+in_setup symbol.Kind = true
+in_setup symbol.Player = true
 in_setup place = false
 
 -- forms that use nothing and are no stored number
@@ -61,8 +61,8 @@ uses_roles rule.Counter outer index quiet none = absurd cc
 uses_roles r outer index quiet none = quiet_role is_used r outer index (not-true (list_any is_used
     (front_roles r)) quiet) none refl refl
 
-setup_lawful : (p : Place) → in_setup p ≡ true → list_all (λ r. uses_nothing r && lies_in in_setup r) (forms_of p) ≡ true
-setup_lawful place.Setup inside = refl
+setup_lawful : (p : Symbol) → in_setup p ≡ true → list_all (λ r. uses_nothing r && lies_in in_setup r) (forms_of p) ≡ true
+setup_lawful symbol.Setup inside = refl
 setup_lawful p inside = cc
 
 -- nothing is used in a setup
@@ -87,19 +87,19 @@ no_number_in_setup at tree inside none =
     (λ at bytes from quiet. refl) no_counter at tree inside none
 
 -- the places of faces, entries and teams
-abbrev pub in_faces : Place → Bool
-in_faces place.Team = true
-in_faces place.Member = true
-in_faces place.Deck = true
-in_faces place.Group = true
-in_faces place.Branches = true
-in_faces place.Branch = true
-in_faces place.Entries = true
-in_faces place.Entry = true
-in_faces place.Values = true
-in_faces place.Points = true
-in_faces (place.Word keyword) = true
-in_faces place.Name = true
+abbrev pub in_faces : Symbol → Bool
+in_faces symbol.Team = true
+in_faces symbol.Member = true
+in_faces symbol.Deck = true
+in_faces symbol.Group = true
+in_faces symbol.Branches = true
+in_faces symbol.Branch = true
+in_faces symbol.Entries = true
+in_faces symbol.Entry = true
+in_faces symbol.Values = true
+in_faces symbol.Points = true
+in_faces (symbol.Word keyword) = true
+in_faces symbol.Name = true
 in_faces place = false
 
 -- forms that are no location and no line of points
@@ -109,8 +109,8 @@ no_name rule.Location = false
 no_name rule.PutPoints = false
 no_name r = true
 
-faces_lawful : (p : Place) → in_faces p ≡ true → list_all (λ r. no_name r && lies_in in_faces r) (forms_of p) ≡ true
-faces_lawful place.Team inside = refl
+faces_lawful : (p : Symbol) → in_faces p ≡ true → list_all (λ r. no_name r && lies_in in_faces r) (forms_of p) ≡ true
+faces_lawful symbol.Team inside = refl
 faces_lawful p inside = cc
 
 no_location_form : (at : Standing) (r : Rule) (parts : Trees) (from : ℕ) → no_name r ≡ true
@@ -134,17 +134,17 @@ no_map_in_faces at tree inside =
     (λ at bytes from quiet. refl) no_map_form at tree inside refl
 
 -- the places of teams
-abbrev pub in_teams : Place → Bool
-in_teams place.Team = true
-in_teams place.Member = true
+abbrev pub in_teams : Symbol → Bool
+in_teams symbol.Team = true
+in_teams symbol.Member = true
 in_teams place = false
 
 abbrev is_team : Rule → Bool
 is_team rule.Team = true
 is_team r = false
 
-teams_lawful : (p : Place) → in_teams p ≡ true → list_all (λ r. is_team r && lies_in in_teams r) (forms_of p) ≡ true
-teams_lawful place.Team inside = refl
+teams_lawful : (p : Symbol) → in_teams p ≡ true → list_all (λ r. is_team r && lies_in in_teams r) (forms_of p) ≡ true
+teams_lawful symbol.Team inside = refl
 teams_lawful p inside = cc
 
 -- a value is given by its role alone
@@ -176,33 +176,33 @@ no_location_team at rule.Team parts from quiet = refl
 no_location_team at r parts from quiet = absurd cc
 
 -- the parts of teams give nothing
-pub no_attribute_in_team : (at : Standing) (tree : Tree) → at.place ≡ place.Team → is_given at.role ≡ false
+pub no_attribute_in_team : (at : Standing) (tree : Tree) → at.place ≡ symbol.Team → is_given at.role ≡ false
     → flat_map attributes_in (parts_at (Some at) tree) ≡ []
 no_attribute_in_team at tree here none =
     tree_silent attributes_in in_teams is_team is_given teams_lawful refl team_roles
     (λ at bytes from quiet. refl) no_attribute_team at tree (ap in_teams here) none
 
-pub no_value_in_team : (at : Standing) (tree : Tree) → at.place ≡ place.Team → is_given at.role ≡ false
+pub no_value_in_team : (at : Standing) (tree : Tree) → at.place ≡ symbol.Team → is_given at.role ≡ false
     → flat_map values_in (parts_at (Some at) tree) ≡ []
 no_value_in_team at tree here none =
     tree_silent values_in in_teams is_team is_given teams_lawful refl team_roles
     (λ at bytes from quiet. no_value at.role bytes quiet) (λ at r parts from quiet. refl) at tree (ap in_teams here) none
 
-pub no_map_in_team : (at : Standing) (tree : Tree) → at.place ≡ place.Team → is_given at.role ≡ false
+pub no_map_in_team : (at : Standing) (tree : Tree) → at.place ≡ symbol.Team → is_given at.role ≡ false
     → flat_map maps_in (parts_at (Some at) tree) ≡ []
 no_map_in_team at tree here none =
     tree_silent maps_in in_teams is_team is_given teams_lawful refl team_roles
     (λ at bytes from quiet. refl) no_map_team at tree (ap in_teams here) none
 
-pub no_location_in_team : (at : Standing) (tree : Tree) → at.place ≡ place.Team → is_given at.role ≡ false
+pub no_location_in_team : (at : Standing) (tree : Tree) → at.place ≡ symbol.Team → is_given at.role ≡ false
     → flat_map locations_in (parts_at (Some at) tree) ≡ []
 no_location_in_team at tree here none =
     tree_silent locations_in in_teams is_team is_given teams_lawful refl team_roles
     (λ at bytes from quiet. refl) no_location_team at tree (ap in_teams here) none
 
 -- behind a setup
-body_lawful : (p : Place) → is_body p ≡ true → list_all (λ r. is_body_rule r && lies_in is_body r) (forms_of p) ≡ true
-body_lawful place.Sheet inside = absurd cc
+body_lawful : (p : Symbol) → is_body p ≡ true → list_all (λ r. is_body_rule r && lies_in is_body r) (forms_of p) ≡ true
+body_lawful symbol.Sheet inside = absurd cc
 body_lawful p inside = cc
 
 no_given : (r : Rule) → is_body_rule r ≡ true → list_any is_given (front_roles r) ≡ false

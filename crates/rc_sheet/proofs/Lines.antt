@@ -8,8 +8,8 @@ use Rattle.rc_sheet_model.specs.StandsSetup.{begins_with, lines_with}
 use Rattle.rc_grammar.specs.Keyword.{text_of}
 use Rattle.rc_grammar.specs.Faults.{faults_at, faults_in, rule_of, place_at, count, fits}
 use Rattle.rc_grammar.specs.declared.keyword.Keyword.TheVariants as keyword
-use Rattle.rc_grammar.specs.declared.grammar.Place.{Place}
-use Rattle.rc_grammar.specs.declared.grammar.Place.TheVariants as place
+use Rattle.rc_grammar.specs.declared.grammar.Symbol.{Symbol}
+use Rattle.rc_grammar.specs.declared.grammar.Symbol.TheVariants as symbol
 use Rattle.rc_grammar.specs.declared.grammar.Rule.{Rule}
 use Rattle.rc_grammar.specs.declared.grammar.Rule.TheVariants as rule
 use Rattle.rc_faults.specs.declared.role.Role.TheVariants.{No as no_role}
@@ -41,7 +41,7 @@ in_lines in_deck in_points nil = []
 in_lines in_deck in_points (cons line lines) = in_line in_deck in_points line ++ in_lines in_deck in_points lines
 
 -- more teams stand behind the two words of their line
-teams_place : (n j : ℕ) (q : Place) → 2 ≤ j → place_at rule.CreateTeams n j ≡ Some q → q ≡ place.Team
+teams_place : (n j : ℕ) (q : Symbol) → 2 ≤ j → place_at rule.CreateTeams n j ≡ Some q → q ≡ symbol.Team
 teams_place n zero q above is = absurd (omega (arith, above))
 teams_place n (suc zero) q above is = absurd (omega (arith, above))
 teams_place n (suc (suc j)) q above is = cc
@@ -55,17 +55,17 @@ module _
     (players_give : (at : Standing) (parts : Trees) (from : ℕ) → given (form at rule.CreatePlayers parts from) ≡ [])
     (teams_give : (at : Standing) (parts : Trees) (from : ℕ) → given (form at rule.CreateTeams parts from) ≡ [])
     (deck_gives : (at : Standing) (parts : Trees) (from : ℕ) → given (form at rule.CreateDeck parts from) ≡ [])
-    (team_gives : (at : Standing) (tree : Tree) → at.place ≡ place.Team → is_given at.role ≡ false
+    (team_gives : (at : Standing) (tree : Tree) → at.place ≡ symbol.Team → is_given at.role ≡ false
     → flat_map given (parts_at (Some at) tree) ≡ [])
     (deck_parts : (at : Standing) (all : Trees) (a b c d from to : ℕ) (loc deck : Tree)
-    → faults_at (Some place.Location) loc ≡ [] → faults_at (Some place.Deck) deck ≡ []
-    → flat_map given (parts_at (Some (standing_at at rule.CreateDeck all 2 place.Location)) loc)
-    ++ flat_map given (parts_at (Some (standing_at at rule.CreateDeck all 3 place.Deck)) deck)
+    → faults_at (Some symbol.Location) loc ≡ [] → faults_at (Some symbol.Deck) deck ≡ []
+    → flat_map given (parts_at (Some (standing_at at rule.CreateDeck all 2 symbol.Location)) loc)
+    ++ flat_map given (parts_at (Some (standing_at at rule.CreateDeck all 3 symbol.Deck)) deck)
     ≡ in_deck (list (deck_line a b c d loc deck) from to))
     (points_parts : (at : Standing) (all : Trees) (a b c d : ℕ) (bytes : List ℕ) (e f from to : ℕ) (entries : Tree)
-    → faults_at (Some place.Entries) entries ≡ []
+    → faults_at (Some symbol.Entries) entries ≡ []
     → given (form at rule.PutPoints (points_line a b c d bytes e f entries) from)
-    ++ flat_map given (parts_at (Some (standing_at at rule.PutPoints all 3 place.Entries)) entries)
+    ++ flat_map given (parts_at (Some (standing_at at rule.PutPoints all 3 symbol.Entries)) entries)
     ≡ in_points (list (points_line a b c d bytes e f entries) from to))
   where
     -- what a list gives whose form is known is what its line says
@@ -80,22 +80,22 @@ module _
         three_only
         (λ parts. faults_in rule.CreatePlayers (count parts) 0 parts ≡ [] → Says at from to rule.CreatePlayers parts) parts fit
         (λ x y z none.
-        let first = none_in_both (faults_at (Some (place.Word keyword.Create)) x) _ none in
-        let second = none_in_both (faults_at (Some (place.Word keyword.Players)) y) _ first.1 in
-        let third = none_in_both (faults_at (Some place.PlayerCount) z) [] second.1 in
+        let first = none_in_both (faults_at (Some (symbol.Word keyword.Create)) x) _ none in
+        let second = none_in_both (faults_at (Some (symbol.Word keyword.Players)) y) _ first.1 in
+        let third = none_in_both (faults_at (Some symbol.PlayerCount) z) [] second.1 in
         fixed_only keyword.Create (λ x. Says at from to rule.CreatePlayers (cons x (cons y (cons z nil)))) x first.0
         (λ a b.
         let x = word (text_of keyword.Create) a b in
         fixed_only keyword.Players (λ y. Says at from to rule.CreatePlayers (cons x (cons y (cons z nil)))) y second.0
         (λ c d.
         let y = word (text_of keyword.Players) c d in
-        atom_only place.PlayerCount (λ z. Says at from to rule.CreatePlayers (cons x (cons y (cons z nil)))) z refl third.0
+        atom_only symbol.PlayerCount (λ z. Says at from to rule.CreatePlayers (cons x (cons y (cons z nil)))) z refl third.0
         (λ bytes e f is.
         let all = cons x (cons y (cons (word bytes e f) nil)) in
         ap₂ (λ l m. l ++ m) (players_give at all from)
-        (ap₂ (λ l m. l ++ m) (plain_gives (standing_at at rule.CreatePlayers all 0 (place.Word keyword.Create)) _ a refl)
-        (ap₂ (λ l m. l ++ m) (plain_gives (standing_at at rule.CreatePlayers all 1 (place.Word keyword.Players)) _ c refl)
-        (ap (λ l. l ++ []) (plain_gives (standing_at at rule.CreatePlayers all 2 place.PlayerCount) bytes e refl))))))))
+        (ap₂ (λ l m. l ++ m) (plain_gives (standing_at at rule.CreatePlayers all 0 (symbol.Word keyword.Create)) _ a refl)
+        (ap₂ (λ l m. l ++ m) (plain_gives (standing_at at rule.CreatePlayers all 1 (symbol.Word keyword.Players)) _ c refl)
+        (ap (λ l. l ++ []) (plain_gives (standing_at at rule.CreatePlayers all 2 symbol.PlayerCount) bytes e refl))))))))
         none
 
     deck_says : (at : Standing) (from to : ℕ) (parts : Trees) → fits (count parts) rule.CreateDeck ≡ true
@@ -104,21 +104,21 @@ module _
         four_only
         (λ parts. faults_in rule.CreateDeck (count parts) 0 parts ≡ [] → Says at from to rule.CreateDeck parts) parts fit
         (λ x y loc deck none.
-        let first = none_in_both (faults_at (Some (place.Word keyword.Create)) x) _ none in
-        let second = none_in_both (faults_at (Some (place.Word keyword.Deck)) y) _ first.1 in
-        let third = none_in_both (faults_at (Some place.Location) loc) _ second.1 in
-        let fourth = none_in_both (faults_at (Some place.Deck) deck) [] third.1 in
+        let first = none_in_both (faults_at (Some (symbol.Word keyword.Create)) x) _ none in
+        let second = none_in_both (faults_at (Some (symbol.Word keyword.Deck)) y) _ first.1 in
+        let third = none_in_both (faults_at (Some symbol.Location) loc) _ second.1 in
+        let fourth = none_in_both (faults_at (Some symbol.Deck) deck) [] third.1 in
         fixed_only keyword.Create (λ x. Says at from to rule.CreateDeck (cons x (cons y (cons loc (cons deck nil))))) x first.0
         (λ a b.
         let x = word (text_of keyword.Create) a b in
         fixed_only keyword.Deck (λ y. Says at from to rule.CreateDeck (cons x (cons y (cons loc (cons deck nil))))) y second.0
         (λ c d.
         let all = deck_line a b c d loc deck in
-        let in_loc = parts_at (Some (standing_at at rule.CreateDeck all 2 place.Location)) loc in
-        let in_cards = parts_at (Some (standing_at at rule.CreateDeck all 3 place.Deck)) deck in
+        let in_loc = parts_at (Some (standing_at at rule.CreateDeck all 2 symbol.Location)) loc in
+        let in_cards = parts_at (Some (standing_at at rule.CreateDeck all 3 symbol.Deck)) deck in
         ap₂ (λ l m. l ++ m) (deck_gives at all from)
-        (ap₂ (λ l m. l ++ m) (plain_gives (standing_at at rule.CreateDeck all 0 (place.Word keyword.Create)) _ a refl)
-        (ap₂ (λ l m. l ++ m) (plain_gives (standing_at at rule.CreateDeck all 1 (place.Word keyword.Deck)) _ c refl)
+        (ap₂ (λ l m. l ++ m) (plain_gives (standing_at at rule.CreateDeck all 0 (symbol.Word keyword.Create)) _ a refl)
+        (ap₂ (λ l m. l ++ m) (plain_gives (standing_at at rule.CreateDeck all 1 (symbol.Word keyword.Deck)) _ c refl)
         (flat_map-append given in_loc (in_cards ++ [])
         ∙ ap (λ l. flat_map given in_loc ++ flat_map given l) (append-nil in_cards)
         ∙ deck_parts at all a b c d from to loc deck third.0 fourth.0
@@ -131,25 +131,25 @@ module _
         four_only
         (λ parts. faults_in rule.PutPoints (count parts) 0 parts ≡ [] → Says at from to rule.PutPoints parts) parts fit
         (λ x y map entries none.
-        let first = none_in_both (faults_at (Some (place.Word keyword.Put)) x) _ none in
-        let second = none_in_both (faults_at (Some (place.Word keyword.Points)) y) _ first.1 in
-        let third = none_in_both (faults_at (Some place.Name) map) _ second.1 in
-        let fourth = none_in_both (faults_at (Some place.Entries) entries) [] third.1 in
+        let first = none_in_both (faults_at (Some (symbol.Word keyword.Put)) x) _ none in
+        let second = none_in_both (faults_at (Some (symbol.Word keyword.Points)) y) _ first.1 in
+        let third = none_in_both (faults_at (Some symbol.Name) map) _ second.1 in
+        let fourth = none_in_both (faults_at (Some symbol.Entries) entries) [] third.1 in
         fixed_only keyword.Put (λ x. Says at from to rule.PutPoints (cons x (cons y (cons map (cons entries nil))))) x first.0
         (λ a b.
         let x = word (text_of keyword.Put) a b in
         fixed_only keyword.Points (λ y. Says at from to rule.PutPoints (cons x (cons y (cons map (cons entries nil))))) y second.0
         (λ c d.
         let y = word (text_of keyword.Points) c d in
-        atom_only place.Name (λ map. Says at from to rule.PutPoints (cons x (cons y (cons map
+        atom_only symbol.Name (λ map. Says at from to rule.PutPoints (cons x (cons y (cons map
         (cons entries nil))))) map refl third.0
         (λ bytes e f is.
         let all = points_line a b c d bytes e f entries in
-        let in_entries = parts_at (Some (standing_at at rule.PutPoints all 3 place.Entries)) entries in
+        let in_entries = parts_at (Some (standing_at at rule.PutPoints all 3 symbol.Entries)) entries in
         ap (λ l. given (form at rule.PutPoints all from) ++ l)
-        (ap₂ (λ l m. l ++ m) (plain_gives (standing_at at rule.PutPoints all 0 (place.Word keyword.Put)) _ a refl)
-        (ap₂ (λ l m. l ++ m) (plain_gives (standing_at at rule.PutPoints all 1 (place.Word keyword.Points)) _ c refl)
-        (ap₂ (λ l m. l ++ m) (plain_gives (standing_at at rule.PutPoints all 2 place.Name) bytes e refl)
+        (ap₂ (λ l m. l ++ m) (plain_gives (standing_at at rule.PutPoints all 0 (symbol.Word keyword.Put)) _ a refl)
+        (ap₂ (λ l m. l ++ m) (plain_gives (standing_at at rule.PutPoints all 1 (symbol.Word keyword.Points)) _ c refl)
+        (ap₂ (λ l m. l ++ m) (plain_gives (standing_at at rule.PutPoints all 2 symbol.Name) bytes e refl)
         (ap (flat_map given) (append-nil in_entries)))))
         ∙ points_parts at all a b c d bytes e f from to entries fourth.0))))
         none
@@ -160,9 +160,9 @@ module _
     teams_say at from to (cons x nil) fit none = absurd cc
     teams_say at from to (cons x (cons y teams)) fit none =
         let n = count (cons x (cons y teams)) in
-        let first = none_in_both (faults_at (Some (place.Word keyword.Create)) x) (faults_in rule.CreateTeams n 1
+        let first = none_in_both (faults_at (Some (symbol.Word keyword.Create)) x) (faults_in rule.CreateTeams n 1
         (cons y teams)) none in
-        let second = none_in_both (faults_at (Some (place.Word keyword.Teams)) y)
+        let second = none_in_both (faults_at (Some (symbol.Word keyword.Teams)) y)
         (faults_in rule.CreateTeams n 2 teams) first.1 in
         fixed_only keyword.Create (λ x. Says at from to rule.CreateTeams (cons x (cons y teams))) x first.0
         (λ a b.
@@ -171,23 +171,23 @@ module _
         (λ c d.
         let all = cons x (cons (word (text_of keyword.Teams) c d) teams) in
         ap₂ (λ l m. l ++ m) (teams_give at all from)
-        (ap₂ (λ l m. l ++ m) (plain_gives (standing_at at rule.CreateTeams all 0 (place.Word keyword.Create)) _ a refl)
-        (ap₂ (λ l m. l ++ m) (plain_gives (standing_at at rule.CreateTeams all 1 (place.Word keyword.Teams)) _ c refl)
+        (ap₂ (λ l m. l ++ m) (plain_gives (standing_at at rule.CreateTeams all 0 (symbol.Word keyword.Create)) _ a refl)
+        (ap₂ (λ l m. l ++ m) (plain_gives (standing_at at rule.CreateTeams all 1 (symbol.Word keyword.Teams)) _ c refl)
         (row_none given at rule.CreateTeams all 2 2 teams (omega arith)
         (λ j q tree above is.
         team_gives (standing_at at rule.CreateTeams all j q) tree (teams_place (count all) j q above is) refl))))))
 
     -- a line gives what it says
-    pub line_gives : (at : Standing) → at.place ≡ place.Line → (line : Tree) → faults_at (Some place.Line) line ≡ []
+    pub line_gives : (at : Standing) → at.place ≡ symbol.Line → (line : Tree) → faults_at (Some symbol.Line) line ≡ []
         → flat_map given (parts_at (Some at) line) ≡ in_line in_deck in_points line
     line_gives at here (word bytes from to) none = absurd cc
     line_gives at here (list parts from to) none =
-        let shape = shape_of place.Line parts from to none in
+        let shape = shape_of symbol.Line parts from to none in
         ap (λ o. flat_map given (with_form at parts from (λ r. parts_in at r parts 0 parts) o))
         (ap (λ p. rule_of p parts) here ∙ shape.told)
         ∙ rule_holds
         (λ r. fits (count parts) r ≡ true → faults_in r (count parts) 0 parts ≡ [] → Says at from to r parts)
-        place.Line parts shape.form shape.told (
+        symbol.Line parts shape.form shape.told (
           players_say at from to parts,
           (
             teams_say at from to parts,
@@ -207,12 +207,12 @@ module _
         let apart = none_in_both (faults_at (place_at rule.Setup (count all) index) line)
         (faults_in rule.Setup (count all) (index + 1) lines) none in
         let here = line_place (count all) index above in
-        let stands : standing_in at rule.Setup all index ≡ Some (standing_at at rule.Setup all index place.Line) =
+        let stands : standing_in at rule.Setup all index ≡ Some (standing_at at rule.Setup all index symbol.Line) =
         ap (λ o. option_map (λ q. standing_at at rule.Setup all index q) o) here in
         flat_map-append given (parts_at (standing_in at rule.Setup all index) line) (parts_in at rule.Setup all (index + 1) lines)
         ∙ ap₂ (λ l m. l ++ m)
         (ap (λ o. flat_map given (parts_at o line)) stands
-        ∙ line_gives (standing_at at rule.Setup all index place.Line) refl line (subst (λ o. faults_at o line ≡ []) here apart.0))
+        ∙ line_gives (standing_at at rule.Setup all index symbol.Line) refl line (subst (λ o. faults_at o line ≡ []) here apart.0))
         (lines_give at all (index + 1) lines (omega (arith, above)) apart.1)
 
 -- a line that is chosen, and others

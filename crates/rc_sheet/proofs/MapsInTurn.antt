@@ -11,7 +11,7 @@ use Rattle.rc_model.specs.Words.{different, different_from}
 use Rattle.rc_sheet_model.specs.StandsSetup.{begins_with, lines_with}
 use Rattle.rc_sheet_model.specs.FormMentions.{all_gathered, map_word, points_map, map_mentions}
 use Rattle.rc_grammar.specs.Faults.{faults, rule_of}
-use Rattle.rc_grammar.specs.declared.grammar.Place.TheVariants as place
+use Rattle.rc_grammar.specs.declared.grammar.Symbol.TheVariants as symbol
 use Rattle.rc_grammar.specs.declared.grammar.Rule.{Rule}
 use Rattle.rc_grammar.specs.declared.grammar.Rule.TheVariants as rule
 use Rattle.rc_faults.specs.SecondParts.{Standing, Part, atom, form, parts_at, parts_in, parts_of, with_form, word_in}
@@ -46,7 +46,7 @@ in_turn_of_both maps earlier (part ∷ first) second are =
 
 -- the parts of a line of points begin with its form
 pub line_in_turn : (maps : List (List ℕ)) (earlier : List Part) (at : Standing) (parts : Trees) (from to : ℕ)
-    → at.place ≡ place.Line → rule_of place.Line parts ≡ Some rule.PutPoints
+    → at.place ≡ symbol.Line → rule_of symbol.Line parts ≡ Some rule.PutPoints
     → AreInTurn maps earlier (parts_at (Some at) (list parts from to))
     → position (bytes_eq (word_in 2 parts)) maps ≡ Some (length (flat_map maps_in earlier))
 line_in_turn maps earlier at parts from to here told are =
@@ -193,7 +193,7 @@ points_alone (cons line lines) =
     by false false later same = same
 
 -- they are the first that the form mentions
-pub maps_first : (tree : Tree) → faults place.Sheet tree ≡ []
+pub maps_first : (tree : Tree) → faults symbol.Sheet tree ≡ []
     → (more : List (List ℕ)) × (map_mentions tree ≡ flat_map maps_in (parts_of tree) ++ more)
 maps_first tree shaped =
     sheet_only (λ tree. (more : List (List ℕ)) × (map_mentions tree ≡ flat_map maps_in (parts_of tree) ++ more)) tree shaped
@@ -203,7 +203,7 @@ maps_first tree shaped =
     ))
 
 -- THE LAW: the maps of a form without a fault are numbered in turn.
-pub maps_in_turn : (tree : Tree) → faults place.Sheet tree ≡ [] → second_faults tree ≡ []
+pub maps_in_turn : (tree : Tree) → faults symbol.Sheet tree ≡ [] → second_faults tree ≡ []
     → AreInTurn (naming_of tree).names.maps [] (parts_of tree)
 maps_in_turn tree shaped sound =
     let all = parts_of tree in

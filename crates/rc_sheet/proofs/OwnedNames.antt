@@ -11,7 +11,7 @@ use Rattle.rc_sheet_model.specs.Naming.{sheet_naming}
 use Rattle.rc_sheet_model.specs.FormMentions.{all_gathered}
 use Rattle.rc_sheet_model.specs.WellFormed.{owner_count}
 use Rattle.rc_grammar.specs.Faults.{faults}
-use Rattle.rc_grammar.specs.declared.grammar.Place.TheVariants as place
+use Rattle.rc_grammar.specs.declared.grammar.Symbol.TheVariants as symbol
 use Rattle.rc_sheet_model.specs.WellFormed.{owner_count_by}
 use Rattle.rc_faults.specs.SecondParts.{parts_of}
 use Rattle.rc_faults.specs.SecondNames.{player_count, team_count, locations_in, numbers_of, owned, OwnedMention}
@@ -45,7 +45,7 @@ decks_alone f (cons line lines) =
     (decks_alone f lines)
 
 -- the parts of a form mention the locations that it mentions, in order
-pub locations_are : (tree : Tree) → faults place.Sheet tree ≡ [] → flat_map locations_in (parts_of tree) ≡ all_locations tree
+pub locations_are : (tree : Tree) → faults symbol.Sheet tree ≡ [] → flat_map locations_in (parts_of tree) ≡ all_locations tree
 locations_are tree shaped =
     sheet_only (λ tree. flat_map locations_in (parts_of tree) ≡ all_locations tree) tree shaped
     (λ a b c d e f from to lines rest shape. locations_give a b c d e f from to lines rest shape
@@ -72,7 +72,7 @@ nums_owned count count' same number (mention ∷ mentions) =
     ∙ ap₂ (λ m n. m + n) (sym (same mention.class)) (nums_owned count count' same (number + 1) mentions)
     ∙ sym (sum_by-cons (λ (mention : OwnedMention). count' mention.class) mention mentions)
 
-module _ (tree : Tree) (sheet : Sheet) (shaped : faults place.Sheet tree ≡ []) (sound : second_faults tree ≡ [])
+module _ (tree : Tree) (sheet : Sheet) (shaped : faults symbol.Sheet tree ≡ []) (sound : second_faults tree ≡ [])
     (is : sheet_at (naming_of tree) tree ≡ Some sheet) where
   counts : HasCounts tree sheet
   counts = counts_are (naming_of tree) tree sheet is

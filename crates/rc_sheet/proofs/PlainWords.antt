@@ -10,8 +10,8 @@ use Rattle.rc_sheet_model.specs.FormMentions.{is_binder as is_binder_head}
 use Rattle.rc_sheet_model.specs.WellFormed.{is_atom, is_plain_word, is_variable_word, HasWords}
 use Rattle.rc_grammar.specs.Faults.{atom_kind, unless, faults, faults_at, faults_in, place_at, count, fits}
 use Rattle.rc_grammar.specs.declared.fault.SheetKind.TheVariants.{Shape}
-use Rattle.rc_grammar.specs.declared.grammar.Place.{Place}
-use Rattle.rc_grammar.specs.declared.grammar.Place.TheVariants as place
+use Rattle.rc_grammar.specs.declared.grammar.Symbol.{Symbol}
+use Rattle.rc_grammar.specs.declared.grammar.Symbol.TheVariants as symbol
 use Rattle.rc_grammar.specs.declared.grammar.Rule.{Rule}
 use Rattle.rc_grammar.specs.declared.grammar.Rule.TheVariants as rule
 use Rattle.rc_faults.specs.declared.role.Role.{Role}
@@ -47,16 +47,16 @@ variable_atom bytes stands fine =
     ap₂ (λ a b. a && b) stands (taken (is_variable bytes) Shape fine)
 
 -- where a name is wanted stands a plain word
-plain_tree : (tree : Tree) → IsOfAtoms tree → faults_at (Some place.Name) tree ≡ [] → is_plain_word (bytes_of tree) ≡ true
+plain_tree : (tree : Tree) → IsOfAtoms tree → faults_at (Some symbol.Name) tree ≡ [] → is_plain_word (bytes_of tree) ≡ true
 plain_tree tree atoms none =
-    atom_only place.Name (λ tree. IsOfAtoms tree → is_plain_word (bytes_of tree) ≡ true) tree refl none
+    atom_only symbol.Name (λ tree. IsOfAtoms tree → is_plain_word (bytes_of tree) ≡ true) tree refl none
     (λ bytes from to fine stands. plain_atom bytes (atom_is bytes stands) fine) atoms
 
 -- where a variable is wanted stands one
-variable_tree : (x : List ℕ) (tree : Tree) → IsOfAtoms tree → faults_at (Some place.Variable) tree ≡ [] → Among x (word_of tree)
+variable_tree : (x : List ℕ) (tree : Tree) → IsOfAtoms tree → faults_at (Some symbol.Variable) tree ≡ [] → Among x (word_of tree)
     → is_variable_word x ≡ true
 variable_tree x tree atoms none is =
-    atom_only place.Variable (λ tree. IsOfAtoms tree → Among x (word_of tree) → is_variable_word x ≡ true) tree refl none
+    atom_only symbol.Variable (λ tree. IsOfAtoms tree → Among x (word_of tree) → is_variable_word x ≡ true) tree refl none
     (λ bytes from to fine stands one.
     ⊎_elim (λ same. subst (λ w. is_variable_word w ≡ true) (sym same) (variable_atom bytes (atom_is bytes stands) fine))
     (λ more. absurd more) one)
@@ -66,7 +66,7 @@ variable_tree x tree atoms none is =
 
 -- the name at this index of a form
 plain_at : (r : Rule) (i : ℕ) (parts : Trees) → IsShapedForm r parts → i < count parts
-    → place_at r (count parts) i ≡ Some place.Name → is_plain_word (word_in i parts) ≡ true
+    → place_at r (count parts) i ≡ Some symbol.Name → is_plain_word (word_in i parts) ≡ true
 plain_at r i parts shaped less named =
     plain_tree (part_at i parts) (atoms_at i parts shaped.atoms)
     (subst (λ o. faults_at o (part_at i parts) ≡ []) named
@@ -97,10 +97,10 @@ map_plain (form at r parts from) shaped x is = absurd is
 map_plain (atom at bytes from) shaped x is = absurd is
 
 -- a place where a value may be given takes plain words
-value_place : (p : Place) (bytes : List ℕ) → may_give p given_value ≡ true → atom_kind p bytes ≡ None
+value_place : (p : Symbol) (bytes : List ℕ) → may_give p given_value ≡ true → atom_kind p bytes ≡ None
     → unless (not (is_variable bytes)) Shape ≡ None
-value_place place.Name bytes gives fine = fine
-value_place place.Branch bytes gives fine = fine
+value_place symbol.Name bytes gives fine = fine
+value_place symbol.Branch bytes gives fine = fine
 value_place p bytes gives fine = absurd cc
 
 value_plain : (part : Part) → IsShaped part → (x : List ℕ) → Among x (values_in part) → is_plain_word x ≡ true
@@ -197,7 +197,7 @@ bound_or_inner x (cons head (cons domain (cons var rest))) is =
         inr (among_right x (var_words head) _ (among_right x (var_words domain) _ (among_left x (var_words var) _ one)))
 
 -- the third part of a binder is a variable
-third_variable : (r : Rule) (n : ℕ) → is_binder r ≡ true → place_at r n 2 ≡ Some place.Variable
+third_variable : (r : Rule) (n : ℕ) → is_binder r ≡ true → place_at r n 2 ≡ Some symbol.Variable
 third_variable rule.Filter n is = refl
 third_variable rule.AnyOf n is = refl
 third_variable rule.Each n is = refl
@@ -244,7 +244,7 @@ mutual
   row_variables : (at : Standing) (r : Rule) (all : Trees) (low index : ℕ) (trees : Trees) → low ≤ index
       → index + count trees ≡ count all
       → fits (count all) r ≡ true → faults_in r (count all) index trees ≡ [] → AreOfAtoms trees
-      → ((j : ℕ) (q : Place) → low ≤ j → place_at r (count all) j ≡ Some q → IsBody (standing_at at r all j q))
+      → ((j : ℕ) (q : Symbol) → low ≤ j → place_at r (count all) j ≡ Some q → IsBody (standing_at at r all j q))
       → (x : List ℕ) → Among x (all_var_words trees) → is_variable_word x ≡ true
   row_variables at r all low index nil above counted fit none atoms each = λ x is. absurd is
   row_variables at r all low index (cons tree trees) above counted fit none atoms each =
@@ -257,7 +257,7 @@ mutual
       λ x is. ⊎_elim (λ one. here x one) (λ one. later x one) (among_either x (var_words tree) (all_var_words trees) is)
 
 -- the variables of a form without a fault
-variables_are : (tree : Tree) → faults place.Sheet tree ≡ [] → IsOfAtoms tree
+variables_are : (tree : Tree) → faults symbol.Sheet tree ≡ [] → IsOfAtoms tree
     → (x : List ℕ) → Among x (var_mentions tree) → is_variable_word x ≡ true
 variables_are tree shaped =
     sheet_only (λ tree. IsOfAtoms tree → (x : List ℕ) → Among x (var_mentions tree) → is_variable_word x ≡ true) tree shaped
@@ -269,7 +269,7 @@ variables_are tree shaped =
 -- THE LAW
 
 -- a sheet that is read off a form without a fault has words, where the form has atoms
-pub has_words : (tree : Tree) (sheet : Sheet) → faults place.Sheet tree ≡ [] → second_faults tree ≡ [] → IsOfAtoms tree
+pub has_words : (tree : Tree) (sheet : Sheet) → faults symbol.Sheet tree ≡ [] → second_faults tree ≡ [] → IsOfAtoms tree
     → sheet_at (naming_of tree) tree ≡ Some sheet → HasWords sheet
 has_words tree sheet shaped sound atoms is =
     let all = parts_of tree in

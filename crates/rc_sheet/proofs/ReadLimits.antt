@@ -6,7 +6,7 @@ use Rattle.rc_sheet_model.specs.Mentions.{stages_in, sites_in}
 use Rattle.rc_model.specs.Limits.{most_players, most_stages, most_sites}
 use Rattle.rc_sheet_model.specs.Naming.{Naming}
 use Rattle.rc_grammar.specs.Faults.{count}
-use Rattle.rc_grammar.specs.declared.grammar.Place.TheVariants as place
+use Rattle.rc_grammar.specs.declared.grammar.Symbol.TheVariants as symbol
 use Rattle.rc_grammar.specs.declared.grammar.Rule.{Rule}
 use Rattle.rc_grammar.specs.declared.grammar.Rule.TheVariants as rule
 use Rattle.rc_reading.specs.ReadNames.{◌>>=◌, ensure, rule_at}
@@ -51,7 +51,7 @@ mutual
       → Means (item_at naming begun tree) (λ p. HasRoom p.1)
   item_fits naming begun (word bytes from to) room = nothing
   item_fits naming begun (list parts from to) room =
-      behind (rule_at place.Item parts) _ (anything (rule_at place.Item parts))
+      behind (rule_at symbol.Item parts) _ (anything (rule_at symbol.Item parts))
       (λ rule told. item_rule_fits naming begun rule parts room)
 
   -- by its rule
@@ -138,7 +138,7 @@ line_few : (naming : Naming) (before : Lines) (tree : Tree) → FewPlayers befor
 unfolding line_at
 line_few naming before (word bytes from to) few = nothing
 line_few naming before (list parts from to) few =
-    behind (rule_at place.Line parts) (λ rule. line_rule naming before rule parts) (anything (rule_at place.Line parts))
+    behind (rule_at symbol.Line parts) (λ rule. line_rule naming before rule parts) (anything (rule_at symbol.Line parts))
     (λ rule u. line_rule_few naming before rule parts few)
 
 lines_few : (naming : Naming) (before : Lines) (trees : Trees) → FewPlayers before.players
@@ -165,7 +165,7 @@ setup_few : (naming : Naming) (tree : Tree)
 unfolding setup_form_at
 setup_few naming (word bytes from to) = nothing
 setup_few naming (list parts from to) =
-    behind (rule_at place.Setup parts) (λ rule. setup_rule naming rule parts) (anything (rule_at place.Setup parts))
+    behind (rule_at symbol.Setup parts) (λ rule. setup_rule naming rule parts) (anything (rule_at symbol.Setup parts))
     (λ rule u. setup_rule_few naming rule parts)
 
 -- A WHOLE SHEET
@@ -190,5 +190,5 @@ pub sheet_few : (naming : Naming) (tree : Tree) → Means (sheet_at naming tree)
 unfolding sheet_at
 sheet_few naming (word bytes from to) = nothing
 sheet_few naming (list parts from to) =
-    behind (rule_at place.Sheet parts) (λ rule. game_rule naming rule parts) (anything (rule_at place.Sheet parts))
+    behind (rule_at symbol.Sheet parts) (λ rule. game_rule naming rule parts) (anything (rule_at symbol.Sheet parts))
     (λ rule u. game_rule_few naming rule parts)

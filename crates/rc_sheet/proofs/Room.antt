@@ -6,7 +6,7 @@ use Rattle.rc_model.specs.Tree.{Tree, word, list, Trees, nil, cons}
 use Rattle.rc_sheet_model.specs.Sheet.{Sort}
 use Rattle.rc_sheet_model.specs.WellFormed.{Around, in_repeat}
 use Rattle.rc_grammar.specs.Faults.{rule_of, place_at, count}
-use Rattle.rc_grammar.specs.declared.grammar.Place.{Place}
+use Rattle.rc_grammar.specs.declared.grammar.Symbol.{Symbol}
 use Rattle.rc_grammar.specs.declared.grammar.Rule.{Rule}
 use Rattle.rc_grammar.specs.declared.grammar.Rule.TheVariants as rule
 use Rattle.rc_faults.specs.Classes.{bound_in}
@@ -55,8 +55,8 @@ form_roomy : (at : Standing) (parts : Trees) (from : ℕ) (found : Option Rule) 
 form_roomy at parts from None inner room within = tt
 form_roomy at parts from (Some r) inner room within = (room, within r)
 
-placed_roomy : (at : Standing) (r : Rule) (all : Trees) (index : ℕ) (o : Option Place) (tree : Tree)
-    → ((q : Place) → AllByRecursion Roomy (parts_at (Some (standing_at at r all index q)) tree))
+placed_roomy : (at : Standing) (r : Rule) (all : Trees) (index : ℕ) (o : Option Symbol) (tree : Tree)
+    → ((q : Symbol) → AllByRecursion Roomy (parts_at (Some (standing_at at r all index q)) tree))
     → AllByRecursion Roomy (parts_at (option_map (λ q. standing_at at r all index q) o) tree)
 placed_roomy at r all index None (word bytes from to) each = tt
 placed_roomy at r all index None (list parts from to) each = tt

@@ -9,8 +9,8 @@ use Rattle.rc_sheet_model.specs.Sheet.{Sheet}
 use Rattle.rc_sheet_model.specs.Naming.{Naming}
 use Rattle.rc_grammar.specs.Grammar.{forms_of, front_of}
 use Rattle.rc_grammar.specs.Faults.{rule_of, or_behind, place_at, count}
-use Rattle.rc_grammar.specs.declared.grammar.Place.{Place}
-use Rattle.rc_grammar.specs.declared.grammar.Place.TheVariants as place
+use Rattle.rc_grammar.specs.declared.grammar.Symbol.{Symbol}
+use Rattle.rc_grammar.specs.declared.grammar.Symbol.TheVariants as symbol
 use Rattle.rc_grammar.specs.declared.grammar.Rule.{Rule}
 use Rattle.rc_grammar.specs.declared.grammar.Rule.TheVariants as rule
 use Rattle.rc_faults.specs.SecondParts.{Standing, Part, atom, form, parts_at, parts_in, parts_of, with_form, standing_in, standing_alone}
@@ -26,10 +26,10 @@ use Rattle.rc_sheet.proofs.Whole.{game_body}
 use Rattle.rc_sheet.proofs.Shapes.{line_place}
 
 -- the places below the lines of a setup, and behind it
-abbrev pub below_lines : Place → Bool
-below_lines place.Sheet = false
-below_lines place.Setup = false
-below_lines place.Line = false
+abbrev pub below_lines : Symbol → Bool
+below_lines symbol.Sheet = false
+below_lines symbol.Setup = false
+below_lines symbol.Line = false
 below_lines place = true
 
 -- the forms of those places
@@ -42,27 +42,27 @@ is_below rule.CreateDeck = false
 is_below rule.PutPoints = false
 is_below r = true
 
-pub below_lawful : (p : Place) → below_lines p ≡ true → list_all (λ r. is_below r && lies_in below_lines r) (forms_of p) ≡ true
-below_lawful place.Sheet inside = absurd cc
+pub below_lawful : (p : Symbol) → below_lines p ≡ true → list_all (λ r. is_below r && lies_in below_lines r) (forms_of p) ≡ true
+below_lawful symbol.Sheet inside = absurd cc
 below_lawful p inside = cc
 
 -- what stands behind the setup does so
-pub body_below : (p : Place) → is_body p ≡ true → below_lines p ≡ true
-body_below place.Sheet is = absurd cc
-body_below place.Setup is = absurd cc
-body_below place.Line is = absurd cc
+pub body_below : (p : Symbol) → is_body p ≡ true → below_lines p ≡ true
+body_below symbol.Sheet is = absurd cc
+body_below symbol.Setup is = absurd cc
+body_below symbol.Line is = absurd cc
 body_below p is = refl
 
 -- a place or none
-abbrev below_or_none : Option Place → Bool
+abbrev below_or_none : Option Symbol → Bool
 below_or_none None = true
 below_or_none (Some p) = below_lines p
 
-front_below : (front : List Place) (more : Option Place) (j : ℕ) (q : Place) → list_all below_lines front ≡ true
+front_below : (front : List Symbol) (more : Option Symbol) (j : ℕ) (q : Symbol) → list_all below_lines front ≡ true
     → below_or_none more ≡ true → or_behind (slice_get front j) more ≡ Some q → below_lines q ≡ true
 front_below front more j q fronts mores is = by (slice_get front j) refl is
   where
-    by : (o : Option Place) → slice_get front j ≡ o → or_behind o more ≡ Some q → below_lines q ≡ true
+    by : (o : Option Symbol) → slice_get front j ≡ o → or_behind o more ≡ Some q → below_lines q ≡ true
     by None at is = subst (λ o. below_or_none o ≡ true) is mores
     by (Some p) at is = all_pass below_lines front j q fronts (at ∙ is)
 
@@ -74,9 +74,9 @@ is_line_rule rule.CreateDeck = true
 is_line_rule rule.PutPoints = true
 is_line_rule r = false
 
-pub line_parts : (r : Rule) → is_line_rule r ≡ true → (n j : ℕ) (q : Place) → place_at r n j ≡ Some q → below_lines q ≡ true
+pub line_parts : (r : Rule) → is_line_rule r ≡ true → (n j : ℕ) (q : Symbol) → place_at r n j ≡ Some q → below_lines q ≡ true
 line_parts rule.CreatePlayers line n j q is = front_below (front_of rule.CreatePlayers) None j q refl refl is
-line_parts rule.CreateTeams line n j q is = front_below (front_of rule.CreateTeams) (Some place.Team) j q refl refl is
+line_parts rule.CreateTeams line n j q is = front_below (front_of rule.CreateTeams) (Some symbol.Team) j q refl refl is
 line_parts rule.CreateDeck line n j q is = front_below (front_of rule.CreateDeck) None j q refl refl is
 line_parts rule.PutPoints line n j q is = front_below (front_of rule.PutPoints) None j q refl refl is
 line_parts r line n j q is = absurd cc
@@ -117,13 +117,13 @@ module _
         (λ j q tree above is. none_below (standing_at at r parts j q) tree (line_parts r line (count parts) j q is))
 
     -- a line
-    line_adds : (before : Lines) (at : Standing) (tree : Tree) → at.place ≡ place.Line
+    line_adds : (before : Lines) (at : Standing) (tree : Tree) → at.place ≡ symbol.Line
         → Means (line_at naming before tree) (λ next. known before ++ flat_map given (parts_at (Some at) tree) ≡ known next)
     unfolding line_at
     line_adds before at (word bytes from to) here = nothing
     line_adds before at (list parts from to) here =
-        behind (rule_at place.Line parts) (λ r. line_rule naming before r parts)
-        (sized_is (count parts) (rule_of place.Line parts))
+        behind (rule_at symbol.Line parts) (λ r. line_rule naming before r parts)
+        (sized_is (count parts) (rule_of symbol.Line parts))
         (λ r told. weaker (line_rule naming before r parts) (lines before at r parts from)
         (λ next adds.
         ap (λ o. known before ++ flat_map given (with_form at parts from (λ r. parts_in at r parts 0 parts) o))
@@ -138,12 +138,12 @@ module _
         (λ next. known before ++ flat_map given (parts_in at rule.Setup all index trees) ≡ known next)
     lines_add before at all index nil above = something before (append-nil (known before))
     lines_add before at all index (cons tree trees) above =
-        let stands : standing_in at rule.Setup all index ≡ Some (standing_at at rule.Setup all index place.Line) =
+        let stands : standing_in at rule.Setup all index ≡ Some (standing_at at rule.Setup all index symbol.Line) =
         ap (λ o. option_map (λ q. standing_at at rule.Setup all index q) o) (line_place (count all) index above) in
         let here = parts_at (standing_in at rule.Setup all index) tree in
         let later = parts_in at rule.Setup all (index + 1) trees in
         behind (line_at naming before tree) (λ next. lines_at naming next trees)
-        (line_adds before (standing_at at rule.Setup all index place.Line) tree refl)
+        (line_adds before (standing_at at rule.Setup all index symbol.Line) tree refl)
         (λ next adds. weaker (lines_at naming next trees) (lines_add next at all (index + 1) trees (omega (arith, above)))
         (λ last more.
         ap (λ l. known before ++ l) (flat_map-append given here later)
@@ -177,12 +177,12 @@ module _
     setup_rule_adds at from r parts = nothing
 
     -- a setup
-    setup_adds : (at : Standing) (tree : Tree) → at.place ≡ place.Setup
+    setup_adds : (at : Standing) (tree : Tree) → at.place ≡ symbol.Setup
         → Means (setup_form_at naming tree) (λ setup. flat_map given (parts_at (Some at) tree) ≡ known (lines_in setup))
     unfolding setup_form_at
     setup_adds at (word bytes from to) here = nothing
     setup_adds at (list parts from to) here =
-        behind (rule_at place.Setup parts) (λ r. setup_rule naming r parts) (sized_is (count parts) (rule_of place.Setup parts))
+        behind (rule_at symbol.Setup parts) (λ r. setup_rule naming r parts) (sized_is (count parts) (rule_of symbol.Setup parts))
         (λ r told. weaker (setup_rule naming r parts) (setup_rule_adds at from r parts)
         (λ setup adds.
         ap (λ o. flat_map given (with_form at parts from (λ r. parts_in at r parts 0 parts) o))
@@ -197,7 +197,7 @@ module _
     unfolding game_parts
     game_rule_adds from rule.Game (cons head (cons setup rest)) =
         let all = cons head (cons setup rest) in
-        let setup_at = standing_at standing_alone rule.Game all 1 place.Setup in
+        let setup_at = standing_at standing_alone rule.Game all 1 symbol.Setup in
         let first = parts_at (standing_in standing_alone rule.Game all 0) head in
         let second = parts_at (Some setup_at) setup in
         let later = parts_in standing_alone rule.Game all 2 rest in
@@ -221,7 +221,7 @@ module _
     unfolding sheet_at
     sheet_adds (word bytes from to) = nothing
     sheet_adds (list parts from to) =
-        behind (rule_at place.Sheet parts) (λ r. game_rule naming r parts) (sized_is (count parts) (rule_of place.Sheet parts))
+        behind (rule_at symbol.Sheet parts) (λ r. game_rule naming r parts) (sized_is (count parts) (rule_of symbol.Sheet parts))
         (λ r told. weaker (game_rule naming r parts) (game_rule_adds from r parts)
         (λ sheet adds.
         ap (λ o. flat_map given (with_form standing_alone parts from (λ r. parts_in standing_alone r parts 0 parts) o)) told

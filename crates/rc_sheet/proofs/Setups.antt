@@ -6,7 +6,7 @@ use Rattle.rc_sheet_model.specs.FormMentions.{gathered, words_of, group_attr_wor
 use Rattle.rc_grammar.specs.Keyword.{text_of}
 use Rattle.rc_grammar.specs.Faults.{faults_at, faults_in, rule_of, place_at, count}
 use Rattle.rc_grammar.specs.declared.keyword.Keyword.TheVariants as keyword
-use Rattle.rc_grammar.specs.declared.grammar.Place.TheVariants as place
+use Rattle.rc_grammar.specs.declared.grammar.Symbol.TheVariants as symbol
 use Rattle.rc_grammar.specs.declared.grammar.Rule.{Rule}
 use Rattle.rc_grammar.specs.declared.grammar.Rule.TheVariants as rule
 use Rattle.rc_faults.specs.declared.role.Role.{Role}
@@ -38,18 +38,18 @@ module _
     (head_gives : (at : Standing) (bytes : List ℕ) (from : ℕ) → at.role ≡ no_role → given (atom at bytes from) ≡ [])
     (deck_gives : (at : Standing) (parts : Trees) (from : ℕ) → given (form at rule.Deck parts from) ≡ [])
     (groups : (at : Standing) (r : Rule) (all : Trees) (trees : Trees)
-    → ((j : ℕ) → 1 ≤ j → place_at r (count all) j ≡ Some place.Group) → faults_in r (count all) 1 trees ≡ []
+    → ((j : ℕ) → 1 ≤ j → place_at r (count all) j ≡ Some symbol.Group) → faults_in r (count all) 1 trees ≡ []
     → in_groups trees ≡ flat_map given (parts_in at r all 1 trees))
     (said : Tree → List X)
     (said_so : (parts : Trees) (a b : ℕ) (head : Tree) → said (list (cons head parts) a b) ≡ in_groups parts)
   where
-    pub deck_gives_groups : (at : Standing) → at.place ≡ place.Deck → (tree : Tree) → faults_at (Some place.Deck) tree ≡ []
+    pub deck_gives_groups : (at : Standing) → at.place ≡ symbol.Deck → (tree : Tree) → faults_at (Some symbol.Deck) tree ≡ []
         → flat_map given (parts_at (Some at) tree) ≡ said tree
     deck_gives_groups at here (word bytes from to) none = absurd cc
     deck_gives_groups at here (list nil from to) none = absurd cc
     deck_gives_groups at here (list (cons head trees) from to) none =
-        let shape = sole place.Deck rule.Deck (cons head trees) from to (refl, tt) none in
-        let apart = none_in_both (faults_at (Some (place.Word keyword.Deck)) head) _ shape.2 in
+        let shape = sole symbol.Deck rule.Deck (cons head trees) from to (refl, tt) none in
+        let apart = none_in_both (faults_at (Some (symbol.Word keyword.Deck)) head) _ shape.2 in
         ap (λ o. flat_map given (with_form at (cons head trees) from (λ r. parts_in at r (cons head trees) 0
         (cons head trees)) o))
         (ap (λ p. rule_of p (cons head trees)) here ∙ shape.0)
@@ -58,7 +58,7 @@ module _
         (λ h. flat_map given (parts_in at rule.Deck (cons head trees) 0 (cons h trees)) ≡ in_groups trees) head apart.0
         (λ a b.
         ap₂ (λ l m. l ++ m)
-        (head_gives (standing_at at rule.Deck (cons head trees) 0 (place.Word keyword.Deck)) (text_of keyword.Deck) a refl)
+        (head_gives (standing_at at rule.Deck (cons head trees) 0 (symbol.Word keyword.Deck)) (text_of keyword.Deck) a refl)
         (sym (groups at rule.Deck (cons head trees) trees (deck_behind (count (cons head trees))) apart.1))))
         ∙ sym (said_so trees from to head)
 
@@ -71,11 +71,11 @@ module _
     (entries : (at : Standing) (all : Trees) (trees : Trees) → faults_in rule.Entries (count all) 0 trees ≡ []
     → in_entries trees ≡ flat_map given (parts_in at rule.Entries all 0 trees))
   where
-    pub list_gives_entries : (at : Standing) → at.place ≡ place.Entries → (parts : Trees) (from to : ℕ)
-        → faults_at (Some place.Entries) (list parts from to) ≡ []
+    pub list_gives_entries : (at : Standing) → at.place ≡ symbol.Entries → (parts : Trees) (from to : ℕ)
+        → faults_at (Some symbol.Entries) (list parts from to) ≡ []
         → flat_map given (parts_at (Some at) (list parts from to)) ≡ in_entries parts
     list_gives_entries at here parts from to none =
-        let shape = sole place.Entries rule.Entries parts from to (refl, tt) none in
+        let shape = sole symbol.Entries rule.Entries parts from to (refl, tt) none in
         ap (λ o. flat_map given (with_form at parts from (λ r. parts_in at r parts 0 parts) o))
         (ap (λ p. rule_of p parts) here ∙ shape.0)
         ∙ ap₂ (λ l m. l ++ m) (entries_give_nothing at parts from) (sym (entries at parts parts shape.2))
@@ -89,7 +89,7 @@ abbrev attr_none : List ℕ → List (List ℕ)
 attr_none bytes = []
 
 attr_groups : (at : Standing) (r : Rule) (all : Trees) (trees : Trees)
-    → ((j : ℕ) → 1 ≤ j → place_at r (count all) j ≡ Some place.Group) → faults_in r (count all) 1 trees ≡ []
+    → ((j : ℕ) → 1 ≤ j → place_at r (count all) j ≡ Some symbol.Group) → faults_in r (count all) 1 trees ≡ []
     → group_attr_words trees ≡ flat_map attributes_in (parts_in at r all 1 trees)
 attr_groups at r all trees each none =
     groups_give attributes_in attr_one attr_none group_attr_words branch_attr_words refl
@@ -109,15 +109,15 @@ abbrev behind_deck : Tree → Trees
 behind_deck (list (cons head groups) from to) = groups
 behind_deck tree = nil
 
-groups_same : (a b c d from to : ℕ) (loc deck : Tree) → faults_at (Some place.Deck) deck ≡ []
+groups_same : (a b c d from to : ℕ) (loc deck : Tree) → faults_at (Some symbol.Deck) deck ≡ []
     → deck_groups (list (deck_line a b c d loc deck) from to) ≡ behind_deck deck
 groups_same a b c d from to loc (word bytes e f) none = refl
 groups_same a b c d from to loc (list nil e f) none = refl
 groups_same a b c d from to loc (list (cons head groups) e f) none = refl
 
 -- the entries behind the name of a map
-attr_points : (at : Standing) → at.place ≡ place.Entries → (a b c d e f from to : ℕ) (bytes : List ℕ) (entries : Tree)
-    → faults_at (Some place.Entries) entries ≡ []
+attr_points : (at : Standing) → at.place ≡ symbol.Entries → (a b c d e f from to : ℕ) (bytes : List ℕ) (entries : Tree)
+    → faults_at (Some symbol.Entries) entries ≡ []
     → flat_map attributes_in (parts_at (Some at) entries)
     ≡ entry_attr_words (points_entries (list (points_line a b c d bytes e f entries) from to))
 attr_points at here a b c d e f from to bytes (word other g h) none = absurd cc
@@ -132,19 +132,19 @@ attr_lines at all lines none =
     (λ at bytes from is. refl) (λ at parts from. refl) (λ at parts from. refl) (λ at parts from. refl) no_attribute_in_team
     (λ at all a b c d from to loc deck fine fine'.
     ap₂ (λ l m. l ++ m)
-    (no_attribute_behind (standing_at at rule.CreateDeck all 2 place.Location) loc refl refl)
+    (no_attribute_behind (standing_at at rule.CreateDeck all 2 symbol.Location) loc refl refl)
     (deck_gives_groups attributes_in group_attr_words (λ at bytes from is. refl) (λ at parts from. refl) attr_groups
     (λ tree. group_attr_words (behind_deck tree)) (λ parts a b head. refl)
-    (standing_at at rule.CreateDeck all 3 place.Deck) refl deck fine')
+    (standing_at at rule.CreateDeck all 3 symbol.Deck) refl deck fine')
     ∙ ap group_attr_words (sym (groups_same a b c d from to loc deck fine')))
     (λ at all a b c d bytes e f from to entries fine.
-    attr_points (standing_at at rule.PutPoints all 3 place.Entries) refl a b c d e f from to bytes entries fine)
+    attr_points (standing_at at rule.PutPoints all 3 symbol.Entries) refl a b c d e f from to bytes entries fine)
     at all 1 lines (omega arith) none
 
 -- VALUES
 
 value_groups : (at : Standing) (r : Rule) (all : Trees) (trees : Trees)
-    → ((j : ℕ) → 1 ≤ j → place_at r (count all) j ≡ Some place.Group) → faults_in r (count all) 1 trees ≡ []
+    → ((j : ℕ) → 1 ≤ j → place_at r (count all) j ≡ Some symbol.Group) → faults_in r (count all) 1 trees ≡ []
     → group_value_words trees ≡ flat_map values_in (parts_in at r all 1 trees)
 value_groups at r all trees each none =
     groups_give values_in attr_none attr_one group_value_words branch_value_words refl
@@ -161,8 +161,8 @@ value_entries at all trees none =
     (λ at parts from. refl) (λ at bytes from is. value_plain at.role bytes is)
     (λ at bytes from is. value_given at.role bytes is) at all 0 trees none
 
-value_points : (at : Standing) → at.place ≡ place.Entries → (a b c d e f from to : ℕ) (bytes : List ℕ) (entries : Tree)
-    → faults_at (Some place.Entries) entries ≡ []
+value_points : (at : Standing) → at.place ≡ symbol.Entries → (a b c d e f from to : ℕ) (bytes : List ℕ) (entries : Tree)
+    → faults_at (Some symbol.Entries) entries ≡ []
     → flat_map values_in (parts_at (Some at) entries)
     ≡ entry_value_words (points_entries (list (points_line a b c d bytes e f entries) from to))
 value_points at here a b c d e f from to bytes (word other g h) none = absurd cc
@@ -178,18 +178,18 @@ value_lines at all lines none =
     no_value_in_team
     (λ at all a b c d from to loc deck fine fine'.
     ap₂ (λ l m. l ++ m)
-    (no_value_behind (standing_at at rule.CreateDeck all 2 place.Location) loc refl refl)
+    (no_value_behind (standing_at at rule.CreateDeck all 2 symbol.Location) loc refl refl)
     (deck_gives_groups values_in group_value_words (λ at bytes from is. value_plain at.role bytes is) (λ at parts from. refl)
     value_groups (λ tree. group_value_words (behind_deck tree)) (λ parts a b head. refl)
-    (standing_at at rule.CreateDeck all 3 place.Deck) refl deck fine')
+    (standing_at at rule.CreateDeck all 3 symbol.Deck) refl deck fine')
     ∙ ap group_value_words (sym (groups_same a b c d from to loc deck fine')))
     (λ at all a b c d bytes e f from to entries fine.
-    value_points (standing_at at rule.PutPoints all 3 place.Entries) refl a b c d e f from to bytes entries fine)
+    value_points (standing_at at rule.PutPoints all 3 symbol.Entries) refl a b c d e f from to bytes entries fine)
     at all 1 lines (omega arith) none
 
 -- the location of a deck stands as one behind a setup does
-deck_location_gives : (at : Standing) → at.place ≡ place.Location → at.role ≡ deck_role → (tree : Tree)
-    → faults_at (Some place.Location) tree ≡ [] → flat_map locations_in (parts_at (Some at) tree) ≡ gathered loc_mention tree
+deck_location_gives : (at : Standing) → at.place ≡ symbol.Location → at.role ≡ deck_role → (tree : Tree)
+    → faults_at (Some symbol.Location) tree ≡ [] → flat_map locations_in (parts_at (Some at) tree) ≡ gathered loc_mention tree
 deck_location_gives at here role tree none =
     sym (tree_gives loc_mention locations_in locations_tell at tree
     (record { placed = ap is_body here; role_fits = ap₂ fits_role here role })
@@ -209,10 +209,10 @@ map_lines at all lines none =
     lines_give maps_in (λ line. []) points_map
     (λ at bytes from is. refl) (λ at parts from. refl) (λ at parts from. refl) (λ at parts from. refl) no_map_in_team
     (λ at all a b c d from to loc deck fine fine'.
-    ap₂ (λ l m. l ++ m) (no_map_behind (standing_at at rule.CreateDeck all 2 place.Location) loc refl refl)
-    (no_map_in_faces (standing_at at rule.CreateDeck all 3 place.Deck) deck refl))
+    ap₂ (λ l m. l ++ m) (no_map_behind (standing_at at rule.CreateDeck all 2 symbol.Location) loc refl refl)
+    (no_map_in_faces (standing_at at rule.CreateDeck all 3 symbol.Deck) deck refl))
     (λ at all a b c d bytes e f from to entries fine.
-    ap (λ l. (bytes ∷ []) ++ l) (no_map_in_faces (standing_at at rule.PutPoints all 3 place.Entries) entries refl))
+    ap (λ l. (bytes ∷ []) ++ l) (no_map_in_faces (standing_at at rule.PutPoints all 3 symbol.Entries) entries refl))
     at all 1 lines (omega arith) none
 
 -- LOCATIONS
@@ -224,9 +224,9 @@ loc_lines at all lines none =
     (λ at bytes from is. refl) (λ at parts from. refl) (λ at parts from. refl) (λ at parts from. refl) no_location_in_team
     (λ at all a b c d from to loc deck fine fine'.
     ap₂ (λ l m. l ++ m)
-    (deck_location_gives (standing_at at rule.CreateDeck all 2 place.Location) refl refl loc fine)
-    (no_location_in_faces (standing_at at rule.CreateDeck all 3 place.Deck) deck refl)
+    (deck_location_gives (standing_at at rule.CreateDeck all 2 symbol.Location) refl refl loc fine)
+    (no_location_in_faces (standing_at at rule.CreateDeck all 3 symbol.Deck) deck refl)
     ∙ append-nil (gathered loc_mention loc))
     (λ at all a b c d bytes e f from to entries fine.
-    no_location_in_faces (standing_at at rule.PutPoints all 3 place.Entries) entries refl)
+    no_location_in_faces (standing_at at rule.PutPoints all 3 symbol.Entries) entries refl)
     at all 1 lines (omega arith) none

@@ -7,8 +7,8 @@ use Rattle.rc_model.specs.Tree.{Tree, word, list, Trees, nil, cons}
 use Rattle.rc_sheet_model.specs.WellFormed.{is_atom}
 use Rattle.rc_grammar.specs.Grammar.{forms_of, front_of}
 use Rattle.rc_grammar.specs.Faults.{atom_kind, faults, faults_at, faults_in, behind_front, or_behind, place_at, count, fits}
-use Rattle.rc_grammar.specs.declared.grammar.Place.{Place}
-use Rattle.rc_grammar.specs.declared.grammar.Place.TheVariants as place
+use Rattle.rc_grammar.specs.declared.grammar.Symbol.{Symbol}
+use Rattle.rc_grammar.specs.declared.grammar.Symbol.TheVariants as symbol
 use Rattle.rc_grammar.specs.declared.grammar.Rule.{Rule}
 use Rattle.rc_grammar.specs.declared.grammar.Rule.TheVariants as rule
 use Rattle.rc_faults.specs.declared.role.Role.{Role}
@@ -28,23 +28,23 @@ atom_is bytes is =
 -- WHERE VALUES ARE GIVEN
 
 -- a value is given by a name or a branch alone
-abbrev pub may_give : Place → Role → Bool
-may_give place.Name role = true
-may_give place.Branch role = true
+abbrev pub may_give : Symbol → Role → Bool
+may_give symbol.Name role = true
+may_give symbol.Branch role = true
 may_give place role = not (is_given role)
 
-abbrev may_all_give : List Place → List Role → Bool
+abbrev may_all_give : List Symbol → List Role → Bool
 may_all_give places [] = true
 may_all_give [] (role ∷ roles) = false
 may_all_give (place ∷ places) (role ∷ roles) = may_give place role && may_all_give places roles
 
-none_gives : (p : Place) → may_give p no_role ≡ true
-none_gives place.Name = refl
+none_gives : (p : Symbol) → may_give p no_role ≡ true
+none_gives symbol.Name = refl
 none_gives p = refl
 
-not_given : (p : Place) (role : Role) → is_given role ≡ false → may_give p role ≡ true
-not_given place.Name role is = refl
-not_given place.Branch role is = refl
+not_given : (p : Symbol) (role : Role) → is_given role ≡ false → may_give p role ≡ true
+not_given symbol.Name role is = refl
+not_given symbol.Branch role is = refl
 not_given p role is = ap not is
 
 -- the roles of each form fit its places
@@ -52,7 +52,7 @@ roles_of : (r : Rule) → may_all_give (front_of r) (front_roles r) ≡ true
 roles_of rule.Game = refl
 roles_of r = refl
 
-role_gives : (places : List Place) (roles : List Role) (i : ℕ) (behind : Option Place) (q : Place)
+role_gives : (places : List Symbol) (roles : List Role) (i : ℕ) (behind : Option Symbol) (q : Symbol)
     → may_all_give places roles ≡ true → or_behind (slice_get places i) behind ≡ Some q
     → may_give q (slice_index_or roles i no_role) ≡ true
 role_gives places [] i behind q fit is = none_gives q
@@ -68,27 +68,27 @@ hands_on rule.TopOf = true
 hands_on rule.BottomOf = true
 hands_on r = false
 
-abbrev is_spot : Place → Bool
-is_spot place.Spot = true
+abbrev is_spot : Symbol → Bool
+is_spot symbol.Spot = true
 is_spot place = false
 
-spots_alone : (p : Place) → list_all (λ r. not (hands_on r) || is_spot p) (forms_of p) ≡ true
-spots_alone place.Spot = refl
+spots_alone : (p : Symbol) → list_all (λ r. not (hands_on r) || is_spot p) (forms_of p) ≡ true
+spots_alone symbol.Spot = refl
 spots_alone p = refl
 
-not_in_spot : (p : Place) (role : Role) → is_spot p ≡ true → may_give p role ≡ true → is_given role ≡ false
-not_in_spot place.Spot role spot fit = not-true (is_given role) fit
+not_in_spot : (p : Symbol) (role : Role) → is_spot p ≡ true → may_give p role ≡ true → is_given role ≡ false
+not_in_spot symbol.Spot role spot fit = not-true (is_given role) fit
 not_in_spot p role spot fit = absurd cc
 
 -- the part of a form may give as the form may
-inner_gives : (p : Place) (role : Role) (r : Rule) (n j : ℕ) (q : Place) → may_give p role ≡ true
+inner_gives : (p : Symbol) (role : Role) (r : Rule) (n j : ℕ) (q : Symbol) → may_give p role ≡ true
     → (not (hands_on r) || is_spot p) ≡ true → place_at r n j ≡ Some q → may_give q (role_in role r j) ≡ true
 inner_gives p role rule.TopOf n j q fit spot is = not_given q role (not_in_spot p role spot fit)
 inner_gives p role rule.BottomOf n j q fit spot is = not_given q role (not_in_spot p role spot fit)
 inner_gives p role rule.Branches n j q fit spot is =
-    subst (λ q. may_give q given_value ≡ true) (same_Some place.Branch q is) refl
+    subst (λ q. may_give q given_value ≡ true) (same_Some symbol.Branch q is) refl
 inner_gives p role rule.Values n j q fit spot is =
-    subst (λ q. may_give q given_value ≡ true) (same_Some place.Name q is) refl
+    subst (λ q. may_give q given_value ≡ true) (same_Some symbol.Name q is) refl
 inner_gives p role r n j q fit spot is =
     role_gives (front_of r) (front_roles r) j (behind_front r (j + 1 == n)) q (roles_of r) is
 
@@ -111,8 +111,8 @@ IsShaped (atom at bytes from) = IsShapedAtom at bytes
 IsShaped (form at r parts from) = IsShapedForm r parts
 
 -- what stands in no place has no parts
-placed : (at : Standing) (r : Rule) (all : Trees) (index : ℕ) (o : Option Place) (tree : Tree) → faults_at o tree ≡ []
-    → ((q : Place) → o ≡ Some q → faults_at (Some q) tree ≡ []
+placed : (at : Standing) (r : Rule) (all : Trees) (index : ℕ) (o : Option Symbol) (tree : Tree) → faults_at o tree ≡ []
+    → ((q : Symbol) → o ≡ Some q → faults_at (Some q) tree ≡ []
     → AllByRecursion IsShaped (parts_at (Some (standing_at at r all index q)) tree))
     → AllByRecursion IsShaped (parts_at (option_map (λ q. standing_at at r all index q) o) tree)
 placed at r all index None (word bytes from to) none each = tt
@@ -135,7 +135,7 @@ mutual
       )
 
   row_shaped : (at : Standing) (r : Rule) (all : Trees) (index : ℕ) (trees : Trees)
-      → ((j : ℕ) (q : Place) → place_at r (count all) j ≡ Some q → may_give q (role_in at.role r j) ≡ true)
+      → ((j : ℕ) (q : Symbol) → place_at r (count all) j ≡ Some q → may_give q (role_in at.role r j) ≡ true)
       → AreOfAtoms trees → faults_in r (count all) index trees ≡ [] → AllByRecursion IsShaped (parts_in at r all index trees)
   row_shaped at r all index nil gives atoms none = tt
   row_shaped at r all index (cons tree trees) gives atoms none =
@@ -146,7 +146,7 @@ mutual
       (row_shaped at r all (index + 1) trees gives atoms.1 apart.1)
 
 -- each part of a form without a fault
-pub all_shaped : (tree : Tree) → IsOfAtoms tree → faults place.Sheet tree ≡ [] → AllByRecursion IsShaped (parts_of tree)
+pub all_shaped : (tree : Tree) → IsOfAtoms tree → faults symbol.Sheet tree ≡ [] → AllByRecursion IsShaped (parts_of tree)
 all_shaped tree atoms none = tree_shaped standing_alone tree refl atoms none
 
 -- PARTS OF A FORM

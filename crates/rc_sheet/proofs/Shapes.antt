@@ -15,8 +15,8 @@ use Rattle.rc_grammar.specs.Faults.{faults_at, faults_in, told_faults, lacks_pla
 use Rattle.rc_grammar.specs.declared.fault.SheetKind.{SheetKind}
 use Rattle.rc_grammar.specs.declared.fault.SheetKind.TheVariants.{Shape}
 use Rattle.rc_grammar.specs.declared.keyword.Keyword.{Keyword}
-use Rattle.rc_grammar.specs.declared.grammar.Place.{Place}
-use Rattle.rc_grammar.specs.declared.grammar.Place.TheVariants as place
+use Rattle.rc_grammar.specs.declared.grammar.Symbol.{Symbol}
+use Rattle.rc_grammar.specs.declared.grammar.Symbol.TheVariants as symbol
 use Rattle.rc_grammar.specs.declared.grammar.Rule.{Rule}
 use Rattle.rc_grammar.specs.declared.grammar.Rule.TheVariants as rule
 
@@ -26,7 +26,7 @@ none_in_both [] ys is = (refl, is)
 none_in_both (x ∷ xs) ys is = absurd cc
 
 -- the form of a list, which has the right number of parts, of which none is at fault
-pub record HasShape (place : Place) (parts : Trees) : Type 0 where
+pub record HasShape (place : Symbol) (parts : Trees) : Type 0 where
   pub form : Rule
   pub told : rule_of place parts ≡ Some form
   pub fit : fits (count parts) form ≡ true
@@ -39,14 +39,14 @@ inner_faults true true x y inner is = absurd cc
 inner_faults true false x y inner is = (refl, is, refl)
 inner_faults false c x y inner is = absurd cc
 
-shape_by : (place : Place) (parts : Trees) (from : ℕ) (found : Option Rule) → rule_of place parts ≡ found
+shape_by : (place : Symbol) (parts : Trees) (from : ℕ) (found : Option Rule) → rule_of place parts ≡ found
     → told_faults place from parts (λ rule. faults_in rule (count parts) 0 parts) found ≡ [] → HasShape place parts
 shape_by place parts from None is none = absurd cc
 shape_by place parts from (Some found) is none =
     let both = inner_faults (fits (count parts) found) (lacks_players found parts) _ _ _ none in
     record { form = found; told = is; fit = both.0; inner = both.1 }
 
-pub shape_of : (place : Place) (parts : Trees) (from to : ℕ) → faults_at (Some place) (list parts from to) ≡ []
+pub shape_of : (place : Symbol) (parts : Trees) (from to : ℕ) → faults_at (Some place) (list parts from to) ≡ []
     → HasShape place parts
 shape_of place parts from to none = shape_by place parts from (rule_of place parts) refl none
 
@@ -66,7 +66,7 @@ either_holds P None second x is p q = q x is
 either_holds P (Some a) second x is p q = p x is
 
 -- what holds of each form of a place holds of the one that a list has there
-pub rule_holds : (P : Rule → Type 0) (place : Place) (parts : Trees) (x : Rule) → rule_of place parts ≡ Some x
+pub rule_holds : (P : Rule → Type 0) (place : Symbol) (parts : Trees) (x : Rule) → rule_of place parts ≡ Some x
     → AllByRecursion P (forms_of place) → P x
 rule_holds P place nil x is each = absurd cc
 rule_holds P place (cons head parts) x is each =
@@ -75,14 +75,14 @@ rule_holds P place (cons head parts) x is each =
     (λ a is. found_holds P _ (forms_of place) a is each)
 
 -- where more parts may stand, each behind the front has a place
-behind_some : (r : Rule) (last : Bool) (more : Place) → more_of r ≡ Some more
-    → (p : Place) × (behind_front r last ≡ Some p)
-behind_some rule.Game true more is = (place.Scoring, refl)
+behind_some : (r : Rule) (last : Bool) (more : Symbol) → more_of r ≡ Some more
+    → (p : Symbol) × (behind_front r last ≡ Some p)
+behind_some rule.Game true more is = (symbol.Scoring, refl)
 behind_some r last more is = (more, is)
 
 -- an item of the front, or else a place behind it
-place_or : (found behind : Option Place) → ((found ≡ None) → (p : Place) × (behind ≡ Some p))
-    → (p : Place) × (or_behind found behind ≡ Some p)
+place_or : (found behind : Option Symbol) → ((found ≡ None) → (p : Symbol) × (behind ≡ Some p))
+    → (p : Symbol) × (or_behind found behind ≡ Some p)
 place_or (Some p) behind other = (p, refl)
 place_or None behind other = other refl
 
@@ -91,21 +91,21 @@ past_none [] i is = omega arith
 past_none (x ∷ xs) zero is = absurd cc
 past_none (x ∷ xs) (suc i) is = let less = past_none xs i is in omega (arith, less)
 
-behind_place : (r : Rule) (n i : ℕ) (last : Bool) (more : Option Place) → more_of r ≡ more
+behind_place : (r : Rule) (n i : ℕ) (last : Bool) (more : Option Symbol) → more_of r ≡ more
     → fits_count (length (front_of r)) more (back_of r) n ≡ true → i < n → length (front_of r) ≤ i
-    → (p : Place) × (behind_front r last ≡ Some p)
+    → (p : Symbol) × (behind_front r last ≡ Some p)
 behind_place r n i last None is fit less past =
     let all = eqb-true n (length (front_of r)) fit in absurd (omega (arith, all, less, past))
 behind_place r n i last (Some more) is fit less past = behind_some r last more is
 
 -- each part of a form that fits has a place
-pub place_within : (r : Rule) (n i : ℕ) → fits n r ≡ true → i < n → (p : Place) × (place_at r n i ≡ Some p)
+pub place_within : (r : Rule) (n i : ℕ) → fits n r ≡ true → i < n → (p : Symbol) × (place_at r n i ≡ Some p)
 place_within r n i fit less =
     place_or (slice_get (front_of r) i) (behind_front r (i + 1 == n))
     (λ none. behind_place r n i (i + 1 == n) (more_of r) refl fit less (past_none (front_of r) i none))
 
 -- behind the word of a setup stand lines
-pub line_place : (n index : ℕ) → 1 ≤ index → place_at rule.Setup n index ≡ Some place.Line
+pub line_place : (n index : ℕ) → 1 ≤ index → place_at rule.Setup n index ≡ Some symbol.Line
 line_place n zero above = absurd (omega (arith, above))
 line_place n (suc index) above = refl
 
@@ -138,19 +138,19 @@ four_only P (cons a (cons b (cons c (cons d (cons e parts))))) is each =
     let four = eqb-true (count (cons a (cons b (cons c (cons d (cons e parts)))))) 4 is in absurd (omega (arith, four))
 
 -- a list stands where there are forms
-pub no_list_at : (place : Place) (parts : Trees) (from to : ℕ) → forms_of place ≡ []
+pub no_list_at : (place : Symbol) (parts : Trees) (from to : ℕ) → forms_of place ≡ []
     → faults_at (Some place) (list parts from to) ≡ [] → ⊥
 no_list_at place parts from to none fine =
     let shape = shape_of place parts from to fine in
     rule_holds (λ r. ⊥) place parts shape.form shape.told (subst (AllByRecursion (λ r. ⊥)) (sym none) tt)
 
 -- an atom of this word is at fault at a place
-abbrev pub refuses : Option Place → List ℕ → Bool
+abbrev pub refuses : Option Symbol → List ℕ → Bool
 refuses None bytes = false
 refuses (Some p) bytes = is_some (atom_kind p bytes)
 
 -- where a place refuses a word, no tree without a fault there is that word
-pub refuted : (o : Option Place) (text : String) (tree : Tree) → faults_at o tree ≡ [] → refuses o (codes text) ≡ true
+pub refuted : (o : Option Symbol) (text : String) (tree : Tree) → faults_at o tree ≡ [] → refuses o (codes text) ≡ true
     → is_text text tree ≡ false
 refuted None text tree none refused = absurd cc
 refuted (Some p) text (list parts from to) none refused = refl
@@ -169,7 +169,7 @@ kindless f None none = refl
 kindless f (Some kind) none = absurd cc
 
 -- where no list may stand stands an atom
-pub atom_only : (p : Place) (P : Tree → Type 0) (tree : Tree) → forms_of p ≡ [] → faults_at (Some p) tree ≡ []
+pub atom_only : (p : Symbol) (P : Tree → Type 0) (tree : Tree) → forms_of p ≡ [] → faults_at (Some p) tree ≡ []
     → ((bytes : List ℕ) (from to : ℕ) → atom_kind p bytes ≡ None → P (word bytes from to)) → P tree
 atom_only p P (word bytes from to) listless none each = each bytes from to (kindless _ (atom_kind p bytes) none)
 atom_only p P (list parts from to) listless none each = absurd (no_list_at p parts from to listless none)
@@ -180,9 +180,9 @@ taken true kind is = refl
 taken false kind is = absurd cc
 
 -- where a word is fixed stands that word
-pub fixed_only : (k : Keyword) (P : Tree → Type 0) (tree : Tree) → faults_at (Some (place.Word k)) tree ≡ []
+pub fixed_only : (k : Keyword) (P : Tree → Type 0) (tree : Tree) → faults_at (Some (symbol.Word k)) tree ≡ []
     → ((from to : ℕ) → P (word (text_of k) from to)) → P tree
 fixed_only k P tree none each =
-    atom_only (place.Word k) P tree refl none
+    atom_only (symbol.Word k) P tree refl none
     (λ bytes from to is. subst (λ b. P (word b from to))
     (sym ((bytes_eq-Decides bytes (text_of k)).0 (taken (is_word k bytes) Shape is))) (each from to))

@@ -3,7 +3,7 @@ use Rattle.std.proofs.Common.{◌≡◌, ℕ, Some, refl, sym, subst}
 use Rattle.rc_model.specs.Tree.{Tree, word, list, Trees, cons}
 use Rattle.rc_sheet_model.specs.Sheet.{SheetItems, Best, IntExpr, Sheet}
 use Rattle.rc_sheet_model.specs.Naming.{Naming}
-use Rattle.rc_grammar.specs.declared.grammar.Place.TheVariants as place
+use Rattle.rc_grammar.specs.declared.grammar.Symbol.TheVariants as symbol
 use Rattle.rc_grammar.specs.declared.grammar.Rule.{Rule}
 use Rattle.rc_grammar.specs.declared.grammar.Rule.TheVariants as rule
 use Rattle.rc_reading.specs.ReadNames.{rule_at}
@@ -35,7 +35,7 @@ has_setup : (naming : Naming) (tree : Tree) → Means (sheet_at naming tree) (Ha
 unfolding sheet_at
 has_setup naming (word bytes from to) = nothing
 has_setup naming (list parts from to) =
-    behind (rule_at place.Sheet parts) (λ rule. game_rule naming rule parts) (anything (rule_at place.Sheet parts))
+    behind (rule_at symbol.Sheet parts) (λ rule. game_rule naming rule parts) (anything (rule_at symbol.Sheet parts))
     (λ rule u. game_has_setup naming rule parts from to)
 
 -- what holds of each sheet with the setup that is read holds of the one that is read

@@ -10,8 +10,8 @@ use Rattle.rc_grammar.specs.Keyword.{text_of}
 use Rattle.rc_grammar.specs.Faults.{faults, faults_at, faults_in, told_faults, lacks_players, names_players, some_names_players, rule_of, or_else, place_at, count, fits, is_within}
 use Rattle.rc_grammar.specs.declared.fault.SheetKind.TheVariants.{Number}
 use Rattle.rc_grammar.specs.declared.keyword.Keyword.TheVariants as keyword
-use Rattle.rc_grammar.specs.declared.grammar.Place.{Place}
-use Rattle.rc_grammar.specs.declared.grammar.Place.TheVariants as place
+use Rattle.rc_grammar.specs.declared.grammar.Symbol.{Symbol}
+use Rattle.rc_grammar.specs.declared.grammar.Symbol.TheVariants as symbol
 use Rattle.rc_grammar.specs.declared.grammar.Rule.{Rule}
 use Rattle.rc_grammar.specs.declared.grammar.Rule.TheVariants as rule
 use Rattle.rc_faults.specs.SecondParts.{Standing, Part, atom, form, standing_alone, standing_in, with_form, parts_at, parts_in, parts_of}
@@ -31,10 +31,10 @@ IsShaped (form at r parts from) =
     (fits (count parts) r ≡ true) × (faults_in r (count parts) 0 parts ≡ []) × (lacks_players r parts ≡ false)
 
 -- the place of a standing
-abbrev place_of : Option Standing → Option Place
+abbrev place_of : Option Standing → Option Symbol
 place_of found = option_map (λ at. at.place) found
 
-same_place : (found : Option Place) (stand : Place → Standing) → ((p : Place) → (stand p).place ≡ p)
+same_place : (found : Option Symbol) (stand : Symbol → Standing) → ((p : Symbol) → (stand p).place ≡ p)
     → place_of (option_map stand found) ≡ found
 same_place None stand same = refl
 same_place (Some p) stand same = ap (λ q. Some q) (same p)
@@ -95,10 +95,10 @@ players_positive (form at rule.CreatePlayers parts from) shaped =
     (λ parts. faults_in rule.CreatePlayers (count parts) 0 parts ≡ []
     → AllByRecursion (λ n. 1 ≤ n) (players_in (form at rule.CreatePlayers parts from))) parts shaped.0
     (λ x y z none.
-    let first = none_in_both (faults_at (Some (place.Word keyword.Create)) x) _ none in
-    let second = none_in_both (faults_at (Some (place.Word keyword.Players)) y) _ first.1 in
-    let third = none_in_both (faults_at (Some place.PlayerCount) z) [] second.1 in (
-      atom_only place.PlayerCount (λ z. 1 ≤ number_at z) z refl third.0
+    let first = none_in_both (faults_at (Some (symbol.Word keyword.Create)) x) _ none in
+    let second = none_in_both (faults_at (Some (symbol.Word keyword.Players)) y) _ first.1 in
+    let third = none_in_both (faults_at (Some symbol.PlayerCount) z) [] second.1 in (
+      atom_only symbol.PlayerCount (λ z. 1 ≤ number_at z) z refl third.0
           (λ bytes e f is. within_positive (integer bytes) (taken (is_within (pos 1) (pos 8) (integer bytes)) Number is)),
       tt,
     ))
@@ -138,14 +138,14 @@ first_told true others plain is = refl
 first_told false others plain is = absurd cc
 
 -- a line that names players says how many
-line_some : (at : Standing) → at.place ≡ place.Line → (line : Tree) → names_players line ≡ true
+line_some : (at : Standing) → at.place ≡ symbol.Line → (line : Tree) → names_players line ≡ true
     → some_of (flat_map players_in (parts_at (Some at) line)) ≡ true
 line_some at here (word bytes from to) names = absurd cc
 line_some at here (list nil from to) names = absurd cc
 line_some at here (list (cons (list head a b) parts) from to) names = absurd cc
 line_some at here (list (cons (word bytes a b) parts) from to) names =
     let all = cons (word bytes a b) parts in
-    let told : rule_of place.Line all ≡ Some rule.CreatePlayers =
+    let told : rule_of symbol.Line all ≡ Some rule.CreatePlayers =
     first_told (names_players (list all from to)) _ _ names in
     ap (λ o. some_of (flat_map players_in (with_form at all from (λ r. parts_in at r all 0 all) o)))
     (ap (λ p. rule_of p all) here ∙ told)
@@ -156,7 +156,7 @@ lines_some at all index nil above names = absurd cc
 lines_some at all index (cons line lines) above names =
     by (names_players line) refl names (λ later. lines_some at all (index + 1) lines (omega (arith, above)) later)
   where
-    stands : standing_in at rule.Setup all index ≡ Some (standing_at at rule.Setup all index place.Line)
+    stands : standing_in at rule.Setup all index ≡ Some (standing_at at rule.Setup all index symbol.Line)
     stands = ap (λ o. option_map (λ q. standing_at at rule.Setup all index q) o) (line_place (count all) index above)
 
     by : (b : Bool) → names_players line ≡ b → (b || some_names_players lines) ≡ true
@@ -166,21 +166,21 @@ lines_some at all index (cons line lines) above names =
     by true is names later =
         some_first (parts_at (standing_in at rule.Setup all index) line) (parts_in at rule.Setup all (index + 1) lines)
         (subst (λ o. some_of (flat_map players_in (parts_at o line)) ≡ true) (sym stands)
-        (line_some (standing_at at rule.Setup all index place.Line) refl line is))
+        (line_some (standing_at at rule.Setup all index symbol.Line) refl line is))
     by false is names later =
         some_later (parts_at (standing_in at rule.Setup all index) line) (parts_in at rule.Setup all (index + 1) lines)
         (later names)
 
 -- THE LAWS
 
-some_line : (tree : Tree) → faults place.Sheet tree ≡ [] → some_of (flat_map players_in (parts_of tree)) ≡ true
+some_line : (tree : Tree) → faults symbol.Sheet tree ≡ [] → some_of (flat_map players_in (parts_of tree)) ≡ true
 some_line tree none =
     sheet_only (λ tree. AllByRecursion IsShaped (parts_of tree) → some_of (flat_map players_in (parts_of tree)) ≡ true) tree none
     (λ a b c d e f from to lines rest shape shaped.
     let names = not-false (some_names_players lines) shaped.1.1.0.2 in
     let all = cons (word (text_of keyword.Setup) c d) lines in
     let game = parts_with a b (setup_of c d e f lines) rest in
-    let setup_stands = standing_at standing_alone rule.Game game 1 place.Setup in
+    let setup_stands = standing_at standing_alone rule.Game game 1 symbol.Setup in
     some_first (parts_at (Some setup_stands) (setup_of c d e f lines)) (parts_in standing_alone rule.Game game 2 rest)
     (lines_some setup_stands all 1 lines (omega arith) names))
     (tree_shaped (Some standing_alone) tree none)
@@ -192,7 +192,7 @@ first_positive [] some each = absurd cc
 first_positive (n ∷ numbers) some each = each.0
 
 -- a form without a fault has a player
-pub some_players : (tree : Tree) → faults place.Sheet tree ≡ [] → second_faults tree ≡ [] → 1 ≤ player_count (parts_of tree)
+pub some_players : (tree : Tree) → faults symbol.Sheet tree ≡ [] → second_faults tree ≡ [] → 1 ≤ player_count (parts_of tree)
 some_players tree shaped sound =
     first_positive (flat_map players_in (parts_of tree)) (some_line tree shaped)
     (flat_all (λ n. 1 ≤ n) players_in (parts_of tree) players_positive (tree_shaped (Some standing_alone) tree shaped))
@@ -204,7 +204,7 @@ first_teams players [] some each = some
 first_teams players (parts ∷ lines) some each = each.0
 
 -- and a team
-pub some_teams : (tree : Tree) → faults place.Sheet tree ≡ [] → second_faults tree ≡ [] → 1 ≤ team_count (parts_of tree)
+pub some_teams : (tree : Tree) → faults symbol.Sheet tree ≡ [] → second_faults tree ≡ [] → 1 ≤ team_count (parts_of tree)
 some_teams tree shaped sound =
     first_teams (player_count (parts_of tree)) (flat_map teams_in (parts_of tree)) (some_players tree shaped sound)
     (flat_all (λ parts. 1 ≤ count parts - 2) teams_in (parts_of tree) teams_positive

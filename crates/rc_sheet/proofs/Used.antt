@@ -11,8 +11,8 @@ use Rattle.rc_grammar.specs.Grammar.{forms_of}
 use Rattle.rc_grammar.specs.Keyword.{text_of}
 use Rattle.rc_grammar.specs.declared.keyword.Keyword.{Keyword}
 use Rattle.rc_grammar.specs.declared.keyword.Keyword.TheVariants as keyword
-use Rattle.rc_grammar.specs.declared.grammar.Place.{Place}
-use Rattle.rc_grammar.specs.declared.grammar.Place.TheVariants as place
+use Rattle.rc_grammar.specs.declared.grammar.Symbol.{Symbol}
+use Rattle.rc_grammar.specs.declared.grammar.Symbol.TheVariants as symbol
 use Rattle.rc_grammar.specs.declared.grammar.Rule.{Rule}
 use Rattle.rc_grammar.specs.declared.grammar.Rule.TheVariants as rule
 use Rattle.rc_faults.specs.declared.role.Role.{Role}
@@ -46,7 +46,7 @@ pub quiet_atom : (own : Trees → List (List ℕ)) (takes : Role
     → takes (role_in at.role r index) ≡ false → by_atom own (used_in takes) (standing_in at r all index) tree ≡ []
 quiet_atom own takes at r all index tree quiet = by_place (place_at r (count all) index) tree
   where
-    by_place : (o : Option Place) (tree : Tree)
+    by_place : (o : Option Symbol) (tree : Tree)
         → by_atom own (used_in takes) (option_map (λ q. standing_at at r all index q) o) tree ≡ []
     by_place None tree = refl
     by_place (Some q) (word bytes from to) = cond-false (takes (role_in at.role r index)) (bytes ∷ []) [] quiet
@@ -182,8 +182,8 @@ four_of k c from to bytes from' to' bytes' from'' to'' =
     cons (word (text_of k) from to) (cons c (cons (word bytes from' to') (cons (word bytes' from'' to'') nil)))
 
 -- a form that is so
-three_words : (P : Trees → Type 0) (r : Rule) (k : Keyword) (parts : Trees) → place_at r 3 0 ≡ Some (place.Word k)
-    → place_at r 3 2 ≡ Some place.Name → (count parts == 3) ≡ true → faults_in r (count parts) 0 parts ≡ []
+three_words : (P : Trees → Type 0) (r : Rule) (k : Keyword) (parts : Trees) → place_at r 3 0 ≡ Some (symbol.Word k)
+    → place_at r 3 2 ≡ Some symbol.Name → (count parts == 3) ≡ true → faults_in r (count parts) 0 parts ≡ []
     → ((c : Tree) (from to : ℕ) (bytes : List ℕ) (from' to' : ℕ) → P (three_of k c from to bytes from' to')) → P parts
 three_words P r k parts first third fit none each =
     three_only (λ parts. faults_in r (count parts) 0 parts ≡ [] → P parts) parts fit
@@ -192,12 +192,12 @@ three_words P r k parts first third fit none each =
     let later = none_in_both (faults_at (place_at r 3 1) c) _ apart.1 in
     let last = none_in_both (faults_at (place_at r 3 2) a) [] later.1 in
     fixed_only k (λ h. P (cons h (cons c (cons a nil)))) h (subst (λ o. faults_at o h ≡ []) first apart.0)
-    (λ from to. atom_only place.Name (λ a. P (cons (word (text_of k) from to) (cons c (cons a nil)))) a refl
+    (λ from to. atom_only symbol.Name (λ a. P (cons (word (text_of k) from to) (cons c (cons a nil)))) a refl
     (subst (λ o. faults_at o a ≡ []) third last.0) (λ bytes from' to' is. each c from to bytes from' to')))
     none
 
-four_words : (P : Trees → Type 0) (r : Rule) (k : Keyword) (p : Place) (parts : Trees) → place_at r 4 0 ≡ Some (place.Word k)
-    → place_at r 4 2 ≡ Some p → forms_of p ≡ [] → place_at r 4 3 ≡ Some place.Name → (count parts == 4) ≡ true
+four_words : (P : Trees → Type 0) (r : Rule) (k : Keyword) (p : Symbol) (parts : Trees) → place_at r 4 0 ≡ Some (symbol.Word k)
+    → place_at r 4 2 ≡ Some p → forms_of p ≡ [] → place_at r 4 3 ≡ Some symbol.Name → (count parts == 4) ≡ true
     → faults_in r (count parts) 0 parts ≡ []
     → ((c : Tree) (from to : ℕ) (bytes : List ℕ) (from' to' : ℕ) (bytes' : List ℕ) (from'' to'' : ℕ)
     → P (four_of k c from to bytes from' to' bytes' from'' to''))
@@ -213,7 +213,7 @@ four_words P r k p parts first third listless fourth fit none each =
     (λ from to. atom_only p (λ a. P (cons (word (text_of k) from to) (cons c (cons a (cons v nil))))) a listless
     (subst (λ o. faults_at o a ≡ []) third behind.0)
     (λ bytes from' to' is.
-    atom_only place.Name (λ v. P (cons (word (text_of k) from to) (cons c (cons (word bytes from' to') (cons v nil))))) v refl
+    atom_only symbol.Name (λ v. P (cons (word (text_of k) from to) (cons c (cons (word bytes from' to') (cons v nil))))) v refl
     (subst (λ o. faults_at o v ≡ []) fourth last.0)
     (λ bytes' from'' to'' is'. each c from to bytes from' to' bytes' from'' to''))))
     none
@@ -240,7 +240,7 @@ attr_spoken at rule.Partition parts some fit none =
     then_one attr_word c _ bytes (quiet_atom attr_word is_attribute at rule.Partition
     (three_of keyword.Partition c from to bytes from' to') 1 c refl))
 attr_spoken at rule.Is parts some fit none =
-    four_words (Speaks attr_word is_attribute at rule.Is) rule.Is keyword.Is place.Name parts refl refl refl refl fit none
+    four_words (Speaks attr_word is_attribute at rule.Is) rule.Is keyword.Is symbol.Name parts refl refl refl refl fit none
     (λ c from to bytes from' to' bytes' from'' to''.
     then_one attr_word c _ bytes (quiet_atom attr_word is_attribute at rule.Is
     (four_of keyword.Is c from to bytes from' to' bytes' from'' to'')
@@ -250,7 +250,7 @@ attr_spoken at r parts some fit none = absurd cc
 value_spoken : (at : Standing) (r : Rule) (parts : Trees) → list_any is_value (front_roles r) ≡ true
     → fits (count parts) r ≡ true → faults_in r (count parts) 0 parts ≡ [] → Speaks value_word is_value at r parts
 value_spoken at rule.Is parts some fit none =
-    four_words (Speaks value_word is_value at rule.Is) rule.Is keyword.Is place.Name parts refl refl refl refl fit none
+    four_words (Speaks value_word is_value at rule.Is) rule.Is keyword.Is symbol.Name parts refl refl refl refl fit none
     (λ c from to bytes from' to' bytes' from'' to''.
     then_one value_word c _ bytes' (quiet_atom value_word is_value at rule.Is
     (four_of keyword.Is c from to bytes from' to' bytes' from'' to'')
@@ -260,28 +260,28 @@ value_spoken at r parts some fit none = absurd cc
 map_spoken : (at : Standing) (r : Rule) (parts : Trees) → list_any is_map (front_roles r) ≡ true
     → fits (count parts) r ≡ true → faults_in r (count parts) 0 parts ≡ [] → Speaks map_word is_map at r parts
 map_spoken at rule.MaxCard parts some fit none =
-    four_words (Speaks map_word is_map at rule.MaxCard) rule.MaxCard keyword.Max (place.Word keyword.Using) parts
+    four_words (Speaks map_word is_map at rule.MaxCard) rule.MaxCard keyword.Max (symbol.Word keyword.Using) parts
     refl refl refl refl fit none
     (λ c from to bytes from' to' bytes' from'' to''.
     then_one map_word c _ bytes' (quiet_atom map_word is_map at rule.MaxCard
     (four_of keyword.Max c from to bytes from' to' bytes' from'' to'')
     1 c refl))
 map_spoken at rule.MinCard parts some fit none =
-    four_words (Speaks map_word is_map at rule.MinCard) rule.MinCard keyword.Min (place.Word keyword.Using) parts
+    four_words (Speaks map_word is_map at rule.MinCard) rule.MinCard keyword.Min (symbol.Word keyword.Using) parts
     refl refl refl refl fit none
     (λ c from to bytes from' to' bytes' from'' to''.
     then_one map_word c _ bytes' (quiet_atom map_word is_map at rule.MinCard
     (four_of keyword.Min c from to bytes from' to' bytes' from'' to'')
     1 c refl))
 map_spoken at rule.Sum parts some fit none =
-    four_words (Speaks map_word is_map at rule.Sum) rule.Sum keyword.Sum (place.Word keyword.Using) parts
+    four_words (Speaks map_word is_map at rule.Sum) rule.Sum keyword.Sum (symbol.Word keyword.Using) parts
     refl refl refl refl fit none
     (λ c from to bytes from' to' bytes' from'' to''.
     then_one map_word c _ bytes' (quiet_atom map_word is_map at rule.Sum
     (four_of keyword.Sum c from to bytes from' to' bytes' from'' to'')
     1 c refl))
 map_spoken at rule.PointsOf parts some fit none =
-    four_words (Speaks map_word is_map at rule.PointsOf) rule.PointsOf keyword.Points (place.Word keyword.Using) parts
+    four_words (Speaks map_word is_map at rule.PointsOf) rule.PointsOf keyword.Points (symbol.Word keyword.Using) parts
     refl refl refl refl fit none
     (λ c from to bytes from' to' bytes' from'' to''.
     then_one map_word c _ bytes' (quiet_atom map_word is_map at rule.PointsOf

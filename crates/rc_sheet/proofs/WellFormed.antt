@@ -6,7 +6,7 @@ use Rattle.rc_form.specs.SameForm.{IsOfAtoms}
 use Rattle.rc_sheet_model.specs.Sheet.{Sheet}
 use Rattle.rc_sheet_model.specs.WellFormed.{IsWellFormed}
 use Rattle.rc_grammar.specs.Faults.{faults}
-use Rattle.rc_grammar.specs.declared.grammar.Place.TheVariants as place
+use Rattle.rc_grammar.specs.declared.grammar.Symbol.TheVariants as symbol
 use Rattle.rc_faults.specs.SecondFaults.{second_faults}
 use Rattle.rc_naming.specs.Naming.{naming_of}
 use Rattle.rc_reading.specs.ReadSheet.{sheet_at}
@@ -21,7 +21,7 @@ use Rattle.rc_sheet.proofs.Within.{within_limits}
 use Rattle.rc_sheet.proofs.PlainWords.{has_words}
 
 -- THE LAW: a sheet that is read off a form without a fault is well formed, where its items and its score are.
-pub well_formed : (tree : Tree) (sheet : Sheet) → faults place.Sheet tree ≡ [] → second_faults tree ≡ [] → IsPrintable tree
+pub well_formed : (tree : Tree) (sheet : Sheet) → faults symbol.Sheet tree ≡ [] → second_faults tree ≡ [] → IsPrintable tree
     → IsOfAtoms tree → HasFineBody sheet → sheet_at (naming_of tree) tree ≡ Some sheet → IsWellFormed sheet
 well_formed tree sheet shaped sound printable atoms fine is =
     let points = points_have_entries tree sheet shaped sound is in

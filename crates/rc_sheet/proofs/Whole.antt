@@ -9,8 +9,8 @@ use Rattle.rc_sheet_model.specs.FormMentions.{all_gathered, attr_word, value_wor
 use Rattle.rc_grammar.specs.Keyword.{text_of}
 use Rattle.rc_grammar.specs.Faults.{faults, faults_at, faults_in, behind_front, place_at, count, fits}
 use Rattle.rc_grammar.specs.declared.keyword.Keyword.TheVariants as keyword
-use Rattle.rc_grammar.specs.declared.grammar.Place.{Place}
-use Rattle.rc_grammar.specs.declared.grammar.Place.TheVariants as place
+use Rattle.rc_grammar.specs.declared.grammar.Symbol.{Symbol}
+use Rattle.rc_grammar.specs.declared.grammar.Symbol.TheVariants as symbol
 use Rattle.rc_grammar.specs.declared.grammar.Rule.TheVariants as rule
 use Rattle.rc_faults.specs.declared.role.Role.{Role}
 use Rattle.rc_faults.specs.declared.role.Role.TheVariants.{No as no_role}
@@ -44,7 +44,7 @@ pub record IsSheetForm (setup : Tree) (lines rest all : Trees) : Type 0 where
   pub rest_fine : faults_in rule.Game (count all) 2 rest ≡ []
 
 -- a form without a fault is one
-pub sheet_only : (P : Tree → Type 0) (tree : Tree) → faults place.Sheet tree ≡ []
+pub sheet_only : (P : Tree → Type 0) (tree : Tree) → faults symbol.Sheet tree ≡ []
     → ((a b c d e f from to : ℕ) (lines rest : Trees)
     → IsSheetForm (setup_of c d e f lines) lines rest (parts_with a b (setup_of c d e f lines) rest)
     → P (list (parts_with a b (setup_of c d e f lines) rest) from to))
@@ -52,26 +52,26 @@ pub sheet_only : (P : Tree → Type 0) (tree : Tree) → faults place.Sheet tree
 sheet_only P (word bytes from to) none each = absurd cc
 sheet_only P (list nil from to) none each = absurd cc
 sheet_only P (list (cons g nil) from to) none each =
-    let shape = sole place.Sheet rule.Game (cons g nil) from to (refl, tt) none in
+    let shape = sole symbol.Sheet rule.Game (cons g nil) from to (refl, tt) none in
     let many = shape.1 in absurd cc
 sheet_only P (list (cons g (cons (word bytes a b) rest)) from to) none each =
-    let shape = sole place.Sheet rule.Game (cons g (cons (word bytes a b) rest)) from to (refl, tt) none in
-    let first = none_in_both (faults_at (Some (place.Word keyword.Game)) g) _ shape.2 in
-    let second : faults_at (Some place.Setup) (word bytes a b) ≡ [] =
-    (none_in_both (faults_at (Some place.Setup) (word bytes a b)) _ first.1).0 in absurd cc
+    let shape = sole symbol.Sheet rule.Game (cons g (cons (word bytes a b) rest)) from to (refl, tt) none in
+    let first = none_in_both (faults_at (Some (symbol.Word keyword.Game)) g) _ shape.2 in
+    let second : faults_at (Some symbol.Setup) (word bytes a b) ≡ [] =
+    (none_in_both (faults_at (Some symbol.Setup) (word bytes a b)) _ first.1).0 in absurd cc
 sheet_only P (list (cons g (cons (list nil a b) rest)) from to) none each =
-    let shape = sole place.Sheet rule.Game (cons g (cons (list nil a b) rest)) from to (refl, tt) none in
-    let first = none_in_both (faults_at (Some (place.Word keyword.Game)) g) _ shape.2 in
-    let second : faults_at (Some place.Setup) (list nil a b) ≡ [] =
-    (none_in_both (faults_at (Some place.Setup) (list nil a b)) _ first.1).0 in absurd cc
+    let shape = sole symbol.Sheet rule.Game (cons g (cons (list nil a b) rest)) from to (refl, tt) none in
+    let first = none_in_both (faults_at (Some (symbol.Word keyword.Game)) g) _ shape.2 in
+    let second : faults_at (Some symbol.Setup) (list nil a b) ≡ [] =
+    (none_in_both (faults_at (Some symbol.Setup) (list nil a b)) _ first.1).0 in absurd cc
 sheet_only P (list (cons g (cons (list (cons s lines) e f) rest)) from to) none each =
     let parts = cons g (cons (list (cons s lines) e f) rest) in
-    let shape = sole place.Sheet rule.Game parts from to (refl, tt) none in
-    let first = none_in_both (faults_at (Some (place.Word keyword.Game)) g) _ shape.2 in
-    let second = none_in_both (faults_at (Some place.Setup) (list (cons s lines) e f)) (faults_in rule.Game (count parts) 2 rest)
+    let shape = sole symbol.Sheet rule.Game parts from to (refl, tt) none in
+    let first = none_in_both (faults_at (Some (symbol.Word keyword.Game)) g) _ shape.2 in
+    let second = none_in_both (faults_at (Some symbol.Setup) (list (cons s lines) e f)) (faults_in rule.Game (count parts) 2 rest)
     first.1 in
-    let setup = sole place.Setup rule.Setup (cons s lines) e f (refl, tt) second.0 in
-    let inner = none_in_both (faults_at (Some (place.Word keyword.Setup)) s) (faults_in rule.Setup (count (cons s lines)) 1 lines)
+    let setup = sole symbol.Setup rule.Setup (cons s lines) e f (refl, tt) second.0 in
+    let inner = none_in_both (faults_at (Some (symbol.Word keyword.Setup)) s) (faults_in rule.Setup (count (cons s lines)) 1 lines)
     setup.2 in
     fixed_only keyword.Game (λ g. P (list (cons g (cons (list (cons s lines) e f) rest)) from to)) g first.0
     (λ a b.
@@ -82,16 +82,16 @@ sheet_only P (list (cons g (cons (list (cons s lines) e f) rest)) from to) none 
     (record { setup_fits = setup.1; lines_fine = inner.1; all_fit = shape.1; rest_fine = second.1 })))
 
 -- what follows the setup stands behind it
-game_place : (n j : ℕ) (q : Place) → 2 ≤ j → place_at rule.Game n j ≡ Some q → is_body q ≡ true
+game_place : (n j : ℕ) (q : Symbol) → 2 ≤ j → place_at rule.Game n j ≡ Some q → is_body q ≡ true
 game_place n zero q above is = absurd (omega (arith, above))
 game_place n (suc zero) q above is = absurd (omega (arith, above))
 game_place n (suc (suc j)) q above is = by (suc (suc j) + 1 == n) q is
   where
-    by : (last : Bool) (q : Place) → behind_front rule.Game last ≡ Some q → is_body q ≡ true
+    by : (last : Bool) (q : Symbol) → behind_front rule.Game last ≡ Some q → is_body q ≡ true
     by true q is = subst (λ o. is_body_or_none o ≡ true) is refl
     by false q is = subst (λ o. is_body_or_none o ≡ true) is refl
 
-pub game_body : (all : Trees) (j : ℕ) (q : Place) → 2 ≤ j → place_at rule.Game (count all) j ≡ Some q
+pub game_body : (all : Trees) (j : ℕ) (q : Symbol) → 2 ≤ j → place_at rule.Game (count all) j ≡ Some q
     → IsBody (standing_at standing_alone rule.Game all j q)
 game_body all j q above is = record { placed = game_place (count all) j q above is; role_fits = no_role_fits q }
 
@@ -107,7 +107,7 @@ module _ (a b c d e f from to : ℕ) (lines rest : Trees) where
   whole = list all from to
 
   abbrev setup_at : Standing
-  setup_at = standing_at standing_alone rule.Game all 1 place.Setup
+  setup_at = standing_at standing_alone rule.Game all 1 symbol.Setup
 
   -- the parts behind the setup
   abbrev behind : List Part
@@ -280,5 +280,5 @@ whole_gives a b c d e f from to lines rest shaped =
     }
 
 -- of each form without a fault
-pub gives_mentions : (tree : Tree) → faults place.Sheet tree ≡ [] → GivesMentions tree
+pub gives_mentions : (tree : Tree) → faults symbol.Sheet tree ≡ [] → GivesMentions tree
 gives_mentions tree none = sheet_only GivesMentions tree none whole_gives

@@ -6,7 +6,7 @@ use Rattle.rc_model.specs.Limits.{most_attrs, most_values, most_maps}
 use Rattle.rc_sheet_model.specs.FormMentions.{names_of}
 use Rattle.rc_sheet_model.specs.WellFormed.{IsWithinLimits}
 use Rattle.rc_grammar.specs.Faults.{faults}
-use Rattle.rc_grammar.specs.declared.grammar.Place.TheVariants as place
+use Rattle.rc_grammar.specs.declared.grammar.Symbol.TheVariants as symbol
 use Rattle.rc_faults.specs.SecondFaults.{second_faults}
 use Rattle.rc_naming.specs.Naming.{naming_of}
 use Rattle.rc_reading.specs.ReadSheet.{sheet_at}
@@ -23,7 +23,7 @@ names_are tree sheet is =
     ap (λ n. n.names) (means_so (sheet_at (naming_of tree) tree) sheet (sheet_reads (naming_of tree) tree) is).named
 
 -- and so keeps its limits
-pub within_limits : (tree : Tree) (sheet : Sheet) → faults place.Sheet tree ≡ [] → second_faults tree ≡ []
+pub within_limits : (tree : Tree) (sheet : Sheet) → faults symbol.Sheet tree ≡ [] → second_faults tree ≡ []
     → sheet_at (naming_of tree) tree ≡ Some sheet → IsWithinLimits sheet
 within_limits tree sheet shaped sound is =
     let few = means_so (sheet_at (naming_of tree) tree) sheet (sheet_few (naming_of tree) tree) is in

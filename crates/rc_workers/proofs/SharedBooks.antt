@@ -11,7 +11,7 @@ use Rattle.std.specs.contracts.sync.Mutex
 use Rattle.lru.proofs.cache.LruCache.TheSendSync as Caches
 use Rattle.rc_redraw.proofs.asking.Ask.TheSendSync as Asks
 use Rattle.rc_redraw.specs.contracts.entry.Entry
-use Rattle.rc_cache.proofs.mark.Mark.TheSendSync as Marks
+use Rattle.rc_cache.proofs.mark.HashedAsk.TheSendSync as Marks
 use Rattle.rc_cache.proofs.lanes.Lane.TheSendSync as Lanes
 use Rattle.rc_cache.proofs.lanes.Sums.TheSendSync as Totals
 use Rattle.rc_cache.specs.contracts.book.Book
@@ -19,7 +19,7 @@ use Rattle.rc_cache.specs.contracts.book.Book.TheInside as InBook
 use Rattle.rc_cache.specs.contracts.calls.Call
 use Rattle.rc_cache.specs.contracts.shared.SharedBook
 use Rattle.rc_cache.specs.contracts.shared.SharedBook.TheInside as InMemo
-use Rattle.rc_cache.specs.declared.naming.Naming
+use Rattle.rc_cache.specs.declared.naming.BookNaming
 use Rattle.rc_rollout.specs.contracts.choices.Choices
 use Rattle.rc_turns.proofs.Threaded.{about_sync, about_send, code_sync, code_send}
 
@@ -29,7 +29,7 @@ call_send = search (about_sync, about_send, Asks.the_sync, Asks.the_send, Crossi
 entry_send : IsSend Entry.the_row
 entry_send = search (about_sync, about_send, Asks.the_sync, Asks.the_send, Crossing.crosses, sendable) depth 20
 
-module _ (N : RattleType) (g : Naming.Ghosts N.Denot) where
+module _ (N : RattleType) (g : BookNaming.Ghosts N.Denot) where
   -- the entries, the journal and the sums
   book_send : IsSend (Book.the_row N g)
   book_send =

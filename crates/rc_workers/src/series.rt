@@ -9,7 +9,7 @@ ghost use Rattle.rc_rules.specs.Record.{record_seen, standing_seen};
 ghost use Rattle.rc_records.specs.Series.{looks_of, matches_of};
 
 use crate::sharing::{memos_of, play_shared};
-use rc_cache::{Book, Fresh, Naming, close};
+use rc_cache::{Book, BookNaming, Fresh, close};
 use rc_deck::Memory;
 use rc_flow::Checked;
 use rc_outside::Gate;
@@ -66,7 +66,7 @@ pub fn series_by_workers<R: Threads + Wait + Sync, G: Gate>(
 }
 
 // The same, with a name for the book.
-fn played<N: Naming + Send + Sync, R: Threads + Wait + Sync, G: Gate>(
+fn played<N: BookNaming + Send + Sync, R: Threads + Wait + Sync, G: Gate>(
     rt: &R,
     alloc: Global,
     fresh: Fresh,

@@ -7,7 +7,7 @@ ghost use Rattle.rc_cache.specs.Memos.{shared_counts};
 ghost use Rattle.rc_records.specs.Series.{looks_of, matches_of};
 ghost use Rattle.rc_turns.specs.Gathered.{RiseTogether};
 
-use rc_cache::{Book, Lane, Naming, SharedBook};
+use rc_cache::{Book, BookNaming, Lane, SharedBook};
 use rc_code::Code;
 use rc_deck::Memory;
 use rc_outside::Gate;
@@ -21,7 +21,7 @@ use std::thread::Threads;
 /// Plays every match of a plan, with one worker for each lane to the book, on code that is made of the sheet once. The records are
 /// those of the matches, in order. As many lanes come back, in whatever order, and their numbers rise together by what the matches
 /// ask: each decision that asks for totals is one look, and each look hits, or is followed by a keep. Memory may run out.
-pub fn play_shared<'a, N: Naming + Send + Sync, R: Threads + Wait + Sync, G: Gate>(
+pub fn play_shared<'a, N: BookNaming + Send + Sync, R: Threads + Wait + Sync, G: Gate>(
     rt: &R,
     alloc: Global,
     about: &Arc<About>,
@@ -60,7 +60,7 @@ pub fn play_shared<'a, N: Naming + Send + Sync, R: Threads + Wait + Sync, G: Gat
 }
 
 // Choices by each of these memos on this code, in their order.
-fn choosers_of<'a, N: Naming, R: Wait>(
+fn choosers_of<'a, N: BookNaming, R: Wait>(
     alloc: Global,
     code: &Arc<Code>,
     memos: Vec<SharedBook<'a, N, R>>,
@@ -84,7 +84,7 @@ fn choosers_of<'a, N: Naming, R: Wait>(
 }
 
 // The lanes of choosers, in their order.
-fn lanes_of<'a, N: Naming, R: Wait>(
+fn lanes_of<'a, N: BookNaming, R: Wait>(
     alloc: Global,
     choosers: Vec<Choices<SharedBook<'a, N, R>>>,
 ) -> Result<Vec<Lane<N>>, Memory>
@@ -102,7 +102,7 @@ fn lanes_of<'a, N: Naming, R: Wait>(
 }
 
 /// A memo for each lane to a book, in their order. Memory may run out.
-pub(crate) fn memos_of<'a, N: Naming, R: Wait>(
+pub(crate) fn memos_of<'a, N: BookNaming, R: Wait>(
     rt: &'a R,
     alloc: Global,
     book: &'a Mutex<Book<N>>,

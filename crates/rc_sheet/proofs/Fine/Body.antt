@@ -15,7 +15,7 @@ use Rattle.rc_faults.specs.SecondNames.{stages_in, choices_in}
 use Rattle.rc_faults.specs.SecondFaults.{stage_count, choice_count}
 use Rattle.rc_grammar.specs.Faults.{is_word, atom_faults, faults, rule_of, count, behind_front}
 use Rattle.rc_grammar.specs.declared.keyword.Keyword.TheVariants as keyword
-use Rattle.rc_grammar.specs.declared.grammar.Place.TheVariants as place
+use Rattle.rc_grammar.specs.declared.grammar.Symbol.TheVariants as symbol
 use Rattle.rc_grammar.specs.declared.grammar.Rule.TheVariants as rule
 use Rattle.rc_grammar.specs.declared.fault.SheetKind.TheVariants.{Shape}
 use Rattle.rc_reading.specs.ReadNames.{◌>>=◌, ensure}
@@ -40,11 +40,11 @@ best_finds bytes from to taken =
 
 -- how the last part of a sheet stands, and one before it behind the setup
 abbrev pub last_part : Standing → Trees → Standing
-last_part at all = plain_part at place.Scoring all
+last_part at all = plain_part at symbol.Scoring all
 
 -- and how one before it does
 abbrev pub item_part : Standing → Trees → Standing
-item_part at all = plain_part at place.Item all
+item_part at all = plain_part at symbol.Item all
 
 -- all trees but the last are one less
 count_but_last : (trees : Trees) → 1 ≤ count trees → count (but_last trees) + 1 ≡ count trees
@@ -118,7 +118,7 @@ module _ (given : Given) (naming : Naming) where
     pub from : ℕ
     pub to : ℕ
     pub is : tree ≡ list (cons head (cons setup rest)) from to
-    pub told : rule_of place.Sheet (cons head (cons setup rest)) ≡ Some rule.Game
+    pub told : rule_of symbol.Sheet (cons head (cons setup rest)) ≡ Some rule.Game
     pub good : IsGoodForm given naming standing_alone rule.Game (cons head (cons setup rest))
     pub some : 2 ≤ count rest
     pub parts : List Part
@@ -162,11 +162,11 @@ module _ (given : Given) (naming : Naming) where
       good room
 
   -- a form without a fault of shape whose parts are fine
-  pub game_is_fine : (tree : Tree) → faults place.Sheet tree ≡ [] → All (IsFine given naming) (parts_of tree)
+  pub game_is_fine : (tree : Tree) → faults symbol.Sheet tree ≡ [] → All (IsFine given naming) (parts_of tree)
       → stage_count (parts_of tree) ≤ most_stages → choice_count (parts_of tree) ≤ most_sites → IsGame tree
   game_is_fine (word bytes from to) shaped fine stages sites = absurd (refused shaped)
     where
-      refused : atom_faults place.Sheet bytes from ≡ [] → ⊥
+      refused : atom_faults symbol.Sheet bytes from ≡ [] → ⊥
       refused is = cc
   game_is_fine (list parts from to) shaped fine stages sites =
       let good = good_form given naming standing_alone parts from to
@@ -178,20 +178,20 @@ module _ (given : Given) (naming : Naming) where
       (λ found. IsGoodForm given naming standing_alone found parts
       → HasRoom none_begun (form standing_alone found parts from ∷ parts_in standing_alone found parts 0 parts)
       → IsGame (list parts from to))
-      place.Sheet parts good.0 good.1.told ((λ good room. game_by from to parts good room) ▹ tt) good.1
+      symbol.Sheet parts good.0 good.1.told ((λ good room. game_by from to parts good room) ▹ tt) good.1
       (subst (HasRoom none_begun) same room)
 
 module _ (sheet : Sheet) (given : Given) (gives : Gives sheet given) where
   -- `(scoring BEST INT)`
-  pub score_finds : (at : Standing) (tree : Tree) → at.place ≡ place.Scoring → Good sheet given at tree
+  pub score_finds : (at : Standing) (tree : Tree) → at.place ≡ symbol.Scoring → Good sheet given at tree
       → Finds (score_at (sheet_naming sheet) tree) (λ p. IsInt sheet scored p.1)
   score_finds at (word bytes from to) here good =
       absurd (refused (subst (λ p. atom_faults p bytes from ≡ []) here good.shaped))
     where
-      refused : atom_faults place.Scoring bytes from ≡ [] → ⊥
+      refused : atom_faults symbol.Scoring bytes from ≡ [] → ⊥
       refused is = cc
   score_finds at (list parts from to) here good =
-      list_says given (sheet_naming sheet) (λ tree. Unit {0}) (score_rule (sheet_naming sheet)) place.Scoring at parts from to
+      list_says given (sheet_naming sheet) (λ tree. Unit {0}) (score_rule (sheet_naming sheet)) symbol.Scoring at parts from to
       here (each_by_parts (λ bytes from to. tt) (λ parts from to each. tt) parts) good
       (with_three given (sheet_naming sheet) (λ tree. Unit {0}) (λ n. refl)
       (λ head best value each form. implies _
@@ -199,13 +199,13 @@ module _ (sheet : Sheet) (given : Given) (gives : Gives sheet given) where
       (λ p is. is.1))
       ▹ tt)
     where
-      best_is_found : (at : Standing) (tree : Tree) → at.place ≡ place.Best → Good sheet given at tree
+      best_is_found : (at : Standing) (tree : Tree) → at.place ≡ symbol.Best → Good sheet given at tree
           → Finds (best_at tree) (λ best. Unit {0})
       best_is_found at (word bytes from to) here good =
           best_finds bytes from to (passes_test (is_word keyword.Max bytes || is_word keyword.Min bytes) Shape from
           (subst (λ p. atom_faults p bytes from ≡ []) here good.shaped))
       best_is_found at (list parts from to) here good =
-          absurd (no_list given (sheet_naming sheet) place.Best at parts from to here good refl)
+          absurd (no_list given (sheet_naming sheet) symbol.Best at parts from to here good refl)
 
   -- each of these trees is read at the place of an item
   each_plays : (trees : Trees) → Each (Plays sheet given gives) trees

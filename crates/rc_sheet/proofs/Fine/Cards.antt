@@ -13,7 +13,7 @@ use Rattle.rc_sheet_model.specs.Naming.{Naming}
 use Rattle.rc_setup.specs.Naming.{number_of}
 use Rattle.rc_setup.specs.Reading.{unless_nil, plain, read_groups, read_group, read_branches, read_branch, is_word, read_deck}
 use Rattle.rc_grammar.specs.Faults.{faults}
-use Rattle.rc_grammar.specs.declared.grammar.Place.TheVariants as place
+use Rattle.rc_grammar.specs.declared.grammar.Symbol.TheVariants as symbol
 use Rattle.rc_grammar.specs.declared.grammar.Rule.TheVariants as rule
 use Rattle.rc_faults.specs.SecondParts.{Part, atom, form, parts_of}
 use Rattle.rc_faults.specs.SecondNames.{some_of, faces_of, cards_in, written_faces, written_branches}
@@ -112,7 +112,7 @@ abbrev faces_in : List DeckLine → List ℕ
 faces_in decks = map (λ line. face_count line.groups) decks
 
 -- THE LAW: the cards of the setup that is read are those that the form's parts count.
-pub faces_are_counted : (tree : Tree) → faults place.Sheet tree ≡ [] → second_faults tree ≡ []
+pub faces_are_counted : (tree : Tree) → faults symbol.Sheet tree ≡ [] → second_faults tree ≡ []
     → Means (setup_form_at (naming_of tree) (setup_in tree)) (λ s. faces_in s.decks ≡ flat_map cards_in (parts_of tree))
 faces_are_counted tree shaped sound =
     weaker _
@@ -156,7 +156,7 @@ has_some : {A : Type 0} (xs : List A) → not (some_of xs) ≡ false → 1 ≤ l
 has_some [] is = absurd cc
 has_some (x ∷ xs) is = omega arith
 
-pub some_cards : (tree : Tree) → faults place.Sheet tree ≡ [] → second_faults tree ≡ []
+pub some_cards : (tree : Tree) → faults symbol.Sheet tree ≡ [] → second_faults tree ≡ []
     → 1 ≤ length (flat_map cards_in (parts_of tree))
 some_cards tree shaped sound =
     sheet_only (λ tree. second_faults tree ≡ [] → 1 ≤ length (flat_map cards_in (parts_of tree))) tree shaped
@@ -167,7 +167,7 @@ some_cards tree shaped sound =
     sound
 
 -- THE LAW: there is a deck, and there are few cards.
-pub cards_are_fine : (tree : Tree) → faults place.Sheet tree ≡ [] → second_faults tree ≡ []
+pub cards_are_fine : (tree : Tree) → faults symbol.Sheet tree ≡ [] → second_faults tree ≡ []
     → Means (setup_form_at (naming_of tree) (setup_in tree))
     (λ s. (1 ≤ length s.decks) × (sum_by (λ line. face_count line.groups) s.decks ≤ most_cards))
 cards_are_fine tree shaped sound =
@@ -180,7 +180,7 @@ cards_are_fine tree shaped sound =
     (omega (arith, some, long), omega (arith, few, total)))
 
 -- of the sheet too
-pub sheet_has_cards : (tree : Tree) (sheet : Sheet) → faults place.Sheet tree ≡ [] → second_faults tree ≡ []
+pub sheet_has_cards : (tree : Tree) (sheet : Sheet) → faults symbol.Sheet tree ≡ [] → second_faults tree ≡ []
     → sheet_at (naming_of tree) tree ≡ Some sheet
     → (1 ≤ length sheet.decks) × (sum_by (λ line. face_count line.groups) sheet.decks ≤ most_cards)
 sheet_has_cards tree sheet shaped sound is =

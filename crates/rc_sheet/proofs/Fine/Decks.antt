@@ -19,7 +19,7 @@ use Rattle.rc_sheet_model.specs.StandsExpressions.{StandsHolder}
 use Rattle.rc_sheet_model.specs.WellFormed.{is_mem, is_among, group_attrs, branch_attrs, AreGroups, AreBranches, IsDeck}
 use Rattle.rc_grammar.specs.Faults.{faults, is_word, place_at, count}
 use Rattle.rc_grammar.specs.declared.keyword.Keyword.TheVariants as keyword
-use Rattle.rc_grammar.specs.declared.grammar.Place.TheVariants as place
+use Rattle.rc_grammar.specs.declared.grammar.Symbol.TheVariants as symbol
 use Rattle.rc_grammar.specs.declared.grammar.Rule.{Rule}
 use Rattle.rc_grammar.specs.declared.grammar.Rule.TheVariants as rule
 use Rattle.rc_faults.specs.declared.role.Role.TheVariants.{DeckLocation as deck_role}
@@ -75,15 +75,15 @@ IsHome naming name =
     × (option_map (λ loc. is_mem loc.kind) (slice_get naming.locs name) ≡ Some false)
 
 module _ (given : Given) (naming : Naming) where
-  home_is : (at : Standing) (parts : Trees) (from to : ℕ) → at.place ≡ place.Location → at.role ≡ deck_role
+  home_is : (at : Standing) (parts : Trees) (from to : ℕ) → at.place ≡ symbol.Location → at.role ≡ deck_role
       → IsGood given naming at (list parts from to)
       → is_word keyword.Mem (word_in 1 parts) ≡ false
   home_is at parts from to here role good =
-      let form = only_form given naming place.Location rule.Location at parts from to here (refl, tt) good in
+      let form = only_form given naming symbol.Location rule.Location at parts from to here (refl, tt) good in
       (or_parts (not (is_game (mention_of parts).class)) (is_word keyword.Mem (word_in 1 parts))
       (subst (λ r. is_misplaced r (mention_of parts) ≡ false) role form.fine.fits.0)).1
 
-  home_fits : (at : Standing) (loc : Tree) → at.place ≡ place.Location → at.role ≡ deck_role → IsGood given naming at loc
+  home_fits : (at : Standing) (loc : Tree) → at.place ≡ symbol.Location → at.role ≡ deck_role → IsGood given naming at loc
       → Means (loc_at naming [] loc) (λ home. (number : ℕ) → home_of home.who home.name ≡ Some number → IsHome naming number)
   unfolding loc_at
   home_fits at (word bytes from to) here role good = nothing
@@ -255,14 +255,14 @@ module _ (given : Given) (naming : Naming) where
 
   mutual
     groups_fit : (at : Standing) (r : Rule) (all : Trees) (index : ℕ) (trees : Trees) (before : List ℕ) → 1 ≤ index
-        → ((j : ℕ) → 1 ≤ j → place_at r (count all) j ≡ Some place.Group)
+        → ((j : ℕ) → 1 ≤ j → place_at r (count all) j ≡ Some symbol.Group)
         → ((j : ℕ) → inner_attributes r all j ≡ attributes_among (front j all))
         → behind_at index all ≡ trees → AreGood given naming at r all index trees
         → Covers attrs before (at.above ++ attributes_among (front index all))
         → Means (read_groups (face_words naming) trees) (GroupsFit before trees)
     groups_fit at r all index nil before above each inner tail good covers = something no_group (tt, λ n is. absurd cc)
     groups_fit at r all index (cons tree trees) before above each inner tail good covers =
-        let stand = standing_at at r all index place.Group in
+        let stand = standing_at at r all index symbol.Group in
         let stands : standing_in at r all index ≡ Some stand =
         ap (λ o. option_map (λ q. standing_at at r all index q) o) (each index above) in
         let next = next_front index all tree trees tail in
@@ -290,7 +290,7 @@ module _ (given : Given) (naming : Naming) where
               (covers_right attrs (group_attrs rest) (attributes_of tree) (attributes_among trees) are.1),
         )))
 
-    group_fits : (at : Standing) → at.place ≡ place.Group → (tree : Tree) (before : List ℕ) → IsGood given naming at tree
+    group_fits : (at : Standing) → at.place ≡ symbol.Group → (tree : Tree) (before : List ℕ) → IsGood given naming at tree
         → Covers attrs before at.above
         → Means (read_group (face_words naming) tree)
         (λ found. OneGroup before found.0 found.1 × Covers attrs (found.0 ∷ branch_attrs found.1) (attributes_of tree))
@@ -307,9 +307,9 @@ module _ (given : Given) (naming : Naming) where
     group_fits at here (list (cons head (cons second (cons third others))) from to) before good covers = nothing
     group_fits at here (list (cons (word bytes a b) (cons (list branches c d) nil)) from to) before good covers =
         let parts = cons (word bytes a b) (cons (list branches c d) nil) in
-        let row = only_form given naming place.Group rule.Group at parts from to here (refl, tt) good in
-        let stand = standing_at at rule.Group parts 1 place.Branches in
-        let inner = only_form given naming place.Branches rule.Branches stand branches c d refl (refl, tt) row.good.1.0 in
+        let row = only_form given naming symbol.Group rule.Group at parts from to here (refl, tt) good in
+        let stand = standing_at at rule.Group parts 1 symbol.Branches in
+        let inner = only_form given naming symbol.Branches rule.Branches stand branches c d refl (refl, tt) row.good.1.0 in
         made_after (λ attr found. (attr, found)) (number_of attrs (word bytes a b))
         (unless_nil branches (read_branches (face_words naming) branches)) (number_is attrs bytes a b)
         (λ attr is.
@@ -337,7 +337,7 @@ module _ (given : Given) (naming : Naming) where
     branches_fit at all index (cons tree trees) before good covers =
         made_of (λ first rest. branch first.0 first.1 rest) (read_branch (face_words naming) tree)
         (read_branches (face_words naming) trees)
-        (branch_fits (standing_at at rule.Branches all index place.Branch) refl tree before good.0
+        (branch_fits (standing_at at rule.Branches all index symbol.Branch) refl tree before good.0
         (covers_left attrs before at.above [] covers))
         (branches_fit at all (index + 1) trees before good.1 covers)
         (λ first rest one are. (
@@ -348,7 +348,7 @@ module _ (given : Given) (naming : Naming) where
               (covers_right attrs (branch_attrs rest) (attributes_in tree) (attributes_below trees) are.1)),
         ))
 
-    branch_fits : (at : Standing) → at.place ≡ place.Branch → (tree : Tree) (before : List ℕ) → IsGood given naming at tree
+    branch_fits : (at : Standing) → at.place ≡ symbol.Branch → (tree : Tree) (before : List ℕ) → IsGood given naming at tree
         → Covers attrs before at.above
         → Means (read_branch (face_words naming) tree)
         (λ found. AreGroups before found.1 × Covers attrs (group_attrs found.1) (attributes_in tree))
@@ -357,7 +357,7 @@ module _ (given : Given) (naming : Naming) where
     branch_fits at here (list nil from to) before good covers = nothing
     branch_fits at here (list (cons head groups) from to) before good covers =
         let parts = cons head groups in
-        let row = only_form given naming place.Branch rule.Branch at parts from to here (refl, tt) good in
+        let row = only_form given naming symbol.Branch rule.Branch at parts from to here (refl, tt) good in
         made_of (λ number inner. (number, inner)) (number_of naming.names.values head)
         (unless_nil groups (read_groups (face_words naming) groups)) (anything _)
         (unless_none groups (read_groups (face_words naming) groups)
@@ -369,7 +369,7 @@ module _ (given : Given) (naming : Naming) where
         ))
 
   -- a deck
-  deck_fits : (at : Standing) → at.place ≡ place.Deck → (tree : Tree) → IsGood given naming at tree
+  deck_fits : (at : Standing) → at.place ≡ symbol.Deck → (tree : Tree) → IsGood given naming at tree
       → Means (read_deck (face_words naming) tree) (λ groups. (1 ≤ length (group_attrs groups)) × AreGroups [] groups)
   deck_fits at here (word bytes from to) good = nothing
   deck_fits at here (list nil from to) good = nothing
@@ -377,7 +377,7 @@ module _ (given : Given) (naming : Naming) where
       (λ is. nothing)
   deck_fits at here (list (cons head (cons first rest)) from to) good =
       let parts = cons head (cons first rest) in
-      let row = only_form given naming place.Deck rule.Deck at parts from to here (refl, tt) good in
+      let row = only_form given naming symbol.Deck rule.Deck at parts from to here (refl, tt) good in
       let found = read_groups (face_words naming) (cons first rest) in
       either (is_read_word (codes "deck") head) found None
       (λ is.
@@ -392,8 +392,8 @@ module _ (given : Given) (naming : Naming) where
   abbrev pub IsDeckOf : DeckLine → Type 0
   IsDeckOf line = (1 ≤ length (group_attrs line.groups)) × AreGroups [] line.groups × IsHome naming line.loc
 
-  deck_line_fits : (at at' : Standing) (loc tree : Tree) → at.place ≡ place.Location → at.role ≡ deck_role
-      → IsGood given naming at loc → at'.place ≡ place.Deck → IsGood given naming at' tree
+  deck_line_fits : (at at' : Standing) (loc tree : Tree) → at.place ≡ symbol.Location → at.role ≡ deck_role
+      → IsGood given naming at loc → at'.place ≡ symbol.Deck → IsGood given naming at' tree
       → Means (deck_at naming loc tree) IsDeckOf
   unfolding deck_at
   deck_line_fits at at' loc tree here role good here' good' =
@@ -410,7 +410,7 @@ decks_of given naming s body (deck ∷ decks) all =
     let is = all.0 in ((is.0, is.1, is.2.0, is.2.1), decks_of given naming s body decks all.1)
 
 -- THE LAW: the decks of the setup that is read are decks of any sheet with its form's naming.
-pub decks_are_fine : (tree : Tree) → faults place.Sheet tree ≡ [] → second_faults tree ≡ []
+pub decks_are_fine : (tree : Tree) → faults symbol.Sheet tree ≡ [] → second_faults tree ≡ []
     → Means (setup_form_at (naming_of tree) (setup_in tree))
     (λ s. (body : SheetItems × (Best × IntExpr)) → AllByRecursion (IsDeck (sheet_with (naming_of tree) s body)) s.decks)
 decks_are_fine tree shaped sound =
@@ -423,7 +423,7 @@ decks_are_fine tree shaped sound =
             let parts = cons create (cons second (cons loc (cons inner nil))) in
             all_both (IsDeckOf (given_of tree) (naming_of tree)) said.decks (deck ∷ []) q (
               means_so _ deck (deck_line_fits (given_of tree) (naming_of tree)
-                  (standing_at at rule.CreateDeck parts 2 place.Location) (standing_at at rule.CreateDeck parts 3 place.Deck) loc inner
+                  (standing_at at rule.CreateDeck parts 2 symbol.Location) (standing_at at rule.CreateDeck parts 3 symbol.Deck) loc inner
                   refl refl line.good.good.1.1.0 refl line.good.good.1.1.1.0) is,
               tt,
             );
@@ -436,7 +436,7 @@ decks_are_fine tree shaped sound =
     (subst (AllByRecursion (IsDeckOf (given_of tree) (naming_of tree))) is.decks is.is))
 
 -- and so they are decks of the sheet
-pub decks_are_decks : (tree : Tree) (sheet : Sheet) → faults place.Sheet tree ≡ [] → second_faults tree ≡ []
+pub decks_are_decks : (tree : Tree) (sheet : Sheet) → faults symbol.Sheet tree ≡ [] → second_faults tree ≡ []
     → sheet_at (naming_of tree) tree ≡ Some sheet → All (IsDeck sheet) sheet.decks
 decks_are_decks tree sheet shaped sound is =
     by_setup (λ sheet. All (IsDeck sheet) sheet.decks) (naming_of tree) tree sheet is

@@ -11,7 +11,7 @@ use Rattle.rc_faults.specs.SecondParts.{Standing, standing_in, sort_by_form, sor
 use Rattle.rc_faults.specs.SecondFaults.{sorts_at, is_in_stage}
 use Rattle.rc_grammar.specs.Faults.{is_word, is_variable, atom_faults, rule_of, count}
 use Rattle.rc_grammar.specs.declared.keyword.Keyword.TheVariants as keyword
-use Rattle.rc_grammar.specs.declared.grammar.Place.TheVariants as place
+use Rattle.rc_grammar.specs.declared.grammar.Symbol.TheVariants as symbol
 use Rattle.rc_grammar.specs.declared.grammar.Rule.{Rule}
 use Rattle.rc_grammar.specs.declared.grammar.Rule.TheVariants as rule
 use Rattle.rc_grammar.specs.declared.fault.SheetKind.TheVariants.{Shape}
@@ -38,18 +38,18 @@ range_is_domain sheet around (each_group cards attr) is = absurd is
 
 -- how the effects of a repeat stand, and those of `all`
 in_repeats : (at : Standing) (all : Trees) (i : ℕ) → 2 ≤ i
-    → standing_in at rule.Repeat all i ≡ Some (record (plain_part at place.Effect all) { around = in_repeat at.around })
+    → standing_in at rule.Repeat all i ≡ Some (record (plain_part at symbol.Effect all) { around = in_repeat at.around })
 in_repeats at all =
-    from_two _ (λ j. ap (λ b. Some (record (plain_part at place.Effect all)
+    from_two _ (λ j. ap (λ b. Some (record (plain_part at symbol.Effect all)
     { around = cond b (in_repeat at.around) at.around }))
     (lt-ltb 1 (suc (suc j)) (omega arith)))
 
 -- and those of `all`
 in_all : (at : Standing) (all : Trees) (i : ℕ) → 3 ≤ i
     → standing_in at rule.Each all i
-    ≡ Some (record (plain_part at place.Effect all) { around = bound_in at.around (word_in 2 all) (sort_over (part_at 1 all)) })
+    ≡ Some (record (plain_part at symbol.Effect all) { around = bound_in at.around (word_in 2 all) (sort_over (part_at 1 all)) })
 in_all at all =
-    from_three _ (λ j. ap (λ b. Some (record (plain_part at place.Effect all) {
+    from_three _ (λ j. ap (λ b. Some (record (plain_part at symbol.Effect all) {
       around = cond b (bound_in at.around (word_in 2 all) (sort_over (part_at 1 all))) at.around;
     })) (lt-ltb 2 (suc (suc (suc j))) (omega arith)))
 
@@ -59,15 +59,15 @@ module _ (sheet : Sheet) (given : Given) (gives : Gives sheet given) where
   SpotAt at spot = IsLoc sheet at.around spot.1 × IsPlaced sheet given at.role spot.1.name
 
   -- a spot
-  pub spot_finds : (at : Standing) (tree : Tree) → at.place ≡ place.Spot → Good sheet given at tree
+  pub spot_finds : (at : Standing) (tree : Tree) → at.place ≡ symbol.Spot → Good sheet given at tree
       → Finds (spot_at (sheet_naming sheet) at.around.scope tree) (SpotAt at)
   spot_finds at (word bytes from to) here good =
       absurd (refused (subst (λ p. atom_faults p bytes from ≡ []) here good.shaped))
     where
-      refused : atom_faults place.Spot bytes from ≡ [] → ⊥
+      refused : atom_faults symbol.Spot bytes from ≡ [] → ⊥
       refused is = cc
   spot_finds at (list parts from to) here good =
-      list_says given (sheet_naming sheet) (λ tree. Unit {0}) (spot_rule (sheet_naming sheet) at.around.scope) place.Spot at parts
+      list_says given (sheet_naming sheet) (λ tree. Unit {0}) (spot_rule (sheet_naming sheet) at.around.scope) symbol.Spot at parts
       from to
       here (each_by_parts (λ bytes from to. tt) (λ parts from to each. tt) parts) good
       (with_two given (sheet_naming sheet) (λ tree. Unit {0}) (λ n. refl)
@@ -78,7 +78,7 @@ module _ (sheet : Sheet) (given : Given) (gives : Gives sheet given) where
 
   -- EFFECT
   pub record Acts (tree : Tree) : Type 0 where
-    pub effect : (at : Standing) → at.place ≡ place.Effect → Good sheet given at tree
+    pub effect : (at : Standing) → at.place ≡ symbol.Effect → Good sheet given at tree
         → Finds (effect_at (sheet_naming sheet) at.around.scope tree) (IsEffect sheet at.around)
 
   -- a form of this rule says an effect
@@ -95,7 +95,7 @@ module _ (sheet : Sheet) (given : Given) (gives : Gives sheet given) where
   EffectsIn parts around = Finds (effects_at (sheet_naming sheet) around.scope parts) (AreEffectsOf parts around)
 
   -- one after the other
-  pub effects_find : (at : Standing) (parts : Trees) → at.place ≡ place.Effect → Each Acts parts
+  pub effects_find : (at : Standing) (parts : Trees) → at.place ≡ symbol.Effect → Each Acts parts
       → Each (Good sheet given at) parts → EffectsIn parts at.around
   effects_find at nil here each good = finds no_effect (tt, refl)
   effects_find at (cons part parts) here each good =
@@ -176,7 +176,7 @@ module _ (sheet : Sheet) (given : Given) (gives : Gives sheet given) where
       behind_two given (sheet_naming sheet) Acts (λ n. refl)
       (λ head t rest some each form.
       let alike = rest_good given (sheet_naming sheet) Acts at rule.If (cons head (cons t rest))
-      (plain_part at place.Effect (cons head (cons t rest))) 2 rest (from_two _ (λ j. refl)) form.good.1.1 in
+      (plain_part at symbol.Effect (cons head (cons t rest))) 2 rest (from_two _ (λ j. refl)) form.good.1.1 in
       joins _ _ when ((reads sheet given gives t).test _ refl form.good.1.0) (effects_find _ rest refl each.1.1 alike)
       (λ t es is are. let long = are.1 in (is, omega (arith, some, long), are.0)))
 
@@ -214,14 +214,14 @@ module _ (sheet : Sheet) (given : Given) (gives : Gives sheet given) where
       })
       (λ parts from to each. record {
         effect = λ at here good.
-            list_says given (sheet_naming sheet) Acts (effect_rule (sheet_naming sheet) at.around.scope) place.Effect at parts from to
+            list_says given (sheet_naming sheet) Acts (effect_rule (sheet_naming sheet) at.around.scope) symbol.Effect at parts from to
             here each good
             (move_says at parts ▹ move_all_says at parts ▹ remember_says at parts ▹ forget_says at parts
             ▹ shuffle_says at parts ▹ set_says at parts ▹ increase_says at parts ▹ decrease_says at parts ▹ if_says at parts
             ▹ repeat_says at parts ▹ all_says at parts ▹ next_says at parts ▹ reverse_says at parts ▹ tt);
       })
     where
-      refused : (bytes : List ℕ) (from : ℕ) → atom_faults place.Effect bytes from ≡ [] → ⊥
+      refused : (bytes : List ℕ) (from : ℕ) → atom_faults symbol.Effect bytes from ≡ [] → ⊥
       refused bytes from is = cc
 
   -- DOMAIN, of the sort that its form tells
@@ -232,15 +232,15 @@ module _ (sheet : Sheet) (given : Given) (gives : Gives sheet given) where
   abbrev SaysDomain : Standing → ℕ → Rule → Trees → Type 0
   SaysDomain at from rule parts =
       Says given (sheet_naming sheet) (Reads sheet given) at rule (domain_rule (sheet_naming sheet) at.around.scope from)
-      (DomainAt at.around (sort_by_form (rule_of place.Domain parts))) parts
+      (DomainAt at.around (sort_by_form (rule_of symbol.Domain parts))) parts
 
   -- the sort that its form tells
-  sort_told : (at : Standing) (parts : Trees) (found : Rule) → at.place ≡ place.Domain → rule_of at.place parts ≡ Some found
-      → sort_by_form (rule_of place.Domain parts) ≡ sort_by_form (Some found)
+  sort_told : (at : Standing) (parts : Trees) (found : Rule) → at.place ≡ symbol.Domain → rule_of at.place parts ≡ Some found
+      → sort_by_form (rule_of symbol.Domain parts) ≡ sort_by_form (Some found)
   sort_told at parts found here told = ap (λ p. sort_by_form (rule_of p parts)) (sym here) ∙ ap sort_by_form told
 
   -- cards as a domain
-  cards_say : (at : Standing) (from : ℕ) (found : Rule) (parts : Trees) → at.place ≡ place.Domain
+  cards_say : (at : Standing) (from : ℕ) (found : Rule) (parts : Trees) → at.place ≡ symbol.Domain
       → domain_rule (sheet_naming sheet) at.around.scope from found parts
       ≡ option_map each_card (coll_rule (sheet_naming sheet) at.around.scope from found parts)
       → sort_by_form (Some found) ≡ card_sort
@@ -250,7 +250,7 @@ module _ (sheet : Sheet) (given : Given) (gives : Gives sheet given) where
   cards_say at from found parts here same sort cards =
       record {
         says = λ each form.
-            subst (λ o. Finds o (DomainAt at.around (sort_by_form (rule_of place.Domain parts)))) (sym same)
+            subst (λ o. Finds o (DomainAt at.around (sort_by_form (rule_of symbol.Domain parts)))) (sym same)
             (makes _ each_card (cards.says each form) (λ c is. (is, sort_told at parts found here form.told ∙ sort)));
       }
 
@@ -264,7 +264,7 @@ module _ (sheet : Sheet) (given : Given) (gives : Gives sheet given) where
       (attr_finds sheet given gives _ attr refl refl form.good.1.1.0) (λ c n is named. ((is, named), refl)))
 
   -- `(partition COLL ATTR)`
-  partition_says : (at : Standing) (from : ℕ) (parts : Trees) → at.place ≡ place.Domain
+  partition_says : (at : Standing) (from : ℕ) (parts : Trees) → at.place ≡ symbol.Domain
       → SaysDomain at from rule.Partition parts
   partition_says at from parts here =
       record {
@@ -273,7 +273,7 @@ module _ (sheet : Sheet) (given : Given) (gives : Gives sheet given) where
       }
 
   -- a domain
-  pub domain_finds : (at : Standing) (tree : Tree) → at.place ≡ place.Domain → Good sheet given at tree
+  pub domain_finds : (at : Standing) (tree : Tree) → at.place ≡ symbol.Domain → Good sheet given at tree
       → Finds (domain_at (sheet_naming sheet) at.around.scope tree) (DomainAt at.around (sort_over tree))
   domain_finds at (word bytes from to) here good =
       implies _ (range_word_finds sheet given at bytes from to
@@ -281,7 +281,7 @@ module _ (sheet : Sheet) (given : Given) (gives : Gives sheet given) where
       (subst (λ p. atom_faults p bytes from ≡ []) here good.shaped)) (ap sorts_at here) good)
       (λ domain is. (range_is_domain sheet at.around domain is.0, is.1))
   domain_finds at (list parts from to) here good =
-      list_says given (sheet_naming sheet) (Reads sheet given) (domain_rule (sheet_naming sheet) at.around.scope from) place.Domain at
+      list_says given (sheet_naming sheet) (Reads sheet given) (domain_rule (sheet_naming sheet) at.around.scope from) symbol.Domain at
       parts from to here (each_by_parts (words_read sheet given) (lists_read sheet given gives) parts) good
       (cards_say at from rule.Location parts here refl refl (location_says sheet given at from parts)
       ▹ cards_say at from rule.Filter parts here refl refl (filter_says sheet given at from parts)
@@ -291,7 +291,7 @@ module _ (sheet : Sheet) (given : Given) (gives : Gives sheet given) where
 
   -- ALT
   pub record Offers (tree : Tree) : Type 0 where
-    pub alt : (at : Standing) → at.place ≡ place.Alternative → Good sheet given at tree
+    pub alt : (at : Standing) → at.place ≡ symbol.Alternative → Good sheet given at tree
         → Finds (alt_at (sheet_naming sheet) at.around.scope tree) (IsAlt sheet at.around)
 
   -- a form of this rule says an alternative
@@ -314,7 +314,7 @@ module _ (sheet : Sheet) (given : Given) (gives : Gives sheet given) where
       behind_one given (sheet_naming sheet) Offers (λ n. refl)
       (λ head rest some each form.
       let alike = rest_good given (sheet_naming sheet) Offers at rule.Do (cons head rest)
-      (plain_part at place.Effect (cons head rest)) 1 rest (from_one _ (λ j. refl)) form.good.1 in
+      (plain_part at symbol.Effect (cons head rest)) 1 rest (from_one _ (λ j. refl)) form.good.1 in
       makes _ do_alt (effects_find _ rest refl (each_acts rest) alike)
       (λ es are. let long = are.1 in (omega (arith, some, long), are.0)))
 
@@ -324,7 +324,7 @@ module _ (sheet : Sheet) (given : Given) (gives : Gives sheet given) where
       behind_two given (sheet_naming sheet) Offers (λ n. refl)
       (λ head t rest some each form.
       let alike = rest_good given (sheet_naming sheet) Offers at rule.If (cons head (cons t rest))
-      (plain_part at place.Effect (cons head (cons t rest))) 2 rest (from_two _ (λ j. refl)) form.good.1.1 in
+      (plain_part at symbol.Effect (cons head (cons t rest))) 2 rest (from_two _ (λ j. refl)) form.good.1.1 in
       joins _ _ if_alt ((reads sheet given gives t).test _ refl form.good.1.0) (effects_find _ rest refl (each_acts rest) alike)
       (λ t es is are. let long = are.1 in (is, omega (arith, some, long), are.0)))
 
@@ -348,16 +348,16 @@ module _ (sheet : Sheet) (given : Given) (gives : Gives sheet given) where
       })
       (λ parts from to each. record {
         alt = λ at here good.
-            list_says given (sheet_naming sheet) Offers (alt_rule (sheet_naming sheet) at.around.scope) place.Alternative at parts
+            list_says given (sheet_naming sheet) Offers (alt_rule (sheet_naming sheet) at.around.scope) symbol.Alternative at parts
             from to
             here each good (do_alt_says at parts ▹ if_alt_says at parts ▹ any_alt_says at parts ▹ tt);
       })
     where
-      refused : (bytes : List ℕ) (from : ℕ) → atom_faults place.Alternative bytes from ≡ [] → ⊥
+      refused : (bytes : List ℕ) (from : ℕ) → atom_faults symbol.Alternative bytes from ≡ [] → ⊥
       refused bytes from is = cc
 
   -- alternatives, one after the other, where nothing is in scope
-  pub alts_find : (at : Standing) (parts : Trees) → at.place ≡ place.Alternative → at.around.scope ≡ []
+  pub alts_find : (at : Standing) (parts : Trees) → at.place ≡ symbol.Alternative → at.around.scope ≡ []
       → Each (Good sheet given at) parts
       → Finds (alts_at (sheet_naming sheet) parts) (λ alts. AreAlts sheet at.around alts × (length alts ≡ count parts))
   alts_find at nil here free good = finds [] (tt, refl)

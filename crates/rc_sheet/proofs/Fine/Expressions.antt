@@ -21,7 +21,7 @@ use Rattle.rc_faults.specs.declared.role.SideSort.{SideSort}
 use Rattle.rc_faults.specs.declared.role.SideSort.TheVariants as sorts
 use Rattle.rc_grammar.specs.Faults.{is_word, is_variable, is_within, is_number, atom_faults, may_begin, plain_rule, rule_of, count}
 use Rattle.rc_grammar.specs.declared.keyword.Keyword.TheVariants as keyword
-use Rattle.rc_grammar.specs.declared.grammar.Place.TheVariants as place
+use Rattle.rc_grammar.specs.declared.grammar.Symbol.TheVariants as symbol
 use Rattle.rc_grammar.specs.declared.grammar.Rule.{Rule}
 use Rattle.rc_grammar.specs.declared.grammar.Rule.TheVariants as rule
 use Rattle.rc_grammar.specs.declared.fault.SheetKind.TheVariants.{Shape, Number}
@@ -58,15 +58,15 @@ card_form false false true p found is = refl
 card_form false false false p found is = absurd cc
 
 -- a list that is one of cards is none of groups
-pub no_groups : (parts : Trees) (found : Rule) → rule_of place.Collection parts ≡ Some found
-    → sort_by_form (rule_of place.Domain parts) ≡ card_sort
+pub no_groups : (parts : Trees) (found : Rule) → rule_of symbol.Collection parts ≡ Some found
+    → sort_by_form (rule_of symbol.Domain parts) ≡ card_sort
 no_groups nil found is = refl
 no_groups (cons head parts) found is =
-    let h = may_begin place.Holder head in
-    let f = may_begin (place.Word keyword.Filter) head in
-    let u = may_begin (place.Word keyword.Union) head in
-    let p = may_begin (place.Word keyword.Partition) head in
-    let is' : plain_rule place.Collection head ≡ Some found = rw (and-false h, and-false f, and-false u) at is in
+    let h = may_begin symbol.Holder head in
+    let f = may_begin (symbol.Word keyword.Filter) head in
+    let u = may_begin (symbol.Word keyword.Union) head in
+    let p = may_begin (symbol.Word keyword.Partition) head in
+    let is' : plain_rule symbol.Collection head ≡ Some found = rw (and-false h, and-false f, and-false u) at is in
     rw (and-false h, and-false f, and-false u, and-false p) (card_form h f u p found is')
 
 -- the sort of a side, and of an owner of this class
@@ -114,17 +114,17 @@ module _ (sheet : Sheet) (given : Given) where
 
   -- a tree at each place of an expression
   pub record Reads (tree : Tree) : Type 0 where
-    pub card : (at : Standing) → at.place ≡ place.Card → Good sheet given at tree
+    pub card : (at : Standing) → at.place ≡ symbol.Card → Good sheet given at tree
         → Finds (card_at (sheet_naming sheet) at.around.scope tree) (IsCard sheet at.around)
-    pub coll : (at : Standing) → at.place ≡ place.Collection → Good sheet given at tree
+    pub coll : (at : Standing) → at.place ≡ symbol.Collection → Good sheet given at tree
         → Finds (coll_at (sheet_naming sheet) at.around.scope tree) (IsColl sheet at.around)
-    pub range : (at : Standing) → at.place ≡ place.Members → Good sheet given at tree
+    pub range : (at : Standing) → at.place ≡ symbol.Members → Good sheet given at tree
         → Finds (range_at (sheet_naming sheet) at.around.scope tree) (RangeAt at.around tree)
-    pub int : (at : Standing) → at.place ≡ place.Integer → Good sheet given at tree
+    pub int : (at : Standing) → at.place ≡ symbol.Integer → Good sheet given at tree
         → Finds (int_at (sheet_naming sheet) at.around.scope tree) (IsInt sheet at.around)
-    pub side : (at : Standing) → at.place ≡ place.Side → Good sheet given at tree
+    pub side : (at : Standing) → at.place ≡ symbol.Side → Good sheet given at tree
         → Finds (side_at (sheet_naming sheet) at.around.scope tree) (SideAt at.around (side_of at.around.scope tree))
-    pub test : (at : Standing) → at.place ≡ place.Test → Good sheet given at tree
+    pub test : (at : Standing) → at.place ≡ symbol.Test → Good sheet given at tree
         → Finds (test_at (sheet_naming sheet) at.around.scope tree) (IsTest sheet at.around)
 
   -- a form of this rule says what is P
@@ -178,10 +178,10 @@ module _ (sheet : Sheet) (given : Given) where
       (map_finds sheet given gives _ _ using map refl form.good.1.1.0 refl refl form.good.1.1.1.0) (λ c n is used. (is, used)))
 
   -- the sort of a list of cards, as what a variable runs over
-  coll_sort : (at : Standing) (tree : Tree) → at.place ≡ place.Collection → Good sheet given at tree
+  coll_sort : (at : Standing) (tree : Tree) → at.place ≡ symbol.Collection → Good sheet given at tree
       → sort_over tree ≡ card_sort
   coll_sort at (word bytes from to) here good =
-      let variable = word_is_variable sheet given at place.Collection bytes from to here refl good in
+      let variable = word_is_variable sheet given at symbol.Collection bytes from to here refl good in
       ap (λ b. cond b player_sort card_sort) (no_keyword bytes variable).1
   coll_sort at (list parts from to) here good =
       let found = good_form given (sheet_naming sheet) at parts from to good in
@@ -204,7 +204,7 @@ module _ (sheet : Sheet) (given : Given) where
       (λ t' holds. (is, binds.0, holds)))))
 
   -- lists of cards, one after the other
-  colls_find : (at : Standing) (parts : Trees) → at.place ≡ place.Collection → Each Reads parts
+  colls_find : (at : Standing) (parts : Trees) → at.place ≡ symbol.Collection → Each Reads parts
       → Each (Good sheet given at) parts
       → Finds (colls_at (sheet_naming sheet) at.around.scope parts)
       (λ cs. AreColls sheet at.around cs × (length (coll_list cs) ≡ count parts))
@@ -215,7 +215,7 @@ module _ (sheet : Sheet) (given : Given) where
 
   -- how the lists of cards of a union stand
   union_parts : (at : Standing) (all : Trees) (i : ℕ) → 1 ≤ i
-      → standing_in at rule.Union all i ≡ Some (plain_part at place.Collection all)
+      → standing_in at rule.Union all i ≡ Some (plain_part at symbol.Collection all)
   union_parts at all zero le = absurd (omega (arith, le))
   union_parts at all (suc zero) le = refl
   union_parts at all (suc (suc i)) le = refl
@@ -239,11 +239,11 @@ module _ (sheet : Sheet) (given : Given) where
       (variable_finds sheet given at group_sort bytes is sorts good.fine.0) (λ var has. has)
 
   -- as a list, also where a range may stand
-  coll_list_finds : (at : Standing) (parts : Trees) (from to : ℕ) → rule_of at.place parts ≡ rule_of place.Collection parts
+  coll_list_finds : (at : Standing) (parts : Trees) (from to : ℕ) → rule_of at.place parts ≡ rule_of symbol.Collection parts
       → Each Reads parts → Good sheet given at (list parts from to)
       → Finds (coll_at (sheet_naming sheet) at.around.scope (list parts from to)) (IsColl sheet at.around)
   coll_list_finds at parts from to same each good =
-      list_says_by given (sheet_naming sheet) Reads (coll_rule (sheet_naming sheet) at.around.scope from) place.Collection at parts
+      list_says_by given (sheet_naming sheet) Reads (coll_rule (sheet_naming sheet) at.around.scope from) symbol.Collection at parts
       from to same each good
       (location_says at from parts ▹ filter_says at from parts ▹ union_says at from parts ▹ tt)
 
@@ -260,12 +260,12 @@ module _ (sheet : Sheet) (given : Given) where
       (λ c is. (is, ap (λ b. cond b player_sort card_sort) other)))
 
   -- a range that is a list has the forms of a list of cards
-  same_ranges : (parts : Trees) → rule_of place.Members parts ≡ rule_of place.Collection parts
+  same_ranges : (parts : Trees) → rule_of symbol.Members parts ≡ rule_of symbol.Collection parts
   same_ranges nil = refl
   same_ranges (cons head parts) = refl
 
   -- as a list
-  range_list_finds : (at : Standing) (parts : Trees) (from to : ℕ) → at.place ≡ place.Members
+  range_list_finds : (at : Standing) (parts : Trees) (from to : ℕ) → at.place ≡ symbol.Members
       → Each Reads parts → Good sheet given at (list parts from to)
       → Finds (range_at (sheet_naming sheet) at.around.scope (list parts from to)) (RangeAt at.around (list parts from to))
   range_list_finds at parts from to here each good =
@@ -330,41 +330,41 @@ module _ (sheet : Sheet) (given : Given) where
   abbrev SaysSide : Standing → Rule → Trees → Type 0
   SaysSide at rule parts =
       Says given (sheet_naming sheet) Reads at rule (side_read at.around.scope)
-      (SideAt at.around (side_of_form (rule_of place.Side parts))) parts
+      (SideAt at.around (side_of_form (rule_of symbol.Side parts))) parts
 
   -- its sort is the one that its form tells
-  sort_told : (at : Standing) (parts : Trees) (found : Rule) (sort : SideSort) → at.place ≡ place.Side
+  sort_told : (at : Standing) (parts : Trees) (found : Rule) (sort : SideSort) → at.place ≡ symbol.Side
       → rule_of at.place parts ≡ Some found → side_of_form (Some found) ≡ Some sort
-      → side_of_form (rule_of place.Side parts) ≡ Some sort
+      → side_of_form (rule_of symbol.Side parts) ≡ Some sort
   sort_told at parts found sort here told is =
       ap (λ p. side_of_form (rule_of p parts)) (sym here) ∙ ap side_of_form told ∙ is
 
   -- a number as a side
-  int_side : (at : Standing) (found : Rule) (parts : Trees) → at.place ≡ place.Side
+  int_side : (at : Standing) (found : Rule) (parts : Trees) → at.place ≡ symbol.Side
       → ((value : Option IntExpr) (card : Option CardExpr) (pair : Option (CardExpr × ℕ)) (who : Option Who)
       → side_by found value card pair who ≡ option_map number_side value)
       → side_of_form (Some found) ≡ Some sorts.Number → SaysInt at found parts → SaysSide at found parts
   int_side at found parts here same sort says =
       record {
         says = λ each form.
-            subst (λ o. Finds o (SideAt at.around (side_of_form (rule_of place.Side parts)))) (sym (same _ _ _ _))
+            subst (λ o. Finds o (SideAt at.around (side_of_form (rule_of symbol.Side parts)))) (sym (same _ _ _ _))
             (makes _ number_side (says.says each form) (λ v is. (is, sort_told at parts found _ here form.told sort)));
       }
 
   -- a card as a side
-  card_as_side : (at : Standing) (found : Rule) (parts : Trees) → at.place ≡ place.Side
+  card_as_side : (at : Standing) (found : Rule) (parts : Trees) → at.place ≡ symbol.Side
       → ((value : Option IntExpr) (card : Option CardExpr) (pair : Option (CardExpr × ℕ)) (who : Option Who)
       → side_by found value card pair who ≡ option_map card_side card)
       → side_of_form (Some found) ≡ Some sorts.Card → SaysCard at found parts → SaysSide at found parts
   card_as_side at found parts here same sort says =
       record {
         says = λ each form.
-            subst (λ o. Finds o (SideAt at.around (side_of_form (rule_of place.Side parts)))) (sym (same _ _ _ _))
+            subst (λ o. Finds o (SideAt at.around (side_of_form (rule_of symbol.Side parts)))) (sym (same _ _ _ _))
             (makes _ card_side (says.says each form) (λ v is. (is, sort_told at parts found _ here form.told sort)));
       }
 
   -- an owner as a side
-  owner_as_side : (at : Standing) (found : Rule) (parts : Trees) (class : Class) → at.place ≡ place.Side
+  owner_as_side : (at : Standing) (found : Rule) (parts : Trees) (class : Class) → at.place ≡ symbol.Side
       → ((value : Option IntExpr) (card : Option CardExpr) (pair : Option (CardExpr × ℕ)) (who : Option Who)
       → side_by found value card pair who ≡ option_map owner_side who)
       → side_of_form (Some found) ≡ Some (side_of_class class)
@@ -374,7 +374,7 @@ module _ (sheet : Sheet) (given : Given) where
   owner_as_side at found parts class here same sort says =
       record {
         says = λ each form.
-            subst (λ o. Finds o (SideAt at.around (side_of_form (rule_of place.Side parts)))) (sym (same _ _ _ _))
+            subst (λ o. Finds o (SideAt at.around (side_of_form (rule_of symbol.Side parts)))) (sym (same _ _ _ _))
             (makes _ owner_side (says form)
             (λ who is. (is.0, sort_told at parts found _ here form.told sort ∙ ap (λ c. Some (side_of_class c)) (sym is.1))));
       }
@@ -390,7 +390,7 @@ module _ (sheet : Sheet) (given : Given) where
       (attr_finds sheet given gives _ attr refl refl form.good.1.1.0))
 
   -- the same as a side
-  attribute_says : Gives sheet given → (at : Standing) (parts : Trees) → at.place ≡ place.Side
+  attribute_says : Gives sheet given → (at : Standing) (parts : Trees) → at.place ≡ symbol.Side
       → SaysSide at rule.AttributeOf parts
   attribute_says gives at parts here =
       record {
@@ -407,7 +407,7 @@ module _ (sheet : Sheet) (given : Given) where
   sort_finds around var group_sort has fits = absurd cc
 
   -- a variable in scope as a side
-  variable_side_finds : (at : Standing) (bytes : List ℕ) → is_variable bytes ≡ true → at.place ≡ place.Side
+  variable_side_finds : (at : Standing) (bytes : List ℕ) → is_variable bytes ≡ true → at.place ≡ symbol.Side
       → (bound : IsBound sheet given at bytes)
       → Finds (variable_side bound.var (slice_get at.around.scope bound.var))
       (SideAt at.around (cond (is_variable bytes) (side_of_variable (variable_found at.around.scope bytes)) (Some sorts.Number)))
@@ -425,7 +425,7 @@ module _ (sheet : Sheet) (given : Given) where
       (λ side has. (has.0, told ∙ has.1)))
 
   -- an atom as a side
-  side_word_finds : (at : Standing) (bytes : List ℕ) (from to : ℕ) → at.place ≡ place.Side
+  side_word_finds : (at : Standing) (bytes : List ℕ) (from to : ℕ) → at.place ≡ symbol.Side
       → Good sheet given at (word bytes from to)
       → Finds (side_word at.around.scope bytes) (SideAt at.around (side_of at.around.scope (word bytes from to)))
   unfolding side_word
@@ -443,12 +443,12 @@ module _ (sheet : Sheet) (given : Given) where
       (λ v is. (is, ap (λ b. cond b (side_of_variable (variable_found at.around.scope bytes)) (Some sorts.Number)) other)))
 
   -- a list as a side
-  side_list_finds : Gives sheet given → (at : Standing) (parts : Trees) (from to : ℕ) → at.place ≡ place.Side
+  side_list_finds : Gives sheet given → (at : Standing) (parts : Trees) (from to : ℕ) → at.place ≡ symbol.Side
       → Each Reads parts → Good sheet given at (list parts from to)
       → Finds (side_at (sheet_naming sheet) at.around.scope (list parts from to))
       (SideAt at.around (side_of at.around.scope (list parts from to)))
   side_list_finds gives at parts from to here each good =
-      list_says given (sheet_naming sheet) Reads (side_read at.around.scope) place.Side at parts from to here each good
+      list_says given (sheet_naming sheet) Reads (side_read at.around.scope) symbol.Side at parts from to here each good
       (int_side at rule.Counter parts here (λ v c p w. refl) refl (counter_says at parts)
       ▹ int_side at rule.Size parts here (λ v c p w. refl) refl (size_says at parts)
       ▹ int_side at rule.Sum parts here (λ v c p w. refl) refl (sum_says gives at parts)
@@ -575,7 +575,7 @@ module _ (sheet : Sheet) (given : Given) where
       (λ v valued. (is, named, valued)))))
 
   -- tests, one after the other
-  tests_find : (at : Standing) (parts : Trees) → at.place ≡ place.Test → Each Reads parts
+  tests_find : (at : Standing) (parts : Trees) → at.place ≡ symbol.Test → Each Reads parts
       → Each (Good sheet given at) parts
       → Finds (tests_at (sheet_naming sheet) at.around.scope parts)
       (λ ts. AreTests sheet at.around ts × (length (test_list ts) ≡ count parts))
@@ -590,7 +590,7 @@ module _ (sheet : Sheet) (given : Given) where
       behind_one given (sheet_naming sheet) Reads (λ n. refl)
       (λ head rest some each form.
       let alike = rest_good given (sheet_naming sheet) Reads at rule.And (cons head rest)
-      (plain_part at place.Test (cons head rest)) 1 rest
+      (plain_part at symbol.Test (cons head rest)) 1 rest
       (from_one _ (λ j. refl)) form.good.1 in
       makes _ and_of (tests_find _ rest refl each.1 alike) (λ ts are. let long = are.1 in (omega (arith, some, long), are.0)))
 
@@ -600,7 +600,7 @@ module _ (sheet : Sheet) (given : Given) where
       behind_one given (sheet_naming sheet) Reads (λ n. refl)
       (λ head rest some each form.
       let alike = rest_good given (sheet_naming sheet) Reads at rule.Or (cons head rest)
-      (plain_part at place.Test (cons head rest)) 1 rest
+      (plain_part at symbol.Test (cons head rest)) 1 rest
       (from_one _ (λ j. refl)) form.good.1 in
       makes _ or_of (tests_find _ rest refl each.1 alike) (λ ts are. let long = are.1 in (omega (arith, some, long), are.0)))
 
@@ -633,11 +633,11 @@ module _ (sheet : Sheet) (given : Given) where
       (λ t' holds. (is.0, binds.0, holds)))))
 
   -- a test, by its forms
-  test_list_finds : Gives sheet given → (at : Standing) (parts : Trees) (from to : ℕ) → at.place ≡ place.Test
+  test_list_finds : Gives sheet given → (at : Standing) (parts : Trees) (from to : ℕ) → at.place ≡ symbol.Test
       → Each Reads parts → Good sheet given at (list parts from to)
       → Finds (test_at (sheet_naming sheet) at.around.scope (list parts from to)) (IsTest sheet at.around)
   test_list_finds gives at parts from to here each good =
-      list_says given (sheet_naming sheet) Reads (test_rule (sheet_naming sheet) at.around.scope) place.Test at parts from to here
+      list_says given (sheet_naming sheet) Reads (test_rule (sheet_naming sheet) at.around.scope) symbol.Test at parts from to here
       each good
       (equal_says at parts ▹ unequal_says at parts ▹ less_says at parts ▹ less_eq_says at parts ▹ more_says at parts
       ▹ more_eq_says at parts ▹ is_says gives at parts ▹ and_says at parts ▹ or_says at parts ▹ not_says at parts
@@ -646,11 +646,11 @@ module _ (sheet : Sheet) (given : Given) where
   -- ALL PLACES OF A TREE
 
   -- an atom is refused at a place of tests
-  refused : (at : Standing) (bytes : List ℕ) (from to : ℕ) → at.place ≡ place.Test → Good sheet given at (word bytes from to) → ⊥
+  refused : (at : Standing) (bytes : List ℕ) (from to : ℕ) → at.place ≡ symbol.Test → Good sheet given at (word bytes from to) → ⊥
   refused at bytes from to here good =
       no_shape (subst (λ p. atom_faults p bytes from ≡ []) here good.shaped)
     where
-      no_shape : atom_faults place.Test bytes from ≡ [] → ⊥
+      no_shape : atom_faults symbol.Test bytes from ≡ [] → ⊥
       no_shape is = cc
 
   -- an atom at each place
@@ -659,10 +659,10 @@ module _ (sheet : Sheet) (given : Given) where
       record {
         card = λ at here good. makes _ card_var
             (variable_finds sheet given at card_sort bytes
-            (word_is_variable sheet given at place.Card bytes from to here refl good) (ap sorts_at here) good.fine.0)
+            (word_is_variable sheet given at symbol.Card bytes from to here refl good) (ap sorts_at here) good.fine.0)
             (λ var has. has);
         coll = λ at here good. coll_word_finds at bytes from to
-            (word_is_variable sheet given at place.Collection bytes from to here refl good) (ap sorts_at here) good;
+            (word_is_variable sheet given at symbol.Collection bytes from to here refl good) (ap sorts_at here) good;
         range = λ at here good. range_word_finds at bytes from to
             (passes_test (is_word keyword.Player bytes || is_variable bytes) Shape from
             (subst (λ p. atom_faults p bytes from ≡ []) here good.shaped)) (ap sorts_at here) good;
@@ -678,13 +678,13 @@ module _ (sheet : Sheet) (given : Given) where
   lists_read gives parts from to each =
       record {
         card = λ at here good.
-            list_says given (sheet_naming sheet) Reads (card_rule (sheet_naming sheet) at.around.scope) place.Card at parts from to here
+            list_says given (sheet_naming sheet) Reads (card_rule (sheet_naming sheet) at.around.scope) symbol.Card at parts from to here
             each good
             (top_says at parts ▹ bottom_says at parts ▹ max_says gives at parts ▹ min_says gives at parts ▹ tt);
         coll = λ at here good. coll_list_finds at parts from to (ap (λ p. rule_of p parts) here) each good;
         range = λ at here good. range_list_finds at parts from to here each good;
         int = λ at here good.
-            list_says given (sheet_naming sheet) Reads (int_rule (sheet_naming sheet) at.around.scope) place.Integer at parts from to
+            list_says given (sheet_naming sheet) Reads (int_rule (sheet_naming sheet) at.around.scope) symbol.Integer at parts from to
             here each good
             (counter_says at parts ▹ size_says at parts ▹ sum_says gives at parts ▹ points_says gives at parts
             ▹ plus_says at parts ▹ minus_says at parts ▹ times_says at parts ▹ tt);

@@ -11,7 +11,7 @@ use Rattle.rc_faults.specs.SecondParts.{Standing, standing_in, Part, form, parts
 use Rattle.rc_faults.specs.SecondNames.{stages_in, choices_in}
 use Rattle.rc_faults.specs.SecondFaults.{stage_count, choice_count}
 use Rattle.rc_grammar.specs.Faults.{atom_faults, rule_of, count}
-use Rattle.rc_grammar.specs.declared.grammar.Place.TheVariants as place
+use Rattle.rc_grammar.specs.declared.grammar.Symbol.TheVariants as symbol
 use Rattle.rc_grammar.specs.declared.grammar.Rule.{Rule}
 use Rattle.rc_grammar.specs.declared.grammar.Rule.TheVariants as rule
 use Rattle.rc_reading.specs.ReadNames.{ensure}
@@ -105,15 +105,15 @@ inner_counts f at found all head class end rest alike same =
 
 module _ (sheet : Sheet) (given : Given) (gives : Gives sheet given) where
   -- `(end BOOL)`
-  pub end_finds : (at : Standing) (tree : Tree) → at.place ≡ place.End → at.around.scope ≡ [] → Good sheet given at tree
+  pub end_finds : (at : Standing) (tree : Tree) → at.place ≡ symbol.End → at.around.scope ≡ [] → Good sheet given at tree
       → Finds (end_at (sheet_naming sheet) tree) (IsTest sheet at.around)
   end_finds at (word bytes from to) here free good =
       absurd (refused (subst (λ p. atom_faults p bytes from ≡ []) here good.shaped))
     where
-      refused : atom_faults place.End bytes from ≡ [] → ⊥
+      refused : atom_faults symbol.End bytes from ≡ [] → ⊥
       refused is = cc
   end_finds at (list parts from to) here free good =
-      list_says given (sheet_naming sheet) (λ tree. Unit {0}) (end_rule (sheet_naming sheet)) place.End at parts from to
+      list_says given (sheet_naming sheet) (λ tree. Unit {0}) (end_rule (sheet_naming sheet)) symbol.End at parts from to
       here (each_by_parts (λ bytes from to. tt) (λ parts from to each. tt) parts) good
       (with_two given (sheet_naming sheet) (λ tree. Unit {0}) (λ n. refl)
       (λ head t each form.
@@ -132,12 +132,12 @@ module _ (sheet : Sheet) (given : Given) (gives : Gives sheet given) where
 
   -- a tree at the place of an item
   pub record Plays (tree : Tree) : Type 0 where
-    pub item : (at : Standing) → at.place ≡ place.Item → at.around.scope ≡ [] → Good sheet given at tree
+    pub item : (at : Standing) → at.place ≡ symbol.Item → at.around.scope ≡ [] → Good sheet given at tree
         → (begun : Begun) → HasRoom begun (parts_at (Some at) tree)
         → Finds (item_at (sheet_naming sheet) begun tree) (ItemAt at.around begun (parts_at (Some at) tree))
 
   -- items, one after the other
-  pub items_find : (at : Standing) (trees : Trees) → at.place ≡ place.Item → at.around.scope ≡ [] → Each Plays trees
+  pub items_find : (at : Standing) (trees : Trees) → at.place ≡ symbol.Item → at.around.scope ≡ [] → Each Plays trees
       → Each (Good sheet given at) trees → (begun : Begun) → HasRoom begun (parts_alike at trees)
       → Finds (items_at (sheet_naming sheet) begun trees) (ItemsAt at.around begun (parts_alike at trees) (count trees))
   items_find at nil here free each good begun room = finds (no_item, begun) (tt, refl, nothing_begins begun [])
@@ -176,7 +176,7 @@ module _ (sheet : Sheet) (given : Given) (gives : Gives sheet given) where
       one_and_more (ItemOf at from begun rule.Do) parts good.fit
       (λ head rest some each good room.
       let all = cons head rest in
-      let alike = rest_good given (sheet_naming sheet) Plays at rule.Do all (plain_part at place.Effect all) 1 rest
+      let alike = rest_good given (sheet_naming sheet) Plays at rule.Do all (plain_part at symbol.Effect all) 1 rest
       (from_one _ (λ j. refl)) good.good.1 in
       makes _ (λ effects. (do_item effects, begun))
       (subst (λ scope. Finds (effects_at (sheet_naming sheet) scope rest) (AreEffectsOf sheet given gives rest at.around)) free
@@ -213,7 +213,7 @@ module _ (sheet : Sheet) (given : Given) (gives : Gives sheet given) where
       three_and_more (ItemOf at from begun rule.PlayerStage) parts good.fit
       (λ head class end rest some each good room.
       let all = cons head (cons class (cons end rest)) in
-      let alike = record (plain_part at place.Item all) { around = in_stage player_class at.around } in
+      let alike = record (plain_part at symbol.Item all) { around = in_stage player_class at.around } in
       let same : (i : ℕ) → 3 ≤ i → standing_in at rule.PlayerStage all i ≡ Some alike = from_three _ (λ j. refl) in
       let stands = rest_good given (sheet_naming sheet) Plays at rule.PlayerStage all alike 3 rest same good.good.1.1.1 in
       let stages = inner_counts stages_in at rule.PlayerStage all head class end rest alike same in
@@ -230,7 +230,7 @@ module _ (sheet : Sheet) (given : Given) (gives : Gives sheet given) where
       three_and_more (ItemOf at from begun rule.TeamStage) parts good.fit
       (λ head class end rest some each good room.
       let all = cons head (cons class (cons end rest)) in
-      let alike = record (plain_part at place.Item all) { around = in_stage team_class at.around } in
+      let alike = record (plain_part at symbol.Item all) { around = in_stage team_class at.around } in
       let same : (i : ℕ) → 3 ≤ i → standing_in at rule.TeamStage all i ≡ Some alike = from_three _ (λ j. refl) in
       let stands = rest_good given (sheet_naming sheet) Plays at rule.TeamStage all alike 3 rest same good.good.1.1.1 in
       let stages = inner_counts stages_in at rule.TeamStage all head class end rest alike same in
@@ -247,7 +247,7 @@ module _ (sheet : Sheet) (given : Given) (gives : Gives sheet given) where
       one_and_more (ItemOf at from begun rule.Choice) parts good.fit
       (λ head rest some each good room.
       let all = cons head rest in
-      let alike = rest_good given (sheet_naming sheet) Plays at rule.Choice all (plain_part at place.Alternative all) 1 rest
+      let alike = rest_good given (sheet_naming sheet) Plays at rule.Choice all (plain_part at symbol.Alternative all) 1 rest
       (from_one _ (λ j. refl)) good.good.1 in
       let most = room.sites in
       follows_this (ensure (nat_lt begun.sites most_sites)) tt _
@@ -278,7 +278,7 @@ module _ (sheet : Sheet) (given : Given) (gives : Gives sheet given) where
       })
       (λ parts from to each. record {
         item = λ at here free good begun room.
-            list_finds given (sheet_naming sheet) (λ found. item_rule (sheet_naming sheet) begun found parts) place.Item at parts from
+            list_finds given (sheet_naming sheet) (λ found. item_rule (sheet_naming sheet) begun found parts) symbol.Item at parts from
             to here good
             ((λ good. item_by at parts from to begun rule.Do good.told each good room (do_finds at from begun parts free))
             ▹ (λ good. item_by at parts from to begun rule.PlayerStage good.told each good room
@@ -290,5 +290,5 @@ module _ (sheet : Sheet) (given : Given) (gives : Gives sheet given) where
             ▹ tt);
       })
     where
-      refused : (bytes : List ℕ) (from : ℕ) → atom_faults place.Item bytes from ≡ [] → ⊥
+      refused : (bytes : List ℕ) (from : ℕ) → atom_faults symbol.Item bytes from ≡ [] → ⊥
       refused bytes from is = cc

@@ -11,7 +11,7 @@ use Rattle.rc_sheet_model.specs.Naming.{Naming}
 use Rattle.rc_grammar.specs.Keyword.{text_of}
 use Rattle.rc_grammar.specs.Faults.{faults, faults_at, faults_in, rule_of, place_at, count}
 use Rattle.rc_grammar.specs.declared.keyword.Keyword.TheVariants as keyword
-use Rattle.rc_grammar.specs.declared.grammar.Place.TheVariants as place
+use Rattle.rc_grammar.specs.declared.grammar.Symbol.TheVariants as symbol
 use Rattle.rc_grammar.specs.declared.grammar.Rule.{Rule}
 use Rattle.rc_grammar.specs.declared.grammar.Rule.TheVariants as rule
 use Rattle.rc_faults.specs.SecondParts.{Standing, Part, atom, form, parts_at, parts_in, parts_of, with_form, standing_in, standing_alone}
@@ -47,8 +47,8 @@ faults_of_both whole earlier (part ∷ first) second none =
 module _ (given : Given) (naming : Naming) (whole : List Part) where
   -- a line of a form without a fault, behind earlier parts
   pub record IsLine (earlier : List Part) (at : Standing) (r : Rule) (parts : Trees) (from to : ℕ) : Type 0 where
-    pub here : at.place ≡ place.Line
-    pub told : rule_of place.Line parts ≡ Some r
+    pub here : at.place ≡ symbol.Line
+    pub told : rule_of symbol.Line parts ≡ Some r
     pub inner : faults_in r (count parts) 0 parts ≡ []
     pub sound : faults_behind whole earlier (parts_at (Some at) (list parts from to)) ≡ []
     pub good : IsGoodForm given naming at r parts
@@ -105,16 +105,16 @@ module _ (given : Given) (naming : Naming) (whole : List Part) where
     rule_keeps said earlier at r parts from to line q = nothing
 
     -- a line
-    line_keeps : (said : Lines) (earlier : List Part) (at : Standing) (tree : Tree) → at.place ≡ place.Line
-        → faults_at (Some place.Line) tree ≡ [] → faults_behind whole earlier (parts_at (Some at) tree) ≡ []
+    line_keeps : (said : Lines) (earlier : List Part) (at : Standing) (tree : Tree) → at.place ≡ symbol.Line
+        → faults_at (Some symbol.Line) tree ≡ [] → faults_behind whole earlier (parts_at (Some at) tree) ≡ []
         → IsGood given naming at tree → Q said earlier
         → Means (line_at naming said tree) (λ next. Q next (earlier ++ parts_at (Some at) tree))
     unfolding line_at
     line_keeps said earlier at (word bytes from to) here shaped sound good q = nothing
     line_keeps said earlier at (list parts from to) here shaped sound good q =
-        behind (rule_at place.Line parts) _ (sized_is (count parts) (rule_of place.Line parts))
+        behind (rule_at symbol.Line parts) _ (sized_is (count parts) (rule_of symbol.Line parts))
         (λ r told.
-        let shape = shape_of place.Line parts from to shaped in
+        let shape = shape_of symbol.Line parts from to shaped in
         let form = good_form given naming at parts from to good in
         let same = same_Some shape.form r (sym shape.told ∙ told) in
         let same' = same_Some form.0 r (sym form.1.told ∙ ap (λ p. rule_of p parts) here ∙ told) in
@@ -136,7 +136,7 @@ module _ (given : Given) (naming : Naming) (whole : List Part) where
     lines_keep at all index nil above shaped said earlier sound good q =
         something said (subst (Q said) (sym (append-nil earlier)) q)
     lines_keep at all index (cons line lines) above shaped said earlier sound good q =
-        let stand = standing_at at rule.Setup all index place.Line in
+        let stand = standing_at at rule.Setup all index symbol.Line in
         let here = line_place (count all) index above in
         let stands : standing_in at rule.Setup all index ≡ Some stand =
         ap (λ o. option_map (λ q. standing_at at rule.Setup all index q) o) here in
@@ -171,7 +171,7 @@ module _ (a b c d e f from to : ℕ) (lines rest : Trees) where
   whole_form = list all_parts from to
 
   abbrev pub setup_stand : Standing
-  setup_stand = standing_at standing_alone rule.Game all_parts 1 place.Setup
+  setup_stand = standing_at standing_alone rule.Game all_parts 1 symbol.Setup
 
   abbrev pub setup_parts : Trees
   setup_parts = cons (word (text_of keyword.Setup) c d) lines
@@ -180,9 +180,9 @@ module _ (a b c d e f from to : ℕ) (lines rest : Trees) where
   abbrev pub before_lines : List Part
   before_lines =
       form standing_alone rule.Game all_parts from
-      ∷ atom (standing_at standing_alone rule.Game all_parts 0 (place.Word keyword.Game)) (text_of keyword.Game) a
+      ∷ atom (standing_at standing_alone rule.Game all_parts 0 (symbol.Word keyword.Game)) (text_of keyword.Game) a
       ∷ form setup_stand rule.Setup setup_parts e
-      ∷ atom (standing_at setup_stand rule.Setup setup_parts 0 (place.Word keyword.Setup)) (text_of keyword.Setup) c ∷ []
+      ∷ atom (standing_at setup_stand rule.Setup setup_parts 0 (symbol.Word keyword.Setup)) (text_of keyword.Setup) c ∷ []
 
   -- those of the lines, and those behind them
   abbrev pub of_lines : List Part
@@ -206,7 +206,7 @@ below_silent gives of_lines at tree inside =
 
 -- a line's form gives what there is
 pub line_gives : {X : Type 0} (gives : Part → List X) → OfLines gives → (at : Standing) (r : Rule) (parts : Trees) (from to : ℕ)
-    → at.place ≡ place.Line → rule_of place.Line parts ≡ Some r → is_line_rule r ≡ true
+    → at.place ≡ symbol.Line → rule_of symbol.Line parts ≡ Some r → is_line_rule r ≡ true
     → flat_map gives (parts_at (Some at) (list parts from to)) ≡ gives (form at r parts from)
 line_gives gives of_lines at r parts from to here told line =
     ap (λ o. flat_map gives (with_form at parts from (λ r. parts_in at r parts 0 parts) o))
@@ -333,8 +333,8 @@ setup_form : (Q : Lines → List Part → Type 0) (tree : Tree) (naming : Naming
     → Means (setup_form_at naming (setup_tree c d e f lines)) (IsSetupOf Q tree)
 unfolding setup_form_at
 setup_form Q tree naming c d e f lines means =
-    behind (rule_at place.Setup (cons (word (text_of keyword.Setup) c d) lines)) _
-    (means_if (rule_at place.Setup (cons (word (text_of keyword.Setup) c d) lines)) (λ r is. is)) (λ r is. by r)
+    behind (rule_at symbol.Setup (cons (word (text_of keyword.Setup) c d) lines)) _
+    (means_if (rule_at symbol.Setup (cons (word (text_of keyword.Setup) c d) lines)) (λ r is. is)) (λ r is. by r)
   where
     by : (r : Rule) → Means (setup_rule naming r (cons (word (text_of keyword.Setup) c d) lines)) (IsSetupOf Q tree)
     by rule.Setup = means
@@ -348,7 +348,7 @@ KeepsIn Q tree =
 whole_keeps : (Q : Lines → List Part → Type 0) (a b c d e f from to : ℕ) (lines rest : Trees) →
     let tree = whole_form a b c d e f from to lines rest in
     IsSheetForm (setup_tree c d e f lines) lines rest (all_parts a b c d e f from to lines rest)
-    → faults place.Sheet tree ≡ [] → second_faults tree ≡ [] → KeepsIn Q tree
+    → faults symbol.Sheet tree ≡ [] → second_faults tree ≡ [] → KeepsIn Q tree
     → Means (setup_form_at (naming_of tree) (setup_in tree)) (IsSetupOf Q tree)
 whole_keeps Q a b c d e f from to lines rest whole_fits shaped sound keeps =
     let tree = whole_form a b c d e f from to lines rest in
@@ -376,11 +376,11 @@ whole_keeps Q a b c d e f from to lines rest whole_fits shaped sound keeps =
     (keeps.1 first (record { players = refl; teams = refl; cards = refl }))))
 
 -- WHAT EACH LINE KEEPS HOLDS OF THE SETUP
-pub setup_keeps : (Q : Lines → List Part → Type 0) (tree : Tree) → faults place.Sheet tree ≡ [] → second_faults tree ≡ []
+pub setup_keeps : (Q : Lines → List Part → Type 0) (tree : Tree) → faults symbol.Sheet tree ≡ [] → second_faults tree ≡ []
     → KeepsIn Q tree → Means (setup_form_at (naming_of tree) (setup_in tree)) (IsSetupOf Q tree)
 setup_keeps Q tree shaped sound keeps =
     sheet_only
-    (λ tree. faults place.Sheet tree ≡ [] → second_faults tree ≡ [] → KeepsIn Q tree
+    (λ tree. faults symbol.Sheet tree ≡ [] → second_faults tree ≡ [] → KeepsIn Q tree
     → Means (setup_form_at (naming_of tree) (setup_in tree)) (IsSetupOf Q tree))
     tree shaped
     (λ a b c d e f from to lines rest whole_fits shaped sound keeps.

@@ -24,8 +24,8 @@ use Rattle.rc_faults.specs.declared.role.Role.{Role}
 use Rattle.rc_faults.specs.declared.role.Role.TheVariants.{UsedAttribute as used_attribute, UsedValue as used_value, UsedMap as used_map, CardLocation as card_location, ReferenceLocation as reference_location}
 use Rattle.rc_grammar.specs.declared.keyword.Keyword.{Keyword}
 use Rattle.rc_grammar.specs.declared.keyword.Keyword.TheVariants as keyword
-use Rattle.rc_grammar.specs.declared.grammar.Place.{Place}
-use Rattle.rc_grammar.specs.declared.grammar.Place.TheVariants as place
+use Rattle.rc_grammar.specs.declared.grammar.Symbol.{Symbol}
+use Rattle.rc_grammar.specs.declared.grammar.Symbol.TheVariants as symbol
 use Rattle.rc_grammar.specs.declared.grammar.Rule.{Rule}
 use Rattle.rc_grammar.specs.declared.grammar.Rule.TheVariants as rule
 use Rattle.rc_grammar.specs.declared.fault.SheetKind.{SheetKind}
@@ -211,7 +211,7 @@ module _ (sheet : Sheet) (given : Given) where
   IsPlayer around who = ⊥
 
   -- at an atom
-  pub word_is_variable : (at : Standing) (place : Place) (bytes : List ℕ) (from to : ℕ) → at.place ≡ place
+  pub word_is_variable : (at : Standing) (place : Symbol) (bytes : List ℕ) (from to : ℕ) → at.place ≡ place
       → atom_faults place bytes from ≡ option_to_list {X = SheetFault}
       (option_map (λ kind. record { kind = kind; at = from }) (unless (is_variable bytes) Shape))
       → Good at (word bytes from to) → is_variable bytes ≡ true
@@ -219,15 +219,15 @@ module _ (sheet : Sheet) (given : Given) where
       passes_test (is_variable bytes) Shape from (sym same ∙ subst (λ p. atom_faults p bytes from ≡ []) here good.shaped)
 
   -- as a player
-  pub player_finds : (at : Standing) (tree : Tree) → at.place ≡ place.Player → Good at tree
+  pub player_finds : (at : Standing) (tree : Tree) → at.place ≡ symbol.Player → Good at tree
       → Finds (player_at at.around.scope tree) (IsPlayer at.around)
   unfolding player_at
   player_finds at (word bytes from to) here good =
       makes (variable_in at.around.scope player_sort bytes) who_var
-      (variable_finds at player_sort bytes (word_is_variable at place.Player bytes from to here refl good) (ap sorts_at here)
+      (variable_finds at player_sort bytes (word_is_variable at symbol.Player bytes from to here refl good) (ap sorts_at here)
       good.fine.0) (λ var has. has)
   player_finds at (list parts from to) here good =
-      list_finds given (sheet_naming sheet) player_of_rule place.Player at parts from to here good
+      list_finds given (sheet_naming sheet) player_of_rule symbol.Player at parts from to here good
       ((λ form. finds current_player form.fine.fits), tt)
 
   -- the team of a player
@@ -262,18 +262,18 @@ module _ (sheet : Sheet) (given : Given) where
 
   -- its class is the one that its form tells
   of_its_class : (at : Standing) (parts : Trees) (from to : ℕ) (found : Rule) (class : Class) (who : Option Who)
-      → rule_of place.Owner parts ≡ Some found → class_of_rule (Some found) ≡ class → Finds who (IsOwnerOf at.around class)
+      → rule_of symbol.Owner parts ≡ Some found → class_of_rule (Some found) ≡ class → Finds who (IsOwnerOf at.around class)
       → Finds who (OwnerAt at.around (list parts from to))
   of_its_class at parts from to found class who told is finds =
       implies who finds (λ who owner. (owner.0, owner.1 ∙ sym is ∙ sym (ap class_of_rule told)))
 
   -- as a list, also where a holder may stand
-  owner_list_finds : (at : Standing) (parts : Trees) (from to : ℕ) → rule_of at.place parts ≡ rule_of place.Owner parts
+  owner_list_finds : (at : Standing) (parts : Trees) (from to : ℕ) → rule_of at.place parts ≡ rule_of symbol.Owner parts
       → Good at (list parts from to)
-      → Finds (rule_at place.Owner parts >>= λ rule. owner_rule at.around.scope rule parts)
+      → Finds (rule_at symbol.Owner parts >>= λ rule. owner_rule at.around.scope rule parts)
       (OwnerAt at.around (list parts from to))
   owner_list_finds at parts from to same good =
-      finds_by given (sheet_naming sheet) (λ rule. owner_rule at.around.scope rule parts) place.Owner at parts from to same good
+      finds_by given (sheet_naming sheet) (λ rule. owner_rule at.around.scope rule parts) symbol.Owner at parts from to same good
       ((λ form. of_its_class at parts from to rule.CurrentPlayer player_class _ (sym same ∙ form.told) refl
       (current_player_finds at parts form))
       ▹ (λ form. of_its_class at parts from to rule.CurrentTeam team_class _ (sym same ∙ form.told) refl
@@ -283,11 +283,11 @@ module _ (sheet : Sheet) (given : Given) where
       ▹ tt)
 
   -- an owner
-  pub owner_finds : (at : Standing) (tree : Tree) → at.place ≡ place.Owner → Good at tree
+  pub owner_finds : (at : Standing) (tree : Tree) → at.place ≡ symbol.Owner → Good at tree
       → Finds (owner_at at.around.scope tree) (OwnerAt at.around tree)
   unfolding owner_at
   owner_finds at (word bytes from to) here good =
-      who_finds at bytes from to (word_is_variable at place.Owner bytes from to here refl good) (ap sorts_at here) good.fine.0
+      who_finds at bytes from to (word_is_variable at symbol.Owner bytes from to here refl good) (ap sorts_at here) good.fine.0
   owner_finds at (list parts from to) here good =
       owner_list_finds at parts from to (ap (λ p. rule_of p parts) here) good
 
@@ -301,12 +301,12 @@ module _ (sheet : Sheet) (given : Given) where
   owner_holds around tree who is = is
 
   -- a holder that is a list has the forms of an owner
-  same_owners : (parts : Trees) → rule_of place.Holder parts ≡ rule_of place.Owner parts
+  same_owners : (parts : Trees) → rule_of symbol.Holder parts ≡ rule_of symbol.Owner parts
   same_owners nil = refl
   same_owners (cons head parts) = refl
 
   -- a holder
-  pub holder_finds : (at : Standing) (tree : Tree) → at.place ≡ place.Holder → Good at tree
+  pub holder_finds : (at : Standing) (tree : Tree) → at.place ≡ symbol.Holder → Good at tree
       → Finds (holder_at at.around.scope tree) (HolderAt at.around tree)
   unfolding owner_at
   holder_finds at (word bytes from to) here good =
@@ -322,7 +322,7 @@ module _ (sheet : Sheet) (given : Given) where
       (λ who is. owner_holds at.around (list parts from to) who is)
 
   -- a plain word that has this number
-  pub name_finds : {P : ℕ → Type 0} (words : List (List ℕ)) (at : Standing) (tree : Tree) (n : ℕ) → at.place ≡ place.Name
+  pub name_finds : {P : ℕ → Type 0} (words : List (List ℕ)) (at : Standing) (tree : Tree) (n : ℕ) → at.place ≡ symbol.Name
       → Good at tree → position (bytes_eq (bytes_of tree)) words ≡ Some n → P n → Finds (name_at words tree) P
   unfolding name_at
   name_finds words at (word bytes from to) n here good is p =
@@ -331,18 +331,18 @@ module _ (sheet : Sheet) (given : Given) where
       where_false (is_variable bytes) None (position (bytes_eq bytes) words) (not-true (is_variable bytes) plain)
       (finds_if (position (bytes_eq bytes) words) n is p)
   name_finds words at (list parts from to) n here good is p =
-      absurd (no_list given (sheet_naming sheet) place.Name at parts from to here good refl)
+      absurd (no_list given (sheet_naming sheet) symbol.Name at parts from to here good refl)
 
   -- what is said of a name's number, where the name is an atom of this role
-  role_of_name : (at : Standing) (tree : Tree) (role : Role) → at.place ≡ place.Name → at.role ≡ role → Good at tree
+  role_of_name : (at : Standing) (tree : Tree) (role : Role) → at.place ≡ symbol.Name → at.role ≡ role → Good at tree
       → HasNumber given (sheet_naming sheet) role (bytes_of tree)
   role_of_name at (word bytes from to) role here is good =
       subst (λ r. HasNumber given (sheet_naming sheet) r bytes) is good.fine.0.numbered
   role_of_name at (list parts from to) role here is good =
-      absurd (no_list given (sheet_naming sheet) place.Name at parts from to here good refl)
+      absurd (no_list given (sheet_naming sheet) symbol.Name at parts from to here good refl)
 
   -- the name of an attribute, of a value and of a map that are used
-  pub attr_finds : Gives sheet given → (at : Standing) (tree : Tree) → at.place ≡ place.Name → at.role ≡ used_attribute
+  pub attr_finds : Gives sheet given → (at : Standing) (tree : Tree) → at.place ≡ symbol.Name → at.role ≡ used_attribute
       → Good at tree → Finds (name_at sheet.names.attrs tree) (IsAttr sheet)
   attr_finds gives at tree here is good =
       let named = role_of_name at tree used_attribute here is good in
@@ -350,7 +350,7 @@ module _ (sheet : Sheet) (given : Given) where
       name_finds sheet.names.attrs at tree n.0 here good n.1 (gives.attrs (bytes_of tree) n.0 named.0 n.1)
 
   -- the name of a value
-  pub value_finds : Gives sheet given → (at : Standing) (tree : Tree) → at.place ≡ place.Name → at.role ≡ used_value
+  pub value_finds : Gives sheet given → (at : Standing) (tree : Tree) → at.place ≡ symbol.Name → at.role ≡ used_value
       → Good at tree → Finds (name_at sheet.names.values tree) (IsValue sheet)
   value_finds gives at tree here is good =
       let named = role_of_name at tree used_value here is good in
@@ -358,16 +358,16 @@ module _ (sheet : Sheet) (given : Given) where
       name_finds sheet.names.values at tree n.0 here good n.1 (gives.values (bytes_of tree) n.0 named.0 n.1)
 
   -- a fixed word stands at its place
-  pub keyword_is : (keyword : Keyword) (at : Standing) (tree : Tree) → at.place ≡ place.Word keyword → Good at tree
+  pub keyword_is : (keyword : Keyword) (at : Standing) (tree : Tree) → at.place ≡ symbol.Word keyword → Good at tree
       → is_form_word keyword tree ≡ true
   keyword_is keyword at (word bytes from to) here good =
       passes_test (is_word keyword bytes) Shape from (subst (λ p. atom_faults p bytes from ≡ []) here good.shaped)
   keyword_is keyword at (list parts from to) here good =
-      absurd (no_list given (sheet_naming sheet) (place.Word keyword) at parts from to here good refl)
+      absurd (no_list given (sheet_naming sheet) (symbol.Word keyword) at parts from to here good refl)
 
   -- `using MAP`
-  pub map_finds : Gives sheet given → (at at' : Standing) (using map : Tree) → at.place ≡ place.Word keyword.Using
-      → Good at using → at'.place ≡ place.Name → at'.role ≡ used_map → Good at' map
+  pub map_finds : Gives sheet given → (at at' : Standing) (using map : Tree) → at.place ≡ symbol.Word keyword.Using
+      → Good at using → at'.place ≡ symbol.Name → at'.role ≡ used_map → Good at' map
       → Finds (map_at (sheet_naming sheet) using map) (IsMap sheet)
   unfolding map_at
   map_finds gives at at' using map there fixed here is good =
@@ -384,13 +384,13 @@ module _ (sheet : Sheet) (given : Given) where
 
   -- where its form is fine
   pub binder_finds : (outer at : Standing) (parts : Trees) (tree : Tree) → IsFineBinder (sheet_naming sheet) outer parts
-      → part_at 2 parts ≡ tree → at.place ≡ place.Variable → Good at tree
+      → part_at 2 parts ≡ tree → at.place ≡ symbol.Variable → Good at tree
       → Finds (binder_at sheet.names.vars outer.around.scope tree) (BinderAt outer.around (bytes_of tree))
   unfolding binder_at
   binder_finds outer at parts (word bytes from to) fine third here good =
       let scope = outer.around.scope in
       let word_is : word_in 2 parts ≡ bytes = ap bytes_of third in
-      let variable = word_is_variable at place.Variable bytes from to here refl good in
+      let variable = word_is_variable at symbol.Variable bytes from to here refl good in
       let n = named_place bytes sheet.names.vars (subst (λ w. IsNamed w sheet.names.vars) word_is fine.numbered) in
       let same : var_word sheet n.0 ≡ bytes = get_or_from_slice_get sheet.names.vars n.0 bytes [] n.2 in
       let fresh = not_in_scope bytes scope (subst (λ w. is_some (variable_found scope w) ≡ false) word_is fine.fresh) in
@@ -405,7 +405,7 @@ module _ (sheet : Sheet) (given : Given) where
         (λ sort. ap (λ w. bound_in outer.around w sort) same),
       ))
   binder_finds outer at parts (list inner from to) fine third here good =
-      absurd (no_list given (sheet_naming sheet) place.Variable at inner from to here good refl)
+      absurd (no_list given (sheet_naming sheet) symbol.Variable at inner from to here good refl)
 
   -- what holds behind a binder, where its variable's sort is known
   pub behind_binder : (F : Around → Type 0) (around : Around) (bytes : List ℕ) (bound : ℕ) (sort sort' : Sort)
@@ -414,11 +414,11 @@ module _ (sheet : Sheet) (given : Given) where
       subst F (ap (bound_in around bytes) same ∙ sym (binds.1 sort)) holds
 
   -- the word of a kind
-  kind_is_told : (kind : LocKind) (at : Standing) (tree : Tree) → at.place ≡ place.Kind → Good at tree
+  kind_is_told : (kind : LocKind) (at : Standing) (tree : Tree) → at.place ≡ symbol.Kind → Good at tree
       → kind_bytes kind ≡ bytes_of tree → is_form_word (kind_keyword kind) tree ≡ true
   kind_is_told kind at (word bytes from to) here good is = kind_fits kind bytes is
   kind_is_told kind at (list parts from to) here good is =
-      absurd (no_list given (sheet_naming sheet) place.Kind at parts from to here good refl)
+      absurd (no_list given (sheet_naming sheet) symbol.Kind at parts from to here good refl)
 
   -- a location, which holds cards or references as the word of its kind says
   abbrev pub LocAt : Around → List ℕ → Loc → Type 0
@@ -463,17 +463,17 @@ module _ (sheet : Sheet) (given : Given) where
   is_placed role mention name holds fits = tt
 
   -- a location, as its role wants it
-  pub loc_finds : (at : Standing) (tree : Tree) → at.place ≡ place.Location → Good at tree
+  pub loc_finds : (at : Standing) (tree : Tree) → at.place ≡ symbol.Location → Good at tree
       → Finds (loc_at (sheet_naming sheet) at.around.scope tree)
       (λ loc. IsLoc sheet at.around loc × IsPlaced at.role loc.name)
   unfolding loc_at
   loc_finds at (word bytes from to) here good =
       absurd (refused (subst (λ p. atom_faults p bytes from ≡ []) here good.shaped))
     where
-      refused : atom_faults place.Location bytes from ≡ [] → ⊥
+      refused : atom_faults symbol.Location bytes from ≡ [] → ⊥
       refused is = cc
   loc_finds at (list parts from to) here good =
-      list_finds given (sheet_naming sheet) (loc_rule (sheet_naming sheet) at.around.scope from parts) place.Location at parts from to
+      list_finds given (sheet_naming sheet) (loc_rule (sheet_naming sheet) at.around.scope from parts) symbol.Location at parts from to
       here good
       ((λ form. implies _ (loc_parts_finds at parts from form)
       (λ loc is. (is.0, is_placed at.role (mention_of parts) loc.name is.1 form.fine.fits.0)))
@@ -501,14 +501,14 @@ module _ (sheet : Sheet) (given : Given) where
       (finds _ (holds.0, ap (option_map (λ num. num.class)) m.is ∙ ap Some class)))))) form
 
   -- a stored number, at its place
-  pub num_finds : (at : Standing) (tree : Tree) → at.place ≡ place.Counter → Good at tree
+  pub num_finds : (at : Standing) (tree : Tree) → at.place ≡ symbol.Counter → Good at tree
       → Finds (num_at (sheet_naming sheet) at.around.scope tree) (IsNum sheet at.around)
   unfolding num_at
   num_finds at (word bytes from to) here good =
       absurd (refused (subst (λ p. atom_faults p bytes from ≡ []) here good.shaped))
     where
-      refused : atom_faults place.Counter bytes from ≡ [] → ⊥
+      refused : atom_faults symbol.Counter bytes from ≡ [] → ⊥
       refused is = cc
   num_finds at (list parts from to) here good =
-      list_finds given (sheet_naming sheet) (num_rule (sheet_naming sheet) at.around.scope parts) place.Counter at parts from to here
+      list_finds given (sheet_naming sheet) (num_rule (sheet_naming sheet) at.around.scope parts) symbol.Counter at parts from to here
       good ((λ form. num_parts_finds at parts form) ▹ tt)

@@ -17,7 +17,7 @@ use Rattle.rc_setup.specs.Naming.{number_of}
 use Rattle.rc_setup.specs.Reading.{read_values, read_value_list, unclamped, read_points, entry_with, read_entry, read_all_entries, read_entries}
 use Rattle.rc_setup.specs.Reading.{both as both_read}
 use Rattle.rc_grammar.specs.Faults.{faults}
-use Rattle.rc_grammar.specs.declared.grammar.Place.TheVariants as place
+use Rattle.rc_grammar.specs.declared.grammar.Symbol.TheVariants as symbol
 use Rattle.rc_faults.specs.SecondFaults.{second_faults}
 use Rattle.rc_naming.specs.Naming.{naming_of}
 use Rattle.rc_sheet_model.specs.Naming.{Naming}
@@ -95,7 +95,7 @@ map_fits naming number map entries =
     (λ found u. behind (ensure (found == number)) _ (anything _) (λ u u'. entries_fit (face_words naming) entries))
 
 -- THE LAW: the points of the setup that is read have entries, which have values and points in range.
-pub points_are_fine : (tree : Tree) → faults place.Sheet tree ≡ [] → second_faults tree ≡ []
+pub points_are_fine : (tree : Tree) → faults symbol.Sheet tree ≡ [] → second_faults tree ≡ []
     → Means (setup_form_at (naming_of tree) (setup_in tree)) (λ s. AllByRecursion ArePoints s.points)
 points_are_fine tree shaped sound =
     weaker _
@@ -113,7 +113,7 @@ points_are_fine tree shaped sound =
     (λ s is. subst (AllByRecursion ArePoints) is.points is.is)
 
 -- and so do those of the sheet
-pub points_have_entries : (tree : Tree) (sheet : Sheet) → faults place.Sheet tree ≡ [] → second_faults tree ≡ []
+pub points_have_entries : (tree : Tree) (sheet : Sheet) → faults symbol.Sheet tree ≡ [] → second_faults tree ≡ []
     → sheet_at (naming_of tree) tree ≡ Some sheet → All ArePoints sheet.points
 points_have_entries tree sheet shaped sound is =
     by_setup (λ sheet. All ArePoints sheet.points) (naming_of tree) tree sheet is

@@ -11,7 +11,7 @@ use Rattle.rc_sheet_model.specs.WellFormed.{outside, scored, IsInt, AreItems}
 use Rattle.rc_faults.specs.SecondParts.{standing_alone, parts_of}
 use Rattle.rc_faults.specs.SecondFaults.{stage_count, choice_count}
 use Rattle.rc_grammar.specs.Faults.{faults, count}
-use Rattle.rc_grammar.specs.declared.grammar.Place.TheVariants as place
+use Rattle.rc_grammar.specs.declared.grammar.Symbol.TheVariants as symbol
 use Rattle.rc_grammar.specs.declared.grammar.Rule.TheVariants as rule
 use Rattle.rc_reading.specs.ReadNames.{◌>>=◌, sized}
 use Rattle.rc_reading.specs.ReadItems.{body_at}
@@ -43,7 +43,7 @@ module _ (naming : Naming) (given : Given) where
   abbrev pub SetupFinds : Tree → Type 0
   SetupFinds tree =
       (head setup : Tree) (rest : Trees) (from to : ℕ) → tree ≡ list (cons head (cons setup rest)) from to
-      → IsGood given naming (plain_part standing_alone place.Setup (cons head (cons setup rest))) setup
+      → IsGood given naming (plain_part standing_alone symbol.Setup (cons head (cons setup rest))) setup
       → Finds (setup_form_at naming setup) IsSetUp
 
   -- the body that is read makes the sheet
@@ -74,7 +74,7 @@ module _ (naming : Naming) (given : Given) where
 
   -- A form without a fault of shape whose parts are fine is read, where its setup is and where it has no more stages and choices
   -- than a sheet may have.
-  pub sheet_finds : (tree : Tree) → faults place.Sheet tree ≡ []
+  pub sheet_finds : (tree : Tree) → faults symbol.Sheet tree ≡ []
       → All (IsFine given naming) (parts_of tree) → stage_count (parts_of tree) ≤ most_stages
       → choice_count (parts_of tree) ≤ most_sites → SetupFinds tree → Finds (sheet_at naming tree) HasFineBody
   unfolding sheet_at

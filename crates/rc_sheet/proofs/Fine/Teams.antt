@@ -14,8 +14,8 @@ use Rattle.rc_sheet_model.specs.WellFormed.{is_among, ArePartition, AreTeams}
 use Rattle.rc_grammar.specs.Grammar.{forms_of}
 use Rattle.rc_grammar.specs.Faults.{faults, faults_at, faults_in, rule_of, place_at, count}
 use Rattle.rc_grammar.specs.declared.keyword.Keyword.TheVariants as keyword
-use Rattle.rc_grammar.specs.declared.grammar.Place.{Place}
-use Rattle.rc_grammar.specs.declared.grammar.Place.TheVariants as place
+use Rattle.rc_grammar.specs.declared.grammar.Symbol.{Symbol}
+use Rattle.rc_grammar.specs.declared.grammar.Symbol.TheVariants as symbol
 use Rattle.rc_grammar.specs.declared.grammar.Rule.{Rule}
 use Rattle.rc_grammar.specs.declared.grammar.Rule.TheVariants as rule
 use Rattle.rc_faults.specs.SecondParts.{Standing, Part, atom, form, parts_at, parts_in, parts_of, with_form, standing_in}
@@ -66,7 +66,7 @@ unfolding team_at
 team_is (word bytes from to) rest = nothing
 team_is (list nil from to) rest = nothing
 team_is (list (cons part parts) from to) rest =
-    behind (rule_at place.Team (cons part parts)) (λ rule. team_rule rule (cons part parts)) (anything _) (λ rule u. by rule)
+    behind (rule_at symbol.Team (cons part parts)) (λ rule. team_rule rule (cons part parts)) (anything _) (λ rule u. by rule)
   where
     by : (rule : Rule) → Means (team_rule rule (cons part parts))
         (λ team. ((length team == 0) ≡ false) × (team ++ team_players rest
@@ -99,26 +99,26 @@ members_row : (at : Standing) (all : Trees) (index : ℕ) (trees : Trees) → fa
     → flat_map members_in (parts_in at rule.Team all index trees) ≡ numbers_in trees
 members_row at all index nil none = refl
 members_row at all index (cons (word bytes from to) trees) none =
-    let apart = none_in_both (faults_at (Some place.Member) (word bytes from to))
+    let apart = none_in_both (faults_at (Some symbol.Member) (word bytes from to))
     (faults_in rule.Team (count all) (index + 1) trees) none in
     ap (λ l. number_by bytes ∷ l) (members_row at all (index + 1) trees apart.1)
 members_row at all index (cons (list parts from to) trees) none =
-    let apart = none_in_both (faults_at (Some place.Member) (list parts from to))
+    let apart = none_in_both (faults_at (Some symbol.Member) (list parts from to))
     (faults_in rule.Team (count all) (index + 1) trees) none in
-    absurd (no_list_at place.Member parts from to refl apart.0)
+    absurd (no_list_at symbol.Member parts from to refl apart.0)
 
-team_row : (at : Standing) → at.place ≡ place.Team → (parts : Trees) (from to : ℕ)
-    → faults_at (Some place.Team) (list parts from to) ≡ []
+team_row : (at : Standing) → at.place ≡ symbol.Team → (parts : Trees) (from to : ℕ)
+    → faults_at (Some symbol.Team) (list parts from to) ≡ []
     → flat_map members_in (parts_at (Some at) (list parts from to)) ≡ numbers_in parts
 team_row at here parts from to none =
-    let shape = sole place.Team rule.Team parts from to (refl, tt) none in
+    let shape = sole symbol.Team rule.Team parts from to (refl, tt) none in
     ap (λ o. flat_map members_in (with_form at parts from (λ r. parts_in at r parts 0 parts) o))
     (ap (λ p. rule_of p parts) here ∙ shape.0)
     ∙ members_row at parts 0 parts shape.2
 
 -- a line's, behind its two words
-team_place : (n index : ℕ) → 2 ≤ index → place_at rule.CreateTeams n index ≡ Some place.Team
-team_place n index above = from_two (λ i. place_at rule.CreateTeams n i ≡ Some place.Team) (λ j. refl) index above
+team_place : (n index : ℕ) → 2 ≤ index → place_at rule.CreateTeams n index ≡ Some symbol.Team
+team_place n index above = from_two (λ i. place_at rule.CreateTeams n i ≡ Some symbol.Team) (λ j. refl) index above
 
 teams_row : (at : Standing) (all : Trees) (index : ℕ) (trees : Trees) → 2 ≤ index
     → faults_in rule.CreateTeams (count all) index trees ≡ []
@@ -126,7 +126,7 @@ teams_row : (at : Standing) (all : Trees) (index : ℕ) (trees : Trees) → 2 �
 teams_row at all index nil above none = refl
 teams_row at all index (cons tree trees) above none =
     let here = team_place (count all) index above in
-    let stand = standing_at at rule.CreateTeams all index place.Team in
+    let stand = standing_at at rule.CreateTeams all index symbol.Team in
     let stands : standing_in at rule.CreateTeams all index ≡ Some stand =
     ap (λ o. option_map (λ q. standing_at at rule.CreateTeams all index q) o) here in
     let apart = none_in_both (faults_at (place_at rule.CreateTeams (count all) index) tree)
@@ -137,13 +137,13 @@ teams_row at all index (cons tree trees) above none =
     (teams_row at all (index + 1) trees (omega (arith, above)) apart.1)
     ∙ by tree (subst (λ o. faults_at o tree ≡ []) here apart.0)
   where
-    by : (tree : Tree) → faults_at (Some place.Team) tree ≡ []
-        → flat_map members_in (parts_at (Some (standing_at at rule.CreateTeams all index place.Team)) tree) ++ team_players trees
+    by : (tree : Tree) → faults_at (Some symbol.Team) tree ≡ []
+        → flat_map members_in (parts_at (Some (standing_at at rule.CreateTeams all index symbol.Team)) tree) ++ team_players trees
         ≡ team_players (cons tree trees)
     by (word bytes from to) none = absurd cc
     by (list parts from to) none =
         ap (λ l. l ++ team_players trees)
-        (team_row (standing_at at rule.CreateTeams all index place.Team) refl parts from to none)
+        (team_row (standing_at at rule.CreateTeams all index symbol.Team) refl parts from to none)
 
 -- NO PLAYER STANDS TWICE, AND EACH IS ONE
 
@@ -209,11 +209,11 @@ members_apart whole earlier (part ∷ parts) none first quiet =
         (is_no_player whole earlier at.place bytes) fine.known in
         by_place at.place bytes fine.once outer.1 are
       where
-        by_place : (p : Place) (bytes : List ℕ) → is_player_again earlier p bytes ≡ false
+        by_place : (p : Symbol) (bytes : List ℕ) → is_player_again earlier p bytes ≡ false
             → is_no_player whole earlier p bytes ≡ false
             → AreApart (player_count whole) (flat_map members_in earlier ++ (member_by p bytes ++ [])) (flat_map members_in parts)
             → AreApart (player_count whole) (flat_map members_in earlier) (member_by p bytes ++ flat_map members_in parts)
-        by_place place.Member bytes once known are =
+        by_place symbol.Member bytes once known are =
             one_apart (player_count whole) (number_by bytes) (flat_map members_in earlier) (flat_map members_in parts)
             (leb-false (player_count whole) (number_by bytes)
             (subst (λ b. (b && nat_le (player_count whole) (number_by bytes)) ≡ false) first known))
@@ -243,7 +243,7 @@ all_among ns start (suc n) all q low high =
     by false other first later = later (past_it q start low other)
 
 -- no team stands in a word
-word_before : (p : Place) (tree : Tree) (rest : Trees) → forms_of p ≡ [] → faults_at (Some p) tree ≡ []
+word_before : (p : Symbol) (tree : Tree) (rest : Trees) → forms_of p ≡ [] → faults_at (Some p) tree ≡ []
     → team_players (cons tree rest) ≡ team_players rest
 word_before p (word bytes from to) rest listless none = refl
 word_before p (list parts from to) rest listless none = absurd (no_list_at p parts from to listless none)
@@ -279,15 +279,15 @@ line_is_apart given naming whole earlier at create second parts from to line =
     flat_map-append teams_in ((earlier ++ head ∷ []) ++ one) two
     ∙ ap₂ (λ l m. l ++ m) (flat_map-append teams_in (earlier ++ head ∷ []) one
     ∙ ap₂ (λ l m. l ++ m) (flat_map-append teams_in earlier (head ∷ []) ∙ ap (λ l. l ++ all ∷ []) first)
-    (below_silent teams_in teams_of_lines (standing_at at rule.CreateTeams all 0 (place.Word keyword.Create)) create refl))
-    (below_silent teams_in teams_of_lines (standing_at at rule.CreateTeams all 1 (place.Word keyword.Teams)) second refl) in
+    (below_silent teams_in teams_of_lines (standing_at at rule.CreateTeams all 0 (symbol.Word keyword.Create)) create refl))
+    (below_silent teams_in teams_of_lines (standing_at at rule.CreateTeams all 1 (symbol.Word keyword.Teams)) second refl) in
     let apart = members_apart whole before ours behind_two.1 (ap (λ l. length l == 1) seen)
     (inner_silent teams_in teams_of_lines at rule.CreateTeams all 2 parts refl) in
-    let none = none_in_both (faults_at (Some (place.Word keyword.Create)) create) _ line.inner in
-    let none' = none_in_both (faults_at (Some (place.Word keyword.Teams)) second) _ none.1 in
+    let none = none_in_both (faults_at (Some (symbol.Word keyword.Create)) create) _ line.inner in
+    let none' = none_in_both (faults_at (Some (symbol.Word keyword.Teams)) second) _ none.1 in
     let are = teams_row at all 2 parts (omega arith) none'.1 in
-    let same = word_before (place.Word keyword.Create) create (cons second parts) refl none.0
-    ∙ word_before (place.Word keyword.Teams) second parts refl none'.0 in
+    let same = word_before (symbol.Word keyword.Create) create (cons second parts) refl none.0
+    ∙ word_before (symbol.Word keyword.Teams) second parts refl none'.0 in
     record {
       differ = subst Differ are apart.differ;
       below = λ q is. apart.few q (subst (λ l. is_among q l ≡ true) (sym are) is);
@@ -318,7 +318,7 @@ both_hold (Some a) p q = something a (p.holds, q.holds)
 -- THE PLAYERS
 
 -- THE LAW: the setup that is read has as many players as its form counts.
-pub players_are_counted : (tree : Tree) → faults place.Sheet tree ≡ [] → second_faults tree ≡ []
+pub players_are_counted : (tree : Tree) → faults symbol.Sheet tree ≡ [] → second_faults tree ≡ []
     → Means (setup_form_at (naming_of tree) (setup_in tree)) (λ s. s.players ≡ player_count (parts_of tree))
 players_are_counted tree shaped sound =
     weaker _
@@ -340,7 +340,7 @@ players_are_counted tree shaped sound =
     (λ s is. ap (λ l. slice_index_or l 0 0) (ap option_to_list (sym is.players) ∙ is.is ∙ sym is.all.players))
 
 -- THE LAW: the teams of the setup that is read part its players.
-pub teams_are_fine : (tree : Tree) → faults place.Sheet tree ≡ [] → second_faults tree ≡ []
+pub teams_are_fine : (tree : Tree) → faults symbol.Sheet tree ≡ [] → second_faults tree ≡ []
     → Means (setup_form_at (naming_of tree) (setup_in tree)) (λ s. AreTeams s.players s.teams)
 teams_are_fine tree shaped sound =
     weaker _
@@ -359,7 +359,7 @@ teams_are_fine tree shaped sound =
     (subst (AreTeams (player_count (parts_of tree))) are.1.teams are.1.is))
 
 -- and so do those of the sheet
-pub teams_are_a_partition : (tree : Tree) (sheet : Sheet) → faults place.Sheet tree ≡ [] → second_faults tree ≡ []
+pub teams_are_a_partition : (tree : Tree) (sheet : Sheet) → faults symbol.Sheet tree ≡ [] → second_faults tree ≡ []
     → sheet_at (naming_of tree) tree ≡ Some sheet → AreTeams sheet.players sheet.teams
 teams_are_a_partition tree sheet shaped sound is =
     by_setup (λ sheet. AreTeams sheet.players sheet.teams) (naming_of tree) tree sheet is

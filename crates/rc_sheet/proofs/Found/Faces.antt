@@ -10,8 +10,8 @@ use Rattle.rc_sheet_model.specs.Naming.{Naming}
 use Rattle.rc_model.specs.Clamp.{largest_number, is_within_clamp}
 use Rattle.rc_grammar.specs.Faults.{is_word, is_variable, is_within, is_number, atom_kind, atom_faults, place_at, count}
 use Rattle.rc_grammar.specs.declared.keyword.Keyword.TheVariants as keyword
-use Rattle.rc_grammar.specs.declared.grammar.Place.{Place}
-use Rattle.rc_grammar.specs.declared.grammar.Place.TheVariants as place
+use Rattle.rc_grammar.specs.declared.grammar.Symbol.{Symbol}
+use Rattle.rc_grammar.specs.declared.grammar.Symbol.TheVariants as symbol
 use Rattle.rc_grammar.specs.declared.grammar.Rule.{Rule}
 use Rattle.rc_grammar.specs.declared.grammar.Rule.TheVariants as rule
 use Rattle.rc_grammar.specs.declared.fault.SheetKind.{SheetKind}
@@ -66,7 +66,7 @@ clamp_found (Some points) is =
 
 module _ (given : Given) (naming : Naming) where
   -- no atom stands where its place refuses it
-  pub no_word : (p : Place) (at : Standing) (bytes : List ℕ) (from to : ℕ) → at.place ≡ p
+  pub no_word : (p : Symbol) (at : Standing) (bytes : List ℕ) (from to : ℕ) → at.place ≡ p
       → IsGood given naming at (word bytes from to) → atom_kind p bytes ≡ Some Shape → ⊥
   no_word p at bytes from to here good is =
       by (atom_kind p bytes) is (subst (λ p. atom_faults p bytes from ≡ []) here good.shaped)
@@ -77,14 +77,14 @@ module _ (given : Given) (naming : Naming) where
       by (Some kind) is none = cc
 
   -- a name among these
-  name_found : (names : List (List ℕ)) (at : Standing) (tree : Tree) → at.place ≡ place.Name → IsGood given naming at tree
+  name_found : (names : List (List ℕ)) (at : Standing) (tree : Tree) → at.place ≡ symbol.Name → IsGood given naming at tree
       → IsNamed (bytes_of tree) names → IsFound (number_of names tree)
   name_found names at (word bytes from to) here good named =
       let plain = passes_test (not (is_variable bytes)) Shape from
       (subst (λ p. atom_faults p bytes from ≡ []) here good.shaped) in
       number_found names bytes from to (not-true (is_variable bytes) plain) named
   name_found names at (list parts from to) here good named = absurd
-      (no_list given naming place.Name at parts from to here good refl)
+      (no_list given naming symbol.Name at parts from to here good refl)
 
   -- a value's word is numbered
   value_named : (at : Standing) (bytes : List ℕ) (from to : ℕ) → at.role ≡ given_value
@@ -92,22 +92,22 @@ module _ (given : Given) (naming : Naming) where
   value_named at bytes from to role good = subst (λ r. HasNumber given naming r bytes) role good.fine.0.numbered
 
   -- a value's name
-  value_found : (at : Standing) (tree : Tree) → at.place ≡ place.Name → at.role ≡ given_value → IsGood given naming at tree
+  value_found : (at : Standing) (tree : Tree) → at.place ≡ symbol.Name → at.role ≡ given_value → IsGood given naming at tree
       → IsFound (number_of naming.names.values tree)
   value_found at (word bytes from to) here role good =
       name_found naming.names.values at (word bytes from to) here good (value_named at bytes from to role good)
-  value_found at (list parts from to) here role good = absurd (no_list given naming place.Name at parts from to here good refl)
+  value_found at (list parts from to) here role good = absurd (no_list given naming symbol.Name at parts from to here good refl)
 
   -- THE GROUPS OF A DECK
 
   mutual
     -- groups among the parts of a form
     groups_found : (at : Standing) (r : Rule) (all : Trees) (index : ℕ) (trees : Trees) → 1 ≤ index
-        → ((j : ℕ) → 1 ≤ j → place_at r (count all) j ≡ Some place.Group) → AreGood given naming at r all index trees
+        → ((j : ℕ) → 1 ≤ j → place_at r (count all) j ≡ Some symbol.Group) → AreGood given naming at r all index trees
         → IsFound (read_groups (face_words naming) trees)
     groups_found at r all index nil above each good = finds no_group tt
     groups_found at r all index (cons tree trees) above each good =
-        let stand = standing_at at r all index place.Group in
+        let stand = standing_at at r all index symbol.Group in
         let stands : standing_in at r all index ≡ Some stand =
         ap (λ o. option_map (λ q. standing_at at r all index q) o) (each index above) in
         both_found (λ first rest. group first.0 first.1 rest) (read_group (face_words naming) tree)
@@ -115,32 +115,32 @@ module _ (given : Given) (naming : Naming) where
         (group_found stand refl tree (subst (λ o. GoodAt given naming o tree) stands good.0))
         (groups_found at r all (index + 1) trees (omega (arith, above)) each good.1)
 
-    group_found : (at : Standing) → at.place ≡ place.Group → (tree : Tree) → IsGood given naming at tree
+    group_found : (at : Standing) → at.place ≡ symbol.Group → (tree : Tree) → IsGood given naming at tree
         → IsFound (read_group (face_words naming) tree)
-    group_found at here (word bytes from to) good = absurd (no_word place.Group at bytes from to here good refl)
+    group_found at here (word bytes from to) good = absurd (no_word symbol.Group at bytes from to here good refl)
     group_found at here (list nil from to) good =
-        let form = only_form given naming place.Group rule.Group at nil from to here (refl, tt) good in
+        let form = only_form given naming symbol.Group rule.Group at nil from to here (refl, tt) good in
         let two = eqb-true 0 2 form.fit in absurd (omega (arith, two))
     group_found at here (list (cons head nil) from to) good =
-        let form = only_form given naming place.Group rule.Group at (cons head nil) from to here (refl, tt) good in
+        let form = only_form given naming symbol.Group rule.Group at (cons head nil) from to here (refl, tt) good in
         let two = eqb-true 1 2 form.fit in absurd (omega (arith, two))
     group_found at here (list (cons head (cons (word bytes a b) nil)) from to) good =
         let parts = cons head (cons (word bytes a b) nil) in
-        let form = only_form given naming place.Group rule.Group at parts from to here (refl, tt) good in
-        absurd (no_word place.Branches (standing_at at rule.Group parts 1 place.Branches) bytes a b refl form.good.1.0 refl)
+        let form = only_form given naming symbol.Group rule.Group at parts from to here (refl, tt) good in
+        absurd (no_word symbol.Branches (standing_at at rule.Group parts 1 symbol.Branches) bytes a b refl form.good.1.0 refl)
     group_found at here (list (cons head (cons second (cons third rest))) from to) good =
         let parts = cons head (cons second (cons third rest)) in
-        let form = only_form given naming place.Group rule.Group at parts from to here (refl, tt) good in
+        let form = only_form given naming symbol.Group rule.Group at parts from to here (refl, tt) good in
         let two = eqb-true (count parts) 2 form.fit in absurd (omega (arith, two))
     group_found at here (list (cons head (cons (list branches a b) nil)) from to) good =
         let parts = cons head (cons (list branches a b) nil) in
-        let form = only_form given naming place.Group rule.Group at parts from to here (refl, tt) good in
-        let stand = standing_at at rule.Group parts 1 place.Branches in
-        let inner = only_form given naming place.Branches rule.Branches stand branches a b refl (refl, tt) form.good.1.0 in
+        let form = only_form given naming symbol.Group rule.Group at parts from to here (refl, tt) good in
+        let stand = standing_at at rule.Group parts 1 symbol.Branches in
+        let inner = only_form given naming symbol.Branches rule.Branches stand branches a b refl (refl, tt) form.good.1.0 in
         let some = ltb-true 0 (count branches) inner.fit in
         both_found (λ attr found. (attr, found)) (number_of naming.names.attrs head)
         (unless_nil branches (read_branches (face_words naming) branches))
-        (name_found naming.names.attrs (standing_at at rule.Group parts 0 place.Name) head refl form.good.0 form.fine.fits.1)
+        (name_found naming.names.attrs (standing_at at rule.Group parts 0 symbol.Name) head refl form.good.0 form.fine.fits.1)
         (unless_found branches (read_branches (face_words naming) branches) (omega (arith, some))
         (branches_found stand branches 0 branches inner.good))
 
@@ -151,10 +151,10 @@ module _ (given : Given) (naming : Naming) where
     branches_found at all index (cons tree trees) good =
         both_found (λ first rest. branch first.0 first.1 rest) (read_branch (face_words naming) tree)
         (read_branches (face_words naming) trees)
-        (branch_found (standing_at at rule.Branches all index place.Branch) refl refl tree good.0)
+        (branch_found (standing_at at rule.Branches all index symbol.Branch) refl refl tree good.0)
         (branches_found at all (index + 1) trees good.1)
 
-    branch_found : (at : Standing) → at.place ≡ place.Branch → at.role ≡ given_value → (tree : Tree) → IsGood given naming at tree
+    branch_found : (at : Standing) → at.place ≡ symbol.Branch → at.role ≡ given_value → (tree : Tree) → IsGood given naming at tree
         → IsFound (read_branch (face_words naming) tree)
     branch_found at here role (word bytes from to) good =
         let fits = passes_test (not (is_variable bytes)) Shape from
@@ -164,39 +164,39 @@ module _ (given : Given) (naming : Naming) where
         (value_named at bytes from to role good))
         (λ number u. tt)
     branch_found at here role (list nil from to) good =
-        let form = only_form given naming place.Branch rule.Branch at nil from to here (refl, tt) good in
+        let form = only_form given naming symbol.Branch rule.Branch at nil from to here (refl, tt) good in
         let more = ltb-true 1 0 form.fit in absurd (omega (arith, more))
     branch_found at here role (list (cons head groups) from to) good =
         let parts = cons head groups in
-        let form = only_form given naming place.Branch rule.Branch at parts from to here (refl, tt) good in
+        let form = only_form given naming symbol.Branch rule.Branch at parts from to here (refl, tt) good in
         let more = ltb-true 1 (count parts) form.fit in
         both_found (λ number inner. (number, inner)) (number_of naming.names.values head)
         (unless_nil groups (read_groups (face_words naming) groups))
-        (value_found (standing_at at rule.Branch parts 0 place.Name) head refl refl form.good.0)
+        (value_found (standing_at at rule.Branch parts 0 symbol.Name) head refl refl form.good.0)
         (unless_found groups (read_groups (face_words naming) groups) (omega (arith, more))
         (groups_found at rule.Branch parts 1 groups (omega arith) (branch_behind (count parts)) form.good.1))
 
   -- the word of a deck
-  deck_word : (at : Standing) (tree : Tree) → at.place ≡ place.Word keyword.Deck → IsGood given naming at tree
+  deck_word : (at : Standing) (tree : Tree) → at.place ≡ symbol.Word keyword.Deck → IsGood given naming at tree
       → is_read_word (codes "deck") tree ≡ true
   deck_word at (word bytes from to) here good =
       passes_test (is_word keyword.Deck bytes) Shape from (subst (λ p. atom_faults p bytes from ≡ []) here good.shaped)
   deck_word at (list parts from to) here good =
-      absurd (no_list given naming (place.Word keyword.Deck) at parts from to here good refl)
+      absurd (no_list given naming (symbol.Word keyword.Deck) at parts from to here good refl)
 
   -- a deck
-  pub deck_found : (at : Standing) (tree : Tree) → at.place ≡ place.Deck → IsGood given naming at tree
+  pub deck_found : (at : Standing) (tree : Tree) → at.place ≡ symbol.Deck → IsGood given naming at tree
       → IsFound (read_deck (face_words naming) tree)
-  deck_found at (word bytes from to) here good = absurd (no_word place.Deck at bytes from to here good refl)
+  deck_found at (word bytes from to) here good = absurd (no_word symbol.Deck at bytes from to here good refl)
   deck_found at (list nil from to) here good =
-      let form = only_form given naming place.Deck rule.Deck at nil from to here (refl, tt) good in
+      let form = only_form given naming symbol.Deck rule.Deck at nil from to here (refl, tt) good in
       let more = ltb-true 1 0 form.fit in absurd (omega (arith, more))
   deck_found at (list (cons head groups) from to) here good =
       let parts = cons head groups in
-      let form = only_form given naming place.Deck rule.Deck at parts from to here (refl, tt) good in
+      let form = only_form given naming symbol.Deck rule.Deck at parts from to here (refl, tt) good in
       let more = ltb-true 1 (count parts) form.fit in
       where_true (is_read_word (codes "deck") head) (unless_nil groups (read_groups (face_words naming) groups)) None
-      (deck_word (standing_at at rule.Deck parts 0 (place.Word keyword.Deck)) head refl form.good.0)
+      (deck_word (standing_at at rule.Deck parts 0 (symbol.Word keyword.Deck)) head refl form.good.0)
       (unless_found groups (read_groups (face_words naming) groups) (omega (arith, more))
       (groups_found at rule.Deck parts 1 groups (omega arith) (deck_behind (count parts)) form.good.1))
 
@@ -208,31 +208,31 @@ module _ (given : Given) (naming : Naming) where
   values_found at all index nil good = finds [] tt
   values_found at all index (cons tree trees) good =
       both_found _ (number_of naming.names.values tree) (read_values (face_words naming) trees)
-      (value_found (standing_at at rule.Values all index place.Name) tree refl refl good.0)
+      (value_found (standing_at at rule.Values all index symbol.Name) tree refl refl good.0)
       (values_found at all (index + 1) trees good.1)
 
-  value_list_found : (at : Standing) (tree : Tree) → at.place ≡ place.Values → IsGood given naming at tree
+  value_list_found : (at : Standing) (tree : Tree) → at.place ≡ symbol.Values → IsGood given naming at tree
       → IsFound (read_value_list (face_words naming) tree)
-  value_list_found at (word bytes from to) here good = absurd (no_word place.Values at bytes from to here good refl)
+  value_list_found at (word bytes from to) here good = absurd (no_word symbol.Values at bytes from to here good refl)
   value_list_found at (list parts from to) here good =
-      let form = only_form given naming place.Values rule.Values at parts from to here (refl, tt) good in
+      let form = only_form given naming symbol.Values rule.Values at parts from to here (refl, tt) good in
       let some = ltb-true 0 (count parts) form.fit in
       unless_found parts (read_values (face_words naming) parts) (omega (arith, some)) (values_found at parts 0 parts form.good)
 
   -- how many points
-  points_found : (at : Standing) (tree : Tree) → at.place ≡ place.Points → IsGood given naming at tree
+  points_found : (at : Standing) (tree : Tree) → at.place ≡ symbol.Points → IsGood given naming at tree
       → IsFound (read_points tree)
   points_found at (word bytes from to) here good =
       clamp_found (integer bytes)
       (passes_test (is_number bytes) Number from (subst (λ p. atom_faults p bytes from ≡ []) here good.shaped))
-  points_found at (list parts from to) here good = absurd (no_list given naming place.Points at parts from to here good refl)
+  points_found at (list parts from to) here good = absurd (no_list given naming symbol.Points at parts from to here good refl)
 
   -- an entry
-  entry_found : (at : Standing) (tree : Tree) → at.place ≡ place.Entry → IsGood given naming at tree
+  entry_found : (at : Standing) (tree : Tree) → at.place ≡ symbol.Entry → IsGood given naming at tree
       → IsFound (read_entry (face_words naming) tree)
-  entry_found at (word bytes from to) here good = absurd (no_word place.Entry at bytes from to here good refl)
+  entry_found at (word bytes from to) here good = absurd (no_word symbol.Entry at bytes from to here good refl)
   entry_found at (list parts from to) here good =
-      let form = only_form given naming place.Entry rule.Entry at parts from to here (refl, tt) good in
+      let form = only_form given naming symbol.Entry rule.Entry at parts from to here (refl, tt) good in
       three_only (λ parts. IsGoodForm given naming at rule.Entry parts
       → IsFound (read_entry (face_words naming) (list parts from to)))
       parts form.fit
@@ -240,10 +240,10 @@ module _ (given : Given) (naming : Naming) where
       let all = cons head (cons values (cons points nil)) in
       both_found entry_with (number_of naming.names.attrs head)
       (both_read (λ values points. (values, points)) (read_value_list (face_words naming) values) (read_points points))
-      (name_found naming.names.attrs (standing_at at rule.Entry all 0 place.Name) head refl form.good.0 form.fine.fits)
+      (name_found naming.names.attrs (standing_at at rule.Entry all 0 symbol.Name) head refl form.good.0 form.fine.fits)
       (both_found (λ values points. (values, points)) (read_value_list (face_words naming) values) (read_points points)
-      (value_list_found (standing_at at rule.Entry all 1 place.Values) values refl form.good.1.0)
-      (points_found (standing_at at rule.Entry all 2 place.Points) points refl form.good.1.1.0)))
+      (value_list_found (standing_at at rule.Entry all 1 symbol.Values) values refl form.good.1.0)
+      (points_found (standing_at at rule.Entry all 2 symbol.Points) points refl form.good.1.1.0)))
       form
 
   -- entries among the parts of their list
@@ -252,14 +252,14 @@ module _ (given : Given) (naming : Naming) where
   all_entries_found at all index nil good = finds [] tt
   all_entries_found at all index (cons tree trees) good =
       both_found _ (read_entry (face_words naming) tree) (read_all_entries (face_words naming) trees)
-      (entry_found (standing_at at rule.Entries all index place.Entry) tree refl good.0)
+      (entry_found (standing_at at rule.Entries all index symbol.Entry) tree refl good.0)
       (all_entries_found at all (index + 1) trees good.1)
 
-  pub entries_found : (at : Standing) (tree : Tree) → at.place ≡ place.Entries → IsGood given naming at tree
+  pub entries_found : (at : Standing) (tree : Tree) → at.place ≡ symbol.Entries → IsGood given naming at tree
       → IsFound (read_entries (face_words naming) tree)
-  entries_found at (word bytes from to) here good = absurd (no_word place.Entries at bytes from to here good refl)
+  entries_found at (word bytes from to) here good = absurd (no_word symbol.Entries at bytes from to here good refl)
   entries_found at (list parts from to) here good =
-      let form = only_form given naming place.Entries rule.Entries at parts from to here (refl, tt) good in
+      let form = only_form given naming symbol.Entries rule.Entries at parts from to here (refl, tt) good in
       let some = ltb-true 0 (count parts) form.fit in
       unless_found parts (read_all_entries (face_words naming) parts) (omega (arith, some))
       (all_entries_found at parts 0 parts form.good)

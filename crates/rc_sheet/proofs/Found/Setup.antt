@@ -13,7 +13,7 @@ use Rattle.rc_sheet_model.specs.Naming.{Naming, class_of}
 use Rattle.rc_grammar.specs.Keyword.{text_of}
 use Rattle.rc_grammar.specs.Faults.{faults, faults_at, faults_in, atom_faults, is_word, is_within, rule_of, place_at, count, fits}
 use Rattle.rc_grammar.specs.declared.keyword.Keyword.TheVariants as keyword
-use Rattle.rc_grammar.specs.declared.grammar.Place.TheVariants as place
+use Rattle.rc_grammar.specs.declared.grammar.Symbol.TheVariants as symbol
 use Rattle.rc_grammar.specs.declared.grammar.Rule.{Rule}
 use Rattle.rc_grammar.specs.declared.grammar.Rule.TheVariants as rule
 use Rattle.rc_grammar.specs.declared.fault.SheetKind.TheVariants.{Number}
@@ -67,7 +67,7 @@ game_alone (word bytes from to) is = by (is_word keyword.Game bytes) is
         → Means (cond b (Some game) (owner_at [] (word bytes from to))) (λ who. who ≡ game)
     by true is = something game refl
     by false is = absurd cc
-game_alone (list parts from to) is = absurd (no_game (rule_of place.Owner parts) is)
+game_alone (list parts from to) is = absurd (no_game (rule_of symbol.Owner parts) is)
 
 -- the game's class is no other
 is_the_game : (class : Class) → is_game class ≡ true → class ≡ game_class
@@ -118,7 +118,7 @@ module _ (given : Given) (naming : Naming) where
   -- PLAYERS AND TEAMS
 
   -- how many players there are
-  players_found : (at : Standing) (tree : Tree) → at.place ≡ place.PlayerCount → IsGood given naming at tree
+  players_found : (at : Standing) (tree : Tree) → at.place ≡ symbol.PlayerCount → IsGood given naming at tree
       → IsFound (count_at 1 most_players tree)
   unfolding count_at
   players_found at (word bytes from to) here good =
@@ -126,10 +126,10 @@ module _ (given : Given) (naming : Naming) where
       (passes_test (is_within (pos 1) (pos 8) (integer bytes)) Number from
       (subst (λ p. atom_faults p bytes from ≡ []) here good.shaped))
   players_found at (list parts from to) here good =
-      absurd (no_list given naming place.PlayerCount at parts from to here good refl)
+      absurd (no_list given naming symbol.PlayerCount at parts from to here good refl)
 
   -- a player of a team, and several
-  member_found : (at : Standing) (tree : Tree) → at.place ≡ place.Member → IsGood given naming at tree
+  member_found : (at : Standing) (tree : Tree) → at.place ≡ symbol.Member → IsGood given naming at tree
       → IsFound (count_at 0 7 tree)
   unfolding count_at
   member_found at (word bytes from to) here good =
@@ -137,31 +137,31 @@ module _ (given : Given) (naming : Naming) where
       (passes_test (is_within (pos 0) (pos 7) (integer bytes)) Number from
       (subst (λ p. atom_faults p bytes from ≡ []) here good.shaped))
   member_found at (list parts from to) here good =
-      absurd (no_list given naming place.Member at parts from to here good refl)
+      absurd (no_list given naming symbol.Member at parts from to here good refl)
 
   members_found : (at : Standing) (all : Trees) (index : ℕ) (trees : Trees) → AreGood given naming at rule.Team all index trees
       → IsFound (members_at trees)
   members_found at all index nil good = finds [] tt
   members_found at all index (cons tree trees) good =
       joins (count_at 0 7 tree) (members_at trees) ◌∷◌
-      (member_found (standing_at at rule.Team all index place.Member) tree refl good.0)
+      (member_found (standing_at at rule.Team all index symbol.Member) tree refl good.0)
       (members_found at all (index + 1) trees good.1) (λ player players u v. tt)
 
   -- a team, and several behind the two words of a line
-  team_found : (at : Standing) (tree : Tree) → at.place ≡ place.Team → IsGood given naming at tree → IsFound (team_at tree)
+  team_found : (at : Standing) (tree : Tree) → at.place ≡ symbol.Team → IsGood given naming at tree → IsFound (team_at tree)
   unfolding team_at
-  team_found at (word bytes from to) here good = absurd (no_word given naming place.Team at bytes from to here good refl)
+  team_found at (word bytes from to) here good = absurd (no_word given naming symbol.Team at bytes from to here good refl)
   team_found at (list parts from to) here good =
-      list_finds given naming (λ r. team_rule r parts) place.Team at parts from to here good
+      list_finds given naming (λ r. team_rule r parts) symbol.Team at parts from to here good
       ((λ form. members_found at parts 0 parts form.good) ▹ tt)
 
   teams_found : (at : Standing) (all : Trees) (index : ℕ) (trees : Trees) → 2 ≤ index
       → AreGood given naming at rule.CreateTeams all index trees → IsFound (teams_at trees)
   teams_found at all index nil above good = finds [] tt
   teams_found at all index (cons tree trees) above good =
-      let stand = standing_at at rule.CreateTeams all index place.Team in
+      let stand = standing_at at rule.CreateTeams all index symbol.Team in
       let stands : standing_in at rule.CreateTeams all index ≡ Some stand =
-      from_two (λ i. standing_in at rule.CreateTeams all i ≡ Some (standing_at at rule.CreateTeams all i place.Team))
+      from_two (λ i. standing_in at rule.CreateTeams all i ≡ Some (standing_at at rule.CreateTeams all i symbol.Team))
       (λ j. refl) index above in
       joins (team_at tree) (teams_at trees) ◌∷◌
       (team_found stand tree refl (subst (λ o. GoodAt given naming o tree) stands good.0))
@@ -170,25 +170,25 @@ module _ (given : Given) (naming : Naming) where
   -- A DECK
 
   -- its location is found, and is the game's
-  home_found : (at : Standing) (loc : Tree) → at.place ≡ place.Location → at.role ≡ deck_role → at.around.scope ≡ []
+  home_found : (at : Standing) (loc : Tree) → at.place ≡ symbol.Location → at.role ≡ deck_role → at.around.scope ≡ []
       → IsGood given naming at loc → Finds (loc_at naming [] loc) (λ home. home.who ≡ game)
   unfolding loc_at
   home_found at (word bytes from to) here role free good =
-      absurd (no_word given naming place.Location at bytes from to here good refl)
+      absurd (no_word given naming symbol.Location at bytes from to here good refl)
   home_found at (list parts from to) here role free good =
-      let form = only_form given naming place.Location rule.Location at parts from to here (refl, tt) good in
+      let form = only_form given naming symbol.Location rule.Location at parts from to here (refl, tt) good in
       let fits = subst (λ r. is_misplaced r (mention_of parts) ≡ false) role form.fine.fits.0 in
       let class = is_the_game (mention_of parts).class (not-false _ (or_parts _ _ fits).0) in
       implies _
       (finds_meaning (loc_at naming [] (list parts from to))
       (subst (λ scope. IsFound (loc_at naming scope (list parts from to))) free
       (implies _ (loc_finds (named naming) given at (list parts from to) here good) (λ home u. tt)))
-      (behind (rule_at place.Location parts) (loc_rule naming [] from parts) (anything _)
+      (behind (rule_at symbol.Location parts) (loc_rule naming [] from parts) (anything _)
       (λ r u. home_rule naming parts from r class)))
       (λ home is. is.1)
 
-  line_of_deck_found : (at at' : Standing) (loc tree : Tree) → at.place ≡ place.Location → at.role ≡ deck_role
-      → at.around.scope ≡ [] → IsGood given naming at loc → at'.place ≡ place.Deck → IsGood given naming at' tree
+  line_of_deck_found : (at at' : Standing) (loc tree : Tree) → at.place ≡ symbol.Location → at.role ≡ deck_role
+      → at.around.scope ≡ [] → IsGood given naming at loc → at'.place ≡ symbol.Deck → IsGood given naming at' tree
       → IsFound (deck_at naming loc tree)
   unfolding deck_at
   line_of_deck_found at at' loc tree here role free good here' good' =
@@ -201,8 +201,8 @@ module _ (given : Given) (naming : Naming) where
 
   -- POINTS
 
-  line_of_points_found : (at at' : Standing) (number : ℕ) (map tree : Tree) → at.place ≡ place.Name → IsGood given naming at map
-      → at'.place ≡ place.Entries → IsGood given naming at' tree
+  line_of_points_found : (at at' : Standing) (number : ℕ) (map tree : Tree) → at.place ≡ symbol.Name → IsGood given naming at map
+      → at'.place ≡ symbol.Entries → IsGood given naming at' tree
       → position (bytes_eq (bytes_of map)) naming.names.maps ≡ Some number → IsFound (points_at naming number map tree)
   unfolding points_at
   line_of_points_found at at' number map tree here good here' good' is =
@@ -246,7 +246,7 @@ module _ (given : Given) (naming : Naming) where
         let once = line_once earlier at rule.CreatePlayers all from to line in
         follows_this (ensure (is_none said.players)) tt _ (ensures_so _ (none_where said.players _ says.players once) refl)
         (follows (count_at 1 most_players last) _
-        (players_found (standing_at at rule.CreatePlayers all 2 place.PlayerCount) last refl line.good.good.1.1.0)
+        (players_found (standing_at at rule.CreatePlayers all 2 symbol.PlayerCount) last refl line.good.good.1.1.0)
         (λ n u. finds _ (record {
           players = sym (ap some_of (line_adds players_in players_of_lines line refl)
               ∙ some_at_end (flat_map players_in earlier) _);
@@ -288,8 +288,8 @@ module _ (given : Given) (naming : Naming) where
         (λ create second loc tree line.
         let all = cons create (cons second (cons loc (cons tree nil))) in
         follows (deck_at naming loc tree) _
-        (line_of_deck_found (standing_at at rule.CreateDeck all 2 place.Location)
-        (standing_at at rule.CreateDeck all 3 place.Deck)
+        (line_of_deck_found (standing_at at rule.CreateDeck all 2 symbol.Location)
+        (standing_at at rule.CreateDeck all 3 symbol.Deck)
         loc tree refl refl free line.good.good.1.1.0 refl line.good.good.1.1.1.0)
         (λ deck u. finds _ (record {
           players = says.players ∙ ap some_of (sym (adds_none players_in players_of_lines line refl refl));
@@ -312,7 +312,7 @@ module _ (given : Given) (naming : Naming) where
         (λ put second map tree line turn.
         let all = cons put (cons second (cons map (cons tree nil))) in
         follows (points_at naming (length said.points) map tree) _
-        (line_of_points_found (standing_at at rule.PutPoints all 2 place.Name) (standing_at at rule.PutPoints all 3 place.Entries)
+        (line_of_points_found (standing_at at rule.PutPoints all 2 symbol.Name) (standing_at at rule.PutPoints all 3 symbol.Entries)
         (length said.points) map tree refl line.good.good.1.1.0 refl line.good.good.1.1.1.0 (turn ∙ ap Some (sym says.points)))
         (λ entries u. finds _ (record {
           players = says.players ∙ ap some_of (sym (adds_none players_in players_of_lines line refl refl));
@@ -329,12 +329,12 @@ module _ (given : Given) (naming : Naming) where
             length-append all (a ∷ []) ∙ ap (λ n. n + 1) same ∙ sym (length-append (flat_map maps_in earlier) (bytes ∷ []))
 
     -- a form at the place of a line is one
-    line_is : (earlier : List Part) (at : Standing) (r : Rule) (parts : Trees) (from to : ℕ) → at.place ≡ place.Line
-        → faults_at (Some place.Line) (list parts from to) ≡ []
+    line_is : (earlier : List Part) (at : Standing) (r : Rule) (parts : Trees) (from to : ℕ) → at.place ≡ symbol.Line
+        → faults_at (Some symbol.Line) (list parts from to) ≡ []
         → faults_behind whole earlier (parts_at (Some at) (list parts from to)) ≡ []
         → IsGoodForm given naming at r parts → IsLine given naming whole earlier at r parts from to
     line_is earlier at r parts from to here shaped sound fine =
-        let shape = shape_of place.Line parts from to shaped in
+        let shape = shape_of symbol.Line parts from to shaped in
         let told = sym (ap (λ p. rule_of p parts) here) ∙ fine.told in
         let same = same_Some shape.form r (sym shape.told ∙ told) in
         record {
@@ -346,15 +346,15 @@ module _ (given : Given) (naming : Naming) where
         }
 
     -- a line is found
-    line_found : (said : Lines) (earlier : List Part) (at : Standing) (tree : Tree) → at.place ≡ place.Line → at.around.scope ≡ []
-        → faults_at (Some place.Line) tree ≡ [] → faults_behind whole earlier (parts_at (Some at) tree) ≡ []
+    line_found : (said : Lines) (earlier : List Part) (at : Standing) (tree : Tree) → at.place ≡ symbol.Line → at.around.scope ≡ []
+        → faults_at (Some symbol.Line) tree ≡ [] → faults_behind whole earlier (parts_at (Some at) tree) ≡ []
         → AreInTurn naming.names.maps earlier (parts_at (Some at) tree) → IsGood given naming at tree → SaysAll said earlier
         → Finds (line_at naming said tree) (λ next. SaysAll next (earlier ++ parts_at (Some at) tree))
     unfolding line_at
     line_found said earlier at (word bytes from to) here free shaped sound turn good says =
-        absurd (no_word given naming place.Line at bytes from to here good refl)
+        absurd (no_word given naming symbol.Line at bytes from to here good refl)
     line_found said earlier at (list parts from to) here free shaped sound turn good says =
-        list_finds given naming (λ r. line_rule naming said r parts) place.Line at parts from to here good
+        list_finds given naming (λ r. line_rule naming said r parts) symbol.Line at parts from to here good
         ((λ form. of_players said earlier at parts from to
         (line_is earlier at rule.CreatePlayers parts from to here shaped sound form) says)
         ▹ (λ form. of_teams said earlier at parts from to
@@ -377,7 +377,7 @@ module _ (given : Given) (naming : Naming) where
     lines_found at all index nil above free shaped said earlier sound turn good says =
         finds said (subst (SaysAll said) (sym (append-nil earlier)) says)
     lines_found at all index (cons line lines) above free shaped said earlier sound turn good says =
-        let stand = standing_at at rule.Setup all index place.Line in
+        let stand = standing_at at rule.Setup all index symbol.Line in
         let here = line_place (count all) index above in
         let stands : standing_in at rule.Setup all index ≡ Some stand =
         ap (λ o. option_map (λ q. standing_at at rule.Setup all index q) o) here in
@@ -427,7 +427,7 @@ setup_form_found naming c d e f lines fit found =
 whole_found : (a b c d e f from to : ℕ) (lines rest : Trees) →
     let tree = whole_form a b c d e f from to lines rest in
     IsSheetForm (setup_tree c d e f lines) lines rest (all_parts a b c d e f from to lines rest)
-    → faults place.Sheet tree ≡ [] → second_faults tree ≡ []
+    → faults symbol.Sheet tree ≡ [] → second_faults tree ≡ []
     → IsFound (setup_form_at (naming_of tree) (setup_in tree))
 whole_found a b c d e f from to lines rest whole_fits shaped sound =
     let tree = whole_form a b c d e f from to lines rest in
@@ -458,11 +458,11 @@ whole_found a b c d e f from to lines rest whole_fits shaped sound =
     (λ said says. setup_made said said.players refl (says.players ∙ some)))
 
 -- THE LAW: the setup of a form without a fault is read.
-pub setup_found : (tree : Tree) → faults place.Sheet tree ≡ [] → second_faults tree ≡ []
+pub setup_found : (tree : Tree) → faults symbol.Sheet tree ≡ [] → second_faults tree ≡ []
     → Finds (setup_form_at (naming_of tree) (setup_in tree)) (λ s. Unit {0})
 setup_found tree shaped sound =
     sheet_only
-    (λ tree. faults place.Sheet tree ≡ [] → second_faults tree ≡ [] → IsFound (setup_form_at (naming_of tree) (setup_in tree)))
+    (λ tree. faults symbol.Sheet tree ≡ [] → second_faults tree ≡ [] → IsFound (setup_form_at (naming_of tree) (setup_in tree)))
     tree shaped
     (λ a b c d e f from to lines rest whole_fits shaped sound.
     whole_found a b c d e f from to lines rest whole_fits shaped sound)

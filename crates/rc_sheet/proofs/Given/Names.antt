@@ -12,8 +12,8 @@ use Rattle.rc_grammar.specs.Faults.{is_kind as is_kind_word}
 use Rattle.rc_grammar.specs.declared.fault.SheetKind.TheVariants.{Shape}
 use Rattle.rc_grammar.specs.declared.keyword.Keyword.{Keyword}
 use Rattle.rc_grammar.specs.declared.keyword.Keyword.TheVariants as keyword
-use Rattle.rc_grammar.specs.declared.grammar.Place.{Place}
-use Rattle.rc_grammar.specs.declared.grammar.Place.TheVariants as place
+use Rattle.rc_grammar.specs.declared.grammar.Symbol.{Symbol}
+use Rattle.rc_grammar.specs.declared.grammar.Symbol.TheVariants as symbol
 use Rattle.rc_grammar.specs.declared.grammar.Rule.{Rule}
 use Rattle.rc_grammar.specs.declared.grammar.Rule.TheVariants as rule
 use Rattle.rc_faults.specs.SecondParts.{Standing, Part, atom, form, standing_in}
@@ -30,7 +30,7 @@ pub silent_atoms : {X : Type 0} (own : Trees → List X) (given : Part → List 
     → by_atom own given (standing_in at r all index) tree ≡ []
 silent_atoms {X} own given none at r all index tree = by_place (place_at r (count all) index) tree
   where
-    by_place : (o : Option Place) (tree : Tree) → by_atom own given (option_map (λ q. standing_at at r all index q) o) tree ≡ []
+    by_place : (o : Option Symbol) (tree : Tree) → by_atom own given (option_map (λ q. standing_at at r all index q) o) tree ≡ []
     by_place None tree = refl
     by_place (Some q) (word bytes from to) = none (standing_at at r all index q) bytes from
     by_place (Some q) (list parts from to) = refl
@@ -44,7 +44,7 @@ module _
     → own (cons (word (text_of keyword.Team) from to) (cons (word (text_of keyword.Of) from' to') (cons player nil))) ≡ [])
   where
     two_fixed : (r : Rule) (first second : Keyword) (parts : Trees) → (fits (count parts) r ≡ true → (count parts == 2) ≡ true)
-        → place_at r 2 0 ≡ Some (place.Word first) → place_at r 2 1 ≡ Some (place.Word second) → fits (count parts) r ≡ true
+        → place_at r 2 0 ≡ Some (symbol.Word first) → place_at r 2 1 ≡ Some (symbol.Word second) → fits (count parts) r ≡ true
         → faults_in r (count parts) 0 parts ≡ [] → all_gathered own parts ++ own parts ≡ []
     two_fixed r first second parts counted first_is second_is fit none =
         two_only (λ parts. faults_in r (count parts) 0 parts ≡ [] → all_gathered own parts ++ own parts ≡ []) parts (counted fit)
@@ -60,13 +60,13 @@ module _
         (subst (λ o. faults_at o b ≡ []) second_is later.0) (λ from' to'. two _ _)))
         none
 
-    player_silent : (tree : Tree) → faults_at (Some place.Player) tree ≡ [] → gathered own tree ≡ []
+    player_silent : (tree : Tree) → faults_at (Some symbol.Player) tree ≡ [] → gathered own tree ≡ []
     player_silent (word bytes from to) none = refl
     player_silent (list parts from to) none =
-        let shape = shape_of place.Player parts from to none in
+        let shape = shape_of symbol.Player parts from to none in
         rule_holds
         (λ r. fits (count parts) r ≡ true → faults_in r (count parts) 0 parts ≡ [] → all_gathered own parts ++ own parts ≡ [])
-        place.Player parts shape.form shape.told
+        symbol.Player parts shape.form shape.told
         (two_fixed rule.CurrentPlayer keyword.Current keyword.Player parts (λ fit. fit) refl refl, tt)
         shape.fit shape.inner
 
@@ -89,20 +89,20 @@ module _
         ap₂ (λ l m. (l ++ []) ++ m) (player_silent c last.0) (of_player from to from' to' c))))
         none
 
-    holder_silent : (tree : Tree) → faults_at (Some place.Holder) tree ≡ [] → gathered own tree ≡ []
+    holder_silent : (tree : Tree) → faults_at (Some symbol.Holder) tree ≡ [] → gathered own tree ≡ []
     holder_silent (word bytes from to) none = refl
     holder_silent (list parts from to) none =
-        let shape = shape_of place.Holder parts from to none in
+        let shape = shape_of symbol.Holder parts from to none in
         rule_holds
         (λ r. fits (count parts) r ≡ true → faults_in r (count parts) 0 parts ≡ [] → all_gathered own parts ++ own parts ≡ [])
-        place.Holder parts shape.form shape.told (
+        symbol.Holder parts shape.form shape.told (
           two_fixed rule.CurrentPlayer keyword.Current keyword.Player parts (λ fit. fit) refl refl,
           (two_fixed rule.CurrentTeam keyword.Current keyword.Team parts (λ fit. fit) refl refl, (team_silent parts, tt)),
         )
         shape.fit shape.inner
 
     -- the mention alone, where its list has a holder before the words of its kind and its name
-    alone : (h : Tree) (kind name : List ℕ) (from to from' to' : ℕ) (x : X) → faults_at (Some place.Holder) h ≡ []
+    alone : (h : Tree) (kind name : List ℕ) (from to from' to' : ℕ) (x : X) → faults_at (Some symbol.Holder) h ≡ []
         → own (cons h (cons (word kind from to) (cons (word name from' to') nil))) ≡ x ∷ []
         → x ∷ all_gathered own (cons h (cons (word kind from to) (cons (word name from' to') nil)))
         ≡ all_gathered own (cons h (cons (word kind from to) (cons (word name from' to') nil)))
@@ -195,9 +195,9 @@ loc_moves parts fit none =
     let apart = none_in_both (faults_at (place_at rule.Location 3 0) h) _ none in
     let later = none_in_both (faults_at (place_at rule.Location 3 1) k) _ apart.1 in
     let last = none_in_both (faults_at (place_at rule.Location 3 2) n) [] later.1 in
-    atom_only place.Kind (λ k. Moves loc_mention locations_in rule.Location (cons h (cons k (cons n nil)))) k refl later.0
+    atom_only symbol.Kind (λ k. Moves loc_mention locations_in rule.Location (cons h (cons k (cons n nil)))) k refl later.0
     (λ kind from to is.
-    atom_only place.Name
+    atom_only symbol.Name
     (λ n. Moves loc_mention locations_in rule.Location (cons h (cons (word kind from to) (cons n nil)))) n refl last.0
     (λ name from' to' is' at start.
     alone loc_mention (λ a b. refl) (λ from to from' to' player. refl) h kind name from to from' to'
@@ -216,7 +216,7 @@ num_moves parts fit none =
     let last = none_in_both (faults_at (place_at rule.Counter 3 2) n) [] later.1 in
     fixed_only keyword.Sto (λ k. Moves num_mention numbers_of rule.Counter (cons h (cons k (cons n nil)))) k later.0
     (λ from to.
-    atom_only place.Name
+    atom_only symbol.Name
     (λ n. Moves num_mention numbers_of rule.Counter (cons h (cons (word (text_of keyword.Sto) from to) (cons n nil))))
     n refl last.0
     (λ name from' to' is at start.

@@ -13,7 +13,7 @@ use Rattle.rc_sheet_model.specs.Naming.{Naming}
 use Rattle.rc_sheet_model.specs.StandsSetup.{StandsMap, lines_with, numbered, StandsSetup}
 use Rattle.rc_sheet_model.specs.WellFormed.{is_among, IsAttr, IsValue, IsMap}
 use Rattle.rc_grammar.specs.Faults.{faults}
-use Rattle.rc_grammar.specs.declared.grammar.Place.TheVariants as place
+use Rattle.rc_grammar.specs.declared.grammar.Symbol.TheVariants as symbol
 use Rattle.rc_faults.specs.SecondParts.{parts_of}
 use Rattle.rc_faults.specs.SecondNames.{attributes_in, values_in, maps_in}
 use Rattle.rc_faults.specs.SecondFaults.{second_faults}
@@ -151,7 +151,7 @@ module _ (a b c d e f from to : ℕ) (lines rest : Trees) where
         omega (arith, same, less)
 
 -- THE LAW: the setup that is read of a form has what the form gives, whatever the items and the score of its sheet are.
-pub is_set_up : (tree : Tree) → faults place.Sheet tree ≡ [] → second_faults tree ≡ []
+pub is_set_up : (tree : Tree) → faults symbol.Sheet tree ≡ [] → second_faults tree ≡ []
     → Means (setup_form_at (naming_of tree) (setup_in tree)) (IsSetUp (naming_of tree) (given_of tree))
 is_set_up tree shaped sound =
     sheet_only (λ tree. Means (setup_form_at (naming_of tree) (setup_in tree))

@@ -17,7 +17,7 @@ use Rattle.rc_sheet.proofs.ReadOff.Sheet.{sheet_means}
 use Rattle.rc_sheet.proofs.Mentioned.Common.{attrs, values, maps, locs, nums, vars}
 use Rattle.rc_sheet.proofs.Mentioned.Sheet.{names_numbered}
 use Rattle.rc_sheet.proofs.Mentioned.Stages.{AreInOrder, body_in_order}
-use Rattle.rc_grammar.specs.declared.grammar.Place.TheVariants as place
+use Rattle.rc_grammar.specs.declared.grammar.Symbol.TheVariants as symbol
 use Rattle.rc_grammar.specs.declared.grammar.Rule.{Rule}
 use Rattle.rc_grammar.specs.declared.grammar.Rule.TheVariants as rule
 
@@ -40,7 +40,7 @@ pub sheet_reads : (naming : Naming) (tree : Tree) → Means (sheet_at naming tre
 unfolding sheet_at
 sheet_reads naming (word bytes from to) = nothing
 sheet_reads naming (list parts from to) =
-    behind (rule_at place.Sheet parts) (λ rule. game_rule naming rule parts) (anything (rule_at place.Sheet parts))
+    behind (rule_at symbol.Sheet parts) (λ rule. game_rule naming rule parts) (anything (rule_at symbol.Sheet parts))
     (λ rule u. game_rule_reads naming rule parts)
 
 -- the locations and the stored numbers of a naming are numbered as their names are

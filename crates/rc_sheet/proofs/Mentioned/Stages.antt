@@ -12,7 +12,7 @@ use Rattle.rc_reading.specs.ReadNames.{◌>>=◌, ensure, rule_at}
 use Rattle.rc_reading.specs.ReadEffects.{effects_at, alts_at}
 use Rattle.rc_reading.specs.ReadItems.{Begun, none_begun, with_stage, with_site, stage_of, choice_of, end_at, item_at, item_rule, items_at, score_at, but_last, last_of, body_at}
 use Rattle.rc_sheet.proofs.Means.{Means, nothing, something, weaker, mapped, behind, both_mean, ensured, anything}
-use Rattle.rc_grammar.specs.declared.grammar.Place.TheVariants as place
+use Rattle.rc_grammar.specs.declared.grammar.Symbol.TheVariants as symbol
 use Rattle.rc_grammar.specs.declared.grammar.Rule.{Rule}
 use Rattle.rc_grammar.specs.declared.grammar.Rule.TheVariants as rule
 
@@ -77,7 +77,7 @@ mutual
   pub item_counts : (naming : Naming) (begun : Begun) (tree : Tree) → Means (item_at naming begun tree) (CountsItem begun)
   item_counts naming begun (word bytes from to) = nothing
   item_counts naming begun (list parts from to) =
-      behind (rule_at place.Item parts) _ (anything (rule_at place.Item parts))
+      behind (rule_at symbol.Item parts) _ (anything (rule_at symbol.Item parts))
       (λ rule told. item_rule_counts naming begun rule parts)
 
   -- by its rule

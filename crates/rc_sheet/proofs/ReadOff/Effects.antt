@@ -13,7 +13,7 @@ use Rattle.rc_sheet.proofs.Means.{Means, nothing, something, weaker, mapped, beh
 use Rattle.rc_sheet.proofs.ReadOff.Names.{Told, told_at, least_left, two_words, name_means, binder_means, owner_means, loc_means, num_means}
 use Rattle.rc_sheet.proofs.ReadOff.Expressions.{card_means, coll_means, coll_rule_means, int_means, test_means, range_means}
 use Rattle.rc_grammar.specs.declared.keyword.Keyword.TheVariants as keyword
-use Rattle.rc_grammar.specs.declared.grammar.Place.TheVariants as place
+use Rattle.rc_grammar.specs.declared.grammar.Symbol.TheVariants as symbol
 use Rattle.rc_grammar.specs.declared.grammar.Rule.{Rule}
 use Rattle.rc_grammar.specs.declared.grammar.Rule.TheVariants as rule
 
@@ -31,7 +31,7 @@ pub spot_means : (naming : Naming) (scope : Scope) (tree : Tree)
     → Means (spot_at naming scope tree) (λ p. StandsSpot naming scope p.0 p.1 tree)
 spot_means naming scope (word bytes from to) = nothing
 spot_means naming scope (list parts from to) =
-    behind (rule_at place.Spot parts) _ (told_at place.Spot parts)
+    behind (rule_at symbol.Spot parts) _ (told_at symbol.Spot parts)
     (λ rule told. spot_rule_means naming scope from to rule parts told)
 
 -- effects on numbers and on stages
@@ -76,7 +76,7 @@ mutual
       → Means (effect_at naming scope tree) (λ e. StandsEffect naming scope e tree)
   effect_means naming scope (word bytes from to) = nothing
   effect_means naming scope (list parts from to) =
-      behind (rule_at place.Effect parts) _ (told_at place.Effect parts)
+      behind (rule_at symbol.Effect parts) _ (told_at symbol.Effect parts)
       (λ rule told. effect_rule_means naming scope from to rule parts told)
 
   -- by its rule
@@ -127,7 +127,7 @@ domain_means naming scope (word bytes from to) =
     weaker (range_at naming scope (word bytes from to)) (range_means naming scope (word bytes from to))
     (λ domain stands. range_is_domain naming scope domain (word bytes from to) stands)
 domain_means naming scope (list parts from to) =
-    behind (rule_at place.Domain parts) _ (told_at place.Domain parts)
+    behind (rule_at symbol.Domain parts) _ (told_at symbol.Domain parts)
     (λ rule told. domain_rule_means naming scope from to rule parts told)
 
 mutual
@@ -136,7 +136,7 @@ mutual
       → Means (alt_at naming scope tree) (λ alt. StandsAlt naming scope alt tree)
   alt_means naming scope (word bytes from to) = nothing
   alt_means naming scope (list parts from to) =
-      behind (rule_at place.Alternative parts) _ (told_at place.Alternative parts)
+      behind (rule_at symbol.Alternative parts) _ (told_at symbol.Alternative parts)
       (λ rule told. alt_rule_means naming scope from to rule parts told)
 
   -- by its rule

@@ -14,7 +14,7 @@ use Rattle.rc_reading.specs.ReadExpressions.{range_of, Side, number_side, card_s
 use Rattle.rc_sheet.proofs.Means.{Means, nothing, something, means_if, weaker, mapped, behind, paired, both_mean, either}
 use Rattle.rc_sheet.proofs.ReadOff.Names.{word_form, Told, told_at, least_left, name_means, binder_means, classes_same, place_means, variable_is, variable_means, owner_rule_means, loc_parts_mean, num_parts_mean, map_means}
 use Rattle.rc_grammar.specs.declared.keyword.Keyword.TheVariants as keyword
-use Rattle.rc_grammar.specs.declared.grammar.Place.TheVariants as place
+use Rattle.rc_grammar.specs.declared.grammar.Symbol.TheVariants as symbol
 use Rattle.rc_grammar.specs.declared.grammar.Rule.{Rule}
 use Rattle.rc_grammar.specs.declared.grammar.Rule.TheVariants as rule
 
@@ -145,7 +145,7 @@ mutual
   card_means naming scope (word bytes from to) =
       mapped (variable_in scope card_sort bytes) card_var (variable_means scope card_sort bytes from to) (λ var stands. stands)
   card_means naming scope (list parts from to) =
-      behind (rule_at place.Card parts) _ (told_at place.Card parts)
+      behind (rule_at symbol.Card parts) _ (told_at symbol.Card parts)
       (λ rule told. card_rule_means naming scope from to rule parts told)
 
   -- by its rule
@@ -169,7 +169,7 @@ mutual
   coll_means naming scope (word bytes from to) =
       mapped (variable_in scope group_sort bytes) group_var (variable_means scope group_sort bytes from to) (λ var stands. stands)
   coll_means naming scope (list parts from to) =
-      behind (rule_at place.Collection parts) _ (told_at place.Collection parts)
+      behind (rule_at symbol.Collection parts) _ (told_at symbol.Collection parts)
       (λ rule told. coll_rule_means naming scope from to rule parts told)
 
   -- by its rule
@@ -200,7 +200,7 @@ mutual
       → Means (int_at naming scope tree) (λ value. StandsInt naming scope value tree)
   int_means naming scope (word bytes from to) = mapped (integer bytes) literal (literal_means bytes) (λ value is. is)
   int_means naming scope (list parts from to) =
-      behind (rule_at place.Integer parts) _ (told_at place.Integer parts)
+      behind (rule_at symbol.Integer parts) _ (told_at symbol.Integer parts)
       (λ rule told. int_rule_means naming scope from to rule parts told)
 
   -- by its rule
@@ -229,7 +229,7 @@ mutual
       → Means (side_at naming scope tree) (λ side. StandsSide naming scope side tree)
   side_means naming scope (word bytes from to) = side_word_means naming scope bytes from to
   side_means naming scope (list parts from to) =
-      behind (rule_at place.Side parts) _ (told_at place.Side parts)
+      behind (rule_at symbol.Side parts) _ (told_at symbol.Side parts)
       (λ rule told. side_by_means naming scope from to rule parts _ _ _ _ told
       (int_rule_means naming scope from to rule parts told) (card_rule_means naming scope from to rule parts told)
       (value_parts_mean naming scope parts) (owner_rule_means scope from to rule parts told))
@@ -248,7 +248,7 @@ mutual
       → Means (test_at naming scope tree) (λ t. StandsTest naming scope t tree)
   test_means naming scope (word bytes from to) = nothing
   test_means naming scope (list parts from to) =
-      behind (rule_at place.Test parts) _ (told_at place.Test parts)
+      behind (rule_at symbol.Test parts) _ (told_at symbol.Test parts)
       (λ rule told. test_rule_means naming scope from to rule parts told)
 
   -- by its rule

@@ -20,7 +20,7 @@ use Rattle.rc_sheet.proofs.ReadOff.Names.{word_form, Told, told_at, least_left}
 use Rattle.rc_sheet.proofs.ReadOff.Expressions.{int_means, test_means}
 use Rattle.rc_sheet.proofs.ReadOff.Effects.{effects_mean, alts_mean}
 use Rattle.rc_grammar.specs.declared.keyword.Keyword.TheVariants as keyword
-use Rattle.rc_grammar.specs.declared.grammar.Place.TheVariants as place
+use Rattle.rc_grammar.specs.declared.grammar.Symbol.TheVariants as symbol
 use Rattle.rc_grammar.specs.declared.grammar.Rule.{Rule}
 use Rattle.rc_grammar.specs.declared.grammar.Rule.TheVariants as rule
 
@@ -39,7 +39,7 @@ end_rule_means naming from to rule parts told = nothing
 pub end_means : (naming : Naming) (tree : Tree) → Means (end_at naming tree) (λ t. StandsEnd naming t tree)
 end_means naming (word bytes from to) = nothing
 end_means naming (list parts from to) =
-    behind (rule_at place.End parts) _ (told_at place.End parts) (λ rule told. end_rule_means naming from to rule parts told)
+    behind (rule_at symbol.End parts) _ (told_at symbol.End parts) (λ rule told. end_rule_means naming from to rule parts told)
 
 -- a stage, whose numbers say nothing of its form
 stage_means : (naming : Naming) (begun : Begun) (class : Class) (end : Option Test) (items : Option (SheetItems × Begun))
@@ -66,7 +66,7 @@ mutual
       → Means (item_at naming begun tree) (λ p. StandsItem naming p.0 tree)
   item_means naming begun (word bytes from to) = nothing
   item_means naming begun (list parts from to) =
-      behind (rule_at place.Item parts) _ (told_at place.Item parts)
+      behind (rule_at symbol.Item parts) _ (told_at symbol.Item parts)
       (λ rule told. item_rule_means naming begun from to rule parts told)
 
   -- by its rule
@@ -117,7 +117,7 @@ score_rule_means naming from to rule parts told = nothing
 pub score_means : (naming : Naming) (tree : Tree) → Means (score_at naming tree) (λ p. StandsScore naming p.0 p.1 tree)
 score_means naming (word bytes from to) = nothing
 score_means naming (list parts from to) =
-    behind (rule_at place.Scoring parts) _ (told_at place.Scoring parts)
+    behind (rule_at symbol.Scoring parts) _ (told_at symbol.Scoring parts)
     (λ rule told. score_rule_means naming from to rule parts told)
 
 -- the items before the last part, and what stands last

@@ -18,8 +18,8 @@ use Rattle.rc_reading.specs.ReadNames.{◌>>=◌, ensure, sized, rule_at, name_a
 use Rattle.rc_sheet.proofs.Means.{Means, nothing, something, weaker, mapped, behind, either, ensured, found_passes, place_passes}
 use Rattle.rc_grammar.specs.declared.keyword.Keyword.{Keyword}
 use Rattle.rc_grammar.specs.declared.keyword.Keyword.TheVariants as keyword
-use Rattle.rc_grammar.specs.declared.grammar.Place.{Place}
-use Rattle.rc_grammar.specs.declared.grammar.Place.TheVariants as place
+use Rattle.rc_grammar.specs.declared.grammar.Symbol.{Symbol}
+use Rattle.rc_grammar.specs.declared.grammar.Symbol.TheVariants as symbol
 use Rattle.rc_grammar.specs.declared.grammar.Rule.{Rule}
 use Rattle.rc_grammar.specs.declared.grammar.Rule.TheVariants as rule
 
@@ -34,8 +34,8 @@ word_form keyword (word bytes from to) is = same_bytes bytes (text_of keyword) i
 word_form keyword (list parts from to) is = absurd cc
 
 -- the head is the word that stands first in a rule, where one does
-abbrev pub HeadIs : List Place → Tree → Type 0
-HeadIs (place.Word keyword ∷ places) tree = Word (λ bytes. bytes ≡ text_of keyword) tree
+abbrev pub HeadIs : List Symbol → Tree → Type 0
+HeadIs (symbol.Word keyword ∷ places) tree = Word (λ bytes. bytes ≡ text_of keyword) tree
 HeadIs places tree = Unit {0}
 
 -- the part behind the head is this word, where one is told
@@ -55,10 +55,10 @@ Told rule (cons head parts) =
     HeadIs (front_of rule) head × SecondIs (second_word rule) parts × (fits (count (cons head parts)) rule ≡ true)
 
 -- where a list may begin so, its head is the word that stands first
-head_is : (places : List Place) (tree : Tree) → fits_head places tree ≡ true → HeadIs places tree
+head_is : (places : List Symbol) (tree : Tree) → fits_head places tree ≡ true → HeadIs places tree
 head_is [] tree is = tt
-head_is (place.Word keyword ∷ places) (word bytes from to) is = same_bytes bytes (text_of keyword) is
-head_is (place.Word keyword ∷ places) (list parts from to) is = absurd cc
+head_is (symbol.Word keyword ∷ places) (word bytes from to) is = same_bytes bytes (text_of keyword) is
+head_is (symbol.Word keyword ∷ places) (list parts from to) is = absurd cc
 head_is (first ∷ places) tree is = tt
 
 -- where the second word is told, it stands there
@@ -73,7 +73,7 @@ no_second None parts is = tt
 no_second (Some keyword) parts is = absurd cc
 
 -- the rule that the words tell
-told_begins : (place : Place) (head : Tree) (parts : Trees) → Means (told_rule place head parts) (λ rule. Begins rule head parts)
+told_begins : (place : Symbol) (head : Tree) (parts : Trees) → Means (told_rule place head parts) (λ rule. Begins rule head parts)
 told_begins place head parts =
     weaker (told_rule place head parts)
     (found_passes (λ rule. begins head rule && is_told (second_word rule) parts) (forms_of place))
@@ -82,7 +82,7 @@ told_begins place head parts =
     (head_is (front_of rule) head fits.0, second_is (second_word rule) parts fits.1))
 
 -- the rule that the head alone tells
-plain_begins : (place : Place) (head : Tree) (parts : Trees) → Means (plain_rule place head) (λ rule. Begins rule head parts)
+plain_begins : (place : Symbol) (head : Tree) (parts : Trees) → Means (plain_rule place head) (λ rule. Begins rule head parts)
 plain_begins place head parts =
     weaker (plain_rule place head)
     (found_passes (λ rule. begins head rule && is_none (second_word rule)) (forms_of place))
@@ -104,7 +104,7 @@ sized_told head parts (Some rule) means =
     (λ is. something rule (means.holds.0, means.holds.1, is)) (λ is. nothing)
 
 -- the rule of a list begins with its words and has so many parts
-pub told_at : (place : Place) (parts : Trees) → Means (rule_at place parts) (λ rule. Told rule parts)
+pub told_at : (place : Symbol) (parts : Trees) → Means (rule_at place parts) (λ rule. Told rule parts)
 told_at place nil = nothing
 told_at place (cons head parts) =
     sized_told head parts (rule_of place (cons head parts))
@@ -227,7 +227,7 @@ unfolding player_at
 player_means scope (word bytes from to) =
     mapped (variable_in scope player_sort bytes) who_var (variable_means scope player_sort bytes from to) (λ var stands. stands)
 player_means scope (list parts from to) =
-    behind (rule_at place.Player parts) player_of_rule (told_at place.Player parts)
+    behind (rule_at symbol.Player parts) player_of_rule (told_at symbol.Player parts)
     (λ rule told. player_rule_means scope from to rule parts told)
 
 -- the team of a player, as an owner
@@ -256,7 +256,7 @@ unfolding owner_at
 owner_means scope (word bytes from to) =
     mapped (variable_in scope player_sort bytes) who_var (variable_means scope player_sort bytes from to) (λ var stands. stands)
 owner_means scope (list parts from to) =
-    behind (rule_at place.Owner parts) (λ rule. owner_rule scope rule parts) (told_at place.Owner parts)
+    behind (rule_at symbol.Owner parts) (λ rule. owner_rule scope rule parts) (told_at symbol.Owner parts)
     (λ rule told. owner_rule_means scope from to rule parts told)
 
 -- an owner as a holder
@@ -326,7 +326,7 @@ pub loc_means : (naming : Naming) (scope : Scope) (tree : Tree)
 unfolding loc_at
 loc_means naming scope (word bytes from to) = nothing
 loc_means naming scope (list parts from to) =
-    behind (rule_at place.Location parts) (loc_rule naming scope from parts) (told_at place.Location parts)
+    behind (rule_at symbol.Location parts) (loc_rule naming scope from parts) (told_at symbol.Location parts)
     (λ rule told. loc_rule_means naming scope from to parts rule)
 
 -- NUM
@@ -356,7 +356,7 @@ pub num_means : (naming : Naming) (scope : Scope) (tree : Tree)
 unfolding num_at
 num_means naming scope (word bytes from to) = nothing
 num_means naming scope (list parts from to) =
-    behind (rule_at place.Counter parts) (num_rule naming scope parts) (told_at place.Counter parts)
+    behind (rule_at symbol.Counter parts) (num_rule naming scope parts) (told_at symbol.Counter parts)
     (λ rule told. num_rule_means naming scope from to parts rule)
 
 -- `using MAP`

@@ -23,7 +23,7 @@ use Rattle.rc_sheet.proofs.ReadOff.Names.{Told, told_at, name_means, loc_means}
 use Rattle.rc_sheet.proofs.ReadOff.Faces.{some_part, deck_tree_means, entries_mean}
 use Rattle.rc_grammar.specs.declared.keyword.Keyword.{Keyword}
 use Rattle.rc_grammar.specs.declared.keyword.Keyword.TheVariants as keyword
-use Rattle.rc_grammar.specs.declared.grammar.Place.TheVariants as place
+use Rattle.rc_grammar.specs.declared.grammar.Symbol.TheVariants as symbol
 use Rattle.rc_grammar.specs.declared.grammar.Rule.{Rule}
 use Rattle.rc_grammar.specs.declared.grammar.Rule.TheVariants as rule
 
@@ -61,7 +61,7 @@ team_means : (tree : Tree) → Means (team_at tree) (λ team. Row (Full (StandsT
 unfolding team_at
 team_means (word bytes from to) = nothing
 team_means (list parts from to) =
-    behind (rule_at place.Team parts) (λ rule. team_rule rule parts) (told_at place.Team parts)
+    behind (rule_at symbol.Team parts) (λ rule. team_rule rule parts) (told_at symbol.Team parts)
     (λ rule told. team_rule_means rule parts told)
 
 -- TEAM ..
@@ -273,7 +273,7 @@ line_means : (naming : Naming) (said : Lines) (a b c d : List Tree) (line : Tree
 unfolding line_at
 line_means naming said a b c d (word bytes from to) stand = nothing
 line_means naming said a b c d (list parts from to) stand =
-    behind (rule_at place.Line parts) (λ rule. line_rule naming said rule parts) (told_at place.Line parts)
+    behind (rule_at symbol.Line parts) (λ rule. line_rule naming said rule parts) (told_at symbol.Line parts)
     (λ rule told. line_rule_means naming said a b c d from to rule parts stand told)
 
 -- lines of one kind, before later ones

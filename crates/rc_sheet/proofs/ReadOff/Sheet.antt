@@ -15,7 +15,7 @@ use Rattle.rc_sheet.proofs.Means.{Means, nothing, something, weaker, behind}
 use Rattle.rc_sheet.proofs.ReadOff.Names.{Told, told_at}
 use Rattle.rc_sheet.proofs.ReadOff.Items.{body_means}
 use Rattle.rc_sheet.proofs.ReadOff.Setup.{setup_means}
-use Rattle.rc_grammar.specs.declared.grammar.Place.TheVariants as place
+use Rattle.rc_grammar.specs.declared.grammar.Symbol.TheVariants as symbol
 use Rattle.rc_grammar.specs.declared.grammar.Rule.{Rule}
 use Rattle.rc_grammar.specs.declared.grammar.Rule.TheVariants as rule
 
@@ -34,7 +34,7 @@ pub setup_form_means : (naming : Naming) (tree : Tree)
 unfolding setup_form_at
 setup_form_means naming (word bytes from to) = nothing
 setup_form_means naming (list parts from to) =
-    behind (rule_at place.Setup parts) (λ rule. setup_rule naming rule parts) (told_at place.Setup parts)
+    behind (rule_at symbol.Setup parts) (λ rule. setup_rule naming rule parts) (told_at symbol.Setup parts)
     (λ rule told. setup_rule_means naming from to rule parts told)
 
 -- `(game SETUP ITEM+ SCORING)`, by its rule
@@ -52,5 +52,5 @@ pub sheet_means : (naming : Naming) (tree : Tree) → Means (sheet_at naming tre
 unfolding sheet_at
 sheet_means naming (word bytes from to) = nothing
 sheet_means naming (list parts from to) =
-    behind (rule_at place.Sheet parts) (λ rule. game_rule naming rule parts) (told_at place.Sheet parts)
+    behind (rule_at symbol.Sheet parts) (λ rule. game_rule naming rule parts) (told_at symbol.Sheet parts)
     (λ rule told. game_rule_means naming from to rule parts told)

@@ -6,7 +6,7 @@ ghost use Rattle.rc_model.specs.Limits.{most_open, most_stages, most_sites};
 ghost use Rattle.rc_sheet_model.specs.Naming.{Naming};
 ghost use Rattle.rc_sheet_model.specs.WellFormed.{team_count as team_count_of, HasWords, IsWithinLimits, IsShallow};
 ghost use Rattle.rc_grammar.specs.Faults.{faults};
-ghost use Rattle.rc_grammar.specs.declared.grammar.Place.TheVariants as place;
+ghost use Rattle.rc_grammar.specs.declared.grammar.Symbol.TheVariants as symbol;
 ghost use Rattle.rc_faults.specs.SecondFaults.{second_faults, stage_count, choice_count};
 ghost use Rattle.rc_naming.specs.Naming.{naming_of};
 ghost use Rattle.rc_faults.specs.SecondParts.{parts_of};
@@ -32,14 +32,14 @@ pub fn players_and_teams_are_counted()
 
 /// A sheet that is read off a form without a fault is within its limits.
 pub fn sheet_is_within_limits()
-    ensures { (tree : Tree) (sheet : Sheet) → faults place.Sheet tree ≡ [] → second_faults tree ≡ []
+    ensures { (tree : Tree) (sheet : Sheet) → faults symbol.Sheet tree ≡ [] → second_faults tree ≡ []
         → sheet_at (naming_of tree) tree ≡ Some sheet → IsWithinLimits sheet }
 {}
 
 /// A sheet that is read off a form without a fault has plain words as names and variable words as variables, where the form's
 /// atoms are of 1 to 64 bytes that may stand in an atom.
 pub fn sheet_has_words()
-    ensures { (tree : Tree) (sheet : Sheet) → faults place.Sheet tree ≡ [] → second_faults tree ≡ [] → IsOfAtoms tree
+    ensures { (tree : Tree) (sheet : Sheet) → faults symbol.Sheet tree ≡ [] → second_faults tree ≡ [] → IsOfAtoms tree
         → sheet_at (naming_of tree) tree ≡ Some sheet → HasWords sheet }
 {}
 

@@ -4,7 +4,7 @@ ghost use Rattle.std.specs.Prelude.{◌≡◌, ◌≤◌, ℕ, true, List, [], �
 ghost use Rattle.rc_model.specs.Tree.{Tree, list, Trees, cons};
 ghost use Rattle.rc_model.specs.Deck.{face_count};
 ghost use Rattle.rc_grammar.specs.Faults.{faults};
-ghost use Rattle.rc_grammar.specs.declared.grammar.Place.TheVariants as place;
+ghost use Rattle.rc_grammar.specs.declared.grammar.Symbol.TheVariants as symbol;
 ghost use Rattle.rc_faults.specs.SecondParts.{parts_of, Standing, Part, form, word_in};
 ghost use Rattle.rc_faults.specs.SecondNames.{player_count, team_count, is_named, attributes_in, values_in, maps_in};
 ghost use Rattle.rc_faults.specs.SecondFaults.{second_faults};
@@ -18,16 +18,16 @@ ghost use Rattle.rc_model.specs.Limits.{most_cards};
 
 /// A form without a fault has a player and a team.
 pub fn someone_plays()
-    ensures players { (tree : Tree) → faults place.Sheet tree ≡ [] → second_faults tree ≡ []
+    ensures players { (tree : Tree) → faults symbol.Sheet tree ≡ [] → second_faults tree ≡ []
         → 1 ≤ player_count (parts_of tree) }
-    ensures teams { (tree : Tree) → faults place.Sheet tree ≡ [] → second_faults tree ≡ []
+    ensures teams { (tree : Tree) → faults symbol.Sheet tree ≡ [] → second_faults tree ≡ []
         → 1 ≤ team_count (parts_of tree) }
 {}
 
 /// The map of a line of points has the number of the lines of points before it.
 pub fn maps_are_in_turn()
     ensures turn { (tree : Tree) (earlier later : List Part) (at : Standing) (parts : Trees) (from : ℕ)
-        → faults place.Sheet tree ≡ [] → second_faults tree ≡ []
+        → faults symbol.Sheet tree ≡ [] → second_faults tree ≡ []
         → parts_of tree ≡ earlier ++ (form at rule.PutPoints parts from ∷ later)
         → position (bytes_eq (word_in 2 parts)) (naming_of tree).names.maps ≡ Some (length (flat_map maps_in earlier)) }
 {}
@@ -36,46 +36,46 @@ pub fn maps_are_in_turn()
 pub fn setup_is_given()
     ensures attrs { (tree head setup : Tree) (rest : Trees) (from to n : ℕ) (s : Setup)
         (body : SheetItems × (Best × IntExpr)) (bytes : List ℕ) → tree ≡ list (cons head (cons setup rest)) from to
-        → faults place.Sheet tree ≡ [] → second_faults tree ≡ [] → setup_form_at (naming_of tree) setup ≡ Some s
+        → faults symbol.Sheet tree ≡ [] → second_faults tree ≡ [] → setup_form_at (naming_of tree) setup ≡ Some s
         → is_named bytes (flat_map attributes_in (parts_of tree)) ≡ true
         → position (bytes_eq bytes) (naming_of tree).names.attrs ≡ Some n → IsAttr (sheet_with (naming_of tree) s body) n }
     ensures values { (tree head setup : Tree) (rest : Trees) (from to n : ℕ) (s : Setup)
         (body : SheetItems × (Best × IntExpr)) (bytes : List ℕ) → tree ≡ list (cons head (cons setup rest)) from to
-        → faults place.Sheet tree ≡ [] → second_faults tree ≡ [] → setup_form_at (naming_of tree) setup ≡ Some s
+        → faults symbol.Sheet tree ≡ [] → second_faults tree ≡ [] → setup_form_at (naming_of tree) setup ≡ Some s
         → is_named bytes (flat_map values_in (parts_of tree)) ≡ true
         → position (bytes_eq bytes) (naming_of tree).names.values ≡ Some n → IsValue (sheet_with (naming_of tree) s body) n }
     ensures maps { (tree head setup : Tree) (rest : Trees) (from to n : ℕ) (s : Setup)
         (body : SheetItems × (Best × IntExpr)) (bytes : List ℕ) → tree ≡ list (cons head (cons setup rest)) from to
-        → faults place.Sheet tree ≡ [] → second_faults tree ≡ [] → setup_form_at (naming_of tree) setup ≡ Some s
+        → faults symbol.Sheet tree ≡ [] → second_faults tree ≡ [] → setup_form_at (naming_of tree) setup ≡ Some s
         → is_named bytes (flat_map maps_in (parts_of tree)) ≡ true
         → position (bytes_eq bytes) (naming_of tree).names.maps ≡ Some n → IsMap (sheet_with (naming_of tree) s body) n }
 {}
 
 /// The teams of a sheet that is read off a form without a fault have a player each, and each player stands in one of them, once.
 pub fn teams_are_a_partition()
-    ensures { (tree : Tree) (sheet : Sheet) → faults place.Sheet tree ≡ [] → second_faults tree ≡ []
+    ensures { (tree : Tree) (sheet : Sheet) → faults symbol.Sheet tree ≡ [] → second_faults tree ≡ []
         → sheet_at (naming_of tree) tree ≡ Some sheet → AreTeams sheet.players sheet.teams }
 {}
 
 /// It has a deck, and no more cards than a sheet may have.
 pub fn there_are_few_cards()
-    ensures some { (tree : Tree) (sheet : Sheet) → faults place.Sheet tree ≡ [] → second_faults tree ≡ []
+    ensures some { (tree : Tree) (sheet : Sheet) → faults symbol.Sheet tree ≡ [] → second_faults tree ≡ []
         → sheet_at (naming_of tree) tree ≡ Some sheet → 1 ≤ length sheet.decks }
-    ensures few { (tree : Tree) (sheet : Sheet) → faults place.Sheet tree ≡ [] → second_faults tree ≡ []
+    ensures few { (tree : Tree) (sheet : Sheet) → faults symbol.Sheet tree ≡ [] → second_faults tree ≡ []
         → sheet_at (naming_of tree) tree ≡ Some sheet
         → sum_by (λ line. face_count line.groups) sheet.decks ≤ most_cards }
 {}
 
 /// Each of its decks has a group, no face of it has an attribute twice, and it begins in a location of the game that holds cards.
 pub fn decks_are_decks()
-    ensures { (tree : Tree) (sheet : Sheet) → faults place.Sheet tree ≡ [] → second_faults tree ≡ []
+    ensures { (tree : Tree) (sheet : Sheet) → faults symbol.Sheet tree ≡ [] → second_faults tree ≡ []
         → sheet_at (naming_of tree) tree ≡ Some sheet → All (IsDeck sheet) sheet.decks }
 {}
 
 /// Each of its points has an entry, and each entry has a value and points that are in range.
 pub fn points_have_entries()
-    ensures some { (tree : Tree) (sheet : Sheet) → faults place.Sheet tree ≡ [] → second_faults tree ≡ []
+    ensures some { (tree : Tree) (sheet : Sheet) → faults symbol.Sheet tree ≡ [] → second_faults tree ≡ []
         → sheet_at (naming_of tree) tree ≡ Some sheet → All (λ entries. 1 ≤ length entries) sheet.points }
-    ensures entries { (tree : Tree) (sheet : Sheet) → faults place.Sheet tree ≡ [] → second_faults tree ≡ []
+    ensures entries { (tree : Tree) (sheet : Sheet) → faults symbol.Sheet tree ≡ [] → second_faults tree ≡ []
         → sheet_at (naming_of tree) tree ≡ Some sheet → All (All IsEntry) sheet.points }
 {}

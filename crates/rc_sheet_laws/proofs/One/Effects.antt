@@ -20,7 +20,7 @@ use Rattle.rc_sheet.proofs.Means.{something}
 use Rattle.rc_sheet_laws.proofs.One.Rows.{behind_word, row_one, row_two, row_three, row_word, row_word_part, row_part, row_words, two_parts, first_part, three_parts}
 use Rattle.rc_sheet_laws.proofs.One.Names.{Differ, Apart, variable_word, one_owner, loc_rule_in_cards, loc_rule_in_domain, along, Only, only_quiet, only_map, only_both, only_pair, only_sized, by_rule, of_rule, sized_too, one_attr, one_loc, one_num}
 use Rattle.rc_sheet_laws.proofs.One.Expressions.{CollIs, one_bound, bound_apart, one_card, one_coll, one_int, one_test, one_range}
-use Rattle.rc_grammar.specs.declared.grammar.Place.TheVariants as place
+use Rattle.rc_grammar.specs.declared.grammar.Symbol.TheVariants as symbol
 use Rattle.rc_grammar.specs.declared.grammar.Rule.TheVariants as rule
 
 -- a card is a variable or a list
@@ -37,10 +37,10 @@ card_held naming scope (min_card cards map) P (word bytes from to) stands bound 
 
 -- the rule of a move of one card
 pub move_rule : (naming : Naming) (scope : Scope) (a : CardExpr) (f t : ℕ) (card spot : Tree) → StandsCard naming scope a card
-    → rule_at place.Effect (cons (word (codes "move") f t) (cons card (cons spot nil))) ≡ Some rule.Move
+    → rule_at symbol.Effect (cons (word (codes "move") f t) (cons card (cons spot nil))) ≡ Some rule.Move
 move_rule naming scope a f t card spot stands =
     card_held naming scope a
-    (λ card. rule_at place.Effect (cons (word (codes "move") f t) (cons card (cons spot nil))) ≡ Some rule.Move) card stands
+    (λ card. rule_at symbol.Effect (cons (word (codes "move") f t) (cons card (cons spot nil))) ≡ Some rule.Move) card stands
     (λ rest from to. refl) (λ parts from to. refl)
 
 -- A sheet whose names differ, and a naming that a form is read by.
@@ -93,7 +93,7 @@ module _ (sheet : Sheet) (told : Naming) (differ : Differ sheet.names) where
         (λ f t from to c s here there. by_rule sheet told rule.Move
         (λ rule. effect_rule (along sheet told) around.scope rule (cons (word (codes "move") f t) (cons c (cons s nil))))
         (move card end loc) (in_effect (move card end loc))
-        (rule_at place.Effect (cons (word (codes "move") f t) (cons c (cons s nil))))
+        (rule_at symbol.Effect (cons (word (codes "move") f t) (cons c (cons s nil))))
         (move_rule (sheet_naming sheet) around.scope card f t c s here)
         (moved around move card (in_card card) end loc _ s alone there
         (one_card sheet told differ around card c alone here is.0).0))
@@ -201,12 +201,12 @@ module _ (sheet : Sheet) (told : Naming) (differ : Differ sheet.names) where
       (λ holder kind name from to holds k n one.
       let parts = cons holder (cons kind (cons name nil)) in
       by_rule sheet told rule.Location (λ rule. domain_rule (along sheet told) around.scope from rule parts)
-      (each_card (cards_in loc)) (loc_name loc.name ∷ []) (rule_at place.Domain parts)
+      (each_card (cards_in loc)) (loc_name loc.name ∷ []) (rule_at symbol.Domain parts)
       (loc_rule_in_domain around.scope loc.who holder kind name holds)
       (only_map sheet told each_card (cards_in loc) (loc_name loc.name ∷ [])
       (coll_rule (along sheet told) around.scope from rule.Location parts)
       (of_rule sheet told rule.Location (λ rule. coll_rule (along sheet told) around.scope from rule parts)
-      (cards_in loc) (loc_name loc.name ∷ []) (rule_at place.Collection parts)
+      (cards_in loc) (loc_name loc.name ∷ []) (rule_at symbol.Collection parts)
       (loc_rule_in_cards around.scope loc.who holder kind name holds) one)))
       one
   cards_domain around (filtered cards bound t) parts from to stands one =

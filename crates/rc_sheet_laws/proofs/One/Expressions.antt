@@ -23,7 +23,7 @@ use Rattle.rc_sheet.proofs.ReadOff.Names.{place_means, class_same}
 use Rattle.rc_sheet_laws.proofs.One.Rows.{behind_word, row_one, row_two, row_three, three_parts}
 use Rattle.rc_sheet_laws.proofs.One.Names.{Differ, Apart, more_apart, variable_word, one_variable, one_player_var, owner_forms, loc_rule_in_cards, num_rule_in_numbers, num_rule_in_sides, along, Only, only_quiet, only_map, only_both, only_pair, only_then, only_made, only_sized, only_said, by_rule, one_attr, one_value, one_binder, one_map, one_loc_parts, one_num_parts}
 use Rattle.rc_grammar.specs.declared.keyword.Keyword.TheVariants as keyword
-use Rattle.rc_grammar.specs.declared.grammar.Place.TheVariants as place
+use Rattle.rc_grammar.specs.declared.grammar.Symbol.TheVariants as symbol
 use Rattle.rc_grammar.specs.declared.grammar.Rule.TheVariants as rule
 
 -- a variable is no number
@@ -308,13 +308,13 @@ module _ (sheet : Sheet) (told : Naming) (differ : Differ sheet.names) where
         only_map sheet told number num (num_name num.name ∷ []) _
         (one_num_parts sheet told around.scope num parts from to differ alone stands') in (
           by_rule sheet told rule.Counter (λ rule. int_rule (along sheet told) around.scope rule parts)
-              (number num) (num_name num.name ∷ []) (rule_at place.Integer parts)
+              (number num) (num_name num.name ∷ []) (rule_at symbol.Integer parts)
               (num_rule_in_numbers around.scope num.who holder kind name holds) one,
           by_rule sheet told rule.Counter
               (λ rule. side_by rule (int_rule (along sheet told) around.scope rule parts)
               (card_rule (along sheet told) around.scope rule parts) (value_parts (along sheet told) around.scope parts)
               (owner_rule around.scope rule parts))
-              (number_side (number num)) (num_name num.name ∷ []) (rule_at place.Side parts)
+              (number_side (number num)) (num_name num.name ∷ []) (rule_at symbol.Side parts)
               (num_rule_in_sides around.scope num.who holder kind name holds)
               (only_map sheet told number_side (number num) (num_name num.name ∷ []) _ one),
         ))

@@ -22,8 +22,8 @@ use Rattle.rc_sheet.proofs.Means.{Means, nothing, something, weaker, mapped, beh
 use Rattle.rc_sheet_laws.proofs.One.Rows.{row_word, row_word_part, three_parts}
 use Rattle.rc_sheet.proofs.ReadOff.Names.{name_means, binder_means, variable_means, loc_name_means, num_name_means}
 use Rattle.rc_grammar.specs.declared.keyword.Keyword.TheVariants as keyword
-use Rattle.rc_grammar.specs.declared.grammar.Place.{Place}
-use Rattle.rc_grammar.specs.declared.grammar.Place.TheVariants as place
+use Rattle.rc_grammar.specs.declared.grammar.Symbol.{Symbol}
+use Rattle.rc_grammar.specs.declared.grammar.Symbol.TheVariants as symbol
 use Rattle.rc_grammar.specs.declared.grammar.Rule.{Rule}
 use Rattle.rc_grammar.specs.declared.grammar.Rule.TheVariants as rule
 
@@ -264,13 +264,13 @@ one_holder scope (team_of_var var) tree alone stands = owner_holds scope (team_o
 one_holder scope (who_var var) tree alone stands = owner_holds scope (who_var var) tree alone stands
 
 -- a place takes lists that begin with a holder as forms of this rule
-abbrev pub TakesHeld : Place → Rule → Type 0
+abbrev pub TakesHeld : Symbol → Rule → Type 0
 TakesHeld q r =
     (scope : Scope) (who : Who) (holder kind name : Tree) → StandsHolder scope who holder
     → rule_at q (cons holder (cons kind (cons name nil))) ≡ Some r
 
 -- it does where it takes those that begin with `game`, with a variable and with a list
-takes_held : (q : Place) (r : Rule)
+takes_held : (q : Symbol) (r : Rule)
     → ((f t : ℕ) (kind name : Tree) → rule_at q (cons (word (codes "game") f t) (cons kind (cons name nil))) ≡ Some r)
     → ((rest : List ℕ) (f t : ℕ) (kind name : Tree)
     → rule_at q (cons (word (39 ∷ rest) f t) (cons kind (cons name nil))) ≡ Some r)
@@ -281,36 +281,36 @@ takes_held q r plain bound row scope who holder kind name stands =
     (λ f t. plain f t kind name) (λ rest f t. bound rest f t kind name) (λ parts f t. row parts f t kind name)
 
 -- the rule of a location's form, and of a stored number's
-pub loc_rule_in_cards : TakesHeld place.Collection rule.Location
+pub loc_rule_in_cards : TakesHeld symbol.Collection rule.Location
 loc_rule_in_cards =
-    takes_held place.Collection rule.Location (λ f t kind name. refl) (λ rest f t kind name. refl) (λ parts f t kind name. refl)
+    takes_held symbol.Collection rule.Location (λ f t kind name. refl) (λ rest f t kind name. refl) (λ parts f t kind name. refl)
 
-pub loc_rule_in_domain : TakesHeld place.Domain rule.Location
+pub loc_rule_in_domain : TakesHeld symbol.Domain rule.Location
 loc_rule_in_domain =
-    takes_held place.Domain rule.Location (λ f t kind name. refl) (λ rest f t kind name. refl) (λ parts f t kind name. refl)
+    takes_held symbol.Domain rule.Location (λ f t kind name. refl) (λ rest f t kind name. refl) (λ parts f t kind name. refl)
 
-pub loc_rule_in_members : TakesHeld place.Members rule.Location
+pub loc_rule_in_members : TakesHeld symbol.Members rule.Location
 loc_rule_in_members =
-    takes_held place.Members rule.Location (λ f t kind name. refl) (λ rest f t kind name. refl) (λ parts f t kind name. refl)
+    takes_held symbol.Members rule.Location (λ f t kind name. refl) (λ rest f t kind name. refl) (λ parts f t kind name. refl)
 
-pub loc_rule_alone : TakesHeld place.Location rule.Location
+pub loc_rule_alone : TakesHeld symbol.Location rule.Location
 loc_rule_alone =
-    takes_held place.Location rule.Location (λ f t kind name. refl) (λ rest f t kind name. refl) (λ parts f t kind name. refl)
+    takes_held symbol.Location rule.Location (λ f t kind name. refl) (λ rest f t kind name. refl) (λ parts f t kind name. refl)
 
-pub num_rule_in_numbers : TakesHeld place.Integer rule.Counter
+pub num_rule_in_numbers : TakesHeld symbol.Integer rule.Counter
 num_rule_in_numbers =
-    takes_held place.Integer rule.Counter (λ f t kind name. refl) (λ rest f t kind name. refl) (λ parts f t kind name. refl)
+    takes_held symbol.Integer rule.Counter (λ f t kind name. refl) (λ rest f t kind name. refl) (λ parts f t kind name. refl)
 
-pub num_rule_in_sides : TakesHeld place.Side rule.Counter
+pub num_rule_in_sides : TakesHeld symbol.Side rule.Counter
 num_rule_in_sides =
-    takes_held place.Side rule.Counter (λ f t kind name. refl) (λ rest f t kind name. refl) (λ parts f t kind name. refl)
+    takes_held symbol.Side rule.Counter (λ f t kind name. refl) (λ rest f t kind name. refl) (λ parts f t kind name. refl)
 
-pub num_rule_alone : TakesHeld place.Counter rule.Counter
+pub num_rule_alone : TakesHeld symbol.Counter rule.Counter
 num_rule_alone =
-    takes_held place.Counter rule.Counter (λ f t kind name. refl) (λ rest f t kind name. refl) (λ parts f t kind name. refl)
+    takes_held symbol.Counter rule.Counter (λ f t kind name. refl) (λ rest f t kind name. refl) (λ parts f t kind name. refl)
 
 -- a list of so many parts as its rule wants is of that rule
-pub rule_told : (q : Place) (parts : Trees) (r : Rule) → rule_at q parts ≡ Some r → rule_of q parts ≡ Some r
+pub rule_told : (q : Symbol) (parts : Trees) (r : Rule) → rule_at q parts ≡ Some r → rule_of q parts ≡ Some r
 rule_told q parts r is = by (rule_of q parts) is
   where
     fit : (b : Bool) (found : Rule) → cond b (Some found) None ≡ Some r → Some found ≡ Some r
@@ -480,7 +480,7 @@ module _ (sheet : Sheet) (told : Naming) where
       (λ tree. StandsLoc (sheet_naming sheet) scope loc tree → Only loc (loc_name loc.name ∷ []) (loc_at along scope tree))
       tree stands.0
       (λ holder kind name from to holds k n stands'. by_rule rule.Location _ loc (loc_name loc.name ∷ [])
-      (rule_at place.Location (cons holder (cons kind (cons name nil))))
+      (rule_at symbol.Location (cons holder (cons kind (cons name nil))))
       (loc_rule_alone scope loc.who holder kind name holds)
       (one_loc_parts scope loc (cons holder (cons kind (cons name nil))) from to differ alone stands'))
       stands
@@ -520,7 +520,7 @@ module _ (sheet : Sheet) (told : Naming) where
       (λ tree. StandsNum (sheet_naming sheet) scope num tree → Only num (num_name num.name ∷ []) (num_at along scope tree))
       tree stands.0
       (λ holder kind name from to holds k n stands'. by_rule rule.Counter _ num (num_name num.name ∷ [])
-      (rule_at place.Counter (cons holder (cons kind (cons name nil))))
+      (rule_at symbol.Counter (cons holder (cons kind (cons name nil))))
       (num_rule_alone scope num.who holder kind name holds)
       (one_num_parts scope num (cons holder (cons kind (cons name nil))) from to differ alone stands'))
       stands

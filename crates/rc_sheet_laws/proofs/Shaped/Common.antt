@@ -26,33 +26,33 @@ use Rattle.rc_grammar.specs.declared.fault.SheetKind.{SheetKind}
 use Rattle.rc_grammar.specs.declared.fault.SheetKind.TheVariants.{Shape, Number}
 use Rattle.rc_grammar.specs.declared.keyword.Keyword.{Keyword}
 use Rattle.rc_grammar.specs.declared.keyword.Keyword.TheVariants as keyword
-use Rattle.rc_grammar.specs.declared.grammar.Place.{Place}
-use Rattle.rc_grammar.specs.declared.grammar.Place.TheVariants as place
+use Rattle.rc_grammar.specs.declared.grammar.Symbol.{Symbol}
+use Rattle.rc_grammar.specs.declared.grammar.Symbol.TheVariants as symbol
 use Rattle.rc_grammar.specs.declared.grammar.Rule.{Rule}
 use Rattle.rc_grammar.specs.declared.grammar.Rule.TheVariants as rule
 
 -- LISTS
 
 -- a list that is this form, with its right number of parts, of which none is at fault
-pub by_form : (p : Place) (r : Rule) (parts : Trees) (from to : ℕ) → rule_of p parts ≡ Some r → fits (count parts) r ≡ true
+pub by_form : (p : Symbol) (r : Rule) (parts : Trees) (from to : ℕ) → rule_of p parts ≡ Some r → fits (count parts) r ≡ true
     → lacks_players r parts ≡ false → faults_in r (count parts) 0 parts ≡ [] → faults p (list parts from to) ≡ []
 by_form p r parts from to told fit complete none =
     ap (λ o. told_faults p from parts (λ r. faults_in r (count parts) 0 parts) o) told
     ∙ cond-true (fits (count parts) r) _ _ fit ∙ cond-false (lacks_players r parts) _ _ complete ∙ none
 
 -- one part of a form, and those behind it
-pub part_in : (r : Rule) (n index : ℕ) (p : Place) (tree : Tree) (trees : Trees) → place_at r n index ≡ Some p
+pub part_in : (r : Rule) (n index : ℕ) (p : Symbol) (tree : Tree) (trees : Trees) → place_at r n index ≡ Some p
     → faults p tree ≡ [] → faults_in r n (index + 1) trees ≡ [] → faults_in r n index (cons tree trees) ≡ []
 part_in r n index p tree trees here none later =
     ap₂ (λ (xs ys : List SheetFault). xs ++ ys) (ap (λ o. faults_at o tree) here ∙ none) later
 
 -- all of these trees are fine at a place
-abbrev pub AllShaped : Place → Trees → Type 0
+abbrev pub AllShaped : Symbol → Trees → Type 0
 AllShaped p nil = Unit {0}
 AllShaped p (cons tree trees) = (faults p tree ≡ []) × AllShaped p trees
 
 -- the first trees are fine at these places, and the others at that one, where there may be more
-abbrev pub AreShaped : List Place → Option Place → Trees → Type 0
+abbrev pub AreShaped : List Symbol → Option Symbol → Trees → Type 0
 AreShaped [] None nil = Unit {0}
 AreShaped [] None (cons tree trees) = ⊥
 AreShaped [] (Some p) trees = AllShaped p trees
@@ -74,7 +74,7 @@ plain_complete rule.Setup parts is = absurd cc
 plain_complete r parts is = refl
 
 -- the parts from one on, where these places are left
-pub parts_from : (r : Rule) (n index : ℕ) (rest : List Place) (more : Option Place) (trees : Trees)
+pub parts_from : (r : Rule) (n index : ℕ) (rest : List Symbol) (more : Option Symbol) (trees : Trees)
     → ((last : Bool) → behind_front r last ≡ more) → ((i : ℕ) → slice_get (front_of r) (index + i) ≡ slice_get rest i)
     → AreShaped rest more trees → faults_in r n index trees ≡ []
 parts_from r n index rest more nil back left all = refl
@@ -93,7 +93,7 @@ parts_from r n index (p ∷ rest) more (cons tree trees) back left all =
     (λ i. ap (slice_get (front_of r)) (omega arith) ∙ left (suc i)) all.1)
 
 -- a list is fine where it is this form, and has so many parts, which are fine
-pub form_shaped : (p : Place) (r : Rule) (parts : Trees) (from to : ℕ) → rule_of p parts ≡ Some r → fits (count parts) r ≡ true
+pub form_shaped : (p : Symbol) (r : Rule) (parts : Trees) (from to : ℕ) → rule_of p parts ≡ Some r → fits (count parts) r ≡ true
     → is_plain r ≡ true → AreShaped (front_of r) (more_of r) parts → faults p (list parts from to) ≡ []
 form_shaped p r parts from to told fit plain all =
     by_form p r parts from to told fit (plain_complete r parts plain)
@@ -109,7 +109,7 @@ sized_rule n (Some x) r is = by (fits n x) refl is
     by true fit is = (is, subst (λ r. fits n r ≡ true) (same_Some x r is) fit)
     by false fit is = absurd cc
 
-pub row_shaped : (p : Place) (r : Rule) (parts : Trees) (from to : ℕ) → rule_at p parts ≡ Some r → is_plain r ≡ true
+pub row_shaped : (p : Symbol) (r : Rule) (parts : Trees) (from to : ℕ) → rule_at p parts ≡ Some r → is_plain r ≡ true
     → AreShaped (front_of r) (more_of r) parts → faults p (list parts from to) ≡ []
 row_shaped p r parts from to is plain all =
     let both = sized_rule (count parts) (rule_of p parts) r is in
@@ -133,7 +133,7 @@ more_fit_three parts is =
     lt-ltb 3 (suc (suc (suc (count parts)))) (omega (arith, enough))
 
 -- where one of a kind stands behind the front and there may be more
-pub some_shaped : (p : Place) (least : ℕ) (parts : Trees) → nat_le (suc least) (count parts) ≡ true → AllShaped p parts
+pub some_shaped : (p : Symbol) (least : ℕ) (parts : Trees) → nat_le (suc least) (count parts) ≡ true → AllShaped p parts
     → AreShaped (p ∷ []) (Some p) parts
 some_shaped p least nil is all = let none = leb-true (suc least) 0 is in absurd (omega (arith, none))
 some_shaped p least (cons tree trees) is all = all
@@ -145,26 +145,26 @@ pub accepted : (b : Bool) (kind : SheetKind) → b ≡ true → unless b kind �
 accepted true kind is = refl
 accepted false kind is = absurd cc
 
-pub atom_shaped : (p : Place) (bytes : List ℕ) (from to : ℕ) → atom_kind p bytes ≡ None → faults p (word bytes from to) ≡ []
+pub atom_shaped : (p : Symbol) (bytes : List ℕ) (from to : ℕ) → atom_kind p bytes ≡ None → faults p (word bytes from to) ≡ []
 atom_shaped p bytes from to is =
     ap (λ (o : Option SheetKind). option_to_list (option_map (λ kind. record { kind = kind; at = from }) o)) is
 
 -- a plain word, at a name's place and at a branch's, and a variable
 pub name_shaped : (words : List (List ℕ)) (n : ℕ) (tree : Tree) → Named words n tree
-    → (faults place.Name tree ≡ []) × (faults place.Branch tree ≡ [])
+    → (faults symbol.Name tree ≡ []) × (faults symbol.Branch tree ≡ [])
 name_shaped words n (list parts from to) named = absurd named
 name_shaped words n (word bytes from to) named =
     let plain : unless (not (is_variable bytes)) Shape ≡ None =
     ap (λ b. unless (not b) Shape) named.1 in
-    (atom_shaped place.Name bytes from to plain, atom_shaped place.Branch bytes from to plain)
+    (atom_shaped symbol.Name bytes from to plain, atom_shaped symbol.Branch bytes from to plain)
 
-pub binder_shaped : (naming : Naming) (bound : ℕ) (tree : Tree) → Binder naming bound tree → faults place.Variable tree ≡ []
+pub binder_shaped : (naming : Naming) (bound : ℕ) (tree : Tree) → Binder naming bound tree → faults symbol.Variable tree ≡ []
 binder_shaped naming bound (list parts from to) binds = absurd binds
 binder_shaped naming bound (word bytes from to) binds =
-    atom_shaped place.Variable bytes from to (ap (λ b. unless b Shape) binds.1)
+    atom_shaped symbol.Variable bytes from to (ap (λ b. unless b Shape) binds.1)
 
 -- a variable stands wherever its sort does
-pub variable_shaped : (p : Place) (scope : Scope) (sort : Sort) (var : ℕ) (tree : Tree) → InScope scope sort var tree
+pub variable_shaped : (p : Symbol) (scope : Scope) (sort : Sort) (var : ℕ) (tree : Tree) → InScope scope sort var tree
     → ((rest : List ℕ) → atom_kind p (39 ∷ rest) ≡ None) → faults p tree ≡ []
 variable_shaped p scope sort var (list parts from to) bound takes = absurd bound
 variable_shaped p scope sort var (word bytes from to) bound takes =
@@ -182,10 +182,10 @@ kind_by : (found : Option LocName) (bytes : List ℕ) → option_map (λ loc. ki
 kind_by None bytes is = absurd cc
 kind_by (Some loc) bytes is = subst (λ b. unless (is_kind b) Shape ≡ None) (same_Some _ bytes is) (kind_taken loc.kind)
 
-pub kind_shaped : (naming : Naming) (name : ℕ) (tree : Tree) → KindOf naming name tree → faults place.Kind tree ≡ []
+pub kind_shaped : (naming : Naming) (name : ℕ) (tree : Tree) → KindOf naming name tree → faults symbol.Kind tree ≡ []
 kind_shaped naming name (list parts from to) is = absurd is
 kind_shaped naming name (word bytes from to) is =
-    atom_shaped place.Kind bytes from to (kind_by (slice_get naming.locs name) bytes is)
+    atom_shaped symbol.Kind bytes from to (kind_by (slice_get naming.locs name) bytes is)
 
 -- a number within its range
 range_taken : (z : ℤ) → IsWithinClamp z → is_within (neg_ℤ (pos largest_number)) (pos largest_number) (Some z) ≡ true
@@ -201,36 +201,36 @@ number_taken z bytes is range =
     ap (λ o. is_within (neg_ℤ (pos largest_number)) (pos largest_number) o) is ∙ range_taken z range
 
 pub literal_shaped : (z : ℤ) (tree : Tree) → Literal z tree → IsWithinClamp z
-    → (faults place.Integer tree ≡ []) × (faults place.Side tree ≡ []) × (faults place.Points tree ≡ [])
+    → (faults symbol.Integer tree ≡ []) × (faults symbol.Side tree ≡ []) × (faults symbol.Points tree ≡ [])
 literal_shaped z (list parts from to) is range = absurd is
 literal_shaped z (word bytes from to) is range =
     let taken = number_taken z bytes is range in (
-      atom_shaped place.Integer bytes from to (accepted (is_number bytes) Number taken),
-      atom_shaped place.Side bytes from to (accepted (is_variable bytes || is_number bytes) Number
+      atom_shaped symbol.Integer bytes from to (accepted (is_number bytes) Number taken),
+      atom_shaped symbol.Side bytes from to (accepted (is_variable bytes || is_number bytes) Number
           (or_right (is_variable bytes) (is_number bytes) taken)),
-      atom_shaped place.Points bytes from to (accepted (is_number bytes) Number taken),
+      atom_shaped symbol.Points bytes from to (accepted (is_number bytes) Number taken),
     )
 
 -- the fixed words of a form
-pub fixed_shaped : (k : Keyword) (tree : Tree) → Word (λ bytes. bytes ≡ text_of k) tree → faults (place.Word k) tree ≡ []
+pub fixed_shaped : (k : Keyword) (tree : Tree) → Word (λ bytes. bytes ≡ text_of k) tree → faults (symbol.Word k) tree ≡ []
 fixed_shaped k (list parts from to) is = absurd is
 fixed_shaped k (word bytes from to) is =
-    atom_shaped (place.Word k) bytes from to
+    atom_shaped (symbol.Word k) bytes from to
     (accepted (is_word k bytes) Shape ((bytes_eq-Decides bytes (text_of k)).1 is))
 
 -- OWNERS
 
 -- at an owner's place, a holder's and a side's
 abbrev pub OwnerShaped : Tree → Type 0
-OwnerShaped tree = (faults place.Owner tree ≡ []) × (faults place.Holder tree ≡ []) × (faults place.Side tree ≡ [])
+OwnerShaped tree = (faults symbol.Owner tree ≡ []) × (faults symbol.Holder tree ≡ []) × (faults symbol.Side tree ≡ [])
 
-owner_row : (r : Rule) (parts : Trees) (from to : ℕ) → rule_at place.Owner parts ≡ Some r → rule_at place.Holder parts ≡ Some r
-    → rule_at place.Side parts ≡ Some r → is_plain r ≡ true → AreShaped (front_of r) (more_of r) parts
+owner_row : (r : Rule) (parts : Trees) (from to : ℕ) → rule_at symbol.Owner parts ≡ Some r → rule_at symbol.Holder parts ≡ Some r
+    → rule_at symbol.Side parts ≡ Some r → is_plain r ≡ true → AreShaped (front_of r) (more_of r) parts
     → OwnerShaped (list parts from to)
 owner_row r parts from to owner holder side plain all = (
-  row_shaped place.Owner r parts from to owner plain all,
-  row_shaped place.Holder r parts from to holder plain all,
-  row_shaped place.Side r parts from to side plain all,
+  row_shaped symbol.Owner r parts from to owner plain all,
+  row_shaped symbol.Holder r parts from to holder plain all,
+  row_shaped symbol.Side r parts from to side plain all,
 )
 
 pub owner_shaped : (scope : Scope) (who : Who) (tree : Tree) → StandsOwner scope who tree → OwnerShaped tree
@@ -247,20 +247,20 @@ owner_shaped scope who tree stands =
     owner_row rule.TeamOf
     (cons (word (codes "team") f t) (cons (word (codes "of") f' t') (cons (list current start end) nil))) from to
     refl refl refl refl
-    (refl, (refl, (row_shaped place.Player rule.CurrentPlayer current start end refl refl (refl, (refl, tt)), tt))))
+    (refl, (refl, (row_shaped symbol.Player rule.CurrentPlayer current start end refl refl (refl, (refl, tt)), tt))))
     (λ f t f' t' from to var player is.
     owner_row rule.TeamOf (cons (word (codes "team") f t) (cons (word (codes "of") f' t') (cons player nil))) from to
     refl refl refl refl
-    (refl, (refl, (variable_shaped place.Player scope player_sort var player is (λ rest. refl), tt))))
+    (refl, (refl, (variable_shaped symbol.Player scope player_sort var player is (λ rest. refl), tt))))
     (λ bytes from to var is. (
-      variable_shaped place.Owner scope player_sort var (word bytes from to) is (λ rest. refl),
-      variable_shaped place.Holder scope player_sort var (word bytes from to) is (λ rest. refl),
-      variable_shaped place.Side scope player_sort var (word bytes from to) is (λ rest. refl),
+      variable_shaped symbol.Owner scope player_sort var (word bytes from to) is (λ rest. refl),
+      variable_shaped symbol.Holder scope player_sort var (word bytes from to) is (λ rest. refl),
+      variable_shaped symbol.Side scope player_sort var (word bytes from to) is (λ rest. refl),
     ))
     who tree stands
 
-pub holder_shaped : (scope : Scope) (who : Who) (tree : Tree) → StandsHolder scope who tree → faults place.Holder tree ≡ []
-holder_shaped scope game (word bytes from to) stands = subst (λ b. faults place.Holder (word b from to) ≡ []) (sym stands) refl
+pub holder_shaped : (scope : Scope) (who : Who) (tree : Tree) → StandsHolder scope who tree → faults symbol.Holder tree ≡ []
+holder_shaped scope game (word bytes from to) stands = subst (λ b. faults symbol.Holder (word b from to) ≡ []) (sym stands) refl
 holder_shaped scope game (list parts from to) stands = absurd stands
 holder_shaped scope current_player tree stands = (owner_shaped scope current_player tree stands).1
 holder_shaped scope current_team tree stands = (owner_shaped scope current_team tree stands).1
@@ -273,50 +273,50 @@ holder_shaped scope (who_var var) tree stands = (owner_shaped scope (who_var var
 -- at a place for cards
 abbrev pub CardsShaped : Tree → Type 0
 CardsShaped tree =
-    (faults place.Collection tree ≡ []) × (faults place.Members tree ≡ []) × (faults place.Domain tree ≡ [])
+    (faults symbol.Collection tree ≡ []) × (faults symbol.Members tree ≡ []) × (faults symbol.Domain tree ≡ [])
 
 pub home_shaped : (naming : Naming) (scope : Scope) (who : Who) (number : ℕ) (tree : Tree)
     → Row (StandsHolder scope who ▸ KindOf naming number ▸ Named naming.names.locs number ▸ End) tree
-    → (faults place.Location tree ≡ []) × CardsShaped tree
+    → (faults symbol.Location tree ≡ []) × CardsShaped tree
 home_shaped naming scope who number tree stands =
     three_parts (StandsHolder scope who) (KindOf naming number) (Named naming.names.locs number)
-    (λ tree. (faults place.Location tree ≡ []) × CardsShaped tree) tree stands
+    (λ tree. (faults symbol.Location tree ≡ []) × CardsShaped tree) tree stands
     (λ holder kind name from to holds k n.
     let parts = cons holder (cons kind (cons name nil)) in
     let all : AreShaped (front_of rule.Location) None parts = (
       holder_shaped scope who holder holds,
       (kind_shaped naming number kind k, ((name_shaped naming.names.locs number name n).0, tt)),
     ) in (
-      row_shaped place.Location rule.Location parts from to (loc_rule_alone scope who holder kind name holds) refl all,
+      row_shaped symbol.Location rule.Location parts from to (loc_rule_alone scope who holder kind name holds) refl all,
       (
-        row_shaped place.Collection rule.Location parts from to (loc_rule_in_cards scope who holder kind name holds) refl all,
-        row_shaped place.Members rule.Location parts from to (loc_rule_in_members scope who holder kind name holds) refl all,
-        row_shaped place.Domain rule.Location parts from to (loc_rule_in_domain scope who holder kind name holds) refl all,
+        row_shaped symbol.Collection rule.Location parts from to (loc_rule_in_cards scope who holder kind name holds) refl all,
+        row_shaped symbol.Members rule.Location parts from to (loc_rule_in_members scope who holder kind name holds) refl all,
+        row_shaped symbol.Domain rule.Location parts from to (loc_rule_in_domain scope who holder kind name holds) refl all,
       ),
     ))
 
 pub loc_shaped : (naming : Naming) (scope : Scope) (loc : Loc) (tree : Tree) → StandsLoc naming scope loc tree
-    → (faults place.Location tree ≡ []) × CardsShaped tree
+    → (faults symbol.Location tree ≡ []) × CardsShaped tree
 loc_shaped naming scope loc tree stands = home_shaped naming scope loc.who loc.name tree stands.0
 
 -- at a number's place, and a side's
 abbrev pub NumberShaped : Tree → Type 0
-NumberShaped tree = (faults place.Integer tree ≡ []) × (faults place.Side tree ≡ [])
+NumberShaped tree = (faults symbol.Integer tree ≡ []) × (faults symbol.Side tree ≡ [])
 
 pub num_shaped : (naming : Naming) (scope : Scope) (num : Num) (tree : Tree) → StandsNum naming scope num tree
-    → (faults place.Counter tree ≡ []) × NumberShaped tree
+    → (faults symbol.Counter tree ≡ []) × NumberShaped tree
 num_shaped naming scope num tree stands =
     three_parts (StandsHolder scope num.who) (Atom "sto") (Named naming.names.nums num.name)
-    (λ tree. (faults place.Counter tree ≡ []) × NumberShaped tree) tree stands.0
+    (λ tree. (faults symbol.Counter tree ≡ []) × NumberShaped tree) tree stands.0
     (λ holder sto name from to holds s n.
     let parts = cons holder (cons sto (cons name nil)) in
     let all : AreShaped (front_of rule.Counter) None parts = (
       holder_shaped scope num.who holder holds,
       (fixed_shaped keyword.Sto sto s, ((name_shaped naming.names.nums num.name name n).0, tt)),
     ) in (
-      row_shaped place.Counter rule.Counter parts from to (num_rule_alone scope num.who holder sto name holds) refl all,
+      row_shaped symbol.Counter rule.Counter parts from to (num_rule_alone scope num.who holder sto name holds) refl all,
       (
-        row_shaped place.Integer rule.Counter parts from to (num_rule_in_numbers scope num.who holder sto name holds) refl all,
-        row_shaped place.Side rule.Counter parts from to (num_rule_in_sides scope num.who holder sto name holds) refl all,
+        row_shaped symbol.Integer rule.Counter parts from to (num_rule_in_numbers scope num.who holder sto name holds) refl all,
+        row_shaped symbol.Side rule.Counter parts from to (num_rule_in_sides scope num.who holder sto name holds) refl all,
       ),
     ))

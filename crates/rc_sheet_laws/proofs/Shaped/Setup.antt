@@ -19,7 +19,7 @@ use Rattle.rc_sheet_laws.proofs.One.Rows.{behind_word, two_parts, three_parts, r
 use Rattle.rc_sheet_laws.proofs.One.Setup.{two_of}
 use Rattle.rc_sheet_laws.proofs.Shaped.Common.{by_form, AllShaped, parts_from, form_shaped, row_shaped, more_fit, name_shaped, literal_shaped, home_shaped}
 use Rattle.rc_sheet_laws.proofs.Shaped.Teams.{loose_shaped, players_shaped, teams_shaped}
-use Rattle.rc_grammar.specs.declared.grammar.Place.TheVariants as place
+use Rattle.rc_grammar.specs.declared.grammar.Symbol.TheVariants as symbol
 use Rattle.rc_grammar.specs.declared.grammar.Rule.TheVariants as rule
 
 -- what stands for a name is a word
@@ -31,7 +31,7 @@ name_only P words n (list parts from to) named each = absurd named
 -- VALUES AND ENTRIES
 
 values_shaped : (naming : Naming) (values : List ℕ) (trees : Trees) → StandValues naming values trees
-    → AllShaped place.Name trees
+    → AllShaped symbol.Name trees
 values_shaped naming [] nil stand = tt
 values_shaped naming [] (cons tree trees) stand = absurd stand
 values_shaped naming (v ∷ values) nil stand = absurd stand
@@ -39,29 +39,29 @@ values_shaped naming (v ∷ values) (cons tree trees) stand =
     ((name_shaped naming.names.values v tree stand.0).0, values_shaped naming values trees stand.1)
 
 value_list_shaped : (naming : Naming) (values : List ℕ) (tree : Tree) → Row (Full (StandValues naming values)) tree
-    → faults place.Values tree ≡ []
+    → faults symbol.Values tree ≡ []
 value_list_shaped naming values (word bytes from to) row = absurd row
 value_list_shaped naming values (list parts from to) row =
-    loose_shaped place.Values rule.Values parts from to (λ a rest. refl) (λ a rest. lt-ltb 0 (suc (count rest)) (omega arith))
+    loose_shaped symbol.Values rule.Values parts from to (λ a rest. refl) (λ a rest. lt-ltb 0 (suc (count rest)) (omega arith))
     refl row.0 (values_shaped naming values parts row.1)
 
 -- `(ATTR (VALUE+) n)`
 entry_shaped : (naming : Naming) (entry : Entry) (tree : Tree)
     → Row (Named naming.names.attrs entry.attr ▸ Row (Full (StandValues naming entry.values)) ▸ Literal entry.points ▸ End) tree
-    → IsWithinClamp entry.points → faults place.Entry tree ≡ []
+    → IsWithinClamp entry.points → faults symbol.Entry tree ≡ []
 entry_shaped naming entry tree row range =
     three_parts (Named naming.names.attrs entry.attr) (Row (Full (StandValues naming entry.values))) (Literal entry.points)
-    (λ tree. faults place.Entry tree ≡ []) tree row
+    (λ tree. faults symbol.Entry tree ≡ []) tree row
     (λ a v n from to named values points.
-    name_only (λ a. faults place.Entry (list (cons a (cons v (cons n nil))) from to) ≡ []) naming.names.attrs entry.attr a named
+    name_only (λ a. faults symbol.Entry (list (cons a (cons v (cons n nil))) from to) ≡ []) naming.names.attrs entry.attr a named
     (λ bytes f t named.
-    row_shaped place.Entry rule.Entry (cons (word bytes f t) (cons v (cons n nil))) from to refl refl (
+    row_shaped symbol.Entry rule.Entry (cons (word bytes f t) (cons v (cons n nil))) from to refl refl (
       (name_shaped naming.names.attrs entry.attr (word bytes f t) named).0,
       (value_list_shaped naming entry.values v values, ((literal_shaped entry.points n points range).2, tt)),
     )))
 
 entries_shaped : (naming : Naming) (entries : List Entry) (trees : Trees) → StandEntries naming entries trees
-    → AllByRecursion IsEntry entries → AllShaped place.Entry trees
+    → AllByRecursion IsEntry entries → AllShaped symbol.Entry trees
 entries_shaped naming [] nil stand are = tt
 entries_shaped naming [] (cons tree trees) stand are = absurd stand
 entries_shaped naming (entry ∷ entries) nil stand are = absurd stand
@@ -69,23 +69,23 @@ entries_shaped naming (entry ∷ entries) (cons tree trees) stand are =
     (entry_shaped naming entry tree stand.0 are.0.1, entries_shaped naming entries trees stand.1 are.1)
 
 entry_list_shaped : (naming : Naming) (entries : List Entry) (tree : Tree) → Row (Full (StandEntries naming entries)) tree
-    → AllByRecursion IsEntry entries → faults place.Entries tree ≡ []
+    → AllByRecursion IsEntry entries → faults symbol.Entries tree ≡ []
 entry_list_shaped naming entries (word bytes from to) row are = absurd row
 entry_list_shaped naming entries (list parts from to) row are =
-    loose_shaped place.Entries rule.Entries parts from to (λ a rest. refl)
+    loose_shaped symbol.Entries rule.Entries parts from to (λ a rest. refl)
     (λ a rest. lt-ltb 0 (suc (count rest)) (omega arith)) refl row.0 (entries_shaped naming entries parts row.1 are)
 
 -- `(put points MAP (ENTRY+))`
 map_shaped : (naming : Naming) (number : ℕ) (entries : List Entry) (tree : Tree) → StandsMap naming (number, entries) tree
-    → AllByRecursion IsEntry entries → faults place.Line tree ≡ []
+    → AllByRecursion IsEntry entries → faults symbol.Line tree ≡ []
 map_shaped naming number entries tree row are =
     row_words "put" "points" (Named naming.names.maps number ▸ Row (Full (StandEntries naming entries)) ▸ End)
-    (λ tree. faults place.Line tree ≡ []) tree row
+    (λ tree. faults symbol.Line tree ≡ []) tree row
     (λ f t f' t' from to parts more. two_parts (Named naming.names.maps number) (Row (Full (StandEntries naming entries)))
-    (λ l. faults place.Line (list (cons (word (codes "put") f t) (cons (word (codes "points") f' t') l)) from to) ≡ [])
+    (λ l. faults symbol.Line (list (cons (word (codes "put") f t) (cons (word (codes "points") f' t') l)) from to) ≡ [])
     parts more
     (λ m e named there.
-    row_shaped place.Line rule.PutPoints
+    row_shaped symbol.Line rule.PutPoints
     (cons (word (codes "put") f t) (cons (word (codes "points") f' t') (cons m (cons e nil)))) from to refl refl
     (refl, (refl, ((name_shaped naming.names.maps number m named).0, (entry_list_shaped naming entries e there are, tt))))))
 
@@ -93,28 +93,28 @@ map_shaped naming number entries tree row are =
 
 -- `(BRANCH+)`
 branch_list_shaped : (naming : Naming) (branches : Branches) (tree : Tree) → Row (Full (StandsBranches naming branches)) tree
-    → ((parts : Trees) → StandsBranches naming branches parts → AllShaped place.Branch parts) → faults place.Branches tree ≡ []
+    → ((parts : Trees) → StandsBranches naming branches parts → AllShaped symbol.Branch parts) → faults symbol.Branches tree ≡ []
 branch_list_shaped naming branches (word bytes from to) row each = absurd row
 branch_list_shaped naming branches (list parts from to) row each =
-    loose_shaped place.Branches rule.Branches parts from to (λ a rest. refl)
+    loose_shaped symbol.Branches rule.Branches parts from to (λ a rest. refl)
     (λ a rest. lt-ltb 0 (suc (count rest)) (omega arith)) refl row.0 (each parts row.1)
 
 -- `(ATTR (BRANCH+))`
 group_shaped : (naming : Naming) (attr : ℕ) (branches : Branches) (tree : Tree)
     → Row (Named naming.names.attrs attr ▸ Row (Full (StandsBranches naming branches)) ▸ End) tree
-    → ((parts : Trees) → StandsBranches naming branches parts → AllShaped place.Branch parts) → faults place.Group tree ≡ []
+    → ((parts : Trees) → StandsBranches naming branches parts → AllShaped symbol.Branch parts) → faults symbol.Group tree ≡ []
 group_shaped naming attr branches tree row each =
     two_of (Named naming.names.attrs attr) (Row (Full (StandsBranches naming branches)))
-    (λ tree. faults place.Group tree ≡ []) tree row
+    (λ tree. faults symbol.Group tree ≡ []) tree row
     (λ a b from to named there.
-    name_only (λ a. faults place.Group (list (cons a (cons b nil)) from to) ≡ []) naming.names.attrs attr a named
+    name_only (λ a. faults symbol.Group (list (cons a (cons b nil)) from to) ≡ []) naming.names.attrs attr a named
     (λ bytes f t named.
-    row_shaped place.Group rule.Group (cons (word bytes f t) (cons b nil)) from to refl refl
+    row_shaped symbol.Group rule.Group (cons (word bytes f t) (cons b nil)) from to refl refl
     ((name_shaped naming.names.attrs attr (word bytes f t) named).0, (branch_list_shaped naming branches b there each, tt))))
 
 mutual
   groups_shaped : (naming : Naming) (groups : Groups) (trees : Trees) → StandsGroups naming groups trees
-      → AllShaped place.Group trees
+      → AllShaped symbol.Group trees
   groups_shaped naming no_group nil stand = tt
   groups_shaped naming no_group (cons tree trees) stand = absurd stand
   groups_shaped naming (group attr branches rest) nil stand = absurd stand
@@ -124,7 +124,7 @@ mutual
   )
 
   branches_shaped : (naming : Naming) (branches : Branches) (trees : Trees) → StandsBranches naming branches trees
-      → AllShaped place.Branch trees
+      → AllShaped symbol.Branch trees
   branches_shaped naming no_branch nil stand = tt
   branches_shaped naming no_branch (cons tree trees) stand = absurd stand
   branches_shaped naming (branch value no_group rest) nil stand = absurd stand
@@ -138,9 +138,9 @@ mutual
       absurd stand.0.1
   branches_shaped naming (branch value (group attr branches inner) rest) (cons (list (cons v (cons g gs)) from to) trees)
       stand = (
-        name_only (λ v. faults place.Branch (list (cons v (cons g gs)) from to) ≡ []) naming.names.values value v stand.0.0
+        name_only (λ v. faults symbol.Branch (list (cons v (cons g gs)) from to) ≡ []) naming.names.values value v stand.0.0
             (λ bytes f t named.
-            form_shaped place.Branch rule.Branch (cons (word bytes f t) (cons g gs)) from to refl
+            form_shaped symbol.Branch rule.Branch (cons (word bytes f t) (cons g gs)) from to refl
             (lt-ltb 1 (suc (suc (count gs))) (omega arith)) refl (
               (name_shaped naming.names.values value (word bytes f t) named).0,
               (
@@ -152,33 +152,33 @@ mutual
       )
 
 -- `(create deck LOC (deck GROUP+))`
-deck_shaped : (naming : Naming) (line : DeckLine) (tree : Tree) → StandsDeck naming line tree → faults place.Line tree ≡ []
+deck_shaped : (naming : Naming) (line : DeckLine) (tree : Tree) → StandsDeck naming line tree → faults symbol.Line tree ≡ []
 deck_shaped naming line tree stands =
     row_words "create" "deck"
     (Row (Atom "game" ▸ KindOf naming line.loc ▸ Named naming.names.locs line.loc ▸ End)
     ▸ Row (Atom "deck" ▸ Full (StandsGroups naming line.groups)) ▸ End)
-    (λ tree. faults place.Line tree ≡ []) tree stands.0
+    (λ tree. faults symbol.Line tree ≡ []) tree stands.0
     (λ f t f' t' from to parts more.
     two_parts (Row (Atom "game" ▸ KindOf naming line.loc ▸ Named naming.names.locs line.loc ▸ End))
     (Row (Atom "deck" ▸ Full (StandsGroups naming line.groups)))
-    (λ l. faults place.Line (list (cons (word (codes "create") f t) (cons (word (codes "deck") f' t') l)) from to) ≡ [])
+    (λ l. faults symbol.Line (list (cons (word (codes "create") f t) (cons (word (codes "deck") f' t') l)) from to) ≡ [])
     parts more
     (λ home deck here there.
-    row_shaped place.Line rule.CreateDeck
+    row_shaped symbol.Line rule.CreateDeck
     (cons (word (codes "create") f t) (cons (word (codes "deck") f' t') (cons home (cons deck nil)))) from to refl refl
     (refl, (refl, ((home_shaped naming [] game line.loc home here).0, (deck_list deck there, tt))))))
   where
-    deck_list : (tree : Tree) → Row (Atom "deck" ▸ Full (StandsGroups naming line.groups)) tree → faults place.Deck tree ≡ []
+    deck_list : (tree : Tree) → Row (Atom "deck" ▸ Full (StandsGroups naming line.groups)) tree → faults symbol.Deck tree ≡ []
     deck_list tree row =
-        behind_word "deck" (Full (StandsGroups naming line.groups)) (λ tree. faults place.Deck tree ≡ []) tree row
+        behind_word "deck" (Full (StandsGroups naming line.groups)) (λ tree. faults symbol.Deck tree ≡ []) tree row
         (λ f t from to groups there.
-        form_shaped place.Deck rule.Deck (cons (word (codes "deck") f t) groups) from to refl (more_fit 1 groups there.0) refl
+        form_shaped symbol.Deck rule.Deck (cons (word (codes "deck") f t) groups) from to refl (more_fit 1 groups there.0) refl
         (refl, groups_shaped naming line.groups groups there.1))
 
 -- LINES
 
 abbrev LineShaped : Tree → Type 0
-LineShaped tree = faults place.Line tree ≡ []
+LineShaped tree = faults symbol.Line tree ≡ []
 
 -- lines that stand for something, of one kind
 each_line : {A : Type 0} (R : A → Tree → Type 0) (P : A → Type 0) (all : List A) (lines : List Tree)
@@ -217,7 +217,7 @@ one_of_four false false false false is p q r s = absurd cc
 lines_shaped : (lines : Trees) → are_lines lines ≡ true → AllByRecursion LineShaped (lines_with "create" "players" lines)
     → AllByRecursion LineShaped (lines_with "create" "teams" lines)
     → AllByRecursion LineShaped (lines_with "create" "deck" lines)
-    → AllByRecursion LineShaped (lines_with "put" "points" lines) → AllShaped place.Line lines
+    → AllByRecursion LineShaped (lines_with "put" "points" lines) → AllShaped symbol.Line lines
 lines_shaped nil are players teams decks points = tt
 lines_shaped (cons line lines) are players teams decks points =
     let a = kept (begins_with "create" "players" line) line (lines_with "create" "players" lines) players in
@@ -273,7 +273,7 @@ any_deck [] = tt
 any_deck (line ∷ decks) = (tt, any_deck decks)
 
 setup_lines_shaped : (sheet : Sheet) (lines : Trees) → StandsSetup (sheet_naming sheet) sheet lines → IsWellFormed sheet
-    → AllShaped place.Line lines
+    → AllShaped symbol.Line lines
 setup_lines_shaped sheet lines stands well =
     lines_shaped lines stands.lines_alone
     (each_line StandsPlayers (λ n. (1 ≤ n) × (n ≤ 8)) (sheet.players ∷ []) (lines_with "create" "players" lines)
@@ -290,13 +290,13 @@ setup_lines_shaped sheet lines stands well =
 
 -- `(setup LINE+)`
 pub setup_shaped : (sheet : Sheet) (tree : Tree) → Row (Atom "setup" ▸ Full (StandsSetup (sheet_naming sheet) sheet)) tree
-    → IsWellFormed sheet → faults place.Setup tree ≡ []
+    → IsWellFormed sheet → faults symbol.Setup tree ≡ []
 setup_shaped sheet tree row well =
-    behind_word "setup" (Full (StandsSetup (sheet_naming sheet) sheet)) (λ tree. faults place.Setup tree ≡ []) tree row
+    behind_word "setup" (Full (StandsSetup (sheet_naming sheet) sheet)) (λ tree. faults symbol.Setup tree ≡ []) tree row
     (λ f t from to lines there.
     let parts = cons (word (codes "setup") f t) lines in
-    by_form place.Setup rule.Setup parts from to refl (more_fit 1 lines there.0)
+    by_form symbol.Setup rule.Setup parts from to refl (more_fit 1 lines there.0)
     (ap not (some_names sheet.players lines there.1.players))
-    (parts_from rule.Setup (count parts) 0 (front_of rule.Setup) (Some place.Line) parts (λ last. refl)
+    (parts_from rule.Setup (count parts) 0 (front_of rule.Setup) (Some symbol.Line) parts (λ last. refl)
     (λ i. ap (slice_get (front_of rule.Setup)) (omega arith))
     (refl, setup_lines_shaped sheet lines there.1 well)))

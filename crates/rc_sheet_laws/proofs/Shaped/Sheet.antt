@@ -19,7 +19,7 @@ use Rattle.rc_sheet_laws.proofs.Shaped.Common.{by_form, part_in}
 use Rattle.rc_sheet_laws.proofs.Shaped.Items.{shaped_item, shaped_score}
 use Rattle.rc_sheet_laws.proofs.Shaped.Setup.{setup_shaped}
 use Rattle.rc_grammar.specs.declared.keyword.Keyword.TheVariants as keyword
-use Rattle.rc_grammar.specs.declared.grammar.Place.TheVariants as place
+use Rattle.rc_grammar.specs.declared.grammar.Symbol.TheVariants as symbol
 use Rattle.rc_grammar.specs.declared.grammar.Rule.TheVariants as rule
 
 -- behind the setup stand items, and the scoring last
@@ -35,33 +35,33 @@ module _ (sheet : Sheet) where
 
   body_shaped : (n index : ℕ) (all : SheetItems) (trees : Trees) → 2 ≤ index → n ≡ index + count trees
       → StandItems (sheet_naming sheet) all (StandsScoring sheet ▸ End) trees → AreItems sheet (within_stages false false) all
-      → ((score : Tree) → StandsScoring sheet score → faults place.Scoring score ≡ [])
+      → ((score : Tree) → StandsScoring sheet score → faults symbol.Scoring score ≡ [])
       → faults_in rule.Game n index trees ≡ []
   body_shaped n index no_item nil behind many stands are score = absurd stands
   body_shaped n index no_item (cons tree (cons next trees)) behind many stands are score = absurd stands.1
   body_shaped n index no_item (cons tree nil) behind many stands are score =
-      part_in rule.Game n index place.Scoring tree nil
+      part_in rule.Game n index symbol.Scoring tree nil
       (body_place n index true behind (eq-eqb (index + 1) n (omega (arith, many)))) (score tree stands.0) refl
   body_shaped n index (item i all) nil behind many stands are score = absurd stands
   body_shaped n index (item i all) (cons tree nil) behind many stands are score = absurd (none_left all stands.1)
   body_shaped n index (item i all) (cons tree (cons next trees)) behind many stands are score =
-      part_in rule.Game n index place.Item tree (cons next trees)
+      part_in rule.Game n index symbol.Item tree (cons next trees)
       (body_place n index false behind (ne_eqb (index + 1) n (omega (arith, many))))
       (shaped_item sheet false false i tree stands.0 are.0)
       (body_shaped n (index + 1) all (cons next trees) (omega (arith, behind)) (omega (arith, many)) stands.1 are.1 score)
 
   -- a form that stands for a well formed sheet
-  pub sheet_shaped : (tree : Tree) → Stands sheet tree → IsWellFormed sheet → faults place.Sheet tree ≡ []
+  pub sheet_shaped : (tree : Tree) → Stands sheet tree → IsWellFormed sheet → faults symbol.Sheet tree ≡ []
   sheet_shaped tree stands well =
       row_part "game" (Row (Atom "setup" ▸ Full (StandsSetup (sheet_naming sheet) sheet)))
-      (AtLeast 2 (StandItems (sheet_naming sheet) sheet.items (StandsScoring sheet ▸ End))) (λ tree. faults place.Sheet tree ≡ [])
+      (AtLeast 2 (StandItems (sheet_naming sheet) sheet.items (StandsScoring sheet ▸ End))) (λ tree. faults symbol.Sheet tree ≡ [])
       tree stands
       (λ f t from to setup body here there.
       let parts = cons (word (codes "game") f t) (cons setup body) in
       let enough = leb-true 2 (count body) there.0 in
       let fit = lt-ltb 3 (count parts) (omega (arith, enough)) in
-      by_form place.Sheet rule.Game parts from to refl fit refl
-      (part_in rule.Game (count parts) 0 (place.Word keyword.Game) (word (codes "game") f t) (cons setup body) refl refl
-      (part_in rule.Game (count parts) 1 place.Setup setup body refl (setup_shaped sheet setup here well)
+      by_form symbol.Sheet rule.Game parts from to refl fit refl
+      (part_in rule.Game (count parts) 0 (symbol.Word keyword.Game) (word (codes "game") f t) (cons setup body) refl refl
+      (part_in rule.Game (count parts) 1 symbol.Setup setup body refl (setup_shaped sheet setup here well)
       (body_shaped (count parts) 2 sheet.items body (omega arith) (omega arith) there.1 well.items
       (λ tree stands. shaped_score sheet tree stands well.score)))))

@@ -21,8 +21,8 @@ use Rattle.rc_sheet.proofs.TeamNumbers.{none_counted}
 use Rattle.rc_sheet.proofs.GoodParts.{all_of_both}
 use Rattle.rc_sheet_laws.proofs.Shaped.Common.{AllShaped, AreShaped, is_plain, form_shaped, row_shaped, more_fit_two, accepted, atom_shaped}
 use Rattle.rc_grammar.specs.declared.fault.SheetKind.TheVariants.{Number}
-use Rattle.rc_grammar.specs.declared.grammar.Place.{Place}
-use Rattle.rc_grammar.specs.declared.grammar.Place.TheVariants as place
+use Rattle.rc_grammar.specs.declared.grammar.Symbol.{Symbol}
+use Rattle.rc_grammar.specs.declared.grammar.Symbol.TheVariants as symbol
 use Rattle.rc_grammar.specs.declared.grammar.Rule.{Rule}
 use Rattle.rc_grammar.specs.declared.grammar.Rule.TheVariants as rule
 
@@ -119,21 +119,21 @@ within_taken : (least most n : ℕ) (bytes : List ℕ) → integer bytes ≡ Som
 within_taken least most n bytes is low high =
     ap (is_within (pos least) (pos most)) is ∙ ap₂ ◌&&◌ (le-leb least n low) (le-leb n most high)
 
-count_shaped : (n : ℕ) (tree : Tree) → Literal (pos n) tree → 1 ≤ n → n ≤ 8 → faults place.PlayerCount tree ≡ []
+count_shaped : (n : ℕ) (tree : Tree) → Literal (pos n) tree → 1 ≤ n → n ≤ 8 → faults symbol.PlayerCount tree ≡ []
 count_shaped n (list parts from to) is low high = absurd is
 count_shaped n (word bytes from to) is low high =
-    atom_shaped place.PlayerCount bytes from to
+    atom_shaped symbol.PlayerCount bytes from to
     (accepted (is_within (pos 1) (pos 8) (integer bytes)) Number (within_taken 1 8 n bytes is low high))
 
-member_shaped : (n : ℕ) (tree : Tree) → Literal (pos n) tree → n < 8 → faults place.Member tree ≡ []
+member_shaped : (n : ℕ) (tree : Tree) → Literal (pos n) tree → n < 8 → faults symbol.Member tree ≡ []
 member_shaped n (list parts from to) is less = absurd is
 member_shaped n (word bytes from to) is less =
-    atom_shaped place.Member bytes from to
+    atom_shaped symbol.Member bytes from to
     (accepted (is_within (pos 0) (pos 7) (integer bytes)) Number
     (within_taken 0 7 n bytes is (omega arith) (omega (arith, less))))
 
 -- a list without a head, of which there may be more parts
-pub loose_shaped : (p : Place) (r : Rule) (parts : Trees) (from to : ℕ)
+pub loose_shaped : (p : Symbol) (r : Rule) (parts : Trees) (from to : ℕ)
     → ((a : Tree) (rest : Trees) → rule_of p (cons a rest) ≡ Some r)
     → ((a : Tree) (rest : Trees) → fits (count (cons a rest)) r ≡ true) → is_plain r ≡ true
     → nat_le 1 (count parts) ≡ true → AreShaped (front_of r) (more_of r) parts → faults p (list parts from to) ≡ []
@@ -143,17 +143,17 @@ loose_shaped p r (cons a rest) from to told fit plain some all =
 
 -- `(create players n)`
 pub players_shaped : (players : ℕ) (tree : Tree) → StandsPlayers players tree → 1 ≤ players → players ≤ 8
-    → faults place.Line tree ≡ []
+    → faults symbol.Line tree ≡ []
 players_shaped players tree stands low high =
-    row_word_part "create" "players" (Literal (pos players)) (λ tree. faults place.Line tree ≡ []) tree stands
+    row_word_part "create" "players" (Literal (pos players)) (λ tree. faults symbol.Line tree ≡ []) tree stands
     (λ f t f' t' from to n is.
-    row_shaped place.Line rule.CreatePlayers
+    row_shaped symbol.Line rule.CreatePlayers
     (cons (word (codes "create") f t) (cons (word (codes "players") f' t') (cons n nil))) from to refl refl
     (refl, (refl, (count_shaped players n is low high, tt))))
 
 -- p ..
 team_shaped : (team : List ℕ) (trees : Trees) → StandsTeam team trees → AllByRecursion (λ m. m < 8) team
-    → AllShaped place.Member trees
+    → AllShaped symbol.Member trees
 team_shaped [] nil stands few = tt
 team_shaped [] (cons tree trees) stands few = absurd stands
 team_shaped (m ∷ team) nil stands few = absurd stands
@@ -162,14 +162,14 @@ team_shaped (m ∷ team) (cons tree trees) stands few =
 
 -- (p+) ..
 teams_shaped_each : (teams : Teams) (trees : Trees) → StandTeams teams trees
-    → AllByRecursion (λ m. m < 8) (flat_map (λ team. team) teams) → AllShaped place.Team trees
+    → AllByRecursion (λ m. m < 8) (flat_map (λ team. team) teams) → AllShaped symbol.Team trees
 teams_shaped_each [] nil stands few = tt
 teams_shaped_each [] (cons tree trees) stands few = absurd stands
 teams_shaped_each (team ∷ teams) nil stands few = absurd stands
 teams_shaped_each (team ∷ teams) (cons (word bytes from to) trees) stands few = absurd stands.0
 teams_shaped_each (team ∷ teams) (cons (list parts from to) trees) stands few =
     let both = all_of_both (λ m. m < 8) team (flat_map (λ team. team) teams) few in (
-      loose_shaped place.Team rule.Team parts from to (λ a rest. refl) (λ a rest. lt-ltb 0 (suc (count rest)) (omega arith)) refl
+      loose_shaped symbol.Team rule.Team parts from to (λ a rest. refl) (λ a rest. lt-ltb 0 (suc (count rest)) (omega arith)) refl
           stands.0.0 (team_shaped team parts stands.0.1 both.0),
       teams_shaped_each teams trees stands.1 both.1,
     )
@@ -180,11 +180,11 @@ fewer n (m ∷ ns) few all = let less = all.0 in (omega (arith, less, few), fewe
 
 -- `(create teams (p+)+)`
 pub teams_shaped : (players : ℕ) (teams : Teams) (tree : Tree) → StandsTeams teams tree → ArePartition players teams
-    → players ≤ 8 → faults place.Line tree ≡ []
+    → players ≤ 8 → faults symbol.Line tree ≡ []
 teams_shaped players teams tree stands are few =
-    row_words "create" "teams" (Full (StandTeams teams)) (λ tree. faults place.Line tree ≡ []) tree stands
+    row_words "create" "teams" (Full (StandTeams teams)) (λ tree. faults symbol.Line tree ≡ []) tree stands
     (λ f t f' t' from to parts there.
-    form_shaped place.Line rule.CreateTeams (cons (word (codes "create") f t) (cons (word (codes "teams") f' t') parts)) from to
+    form_shaped symbol.Line rule.CreateTeams (cons (word (codes "create") f t) (cons (word (codes "teams") f' t') parts)) from to
     refl (more_fit_two parts there.0) refl (
       refl,
       (

@@ -17,7 +17,7 @@ use Rattle.rc_sheet_model.specs.WellFormed.{outside}
 use Rattle.rc_sheet_model.specs.WellFormed.{team_count as team_count_of}
 use Rattle.rc_grammar.specs.Faults.{count}
 use Rattle.rc_grammar.specs.declared.keyword.Keyword.TheVariants as keyword
-use Rattle.rc_grammar.specs.declared.grammar.Place.TheVariants as place
+use Rattle.rc_grammar.specs.declared.grammar.Symbol.TheVariants as symbol
 use Rattle.rc_grammar.specs.declared.grammar.Rule.{Rule}
 use Rattle.rc_grammar.specs.declared.grammar.Rule.TheVariants as rule
 use Rattle.rc_faults.specs.declared.role.Role.TheVariants.{No as no_role}
@@ -91,16 +91,16 @@ module _ (X : Type 0) (gives : Part → List X) where
   -- what one line gives
   abbrev pub LineGives : (Tree → List X) → Tree → Type 0
   LineGives g tree =
-      (beside : Trees) → flat_map gives (parts_at (Some (standing place.Line outside no_role beside [])) tree) ≡ g tree
+      (beside : Trees) → flat_map gives (parts_at (Some (standing symbol.Line outside no_role beside [])) tree) ≡ g tree
 
   pub lines_give : (g : Tree → List X) (whole parts : Trees) (k : ℕ) (lines : Trees) → Each (LineGives g) lines
-      → flat_map gives (parts_in (standing place.Setup outside no_role whole []) rule.Setup parts (suc k) lines)
+      → flat_map gives (parts_in (standing symbol.Setup outside no_role whole []) rule.Setup parts (suc k) lines)
       ≡ flat_lines g lines
   lines_give g whole parts k nil each = refl
   lines_give g whole parts k (cons tree lines) each =
-      let at = standing place.Setup outside no_role whole [] in
+      let at = standing symbol.Setup outside no_role whole [] in
       let step : suc k + 1 ≡ suc (suc k) = omega arith in
-      flat_map-append gives (parts_at (Some (standing place.Line outside no_role parts [])) tree)
+      flat_map-append gives (parts_at (Some (standing symbol.Line outside no_role parts [])) tree)
       (parts_in at rule.Setup parts (suc k + 1) lines)
       ∙ ap₂ ◌++◌ (each.0 parts)
       (ap (λ i. flat_map gives (parts_in at rule.Setup parts i lines)) step ∙ lines_give g whole parts (suc k) lines each.1)
@@ -113,13 +113,13 @@ module _ (X : Type 0) (gives : Part → List X) (of_lines : OfLines gives) (oute
   form_gives g a b c d e f from to lines rest each =
       let setup = cons (word (codes "setup") c d) lines in
       let whole = cons (word (codes "game") a b) (cons (list setup e f) rest) in
-      let at = standing place.Setup outside no_role whole [] in
+      let at = standing symbol.Setup outside no_role whole [] in
       ap₂ ◌++◌ (outer.games standing_alone whole from)
-      (ap₂ ◌++◌ (of_lines.atoms (standing (place.Word keyword.Game) outside no_role whole []) (codes "game") a)
+      (ap₂ ◌++◌ (of_lines.atoms (standing (symbol.Word keyword.Game) outside no_role whole []) (codes "game") a)
       (all_said gives (parts_at (Some at) (list setup e f)) (parts_in standing_alone rule.Game whole 2 rest)
       (behind_silent gives of_lines whole rest)
       ∙ ap₂ ◌++◌ (outer.setups at setup e)
-      (ap₂ ◌++◌ (of_lines.atoms (standing (place.Word keyword.Setup) outside no_role setup []) (codes "setup") c)
+      (ap₂ ◌++◌ (of_lines.atoms (standing (symbol.Word keyword.Setup) outside no_role setup []) (codes "setup") c)
       (lines_give X gives g whole setup 0 lines each))))
 
   -- what a line that begins with these words gives
@@ -127,17 +127,17 @@ module _ (X : Type 0) (gives : Part → List X) (of_lines : OfLines gives) (oute
   GivesSo g first second r =
       (f t f' t' from to : ℕ) (more beside : Trees) →
       let parts = cons (word (codes first) f t) (cons (word (codes second) f' t') more) in
-      gives (form (standing place.Line outside no_role beside []) r parts from) ≡ g (list parts from to)
+      gives (form (standing symbol.Line outside no_role beside []) r parts from) ≡ g (list parts from to)
 
   -- what all lines of a setup give, by the forms of lines
   setup_gives : (sheet : Sheet) (g : Tree → List X) (lines : Trees) → StandsSetup (sheet_naming sheet) sheet lines
       → ((f t f' t' from to : ℕ) (a : Tree) (beside : Trees) → Literal (pos sheet.players) a →
       let parts = cons (word (codes "create") f t) (cons (word (codes "players") f' t') (cons a nil)) in
-      gives (form (standing place.Line outside no_role beside []) rule.CreatePlayers parts from) ≡ g (list parts from to))
+      gives (form (standing symbol.Line outside no_role beside []) rule.CreatePlayers parts from) ≡ g (list parts from to))
       → GivesSo g "create" "teams" rule.CreateTeams → GivesSo g "create" "deck" rule.CreateDeck
       → GivesSo g "put" "points" rule.PutPoints → Each (LineGives X gives g) lines
   setup_gives sheet g lines setup players teams decks points =
-      let at : Trees → Standing = λ beside. standing place.Line outside no_role beside [] in
+      let at : Trees → Standing = λ beside. standing symbol.Line outside no_role beside [] in
       each_line (LineGives X gives g) lines setup.lines_alone
       (of_pairs StandsPlayers (LineGives X gives g) (sheet.players ∷ []) _ setup.players
       (λ n tree is stands. row_word_part "create" "players" (Literal (pos n)) (LineGives X gives g) tree stands

@@ -19,8 +19,8 @@ use Rattle.rc_sheet_model.specs.WellFormed.{Around, is_mem, in_repeat, behind, I
 use Rattle.rc_grammar.specs.Faults.{is_word, rule_of}
 use Rattle.rc_grammar.specs.declared.keyword.Keyword.{Keyword}
 use Rattle.rc_grammar.specs.declared.keyword.Keyword.TheVariants as keyword
-use Rattle.rc_grammar.specs.declared.grammar.Place.{Place}
-use Rattle.rc_grammar.specs.declared.grammar.Place.TheVariants as place
+use Rattle.rc_grammar.specs.declared.grammar.Symbol.{Symbol}
+use Rattle.rc_grammar.specs.declared.grammar.Symbol.TheVariants as symbol
 use Rattle.rc_grammar.specs.declared.grammar.Rule.{Rule}
 use Rattle.rc_grammar.specs.declared.grammar.Rule.TheVariants as rule
 use Rattle.rc_faults.specs.Classes.{bound_in}
@@ -61,7 +61,7 @@ module _ (sheet : Sheet) (all : List Part) (given : AreGiven sheet all) where
   -- what a role wants of others than locations is nothing
   pub record Bears (role : Role) : Type 0 where
     pub named : (bytes : List ℕ) → is_unnamed all role bytes ≡ false
-    pub other : (q : Place) (around : Around) (beside : Trees) (above : List (List ℕ))
+    pub other : (q : Symbol) (around : Around) (beside : Trees) (above : List (List ℕ))
         → is_other_side (standing q around role beside above) role ≡ false
 
   cards_bear : Bears card_location
@@ -82,7 +82,7 @@ module _ (sheet : Sheet) (all : List Part) (given : AreGiven sheet all) where
   abbrev SpotSound : Around → Role → Tree → Type 0
   SpotSound around role tree =
       (beside : Trees) (above : List (List ℕ))
-      → AllSound sheet all (parts_at (Some (standing place.Spot around role beside above)) tree)
+      → AllSound sheet all (parts_at (Some (standing symbol.Spot around role beside above)) tree)
 
   spot_sound : (around : Around) (references : Bool) (end : End) (loc : Loc) (role : Role) (tree : Tree) → Bears role
       → Takes sheet all role loc → Apart around.scope → StandsSpot (sheet_naming sheet) around.scope end loc tree
@@ -90,41 +90,41 @@ module _ (sheet : Sheet) (all : List Part) (given : AreGiven sheet all) where
   spot_sound around references top loc role tree bears takes alone stands is =
       row_one "top" (StandsLoc (sheet_naming sheet) around.scope loc) (SpotSound around role) tree stands
       (λ f t from to l here beside above.
-      list_sound sheet all (standing place.Spot around role beside above) rule.TopOf
+      list_sound sheet all (standing symbol.Spot around role beside above) rule.TopOf
       (cons (word (codes "top") f t) (cons l nil)) from to refl
-      (record { once = refl; known = refl; kind_fits = bears.other place.Spot around beside above; shallow = refl; said = tt })
+      (record { once = refl; known = refl; kind_fits = bears.other symbol.Spot around beside above; shallow = refl; said = tt })
       (let whole = cons (word (codes "top") f t) (cons l nil) in (
-        plain_atom sheet all (standing (place.Word keyword.Top) around role whole (above ++ [])) (codes "top") f refl
-            (bears.named (codes "top")) (bears.other (place.Word keyword.Top) around whole (above ++ [])),
-        all_join sheet all _ [] (loc_sound sheet all place.Location around loc l role whole (above ++ []) loc_rule_alone alone
-            (bears.other place.Location around whole (above ++ [])) takes here is.0.0) tt,
+        plain_atom sheet all (standing (symbol.Word keyword.Top) around role whole (above ++ [])) (codes "top") f refl
+            (bears.named (codes "top")) (bears.other (symbol.Word keyword.Top) around whole (above ++ [])),
+        all_join sheet all _ [] (loc_sound sheet all symbol.Location around loc l role whole (above ++ []) loc_rule_alone alone
+            (bears.other symbol.Location around whole (above ++ [])) takes here is.0.0) tt,
       )))
   spot_sound around references bottom loc role tree bears takes alone stands is =
       row_one "bottom" (StandsLoc (sheet_naming sheet) around.scope loc) (SpotSound around role) tree stands
       (λ f t from to l here beside above.
-      list_sound sheet all (standing place.Spot around role beside above) rule.BottomOf
+      list_sound sheet all (standing symbol.Spot around role beside above) rule.BottomOf
       (cons (word (codes "bottom") f t) (cons l nil)) from to refl
-      (record { once = refl; known = refl; kind_fits = bears.other place.Spot around beside above; shallow = refl; said = tt })
+      (record { once = refl; known = refl; kind_fits = bears.other symbol.Spot around beside above; shallow = refl; said = tt })
       (let whole = cons (word (codes "bottom") f t) (cons l nil) in (
-        plain_atom sheet all (standing (place.Word keyword.Bottom) around role whole (above ++ [])) (codes "bottom") f refl
-            (bears.named (codes "bottom")) (bears.other (place.Word keyword.Bottom) around whole (above ++ [])),
-        all_join sheet all _ [] (loc_sound sheet all place.Location around loc l role whole (above ++ []) loc_rule_alone alone
-            (bears.other place.Location around whole (above ++ [])) takes here is.0.0) tt,
+        plain_atom sheet all (standing (symbol.Word keyword.Bottom) around role whole (above ++ [])) (codes "bottom") f refl
+            (bears.named (codes "bottom")) (bears.other (symbol.Word keyword.Bottom) around whole (above ++ [])),
+        all_join sheet all _ [] (loc_sound sheet all symbol.Location around loc l role whole (above ++ []) loc_rule_alone alone
+            (bears.other symbol.Location around whole (above ++ [])) takes here is.0.0) tt,
       )))
 
   -- effects behind a head, and behind one part or two more
   abbrev pub EffectSound : Around → Tree → Type 0
-  EffectSound around tree = Sound sheet all place.Effect around tree
+  EffectSound around tree = Sound sheet all symbol.Effect around tree
 
-  pub do_sound : (q : Place) (around : Around) (f t from to : ℕ) (parts : Trees)
+  pub do_sound : (q : Symbol) (around : Around) (f t from to : ℕ) (parts : Trees)
       → rule_of q (cons (word (codes "do") f t) parts) ≡ Some rule.Do → Each (EffectSound around) parts
       → Sound sheet all q around (list (cons (word (codes "do") f t) parts) from to)
   do_sound q around f t from to parts told each =
-      many_sound sheet all given "do" rule.Do _ place.Effect (refl, λ at parts. (refl, tt)) (λ at parts n. refl) q around f t
+      many_sound sheet all given "do" rule.Do _ symbol.Effect (refl, λ at parts. (refl, tt)) (λ at parts n. refl) q around f t
       from to parts told each
 
-  if_sound : (q : Place) (around : Around) (f t from to : ℕ) (x : Tree) (parts : Trees)
-      → rule_of q (cons (word (codes "if") f t) (cons x parts)) ≡ Some rule.If → Sound sheet all place.Test around x
+  if_sound : (q : Symbol) (around : Around) (f t from to : ℕ) (x : Tree) (parts : Trees)
+      → rule_of q (cons (word (codes "if") f t) (cons x parts)) ≡ Some rule.If → Sound sheet all symbol.Test around x
       → Each (EffectSound around) parts
       → Sound sheet all q around (list (cons (word (codes "if") f t) (cons x parts)) from to)
   if_sound q around f t from to x parts told sound each =
@@ -132,42 +132,42 @@ module _ (sheet : Sheet) (all : List Part) (given : AreGiven sheet all) where
       (easy_sound sheet all rule.If refl around _)
       (λ p r b a. (
         fixed sheet all _ _ _ _ _ _,
-        then sheet all given place.Test around _ _ x _ sound
+        then sheet all given symbol.Test around _ _ x _ sound
             (rest_sound sheet all (λ k. suc (suc k)) (λ k. omega arith) (standing p around r b a) rule.If
-            (cons (word (codes "if") f t) (cons x parts)) place.Effect around (a ++ []) (λ k. refl) 0 parts each),
+            (cons (word (codes "if") f t) (cons x parts)) symbol.Effect around (a ++ []) (λ k. refl) 0 parts each),
       ))
 
   repeat_sound : (around : Around) (f t from to : ℕ) (x : Tree) (parts : Trees) → nat_le most_repeats around.repeats ≡ false
-      → Sound sheet all place.Integer around x → Each (EffectSound (in_repeat around)) parts
+      → Sound sheet all symbol.Integer around x → Each (EffectSound (in_repeat around)) parts
       → EffectSound around (list (cons (word (codes "repeat") f t) (cons x parts)) from to)
   repeat_sound around f t from to x parts room sound each =
-      sound_list sheet all place.Effect rule.Repeat around (cons (word (codes "repeat") f t) (cons x parts)) from to refl
+      sound_list sheet all symbol.Effect rule.Repeat around (cons (word (codes "repeat") f t) (cons x parts)) from to refl
       (λ p r b a from plain. record { once = refl; known = refl; kind_fits = plain.other; shallow = room; said = tt })
       (λ p r b a. (
         fixed sheet all _ _ _ _ _ _,
-        then sheet all given place.Integer around _ _ x _ sound
+        then sheet all given symbol.Integer around _ _ x _ sound
             (rest_sound sheet all (λ k. suc (suc k)) (λ k. omega arith) (standing p around r b a) rule.Repeat
-            (cons (word (codes "repeat") f t) (cons x parts)) place.Effect (in_repeat around) (a ++ [])
-            (λ k. ap (λ inner. Some (standing place.Effect (cond inner (in_repeat around) around) no_role
+            (cons (word (codes "repeat") f t) (cons x parts)) symbol.Effect (in_repeat around) (a ++ [])
+            (λ k. ap (λ inner. Some (standing symbol.Effect (cond inner (in_repeat around) around) no_role
             (cons (word (codes "repeat") f t) (cons x parts)) (a ++ []))) (lt-ltb 1 (suc (suc k)) (omega arith))) 0 parts each),
       ))
 
   each_sound : (around : Around) (bound : ℕ) (sort : Sort) (bytes : List ℕ) (f t f' t' from to : ℕ) (c : Tree) (parts : Trees)
-      → Binds sheet all given around bound bytes → sort_over c ≡ sort → Sound sheet all place.Members around c
+      → Binds sheet all given around bound bytes → sort_over c ≡ sort → Sound sheet all symbol.Members around c
       → Each (EffectSound (behind sheet around bound sort)) parts
       → EffectSound around (list (cons (word (codes "all") f t) (cons c (cons (word bytes f' t') parts))) from to)
   each_sound around bound sort bytes f t f' t' from to c parts binds same sound each =
       let whole = cons (word (codes "all") f t) (cons c (cons (word bytes f' t') parts)) in
       let inner = bound_in around bytes (sort_over c) in
-      sound_list sheet all place.Effect rule.Each around whole from to refl
+      sound_list sheet all symbol.Effect rule.Each around whole from to refl
       (binder_form sheet all given rule.Each around whole refl binds.fresh binds.room)
       (λ p r b a. (
         fixed sheet all _ _ _ _ _ _,
-        then sheet all given place.Members around _ _ c _ sound (
-          plain_atom sheet all (standing place.Variable around no_role whole (a ++ [])) bytes f' refl refl refl,
+        then sheet all given symbol.Members around _ _ c _ sound (
+          plain_atom sheet all (standing symbol.Variable around no_role whole (a ++ [])) bytes f' refl refl refl,
           rest_sound sheet all (λ k. suc (suc (suc k))) (λ k. omega arith) (standing p around r b a) rule.Each whole
-              place.Effect inner (a ++ [])
-              (λ k. ap (λ deep. Some (standing place.Effect (cond deep inner around) no_role whole (a ++ [])))
+              symbol.Effect inner (a ++ [])
+              (λ k. ap (λ deep. Some (standing symbol.Effect (cond deep inner around) no_role whole (a ++ [])))
               (lt-ltb 2 (suc (suc (suc k))) (omega arith))) 0 parts (all_bound parts each),
         ),
       ))
@@ -176,14 +176,14 @@ module _ (sheet : Sheet) (all : List Part) (given : AreGiven sheet all) where
           → Each (EffectSound (bound_in around bytes (sort_over c))) parts
       all_bound nil each = tt
       all_bound (cons tree parts) each = (
-        behind_sound sheet all given place.Effect around bound bytes (sort_over c) sort tree binds same each.0,
+        behind_sound sheet all given symbol.Effect around bound bytes (sort_over c) sort tree binds same each.0,
         all_bound
             parts each.1,
       )
 
   -- `(set NUM INT)` and the like
-  counter_sound : (text : String) (r : Rule) (k : Keyword) → IsRow r (head_seat k ∷ plain_seat place.Counter ∷ plain_seat place.Integer ∷ [])
-      → ((f t : ℕ) (x y : Tree) → rule_of place.Effect (cons (word (codes text) f t) (cons x (cons y nil))) ≡ Some r)
+  counter_sound : (text : String) (r : Rule) (k : Keyword) → IsRow r (head_seat k ∷ plain_seat symbol.Counter ∷ plain_seat symbol.Integer ∷ [])
+      → ((f t : ℕ) (x y : Tree) → rule_of symbol.Effect (cons (word (codes text) f t) (cons x (cons y nil))) ≡ Some r)
       → (around : Around) (num : Num) (value : IntExpr) (tree : Tree) → Apart around.scope
       → Row (Atom text ▸ StandsNum (sheet_naming sheet) around.scope num ▸ StandsInt (sheet_naming sheet) around.scope value ▸ Last)
       tree
@@ -191,8 +191,8 @@ module _ (sheet : Sheet) (all : List Part) (given : AreGiven sheet all) where
   counter_sound text r k row told around num value tree alone stands is is' =
       row_two text (StandsNum (sheet_naming sheet) around.scope num) (StandsInt (sheet_naming sheet) around.scope value)
       (EffectSound around) tree stands
-      (λ f t from to n v here there. two_sound sheet all given text r k place.Counter place.Integer row place.Effect around f t
-      from to n v (told f t n v) (num_sound sheet all place.Counter around num n num_rule_alone alone here is)
+      (λ f t from to n v here there. two_sound sheet all given text r k symbol.Counter symbol.Integer row symbol.Effect around f t
+      from to n v (told f t n v) (num_sound sheet all symbol.Counter around num n num_rule_alone alone here is)
       (int_sound sheet all given around value v alone there is').0)
 
   mutual
@@ -202,15 +202,15 @@ module _ (sheet : Sheet) (all : List Part) (given : AreGiven sheet all) where
     effect_sound around (move card end loc) tree alone stands is =
         row_two "move" (StandsCard (sheet_naming sheet) around.scope card) (StandsSpot (sheet_naming sheet) around.scope end loc)
         (EffectSound around) tree stands
-        (λ f t from to c s here there. sound_list sheet all place.Effect rule.Move around
+        (λ f t from to c s here there. sound_list sheet all symbol.Effect rule.Move around
         (cons (word (codes "move") f t) (cons c (cons s nil))) from to
         (card_held (sheet_naming sheet) around.scope card
-        (λ c. rule_of place.Effect (cons (word (codes "move") f t) (cons c (cons s nil))) ≡ Some rule.Move) c here
+        (λ c. rule_of symbol.Effect (cons (word (codes "move") f t) (cons c (cons s nil))) ≡ Some rule.Move) c here
         (λ rest from to. refl) (λ parts from to. refl))
         (easy_sound sheet all rule.Move refl around _)
         (λ p r b a. (
           fixed sheet all _ _ _ _ _ _,
-          then sheet all given place.Card around _ _ c _ (card_sound sheet all given around card c alone here is.0).0
+          then sheet all given symbol.Card around _ _ c _ (card_sound sheet all given around card c alone here is.0).0
               (all_join sheet all _ [] (spot_sound around false end loc card_location s cards_bear
               (takes_cards around loc is.1) alone there is.1 _ _) tt),
         )))
@@ -221,14 +221,14 @@ module _ (sheet : Sheet) (all : List Part) (given : AreGiven sheet all) where
         (λ f t f' t' from to parts more. two_parts (StandsColl (sheet_naming sheet) around.scope cards)
         (StandsSpot (sheet_naming sheet) around.scope end loc)
         (λ l. EffectSound around (list (cons (word (codes "move") f t) (cons (word (codes "all") f' t') l)) from to)) parts more
-        (λ c s here there. sound_list sheet all place.Effect rule.MoveAll around
+        (λ c s here there. sound_list sheet all symbol.Effect rule.MoveAll around
         (cons (word (codes "move") f t) (cons (word (codes "all") f' t') (cons c (cons s nil)))) from to refl
         (easy_sound sheet all rule.MoveAll refl around _)
         (λ p r b a. (
           fixed sheet all _ _ _ _ _ _,
           (
             fixed sheet all _ _ _ _ _ _,
-            then sheet all given place.Collection around _ _ c _ (coll_sound sheet all given around cards c alone here is.0).0
+            then sheet all given symbol.Collection around _ _ c _ (coll_sound sheet all given around cards c alone here is.0).0
                 (all_join sheet all _ [] (spot_sound around false end loc card_location s cards_bear
                 (takes_cards around loc is.1) alone there is.1 _ _) tt),
           ),
@@ -236,33 +236,33 @@ module _ (sheet : Sheet) (all : List Part) (given : AreGiven sheet all) where
     effect_sound around (remember card end loc) tree alone stands is =
         row_two "remember" (StandsCard (sheet_naming sheet) around.scope card) (StandsSpot (sheet_naming sheet) around.scope end loc)
         (EffectSound around) tree stands
-        (λ f t from to c s here there. sound_list sheet all place.Effect rule.Remember around
+        (λ f t from to c s here there. sound_list sheet all symbol.Effect rule.Remember around
         (cons (word (codes "remember") f t) (cons c (cons s nil))) from to refl
         (easy_sound sheet all rule.Remember refl around _)
         (λ p r b a. (
           fixed sheet all _ _ _ _ _ _,
-          then sheet all given place.Card around _ _ c _ (card_sound sheet all given around card c alone here is.0).0
+          then sheet all given symbol.Card around _ _ c _ (card_sound sheet all given around card c alone here is.0).0
               (all_join sheet all _ [] (spot_sound around true end loc reference_location s references_bear
               (takes_references around loc is.1) alone there is.1 _ _) tt),
         )))
     effect_sound around (forget card) tree alone stands is =
         row_one "forget" (StandsCard (sheet_naming sheet) around.scope card) (EffectSound around) tree stands
-        (λ f t from to c here. sound_list sheet all place.Effect rule.Forget around
+        (λ f t from to c here. sound_list sheet all symbol.Effect rule.Forget around
         (cons (word (codes "forget") f t) (cons c nil)) from to refl
         (easy_sound sheet all rule.Forget refl around _)
         (λ p r b a. (
           fixed sheet all _ _ _ _ _ _,
-          then sheet all given place.Card around _ _ c _ (card_sound sheet all given around card c alone here is).0 tt,
+          then sheet all given symbol.Card around _ _ c _ (card_sound sheet all given around card c alone here is).0 tt,
         )))
     effect_sound around (shuffle loc) tree alone stands is =
         row_one "shuffle" (StandsLoc (sheet_naming sheet) around.scope loc) (EffectSound around) tree stands
-        (λ f t from to l here. sound_list sheet all place.Effect rule.Shuffle around
+        (λ f t from to l here. sound_list sheet all symbol.Effect rule.Shuffle around
         (cons (word (codes "shuffle") f t) (cons l nil)) from to refl
         (easy_sound sheet all rule.Shuffle refl around _)
         (λ p r b a. (
           fixed sheet all _ _ _ _ _ _,
           all_join sheet all _ []
-              (loc_sound sheet all place.Location around loc l card_location _ _ loc_rule_alone alone refl
+              (loc_sound sheet all symbol.Location around loc l card_location _ _ loc_rule_alone alone refl
               (takes_cards around loc is) here
               is.0.0) tt,
         )))
@@ -278,7 +278,7 @@ module _ (sheet : Sheet) (all : List Part) (given : AreGiven sheet all) where
     effect_sound around (when t effects) tree alone stands is =
         row_part "if" (StandsTest (sheet_naming sheet) around.scope t) (Full (StandEffects (sheet_naming sheet) around.scope effects))
         (EffectSound around) tree stands
-        (λ f g from to x es here there. if_sound place.Effect around f g from to x es refl
+        (λ f g from to x es here there. if_sound symbol.Effect around f g from to x es refl
         (test_sound sheet all given around t x alone here is.0) (effects_sound around effects es alone there.1 is.2))
     effect_sound around (repeat times effects) tree alone stands is =
         row_part "repeat" (StandsInt (sheet_naming sheet) around.scope times)
@@ -304,7 +304,7 @@ module _ (sheet : Sheet) (all : List Part) (given : AreGiven sheet all) where
         (range_sound sheet all given around domain r alone here is.0) inner)))
     effect_sound around (next_is who) tree alone stands is =
         row_word_part "cycle" "next" (StandsOwner around.scope who) (EffectSound around) tree stands
-        (λ f t f' t' from to o here. sound_list sheet all place.Effect rule.Next around
+        (λ f t f' t' from to o here. sound_list sheet all symbol.Effect rule.Next around
         (cons (word (codes "cycle") f t) (cons (word (codes "next") f' t') (cons o nil))) from to refl
         (λ p r b a from plain. record {
           once = refl;
@@ -318,13 +318,13 @@ module _ (sheet : Sheet) (all : List Part) (given : AreGiven sheet all) where
           fixed sheet all _ _ _ _ _ _,
           (
             fixed sheet all _ _ _ _ _ _,
-            then sheet all given place.Owner around _ _ o _
-                (owner_sound sheet all place.Owner around who o owner_place alone here is.0) tt,
+            then sheet all given symbol.Owner around _ _ o _
+                (owner_sound sheet all symbol.Owner around who o owner_place alone here is.0) tt,
           ),
         )))
     effect_sound around turn_round tree alone stands is =
         row_word "cycle" "reverse" (EffectSound around) tree stands
-        (λ f t f' t' from to. sound_list sheet all place.Effect rule.Reverse around
+        (λ f t f' t' from to. sound_list sheet all symbol.Effect rule.Reverse around
         (cons (word (codes "cycle") f t) (cons (word (codes "reverse") f' t') nil)) from to refl
         (λ p r b a from plain. record { once = refl; known = ap not is; kind_fits = plain.other; shallow = refl; said = tt })
         (λ p r b a. (fixed sheet all _ _ _ _ _ _, (fixed sheet all _ _ _ _ _ _, tt))))
@@ -341,48 +341,48 @@ module _ (sheet : Sheet) (all : List Part) (given : AreGiven sheet all) where
   -- DOMAIN
   pub domain_sound : (around : Around) (domain : Domain) (tree : Tree) → Apart around.scope
       → StandsDomain (sheet_naming sheet) around.scope domain tree → IsDomain sheet around domain
-      → Sound sheet all place.Domain around tree
-  domain_sound around each_player tree alone stands is = player_sound sheet all given place.Domain around tree stands
+      → Sound sheet all symbol.Domain around tree
+  domain_sound around each_player tree alone stands is = player_sound sheet all given symbol.Domain around tree stands
   domain_sound around (each_card cards) tree alone stands is = (coll_sound sheet all given around cards tree alone stands is).1
   domain_sound around (each_group cards attr) tree alone stands is =
       row_two "partition" (StandsColl (sheet_naming sheet) around.scope cards) (Named sheet.names.attrs attr)
-      (Sound sheet all place.Domain around) tree stands
-      (λ f t from to c n here named. sound_list sheet all place.Domain rule.Partition around
+      (Sound sheet all symbol.Domain around) tree stands
+      (λ f t from to c n here named. sound_list sheet all symbol.Domain rule.Partition around
       (cons (word (codes "partition") f t) (cons c (cons n nil))) from to refl
       (easy_sound sheet all rule.Partition refl around _)
       (λ p r b a. (
         fixed sheet all _ _ _ _ _ _,
-        then sheet all given place.Collection around _ _ c _ (coll_sound sheet all given around cards c alone here is.0).0
+        then sheet all given symbol.Collection around _ _ c _ (coll_sound sheet all given around cards c alone here is.0).0
             (all_join sheet all _ [] (attr_sound sheet all given around attr n _ _ named is.1) tt),
       )))
 
   -- ALT
   pub alt_sound : (around : Around) (alt : Alt) (tree : Tree) → Apart around.scope
       → StandsAlt (sheet_naming sheet) around.scope alt tree → IsAlt sheet around alt
-      → Sound sheet all place.Alternative around tree
+      → Sound sheet all symbol.Alternative around tree
   alt_sound around (do_alt effects) tree alone stands is =
-      behind_word "do" (Full (StandEffects (sheet_naming sheet) around.scope effects)) (Sound sheet all place.Alternative around)
+      behind_word "do" (Full (StandEffects (sheet_naming sheet) around.scope effects)) (Sound sheet all symbol.Alternative around)
       tree
       stands
-      (λ f t from to es there. do_sound place.Alternative around f t from to es refl
+      (λ f t from to es there. do_sound symbol.Alternative around f t from to es refl
       (effects_sound around effects es alone there.1 is.1))
   alt_sound around (if_alt guard effects) tree alone stands is =
       row_part "if" (StandsTest (sheet_naming sheet) around.scope guard) (Full (StandEffects (sheet_naming sheet) around.scope effects))
-      (Sound sheet all place.Alternative around) tree stands
-      (λ f g from to x es here there. if_sound place.Alternative around f g from to x es refl
+      (Sound sheet all symbol.Alternative around) tree stands
+      (λ f g from to x es here there. if_sound symbol.Alternative around f g from to x es refl
       (test_sound sheet all given around guard x alone here is.0) (effects_sound around effects es alone there.1 is.2))
   alt_sound around (any_alt domain bound alt) tree alone stands is =
       row_three "any" (StandsDomain (sheet_naming sheet) around.scope domain) (Binder (sheet_naming sheet) bound)
       (StandsAlt (sheet_naming sheet) (bind (sheet_naming sheet) around.scope bound (sort_of domain)) alt)
-      (Sound sheet all place.Alternative around) tree stands
+      (Sound sheet all symbol.Alternative around) tree stands
       (λ f g from to d v x here binds there.
       let inner = alt_sound (behind sheet around bound (sort_of domain)) alt x
       (behind_apart sheet all given around bound (sort_of domain) alone is.1) there is.2 in
       bound_word (sheet_naming sheet) bound
-      (λ v. Sound sheet all place.Alternative around
+      (λ v. Sound sheet all symbol.Alternative around
       (list (cons (word (codes "any") f g) (cons d (cons v (cons x nil)))) from to)) v binds
-      (λ bytes f' t' found. binder_sound sheet all given "any" rule.AnyOf _ place.Domain place.Alternative refl
-      (λ at parts. (refl, (refl, (refl, tt)))) (λ at parts. refl) place.Alternative around bound (sort_of domain) bytes f g f' t'
+      (λ bytes f' t' found. binder_sound sheet all given "any" rule.AnyOf _ symbol.Domain symbol.Alternative refl
+      (λ at parts. (refl, (refl, (refl, tt)))) (λ at parts. refl) symbol.Alternative around bound (sort_of domain) bytes f g f' t'
       from to d x refl
       (binds_so sheet all given around bound bytes is.1 found) (domain_sort (sheet_naming sheet) around.scope domain d here)
       (domain_sound around domain d alone here is.0) inner))

@@ -11,8 +11,8 @@ use Rattle.rc_sheet_model.specs.StandsExpressions.{StandsOwner, StandsHolder, St
 use Rattle.rc_sheet_model.specs.WellFormed.{Around, IsAttr, IsMap, IsBinder, behind, IsOwner, IsCard, IsColl, AreColls, IsInt, IsTest, AreTests, IsRange}
 use Rattle.rc_grammar.specs.Faults.{rule_of}
 use Rattle.rc_grammar.specs.declared.keyword.Keyword.{Keyword}
-use Rattle.rc_grammar.specs.declared.grammar.Place.{Place}
-use Rattle.rc_grammar.specs.declared.grammar.Place.TheVariants as place
+use Rattle.rc_grammar.specs.declared.grammar.Symbol.{Symbol}
+use Rattle.rc_grammar.specs.declared.grammar.Symbol.TheVariants as symbol
 use Rattle.rc_grammar.specs.declared.grammar.Rule.{Rule}
 use Rattle.rc_grammar.specs.declared.grammar.Rule.TheVariants as rule
 use Rattle.rc_faults.specs.Classes.{bound_in}
@@ -34,13 +34,13 @@ module _ (sheet : Sheet) (all : List Part) (given : AreGiven sheet all) where
   pub owner_as_side : (around : Around) (who : Who) (tree : Tree) → Apart around.scope → StandsOwner around.scope who tree
       → IsOwner around who → SideSound sheet all given around (side_of_class (class_of who)) tree
   owner_as_side around who tree alone stands is =
-      (owner_sound sheet all place.Side around who tree side_place alone stands is, owner_side around.scope who tree alone stands)
+      (owner_sound sheet all symbol.Side around who tree side_place alone stands is, owner_side around.scope who tree alone stands)
 
   -- `(attr CARD ATTR)` as a side, by what is known of the card
   attr_side : (around : Around) (attr : ℕ) (a : CardExpr) (tree : Tree)
       → Row (Atom "attr" ▸ StandsCard (sheet_naming sheet) around.scope a ▸ Named sheet.names.attrs attr ▸ End) tree
       → IsAttr sheet attr
-      → ((c : Tree) → StandsCard (sheet_naming sheet) around.scope a c → Sound sheet all place.Card around c)
+      → ((c : Tree) → StandsCard (sheet_naming sheet) around.scope a c → Sound sheet all symbol.Card around c)
       → SideSound sheet all given around value_side tree
   attr_side around attr a tree stands is each =
       row_two "attr" (StandsCard (sheet_naming sheet) around.scope a) (Named sheet.names.attrs attr)
@@ -51,15 +51,15 @@ module _ (sheet : Sheet) (all : List Part) (given : AreGiven sheet all) where
   -- FORMS BY THEIR SHAPES
 
   -- what stands as a card or as a number, and as a side
-  abbrev ValueSound : Place → SideSort → Around → Tree → Type 0
+  abbrev ValueSound : Symbol → SideSort → Around → Tree → Type 0
   ValueSound q side around tree = Sound sheet all q around tree × SideSound sheet all given around side tree
 
   -- a list of these parts is a form of this rule at the place, and as a side
-  abbrev AreTold : Place → Rule → Trees → Type 0
-  AreTold q r parts = (rule_of q parts ≡ Some r) × (rule_of place.Side parts ≡ Some r)
+  abbrev AreTold : Symbol → Rule → Trees → Type 0
+  AreTold q r parts = (rule_of q parts ≡ Some r) × (rule_of symbol.Side parts ≡ Some r)
 
   -- with one part behind its head
-  one_value : (text : String) (r : Rule) (k : Keyword) (u q : Place) (side : SideSort)
+  one_value : (text : String) (r : Rule) (k : Keyword) (u q : Symbol) (side : SideSort)
       → IsRow r (head_seat k ∷ plain_seat u ∷ []) → ((f t : ℕ) (x : Tree) → AreTold q r (cons (word (codes text) f t) (cons x nil)))
       → side_of_form (Some r) ≡ Some side → (around : Around) (A : Tree → Type 0) (tree : Tree) → Row (Atom text ▸ A ▸ End) tree
       → ((x : Tree) → A x → Sound sheet all u around x) → ValueSound q side around tree
@@ -68,14 +68,14 @@ module _ (sheet : Sheet) (all : List Part) (given : AreGiven sheet all) where
       (λ f t from to x here. (
         one_sound sheet all given text r k u row q around f t from to x (told f t x).0 (each x here),
         (
-          one_sound sheet all given text r k u row place.Side around f t from to x (told f t x).1 (each x here),
+          one_sound sheet all given text r k u row symbol.Side around f t from to x (told f t x).1 (each x here),
           ap side_of_form (told f t x).1 ∙ sort,
         ),
       ))
 
   -- with one part, and a point map
-  using_value : (text : String) (r : Rule) (k k' : Keyword) (u q : Place) (side : SideSort)
-      → IsRow r (head_seat k ∷ plain_seat u ∷ head_seat k' ∷ (place.Name, used_map) ∷ [])
+  using_value : (text : String) (r : Rule) (k k' : Keyword) (u q : Symbol) (side : SideSort)
+      → IsRow r (head_seat k ∷ plain_seat u ∷ head_seat k' ∷ (symbol.Name, used_map) ∷ [])
       → ((f t : ℕ) (x y z : Tree) → AreTold q r (cons (word (codes text) f t) (cons x (cons y (cons z nil)))))
       → side_of_form (Some r) ≡ Some side → (around : Around) (map : ℕ) (A : Tree → Type 0) (tree : Tree)
       → Row (Atom text ▸ A ▸ Atom "using" ▸ Named sheet.names.maps map ▸ End) tree → IsMap sheet map
@@ -86,39 +86,39 @@ module _ (sheet : Sheet) (all : List Part) (given : AreGiven sheet all) where
         using_sound sheet all given text r k k' u row q around map f t from to x y z (told f t x y z).0
             (each x here) using named is,
         (
-          using_sound sheet all given text r k k' u row place.Side around map f t from to x y z
+          using_sound sheet all given text r k k' u row symbol.Side around map f t from to x y z
               (told f t x y z).1 (each x here) using named is,
           ap side_of_form (told f t x y z).1 ∙ sort,
         ),
       ))
 
   -- a number of two
-  two_value : (text : String) (r : Rule) (k : Keyword) → IsRow r (head_seat k ∷ plain_seat place.Integer ∷ plain_seat place.Integer ∷ [])
-      → ((f t : ℕ) (x y : Tree) → AreTold place.Integer r (cons (word (codes text) f t) (cons x (cons y nil))))
+  two_value : (text : String) (r : Rule) (k : Keyword) → IsRow r (head_seat k ∷ plain_seat symbol.Integer ∷ plain_seat symbol.Integer ∷ [])
+      → ((f t : ℕ) (x y : Tree) → AreTold symbol.Integer r (cons (word (codes text) f t) (cons x (cons y nil))))
       → side_of_form (Some r) ≡ Some number_side → (around : Around) (A B : Tree → Type 0) (tree : Tree)
-      → Row (Atom text ▸ A ▸ B ▸ End) tree → ((x : Tree) → A x → Sound sheet all place.Integer around x)
-      → ((y : Tree) → B y → Sound sheet all place.Integer around y) → IntSound sheet all given around tree
+      → Row (Atom text ▸ A ▸ B ▸ End) tree → ((x : Tree) → A x → Sound sheet all symbol.Integer around x)
+      → ((y : Tree) → B y → Sound sheet all symbol.Integer around y) → IntSound sheet all given around tree
   two_value text r k row told sort around A B tree stands each each' =
       row_two text A B (IntSound sheet all given around) tree stands
       (λ f t from to x y here there. (
-        two_sound sheet all given text r k place.Integer place.Integer row place.Integer around f t from to x y
+        two_sound sheet all given text r k symbol.Integer symbol.Integer row symbol.Integer around f t from to x y
             (told f t x y).0 (each x here) (each' y there),
         (
-          two_sound sheet all given text r k place.Integer place.Integer row place.Side around f t from to x y
+          two_sound sheet all given text r k symbol.Integer symbol.Integer row symbol.Side around f t from to x y
               (told f t x y).1 (each x here) (each' y there),
           ap side_of_form (told f t x y).1 ∙ sort,
         ),
       ))
 
   -- two numbers that are compared
-  order_sound : (text : String) (r : Rule) (k : Keyword) → IsRow r (head_seat k ∷ plain_seat place.Integer ∷ plain_seat place.Integer ∷ [])
-      → ((f t : ℕ) (x y : Tree) → rule_of place.Test (cons (word (codes text) f t) (cons x (cons y nil))) ≡ Some r)
+  order_sound : (text : String) (r : Rule) (k : Keyword) → IsRow r (head_seat k ∷ plain_seat symbol.Integer ∷ plain_seat symbol.Integer ∷ [])
+      → ((f t : ℕ) (x y : Tree) → rule_of symbol.Test (cons (word (codes text) f t) (cons x (cons y nil))) ≡ Some r)
       → (around : Around) (A B : Tree → Type 0) (tree : Tree) → Row (Atom text ▸ A ▸ B ▸ End) tree
-      → ((x : Tree) → A x → Sound sheet all place.Integer around x)
-      → ((y : Tree) → B y → Sound sheet all place.Integer around y) → TestSound sheet all given around tree
+      → ((x : Tree) → A x → Sound sheet all symbol.Integer around x)
+      → ((y : Tree) → B y → Sound sheet all symbol.Integer around y) → TestSound sheet all given around tree
   order_sound text r k row told around A B tree stands each each' =
       row_two text A B (TestSound sheet all given around) tree stands
-      (λ f t from to x y here there. two_sound sheet all given text r k place.Integer place.Integer row place.Test around
+      (λ f t from to x y here there. two_sound sheet all given text r k symbol.Integer symbol.Integer row symbol.Test around
       f t from to x y (told f t x y) (each x here) (each' y there))
 
   -- two sides of one sort that are to be the same, and to differ
@@ -140,49 +140,49 @@ module _ (sheet : Sheet) (all : List Part) (given : AreGiven sheet all) where
 
   -- a test of a binder
   quantified : (text : String) (r : Rule) (k : Keyword) → is_binder r ≡ true
-      → ((at : Standing) (parts : Trees) → StandAt at r parts 0 (head_seat k ∷ plain_seat place.Members ∷ plain_seat place.Variable ∷ []))
+      → ((at : Standing) (parts : Trees) → StandAt at r parts 0 (head_seat k ∷ plain_seat symbol.Members ∷ plain_seat symbol.Variable ∷ []))
       → ((at : Standing) (parts : Trees)
       → standing_in at r parts 3
-      ≡ Some (standing place.Test (bound_in at.around (word_in 2 parts) (sort_over (part_at 1 parts))) no_role parts
+      ≡ Some (standing symbol.Test (bound_in at.around (word_in 2 parts) (sort_over (part_at 1 parts))) no_role parts
       (at.above ++ [])))
-      → ((f t : ℕ) (x y z : Tree) → rule_of place.Test (cons (word (codes text) f t) (cons x (cons y (cons z nil)))) ≡ Some r)
+      → ((f t : ℕ) (x y z : Tree) → rule_of symbol.Test (cons (word (codes text) f t) (cons x (cons y (cons z nil)))) ≡ Some r)
       → (around : Around) (domain : Domain) (bound : ℕ) (B : Tree → Type 0) (tree : Tree)
       → Row (Atom text ▸ StandsRange (sheet_naming sheet) around.scope domain ▸ Binder (sheet_naming sheet) bound ▸ B ▸ End) tree
       → IsBinder sheet around bound
-      → ((c : Tree) → StandsRange (sheet_naming sheet) around.scope domain c → Sound sheet all place.Members around c)
-      → ((x : Tree) → B x → Sound sheet all place.Test (behind sheet around bound (sort_of domain)) x)
+      → ((c : Tree) → StandsRange (sheet_naming sheet) around.scope domain c → Sound sheet all symbol.Members around c)
+      → ((x : Tree) → B x → Sound sheet all symbol.Test (behind sheet around bound (sort_of domain)) x)
       → TestSound sheet all given around tree
   quantified text r k is stand stands_body told around domain bound B tree stands binder each each' =
       row_three text (StandsRange (sheet_naming sheet) around.scope domain) (Binder (sheet_naming sheet) bound) B
       (TestSound sheet all given around) tree stands
       (λ f g from to c v x here binds there. bound_word (sheet_naming sheet) bound
       (λ v. TestSound sheet all given around (list (cons (word (codes text) f g) (cons c (cons v (cons x nil)))) from to)) v binds
-      (λ bytes f' t' found. binder_sound sheet all given text r k place.Members place.Test is stand stands_body place.Test around
+      (λ bytes f' t' found. binder_sound sheet all given text r k symbol.Members symbol.Test is stand stands_body symbol.Test around
       bound (sort_of domain) bytes f g f' t' from to c x (told f g c (word bytes f' t') x)
       (binds_so sheet all given around bound bytes binder found)
       (range_sort (sheet_naming sheet) around.scope domain c here) (each c here) (each' x there)))
 
   -- lists of cards at a place that takes them
   filter_at : (around : Around) (bound : ℕ) (bytes : List ℕ) (f t f' t' from to : ℕ) (c x : Tree)
-      → Binds sheet all given around bound bytes → sort_over c ≡ card_sort → Sound sheet all place.Collection around c
-      → Sound sheet all place.Test (behind sheet around bound card_sort) x → (q : Place)
+      → Binds sheet all given around bound bytes → sort_over c ≡ card_sort → Sound sheet all symbol.Collection around c
+      → Sound sheet all symbol.Test (behind sheet around bound card_sort) x → (q : Symbol)
       → rule_of q (cons (word (codes "filter") f t) (cons c (cons (word bytes f' t') (cons x nil)))) ≡ Some rule.Filter
       → Sound sheet all q around
       (list (cons (word (codes "filter") f t) (cons c (cons (word bytes f' t') (cons x nil)))) from to)
   filter_at around bound bytes f t f' t' from to c x binds same inner body q told =
-      binder_sound sheet all given "filter" rule.Filter _ place.Collection place.Test refl (λ at parts. (refl, (refl, (refl, tt))))
+      binder_sound sheet all given "filter" rule.Filter _ symbol.Collection symbol.Test refl (λ at parts. (refl, (refl, (refl, tt))))
       (λ at parts. refl) q around bound card_sort bytes f t f' t' from to c x told binds same inner body
 
-  union_at : (around : Around) (f t from to : ℕ) (parts : Trees) → Each (Sound sheet all place.Collection around) parts
-      → (q : Place) → rule_of q (cons (word (codes "union") f t) parts) ≡ Some rule.Union
+  union_at : (around : Around) (f t from to : ℕ) (parts : Trees) → Each (Sound sheet all symbol.Collection around) parts
+      → (q : Symbol) → rule_of q (cons (word (codes "union") f t) parts) ≡ Some rule.Union
       → Sound sheet all q around (list (cons (word (codes "union") f t) parts) from to)
   union_at around f t from to parts each q told =
-      many_sound sheet all given "union" rule.Union _ place.Collection (refl, λ at parts. (refl, tt)) stand q around f t from to
+      many_sound sheet all given "union" rule.Union _ symbol.Collection (refl, λ at parts. (refl, tt)) stand q around f t from to
       parts told each
     where
       stand : (at : Standing) (parts : Trees) (n : ℕ)
           → standing_in at rule.Union parts (suc n)
-          ≡ Some (standing place.Collection at.around no_role parts (at.above ++ []))
+          ≡ Some (standing symbol.Collection at.around no_role parts (at.above ++ []))
       stand at parts zero = refl
       stand at parts (suc n) = refl
 
@@ -191,27 +191,27 @@ module _ (sheet : Sheet) (all : List Part) (given : AreGiven sheet all) where
     pub card_sound : (around : Around) (a : CardExpr) (tree : Tree) → Apart around.scope
         → StandsCard (sheet_naming sheet) around.scope a tree → IsCard sheet around a → CardSound sheet all given around tree
     card_sound around (card_var var) (word bytes from to) alone stands is = (
-      var_sound sheet all place.Card around card_sort var (word bytes from to) alone (λ bytes. refl) stands,
+      var_sound sheet all symbol.Card around card_sort var (word bytes from to) alone (λ bytes. refl) stands,
       (
-        var_sound sheet all place.Side around card_sort var (word bytes from to) alone (λ bytes. refl) stands,
+        var_sound sheet all symbol.Side around card_sort var (word bytes from to) alone (λ bytes. refl) stands,
         var_side around.scope card_sort var card_side bytes from to alone stands refl,
       ),
     )
     card_sound around (card_var var) (list parts from to) alone stands is = absurd stands
     card_sound around (top_card cards) tree alone stands is =
-        one_value "top" rule.TopCard _ place.Collection place.Card card_side (refl, λ at parts. (refl, (refl, tt)))
+        one_value "top" rule.TopCard _ symbol.Collection symbol.Card card_side (refl, λ at parts. (refl, (refl, tt)))
         (λ f t x. (refl, refl)) refl around _ tree stands
         (λ c here. (coll_sound around cards c alone here is).0)
     card_sound around (bottom_card cards) tree alone stands is =
-        one_value "bottom" rule.BottomCard _ place.Collection place.Card card_side (refl, λ at parts. (refl, (refl, tt)))
+        one_value "bottom" rule.BottomCard _ symbol.Collection symbol.Card card_side (refl, λ at parts. (refl, (refl, tt)))
         (λ f t x. (refl, refl)) refl around _ tree stands
         (λ c here. (coll_sound around cards c alone here is).0)
     card_sound around (max_card cards map) tree alone stands is =
-        using_value "max" rule.MaxCard _ _ place.Collection place.Card card_side
+        using_value "max" rule.MaxCard _ _ symbol.Collection symbol.Card card_side
         (refl, λ at parts. (refl, (refl, (refl, (refl, tt))))) (λ f t x y z. (refl, refl)) refl around map _ tree stands is.1
         (λ c here. (coll_sound around cards c alone here is.0).0)
     card_sound around (min_card cards map) tree alone stands is =
-        using_value "min" rule.MinCard _ _ place.Collection place.Card card_side
+        using_value "min" rule.MinCard _ _ symbol.Collection symbol.Card card_side
         (refl, λ at parts. (refl, (refl, (refl, (refl, tt))))) (λ f t x y z. (refl, refl)) refl around map _ tree stands is.1
         (λ c here. (coll_sound around cards c alone here is.0).0)
 
@@ -219,14 +219,14 @@ module _ (sheet : Sheet) (all : List Part) (given : AreGiven sheet all) where
     pub coll_sound : (around : Around) (a : CollExpr) (tree : Tree) → Apart around.scope
         → StandsColl (sheet_naming sheet) around.scope a tree → IsColl sheet around a → CollSound sheet all given around tree
     coll_sound around (group_var var) tree alone stands is = (
-      var_sound sheet all place.Collection around group_sort var tree alone (λ bytes. refl) stands,
-      var_sound sheet all place.Domain around group_sort var tree alone (λ bytes. refl) stands,
-      var_sound sheet all place.Members around group_sort var tree alone (λ bytes. refl) stands,
+      var_sound sheet all symbol.Collection around group_sort var tree alone (λ bytes. refl) stands,
+      var_sound sheet all symbol.Domain around group_sort var tree alone (λ bytes. refl) stands,
+      var_sound sheet all symbol.Members around group_sort var tree alone (λ bytes. refl) stands,
     )
     coll_sound around (cards_in loc) tree alone stands is = (
-      plain_loc sheet all place.Collection around loc tree loc_rule_in_cards alone stands is.0,
-      plain_loc sheet all place.Domain around loc tree loc_rule_in_domain alone stands is.0,
-      plain_loc sheet all place.Members around loc tree loc_rule_in_members alone stands is.0,
+      plain_loc sheet all symbol.Collection around loc tree loc_rule_in_cards alone stands is.0,
+      plain_loc sheet all symbol.Domain around loc tree loc_rule_in_domain alone stands is.0,
+      plain_loc sheet all symbol.Members around loc tree loc_rule_in_members alone stands is.0,
     )
     coll_sound around (filtered cards bound t) tree alone stands is =
         row_three "filter" (StandsColl (sheet_naming sheet) around.scope cards) (Binder (sheet_naming sheet) bound)
@@ -243,16 +243,16 @@ module _ (sheet : Sheet) (all : List Part) (given : AreGiven sheet all) where
         (λ bytes f' t' found.
         let known = binds_so sheet all given around bound bytes is.1 found in
         let at = filter_at around bound bytes f g f' t' from to c x known sorts inner body in
-        (at place.Collection refl, at place.Domain refl, at place.Members refl)))
+        (at symbol.Collection refl, at symbol.Domain refl, at symbol.Members refl)))
     coll_sound around (union_of parts) tree alone stands is =
         behind_word "union" (AtLeast 2 (StandColls (sheet_naming sheet) around.scope parts)) (CollSound sheet all given around)
         tree stands
         (λ f t from to ps here. let at = union_at around f t from to ps (colls_sound around parts ps alone here.1 is.1) in
-        (at place.Collection refl, at place.Domain refl, at place.Members refl))
+        (at symbol.Collection refl, at symbol.Domain refl, at symbol.Members refl))
 
     pub colls_sound : (around : Around) (parts : CollExprs) (trees : Trees) → Apart around.scope
         → StandColls (sheet_naming sheet) around.scope parts trees → AreColls sheet around parts
-        → Each (Sound sheet all place.Collection around) trees
+        → Each (Sound sheet all symbol.Collection around) trees
     colls_sound around no_coll nil alone stands are = tt
     colls_sound around no_coll (cons tree trees) alone stands are = absurd stands
     colls_sound around (coll a parts) nil alone stands are = absurd stands
@@ -264,10 +264,10 @@ module _ (sheet : Sheet) (all : List Part) (given : AreGiven sheet all) where
         → StandsInt (sheet_naming sheet) around.scope a tree → IsInt sheet around a → IntSound sheet all given around tree
     int_sound around (literal value) (word bytes from to) alone stands is =
         let constant = literal_constant bytes value stands in (
-          plain_word sheet all place.Integer around bytes from to refl,
+          plain_word sheet all symbol.Integer around bytes from to refl,
           (
             λ role beside above plain. (
-              constant_atom sheet all (standing place.Side around role beside above) bytes from constant
+              constant_atom sheet all (standing symbol.Side around role beside above) bytes from constant
                   (plain.named bytes) plain.other,
               tt,
             ),
@@ -276,26 +276,26 @@ module _ (sheet : Sheet) (all : List Part) (given : AreGiven sheet all) where
         )
     int_sound around (literal value) (list parts from to) alone stands is = absurd stands
     int_sound around (number num) tree alone stands is = (
-      num_sound sheet all place.Integer around num tree num_rule_in_numbers alone stands is.0,
+      num_sound sheet all symbol.Integer around num tree num_rule_in_numbers alone stands is.0,
       (
-        num_sound sheet all place.Side around num tree num_rule_in_sides alone stands is.0,
+        num_sound sheet all symbol.Side around num tree num_rule_in_sides alone stands is.0,
         three_parts (StandsHolder around.scope num.who) (Atom "sto") (Named sheet.names.nums num.name)
             (λ tree. side_of around.scope tree ≡ Some number_side) tree stands.0
             (λ holder kind name from to holds k n. ap side_of_form
-            (rule_told place.Side (cons holder (cons kind (cons name nil))) rule.Counter
+            (rule_told symbol.Side (cons holder (cons kind (cons name nil))) rule.Counter
             (num_rule_in_sides around.scope num.who holder kind name holds))),
       ),
     )
     int_sound around (size_of cards) tree alone stands is =
-        one_value "size" rule.Size _ place.Collection place.Integer number_side (refl, λ at parts. (refl, (refl, tt)))
+        one_value "size" rule.Size _ symbol.Collection symbol.Integer number_side (refl, λ at parts. (refl, (refl, tt)))
         (λ f t x. (refl, refl)) refl around _ tree stands
         (λ c here. (coll_sound around cards c alone here is).0)
     int_sound around (sum_of cards map) tree alone stands is =
-        using_value "sum" rule.Sum _ _ place.Collection place.Integer number_side
+        using_value "sum" rule.Sum _ _ symbol.Collection symbol.Integer number_side
         (refl, λ at parts. (refl, (refl, (refl, (refl, tt))))) (λ f t x y z. (refl, refl)) refl around map _ tree stands is.1
         (λ c here. (coll_sound around cards c alone here is.0).0)
     int_sound around (worth_of card map) tree alone stands is =
-        using_value "points" rule.PointsOf _ _ place.Card place.Integer number_side
+        using_value "points" rule.PointsOf _ _ symbol.Card symbol.Integer number_side
         (refl, λ at parts. (refl, (refl, (refl, (refl, tt))))) (λ f t x y z. (refl, refl)) refl around map _ tree stands is.1
         (λ c here. (card_sound around card c alone here is.0).0)
     int_sound around (add a b) tree alone stands is =
@@ -364,16 +364,16 @@ module _ (sheet : Sheet) (all : List Part) (given : AreGiven sheet all) where
         (card_sound around card c alone here is.0).0 named is.1 named' is.2)
     test_sound around (and_of tests) tree alone stands is =
         behind_word "and" (Full (StandTests (sheet_naming sheet) around.scope tests)) (TestSound sheet all given around) tree stands
-        (λ f t from to ps here. many_sound sheet all given "and" rule.And _ place.Test (refl, λ at parts. (refl, tt))
-        (λ at parts n. refl) place.Test around f t from to ps refl (tests_sound around tests ps alone here.1 is.1))
+        (λ f t from to ps here. many_sound sheet all given "and" rule.And _ symbol.Test (refl, λ at parts. (refl, tt))
+        (λ at parts n. refl) symbol.Test around f t from to ps refl (tests_sound around tests ps alone here.1 is.1))
     test_sound around (or_of tests) tree alone stands is =
         behind_word "or" (Full (StandTests (sheet_naming sheet) around.scope tests)) (TestSound sheet all given around) tree stands
-        (λ f t from to ps here. many_sound sheet all given "or" rule.Or _ place.Test (refl, λ at parts. (refl, tt))
-        (λ at parts n. refl) place.Test around f t from to ps refl (tests_sound around tests ps alone here.1 is.1))
+        (λ f t from to ps here. many_sound sheet all given "or" rule.Or _ symbol.Test (refl, λ at parts. (refl, tt))
+        (λ at parts n. refl) symbol.Test around f t from to ps refl (tests_sound around tests ps alone here.1 is.1))
     test_sound around (not_of t) tree alone stands is =
         row_one "not" (StandsTest (sheet_naming sheet) around.scope t) (TestSound sheet all given around) tree stands
-        (λ f g from to x here. one_sound sheet all given "not" rule.Not _ place.Test (refl, λ at parts. (refl, (refl, tt)))
-        place.Test around f g from to x refl (test_sound around t x alone here is))
+        (λ f g from to x here. one_sound sheet all given "not" rule.Not _ symbol.Test (refl, λ at parts. (refl, (refl, tt)))
+        symbol.Test around f g from to x refl (test_sound around t x alone here is))
     test_sound around (all_of domain bound t) tree alone stands is =
         quantified "all" rule.ForAll _ refl (λ at parts. (refl, (refl, (refl, tt)))) (λ at parts. refl) (λ f g x y z. refl) around
         domain bound _ tree stands is.1 (λ c here. range_sound around domain c alone here is.0)
@@ -397,7 +397,7 @@ module _ (sheet : Sheet) (all : List Part) (given : AreGiven sheet all) where
     -- `player` or COLL
     pub range_sound : (around : Around) (domain : Domain) (tree : Tree) → Apart around.scope
         → StandsRange (sheet_naming sheet) around.scope domain tree → IsRange sheet around domain
-        → Sound sheet all place.Members around tree
-    range_sound around each_player tree alone stands is = player_sound sheet all given place.Members around tree stands
+        → Sound sheet all symbol.Members around tree
+    range_sound around each_player tree alone stands is = player_sound sheet all given symbol.Members around tree stands
     range_sound around (each_card cards) tree alone stands is = (coll_sound around cards tree alone stands is).2
     range_sound around (each_group cards attr) tree alone stands is = absurd stands

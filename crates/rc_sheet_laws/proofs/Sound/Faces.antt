@@ -10,8 +10,8 @@ use Rattle.rc_sheet_model.specs.Rows.{Some as Full}
 use Rattle.rc_sheet_model.specs.Naming.{Naming, Named, Literal, sheet_naming}
 use Rattle.rc_sheet_model.specs.StandsSetup.{StandsGroups, StandsBranches, StandValues, StandEntries}
 use Rattle.rc_sheet_model.specs.WellFormed.{Around, is_among, group_attrs, branch_attrs, AreGroups, AreBranches}
-use Rattle.rc_grammar.specs.declared.grammar.Place.{Place}
-use Rattle.rc_grammar.specs.declared.grammar.Place.TheVariants as place
+use Rattle.rc_grammar.specs.declared.grammar.Symbol.{Symbol}
+use Rattle.rc_grammar.specs.declared.grammar.Symbol.TheVariants as symbol
 use Rattle.rc_grammar.specs.declared.grammar.Rule.{Rule}
 use Rattle.rc_grammar.specs.declared.grammar.Rule.TheVariants as rule
 use Rattle.rc_faults.specs.declared.role.Role.TheVariants.{No as no_role, GivenValue as given_value}
@@ -183,7 +183,7 @@ module _ (sheet : Sheet) (all : List Part) where
       (each_part up next at r parts P sound (suc k) trees each.1))
 
   -- a value that is given
-  given_sound : (q : Place) (around : Around) (beside : Trees) (above : List (List ℕ)) (bytes : List ℕ) (from to : ℕ)
+  given_sound : (q : Symbol) (around : Around) (beside : Trees) (above : List (List ℕ)) (bytes : List ℕ) (from to : ℕ)
       → some_of (sorts_at q) ≡ false
       → AllSound sheet all (parts_at (Some (standing q around given_value beside above)) (word bytes from to))
   given_sound q around beside above bytes from to none =
@@ -193,21 +193,21 @@ module _ (sheet : Sheet) (all : List Part) where
   abbrev GroupsStand : Standing → Rule → Trees → Type 0
   GroupsStand at r parts =
       (k : ℕ) → standing_in at r parts (suc k)
-      ≡ Some (standing place.Group at.around no_role parts (at.above ++ attributes_among (front (suc k) parts)))
+      ≡ Some (standing symbol.Group at.around no_role parts (at.above ++ attributes_among (front (suc k) parts)))
 
   module _ (alone : Alone sheet.names.attrs) where
     -- a group, where its branches are sound
     one_group : (before : List ℕ) (attr : ℕ) (branches : Branches) (around : Around) (beside : Trees) (above : List (List ℕ))
         (bytes : List ℕ) (f t a b from to : ℕ) (first : Tree) (more : Trees)
         → Worded sheet.names.attrs before above → slice_get sheet.names.attrs attr ≡ Some bytes → is_among attr before ≡ false
-        → AllSound sheet all (parts_in (standing place.Branches around no_role
+        → AllSound sheet all (parts_in (standing symbol.Branches around no_role
         (cons (word bytes f t) (cons (list (cons first more) a b) nil)) (above ++ bytes ∷ []))
         rule.Branches (cons first more) 0 (cons first more))
-        → AllSound sheet all (parts_at (Some (standing place.Group around no_role beside above))
+        → AllSound sheet all (parts_at (Some (standing symbol.Group around no_role beside above))
         (list (cons (word bytes f t) (cons (list (cons first more) a b) nil)) from to))
     one_group before attr branches around beside above bytes f t a b from to first more worded is new inner =
         let parts = cons (word bytes f t) (cons (list (cons first more) a b) nil) in
-        list_sound sheet all (standing place.Group around no_role beside above) rule.Group parts from to refl
+        list_sound sheet all (standing symbol.Group around no_role beside above) rule.Group parts from to refl
         (record {
           once = word_new sheet.names.attrs before above attr bytes alone worded is new;
           known = refl;
@@ -215,11 +215,11 @@ module _ (sheet : Sheet) (all : List Part) where
           shallow = refl;
           said = tt;
         }) (
-          plain_atom sheet all (standing place.Name around no_role parts (above ++ bytes ∷ [])) bytes f refl refl refl,
+          plain_atom sheet all (standing symbol.Name around no_role parts (above ++ bytes ∷ [])) bytes f refl refl refl,
           all_join sheet all
-              (parts_at (Some (standing place.Branches around no_role parts (above ++ bytes ∷ [])))
+              (parts_at (Some (standing symbol.Branches around no_role parts (above ++ bytes ∷ [])))
               (list (cons first more) a b)) []
-              (list_sound sheet all (standing place.Branches around no_role parts (above ++ bytes ∷ [])) rule.Branches
+              (list_sound sheet all (standing symbol.Branches around no_role parts (above ++ bytes ∷ [])) rule.Branches
               (cons first more) a b refl
               (record { once = refl; known = refl; kind_fits = refl; shallow = refl; said = tt }) inner) tt,
         )
@@ -237,9 +237,9 @@ module _ (sheet : Sheet) (all : List Part) where
           let well = group_well before attr branches rest are in
           let next = next_front (suc k) parts tree trees tail in
           let above = at.above ++ attributes_among (front (suc k) parts) in
-          let here : AllSound sheet all (parts_at (Some (standing place.Group at.around no_role parts above)) tree) =
+          let here : AllSound sheet all (parts_at (Some (standing symbol.Group at.around no_role parts above)) tree) =
           group_parts (sheet_naming sheet) attr branches
-          (λ tree. AllSound sheet all (parts_at (Some (standing place.Group at.around no_role parts above)) tree)) tree stands.0
+          (λ tree. AllSound sheet all (parts_at (Some (standing symbol.Group at.around no_role parts above)) tree)) tree stands.0
           (λ bytes f t a b from to first more is inside. one_group before attr branches at.around parts above bytes f t a b from
           to
           first more worded is well.0
@@ -278,7 +278,7 @@ module _ (sheet : Sheet) (all : List Part) where
       pub branches_sound : (before : List ℕ) (branches : Branches) (around : Around) (beside : Trees) (above : List (List ℕ))
           (parts : Trees) (k : ℕ) (trees : Trees) → Worded sheet.names.attrs before above
           → StandsBranches (sheet_naming sheet) branches trees → AreBranches before branches
-          → AllSound sheet all (parts_in (standing place.Branches around no_role beside above) rule.Branches parts k trees)
+          → AllSound sheet all (parts_in (standing symbol.Branches around no_role beside above) rule.Branches parts k trees)
       branches_sound before no_branch around beside above parts k nil worded stands are = tt
       branches_sound before no_branch around beside above parts k (cons tree trees) worded stands are = absurd stands
       branches_sound before (branch value inner others) around beside above parts k nil worded stands are =
@@ -287,7 +287,7 @@ module _ (sheet : Sheet) (all : List Part) where
           stands
           are =
           let both = first_branch (sheet_naming sheet) value inner others (word bytes from to) trees stands in (
-            (given_sound place.Branch around parts (above ++ []) bytes from to refl).0,
+            (given_sound symbol.Branch around parts (above ++ []) bytes from to refl).0,
             branches_sound before others around beside above parts (k + 1) trees worded both.1 are.1,
           )
       branches_sound before (branch value inner others) around beside above parts k (cons (list nil from to) trees) worded stands
@@ -300,12 +300,12 @@ module _ (sheet : Sheet) (all : List Part) where
           (cons (list (cons (word bytes f t) groups) from to) trees) worded stands are =
           let whole = cons (word bytes f t) groups in
           let both = first_branch (sheet_naming sheet) value inner others (list whole from to) trees stands in
-          let at = standing place.Branch around given_value parts (above ++ []) in
+          let at = standing symbol.Branch around given_value parts (above ++ []) in
           all_join sheet all (parts_at (Some at) (list whole from to))
-          (parts_in (standing place.Branches around no_role beside above) rule.Branches parts (k + 1) trees)
+          (parts_in (standing symbol.Branches around no_role beside above) rule.Branches parts (k + 1) trees)
           (list_sound sheet all at rule.Branch whole from to refl
           (record { once = refl; known = refl; kind_fits = refl; shallow = refl; said = tt }) (
-            (given_sound place.Name around whole (at.above ++ []) bytes f t refl).0,
+            (given_sound symbol.Name around whole (at.above ++ []) bytes f t refl).0,
             groups_sound before inner at rule.Branch whole 0 groups (λ j. refl) refl
                 (subst (Worded sheet.names.attrs before)
                 (sym (append-nil above) ∙ sym (append-nil (above ++ [])) ∙ ap (λ l. (above ++ []) ++ l)
@@ -318,54 +318,54 @@ module _ (sheet : Sheet) (all : List Part) where
   -- ENTRIES
   values_sound : (values : List ℕ) (around : Around) (beside : Trees) (above : List (List ℕ)) (parts : Trees) (k : ℕ)
       (trees : Trees) → StandValues (sheet_naming sheet) values trees
-      → AllSound sheet all (parts_in (standing place.Values around no_role beside above) rule.Values parts k trees)
+      → AllSound sheet all (parts_in (standing symbol.Values around no_role beside above) rule.Values parts k trees)
   values_sound [] around beside above parts k nil stands = tt
   values_sound [] around beside above parts k (cons tree trees) stands = absurd stands
   values_sound (value ∷ values) around beside above parts k nil stands = absurd stands
   values_sound (value ∷ values) around beside above parts k (cons (list inner from to) trees) stands = absurd stands.0
   values_sound (value ∷ values) around beside above parts k (cons (word bytes from to) trees) stands = (
-    (given_sound place.Name around parts (above ++ []) bytes from to refl).0,
+    (given_sound symbol.Name around parts (above ++ []) bytes from to refl).0,
     values_sound values around beside above parts (k + 1) trees stands.1,
   )
 
   -- an atom of any kind where no variable may stand
-  pub literal_sound : (q : Place) (around : Around) (value : ℤ) (tree : Tree) → some_of (sorts_at q) ≡ false → Literal value tree
+  pub literal_sound : (q : Symbol) (around : Around) (value : ℤ) (tree : Tree) → some_of (sorts_at q) ≡ false → Literal value tree
       → Sound sheet all q around tree
   literal_sound q around value (word bytes from to) none stands = plain_word sheet all q around bytes from to none
   literal_sound q around value (list parts from to) none stands = absurd stands
 
   entry_sound : (around : Around) (entry : Entry) (tree : Tree)
       → Row (Named sheet.names.attrs entry.attr ▸ Row (Full (StandValues (sheet_naming sheet) entry.values))
-      ▸ Literal entry.points ▸ End) tree → Sound sheet all place.Entry around tree
+      ▸ Literal entry.points ▸ End) tree → Sound sheet all symbol.Entry around tree
   entry_sound around entry tree stands =
       three_parts (Named sheet.names.attrs entry.attr) (Row (Full (StandValues (sheet_naming sheet) entry.values)))
-      (Literal entry.points) (Sound sheet all place.Entry around) tree stands made
+      (Literal entry.points) (Sound sheet all symbol.Entry around) tree stands made
     where
       made : (a v p : Tree) (from to : ℕ) → Named sheet.names.attrs entry.attr a
           → Row (Full (StandValues (sheet_naming sheet) entry.values)) v → Literal entry.points p
-          → Sound sheet all place.Entry around (list (cons a (cons v (cons p nil))) from to)
+          → Sound sheet all symbol.Entry around (list (cons a (cons v (cons p nil))) from to)
       made (list inner f t) v p from to named row literal = absurd named
       made (word bytes f t) (word w a b) p from to named row literal = absurd row
       made (word bytes f t) (list nil a b) p from to named row literal = let none = row.0 in absurd cc
       made (word bytes f t) (list (cons first more) a b) (list inner c d) from to named row literal = absurd literal
       made (word bytes f t) (list (cons first more) a b) (word points c d) from to named row literal =
           let parts = cons (word bytes f t) (cons (list (cons first more) a b) (cons (word points c d) nil)) in
-          sound_list sheet all place.Entry rule.Entry around parts from to refl
+          sound_list sheet all symbol.Entry rule.Entry around parts from to refl
           (easy_sound sheet all rule.Entry refl around _)
           (λ p r b' a'. (
-            plain_atom sheet all (standing place.Name around no_role parts (a' ++ [])) bytes f refl refl refl,
+            plain_atom sheet all (standing symbol.Name around no_role parts (a' ++ [])) bytes f refl refl refl,
             all_join sheet all
-                (parts_at (Some (standing place.Values around no_role parts (a' ++ []))) (list (cons first more) a b))
-                (parts_at (Some (standing place.Points around no_role parts (a' ++ []))) (word points c d))
-                (list_sound sheet all (standing place.Values around no_role parts (a' ++ [])) rule.Values (cons first more) a b
+                (parts_at (Some (standing symbol.Values around no_role parts (a' ++ []))) (list (cons first more) a b))
+                (parts_at (Some (standing symbol.Points around no_role parts (a' ++ []))) (word points c d))
+                (list_sound sheet all (standing symbol.Values around no_role parts (a' ++ [])) rule.Values (cons first more) a b
                 refl
                 (record { once = refl; known = refl; kind_fits = refl; shallow = refl; said = tt })
                 (values_sound entry.values around parts (a' ++ []) (cons first more) 0 (cons first more) row.1))
-                (plain_atom sheet all (standing place.Points around no_role parts (a' ++ [])) points c refl refl refl, tt),
+                (plain_atom sheet all (standing symbol.Points around no_role parts (a' ++ [])) points c refl refl refl, tt),
           ))
 
   pub entries_sound : (around : Around) (entries : List Entry) (trees : Trees)
-      → StandEntries (sheet_naming sheet) entries trees → Each (Sound sheet all place.Entry around) trees
+      → StandEntries (sheet_naming sheet) entries trees → Each (Sound sheet all symbol.Entry around) trees
   entries_sound around [] nil stands = tt
   entries_sound around [] (cons tree trees) stands = absurd stands
   entries_sound around (entry ∷ entries) nil stands = absurd stands

@@ -14,7 +14,7 @@ use Rattle.rc_sheet_model.specs.StandsSetup.{numbered, lines_with}
 use Rattle.rc_sheet_model.specs.Stands.{Stands}
 use Rattle.rc_sheet_model.specs.WellFormed.{is_among}
 use Rattle.rc_grammar.specs.Faults.{faults}
-use Rattle.rc_grammar.specs.declared.grammar.Place.TheVariants as place
+use Rattle.rc_grammar.specs.declared.grammar.Symbol.TheVariants as symbol
 use Rattle.rc_faults.specs.SecondParts.{parts_of}
 use Rattle.rc_sheet.proofs.Among.{Among, among_right, among_named, among_map}
 use Rattle.rc_sheet.proofs.Lines.{within_lines}
@@ -69,7 +69,7 @@ no_start : (n : ℕ) → 0 + n ≡ n
 no_start n = omega arith
 
 -- WHAT IS GIVEN
-pub are_given : (sheet : Sheet) (tree : Tree) → faults place.Sheet tree ≡ [] → Stands sheet tree → AreGiven sheet (parts_of tree)
+pub are_given : (sheet : Sheet) (tree : Tree) → faults symbol.Sheet tree ≡ [] → Stands sheet tree → AreGiven sheet (parts_of tree)
 are_given sheet tree shaped stands =
     sheet_only (λ tree. Stands sheet tree → AreGiven sheet (parts_of tree)) tree shaped
     (λ a b c d e f from to lines rest fits stands.

@@ -12,7 +12,7 @@ use Rattle.rc_sheet_model.specs.Rows.{Some as Full}
 use Rattle.rc_sheet_model.specs.Naming.{class_of, Named, Literal, KindOf, sheet_naming}
 use Rattle.rc_sheet_model.specs.StandsSetup.{StandsPlayers, StandsTeam, StandTeams, StandsTeams, StandsGroups, StandsDeck, StandEntries, StandsMap, begins_with, lines_with, are_lines, team_lines, numbered, StandsSetup}
 use Rattle.rc_sheet_model.specs.WellFormed.{outside, is_mem, IsDeck, IsWellFormed}
-use Rattle.rc_grammar.specs.declared.grammar.Place.TheVariants as place
+use Rattle.rc_grammar.specs.declared.grammar.Symbol.TheVariants as symbol
 use Rattle.rc_grammar.specs.declared.grammar.Rule.TheVariants as rule
 use Rattle.rc_faults.specs.declared.role.Role.TheVariants.{No as no_role, DeckLocation as deck_location}
 use Rattle.rc_faults.specs.SecondParts.{Part, parts_at}
@@ -74,7 +74,7 @@ team_line_is (Some these) teams (inr none) = absurd none
 module _ (sheet : Sheet) (all : List Part) where
   abbrev pub LineSound : Tree → Type 0
   LineSound tree =
-      (beside : Trees) → AllSound sheet all (parts_at (Some (standing place.Line outside no_role beside [])) tree)
+      (beside : Trees) → AllSound sheet all (parts_at (Some (standing symbol.Line outside no_role beside [])) tree)
 
   -- `(create players n)`
   players_line : (n : ℕ) (tree : Tree) → StandsPlayers n tree → LineSound tree
@@ -82,36 +82,36 @@ module _ (sheet : Sheet) (all : List Part) where
       row_word_part "create" "players" (Literal (pos n)) LineSound tree stands
       (λ f t f' t' from to a here beside.
       let whole = cons (word (codes "create") f t) (cons (word (codes "players") f' t') (cons a nil)) in
-      list_sound sheet all (standing place.Line outside no_role beside []) rule.CreatePlayers whole from to refl
+      list_sound sheet all (standing symbol.Line outside no_role beside []) rule.CreatePlayers whole from to refl
       (record { once = refl; known = refl; kind_fits = refl; shallow = refl; said = tt }) (
         fixed sheet all _ _ _ _ _ _,
         (
           fixed sheet all _ _ _ _ _ _,
           all_join sheet all _ []
-              (sound_alone sheet all place.PlayerCount outside a whole []
-              (literal_sound sheet all place.PlayerCount outside (pos n) a refl here)) tt,
+              (sound_alone sheet all symbol.PlayerCount outside a whole []
+              (literal_sound sheet all symbol.PlayerCount outside (pos n) a refl here)) tt,
         ),
       ))
 
   -- `(create teams (p+)+)`
-  members_sound : (team : List ℕ) (trees : Trees) → StandsTeam team trees → Each (Sound sheet all place.Member outside) trees
+  members_sound : (team : List ℕ) (trees : Trees) → StandsTeam team trees → Each (Sound sheet all symbol.Member outside) trees
   members_sound [] nil stands = tt
   members_sound [] (cons tree trees) stands = absurd stands
   members_sound (player ∷ team) nil stands = absurd stands
   members_sound (player ∷ team) (cons tree trees) stands =
-      (literal_sound sheet all place.Member outside (pos player) tree refl stands.0, members_sound team trees stands.1)
+      (literal_sound sheet all symbol.Member outside (pos player) tree refl stands.0, members_sound team trees stands.1)
 
-  team_sound : (team : List ℕ) (tree : Tree) → Row (Full (StandsTeam team)) tree → Sound sheet all place.Team outside tree
+  team_sound : (team : List ℕ) (tree : Tree) → Row (Full (StandsTeam team)) tree → Sound sheet all symbol.Team outside tree
   team_sound team (word bytes from to) stands = absurd stands
   team_sound team (list nil from to) stands = let none = stands.0 in absurd cc
   team_sound team (list (cons first others) from to) stands =
-      sound_list sheet all place.Team rule.Team outside (cons first others) from to refl
+      sound_list sheet all symbol.Team rule.Team outside (cons first others) from to refl
       (λ p r b above from plain. record { once = refl; known = refl; kind_fits = plain.other; shallow = refl; said = tt })
       (λ p r b above. rest_sound sheet all (λ k. k) (λ k. omega arith) (standing p outside r b above) rule.Team
       (cons first others)
-      place.Member outside (above ++ []) (λ k. refl) 0 (cons first others) (members_sound team (cons first others) stands.1))
+      symbol.Member outside (above ++ []) (λ k. refl) 0 (cons first others) (members_sound team (cons first others) stands.1))
 
-  teams_sound : (teams : Teams) (trees : Trees) → StandTeams teams trees → Each (Sound sheet all place.Team outside) trees
+  teams_sound : (teams : Teams) (trees : Trees) → StandTeams teams trees → Each (Sound sheet all symbol.Team outside) trees
   teams_sound [] nil stands = tt
   teams_sound [] (cons tree trees) stands = absurd stands
   teams_sound (team ∷ teams) nil stands = absurd stands
@@ -129,14 +129,14 @@ module _ (sheet : Sheet) (all : List Part) where
       row_words "create" "teams" (Full (StandTeams teams)) LineSound tree stands
       (λ f t f' t' from to parts more beside.
       let whole = cons (word (codes "create") f t) (cons (word (codes "teams") f' t') parts) in
-      let at = standing place.Line outside no_role beside [] in
+      let at = standing symbol.Line outside no_role beside [] in
       list_sound sheet all at rule.CreateTeams whole from to refl
       (record { once = refl; known = none f t f' t' parts more.1; kind_fits = refl; shallow = refl; said = tt }) (
         fixed sheet all _ _ _ _ _ _,
         (
           fixed sheet all _ _ _ _ _ _,
           rest_sound sheet all (λ k. suc (suc k)) (λ k. omega arith) at rule.CreateTeams whole
-              place.Team outside [] (λ k. refl) 0 parts (teams_sound teams parts more.1),
+              symbol.Team outside [] (λ k. refl) 0 parts (teams_sound teams parts more.1),
         ),
       ))
 
@@ -151,13 +151,13 @@ module _ (sheet : Sheet) (all : List Part) where
 
   deck_tree : Alone sheet.names.attrs → (line : DeckLine) (whole : Trees) (d : Tree) → IsDeck sheet line
       → Row (Atom "deck" ▸ Full (StandsGroups (sheet_naming sheet) line.groups)) d
-      → AllSound sheet all (parts_at (Some (standing place.Deck outside no_role whole [])) d)
+      → AllSound sheet all (parts_at (Some (standing symbol.Deck outside no_role whole [])) d)
   deck_tree alone line whole d is row =
       behind_word "deck" (Full (StandsGroups (sheet_naming sheet) line.groups))
-      (λ d. AllSound sheet all (parts_at (Some (standing place.Deck outside no_role whole [])) d)) d row
+      (λ d. AllSound sheet all (parts_at (Some (standing symbol.Deck outside no_role whole [])) d)) d row
       (λ f t from to groups more.
       let parts = cons (word (codes "deck") f t) groups in
-      let at = standing place.Deck outside no_role whole [] in
+      let at = standing symbol.Deck outside no_role whole [] in
       list_sound sheet all at rule.Deck parts from to refl
       (record { once = refl; known = refl; kind_fits = refl; shallow = refl; said = tt }) (
         fixed sheet all _ _ _ _ _ _,
@@ -179,13 +179,13 @@ module _ (sheet : Sheet) (all : List Part) where
       (λ l d here there beside.
       let whole = cons (word (codes "create") f t) (cons (word (codes "deck") f' t') (cons l (cons d nil))) in
       let loc : Loc = record { who = game; name = line.loc; at = start_of l } in
-      list_sound sheet all (standing place.Line outside no_role beside []) rule.CreateDeck whole from to refl
+      list_sound sheet all (standing symbol.Line outside no_role beside []) rule.CreateDeck whole from to refl
       (record { once = refl; known = refl; kind_fits = refl; shallow = refl; said = tt }) (
         fixed sheet all _ _ _ _ _ _,
         (
           fixed sheet all _ _ _ _ _ _,
           all_join sheet all _ _
-              (loc_sound sheet all place.Location outside loc l deck_location whole [] loc_rule_alone none_apart refl
+              (loc_sound sheet all symbol.Location outside loc l deck_location whole [] loc_rule_alone none_apart refl
               (takes_deck loc line refl refl is) (here, is.2, refl) tt)
               (all_join sheet all _ [] (deck_tree alone line whole d is there) tt),
         ),
@@ -212,18 +212,18 @@ module _ (sheet : Sheet) (all : List Part) where
           let entries = cons first others in
           let whole = cons (word (codes "put") f t)
           (cons (word (codes "points") f' t') (cons (word bytes a b) (cons (list entries c d) nil))) in
-          let at = standing place.Entries outside no_role whole [] in
-          list_sound sheet all (standing place.Line outside no_role beside []) rule.PutPoints whole from to refl
+          let at = standing symbol.Entries outside no_role whole [] in
+          list_sound sheet all (standing symbol.Line outside no_role beside []) rule.PutPoints whole from to refl
           (record { once = refl; known = refl; kind_fits = refl; shallow = refl; said = tt }) (
             fixed sheet all _ _ _ _ _ _,
             (
               fixed sheet all _ _ _ _ _ _,
               (
-                plain_atom sheet all (standing place.Name outside no_role whole []) bytes a refl refl refl,
+                plain_atom sheet all (standing symbol.Name outside no_role whole []) bytes a refl refl refl,
                 all_join sheet all (parts_at (Some at) (list entries c d)) []
                     (list_sound sheet all at rule.Entries entries c d refl
                     (record { once = refl; known = refl; kind_fits = refl; shallow = refl; said = tt })
-                    (rest_sound sheet all (λ k. k) (λ k. omega arith) at rule.Entries entries place.Entry outside [] (λ k. refl)
+                    (rest_sound sheet all (λ k. k) (λ k. omega arith) at rule.Entries entries symbol.Entry outside [] (λ k. refl)
                     0 entries
                     (entries_sound sheet all outside line.1 entries row.1))) tt,
               ),

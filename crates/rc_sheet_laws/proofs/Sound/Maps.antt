@@ -10,7 +10,7 @@ use Rattle.rc_sheet_model.specs.FormMentions.{points_map}
 use Rattle.rc_sheet_model.specs.StandsSetup.{StandsMap, lines_with}
 use Rattle.rc_sheet_model.specs.Stands.{Stands}
 use Rattle.rc_grammar.specs.Faults.{faults}
-use Rattle.rc_grammar.specs.declared.grammar.Place.TheVariants as place
+use Rattle.rc_grammar.specs.declared.grammar.Symbol.TheVariants as symbol
 use Rattle.rc_faults.specs.SecondParts.{parts_of}
 use Rattle.rc_faults.specs.SecondNames.{maps_in}
 use Rattle.rc_sheet.proofs.MapsInTurn.{points_alone}
@@ -61,7 +61,7 @@ maps_apart naming alone start (entries ∷ points) (line ∷ lines) pairs =
       ((start, omega arith, here), later_numbers naming start (flat_map points_map lines) later.1),
     ))
 
-pub maps_alone : (sheet : Sheet) (tree : Tree) → faults place.Sheet tree ≡ [] → Stands sheet tree → Alone sheet.names.maps
+pub maps_alone : (sheet : Sheet) (tree : Tree) → faults symbol.Sheet tree ≡ [] → Stands sheet tree → Alone sheet.names.maps
     → IsDistinct bytes_eq (flat_map maps_in (parts_of tree))
 maps_alone sheet tree shaped stands alone =
     sheet_only (λ tree. Stands sheet tree → IsDistinct bytes_eq (flat_map maps_in (parts_of tree))) tree shaped

@@ -15,8 +15,8 @@ use Rattle.rc_sheet_model.specs.Stands.{Stands}
 use Rattle.rc_sheet_model.specs.WellFormed.{outside}
 use Rattle.rc_grammar.specs.Grammar.{forms_of, front_of}
 use Rattle.rc_grammar.specs.Faults.{rule_of, behind_front, or_behind, place_at, count}
-use Rattle.rc_grammar.specs.declared.grammar.Place.{Place}
-use Rattle.rc_grammar.specs.declared.grammar.Place.TheVariants as place
+use Rattle.rc_grammar.specs.declared.grammar.Symbol.{Symbol}
+use Rattle.rc_grammar.specs.declared.grammar.Symbol.TheVariants as symbol
 use Rattle.rc_grammar.specs.declared.grammar.Rule.{Rule}
 use Rattle.rc_grammar.specs.declared.grammar.Rule.TheVariants as rule
 use Rattle.rc_faults.specs.declared.role.Role.TheVariants.{No as no_role}
@@ -31,12 +31,12 @@ use Rattle.rc_sheet_laws.proofs.Sound.Parts.{standing}
 
 -- WHERE NO MEMBER STANDS
 
-abbrev no_members : Place → Bool
-no_members place.Sheet = false
-no_members place.Setup = false
-no_members place.Line = false
-no_members place.Team = false
-no_members place.Member = false
+abbrev no_members : Symbol → Bool
+no_members symbol.Sheet = false
+no_members symbol.Setup = false
+no_members symbol.Line = false
+no_members symbol.Team = false
+no_members symbol.Member = false
 no_members p = true
 
 abbrev is_calm : Rule → Bool
@@ -46,12 +46,12 @@ is_calm rule.CreateTeams = false
 is_calm rule.Team = false
 is_calm r = true
 
-calm_below : (p : Place) → no_members p ≡ true → list_all is_calm (forms_of p) ≡ true
-calm_below place.Sheet inside = absurd cc
-calm_below place.Setup inside = absurd cc
-calm_below place.Line inside = absurd cc
-calm_below place.Team inside = absurd cc
-calm_below place.Member inside = absurd cc
+calm_below : (p : Symbol) → no_members p ≡ true → list_all is_calm (forms_of p) ≡ true
+calm_below symbol.Sheet inside = absurd cc
+calm_below symbol.Setup inside = absurd cc
+calm_below symbol.Line inside = absurd cc
+calm_below symbol.Team inside = absurd cc
+calm_below symbol.Member inside = absurd cc
 calm_below p inside = refl
 
 front_calm : (r : Rule) → is_calm r ≡ true → list_all no_members (front_of r) ≡ true
@@ -62,7 +62,7 @@ front_calm rule.Team calm = absurd cc
 front_calm r calm = refl
 
 -- a place there, or none
-abbrev calm_or_none : Option Place → Bool
+abbrev calm_or_none : Option Symbol → Bool
 calm_or_none None = true
 calm_or_none (Some p) = no_members p
 
@@ -73,19 +73,19 @@ behind_calm rule.CreateTeams last calm = absurd cc
 behind_calm rule.Team last calm = absurd cc
 behind_calm r last calm = refl
 
-or_place : (found behind : Option Place) (q : Place) → or_behind found behind ≡ Some q
-    → ((p : Place) → found ≡ Some p → no_members p ≡ true) → calm_or_none behind ≡ true → no_members q ≡ true
+or_place : (found behind : Option Symbol) (q : Symbol) → or_behind found behind ≡ Some q
+    → ((p : Symbol) → found ≡ Some p → no_members p ≡ true) → calm_or_none behind ≡ true → no_members q ≡ true
 or_place (Some p) behind q is first more = subst (λ p. no_members p ≡ true) (same_Some p q is) (first p refl)
 or_place None (Some p) q is first more = subst (λ p. no_members p ≡ true) (same_Some p q is) more
 or_place None None q is first more = absurd cc
 
-calm_place : (r : Rule) (n j : ℕ) (q : Place) → is_calm r ≡ true → place_at r n j ≡ Some q → no_members q ≡ true
+calm_place : (r : Rule) (n j : ℕ) (q : Symbol) → is_calm r ≡ true → place_at r n j ≡ Some q → no_members q ≡ true
 calm_place r n j q calm is =
     or_place (slice_get (front_of r) j) (behind_front r (j + 1 == n)) q is
     (λ p found. all_pass no_members (front_of r) j p (front_calm r calm) found) (behind_calm r (j + 1 == n) calm)
 
-word_none : (q : Place) (bytes : List ℕ) → no_members q ≡ true → member_by q bytes ≡ []
-word_none place.Member bytes inside = absurd cc
+word_none : (q : Symbol) (bytes : List ℕ) → no_members q ≡ true → member_by q bytes ≡ []
+word_none symbol.Member bytes inside = absurd cc
 word_none q bytes inside = refl
 
 form_none : (at : Standing) (parts : Trees) (from : ℕ) (found : Option Rule)
@@ -94,8 +94,8 @@ form_none : (at : Standing) (parts : Trees) (from : ℕ) (found : Option Rule)
 form_none at parts from None each = refl
 form_none at parts from (Some r) each = each r refl
 
-place_none : (at : Standing) (r : Rule) (all : Trees) (index : ℕ) (found : Option Place) (tree : Tree)
-    → ((q : Place) → found ≡ Some q → flat_map members_in (parts_at (Some (standing_at at r all index q)) tree) ≡ [])
+place_none : (at : Standing) (r : Rule) (all : Trees) (index : ℕ) (found : Option Symbol) (tree : Tree)
+    → ((q : Symbol) → found ≡ Some q → flat_map members_in (parts_at (Some (standing_at at r all index q)) tree) ≡ [])
     → flat_map members_in (parts_at (option_map (λ q. standing_at at r all index q) found) tree) ≡ []
 place_none at r all index None (word bytes from to) each = refl
 place_none at r all index None (list parts from to) each = refl
@@ -136,14 +136,14 @@ behind_none all k (cons tree trees) =
     step : (k : ℕ) → suc (suc k) + 1 ≡ suc (suc (suc k))
     step k = omega arith
 
-    last_place : (last : Bool) (q : Place) → behind_front rule.Game last ≡ Some q → no_members q ≡ true
+    last_place : (last : Bool) (q : Symbol) → behind_front rule.Game last ≡ Some q → no_members q ≡ true
     last_place true q is = subst (λ o. calm_or_none o ≡ true) is refl
     last_place false q is = subst (λ o. calm_or_none o ≡ true) is refl
 
 -- LINES
 
 team_listed : (team : List ℕ) (beside parts : Trees) (k : ℕ) (trees : Trees) → StandsTeam team trees
-    → flat_map members_in (parts_in (standing place.Team outside no_role beside []) rule.Team parts k trees) ≡ team
+    → flat_map members_in (parts_in (standing symbol.Team outside no_role beside []) rule.Team parts k trees) ≡ team
 team_listed [] beside parts k nil stands = refl
 team_listed [] beside parts k (cons tree trees) stands = absurd stands
 team_listed (player ∷ team) beside parts k nil stands = absurd stands
@@ -152,23 +152,23 @@ team_listed (player ∷ team) beside parts k (cons (word bytes from to) trees) s
     ap₂ ◌∷◌ (number_said player (word bytes from to) stands.0) (team_listed team beside parts (k + 1) trees stands.1)
 
 one_team : (team : List ℕ) (beside : Trees) (tree : Tree) → Row (Full (StandsTeam team)) tree
-    → flat_map members_in (parts_at (Some (standing place.Team outside no_role beside [])) tree) ≡ team
+    → flat_map members_in (parts_at (Some (standing symbol.Team outside no_role beside [])) tree) ≡ team
 one_team team beside (word bytes from to) stands = absurd stands
 one_team team beside (list nil from to) stands = let none = stands.0 in absurd cc
 one_team team beside (list (cons first others) from to) stands =
     team_listed team beside (cons first others) 0 (cons first others) stands.1
 
 teams_listed : (teams : Teams) (beside parts : Trees) (k : ℕ) (trees : Trees) → StandTeams teams trees
-    → flat_map members_in (parts_in (standing place.Line outside no_role beside []) rule.CreateTeams parts (suc (suc k)) trees)
+    → flat_map members_in (parts_in (standing symbol.Line outside no_role beside []) rule.CreateTeams parts (suc (suc k)) trees)
     ≡ flat_map (λ team. team) teams
 teams_listed [] beside parts k nil stands = refl
 teams_listed [] beside parts k (cons tree trees) stands = absurd stands
 teams_listed (team ∷ teams) beside parts k nil stands = absurd stands
 teams_listed (team ∷ teams) beside parts k (cons tree trees) stands =
-    flat_map-append members_in (parts_at (Some (standing place.Team outside no_role parts [])) tree)
-    (parts_in (standing place.Line outside no_role beside []) rule.CreateTeams parts (suc (suc k) + 1) trees)
+    flat_map-append members_in (parts_at (Some (standing symbol.Team outside no_role parts [])) tree)
+    (parts_in (standing symbol.Line outside no_role beside []) rule.CreateTeams parts (suc (suc k) + 1) trees)
     ∙ ap₂ ◌++◌ (one_team team parts tree stands.0)
-    (ap (λ i. flat_map members_in (parts_in (standing place.Line outside no_role beside []) rule.CreateTeams parts i trees))
+    (ap (λ i. flat_map members_in (parts_in (standing symbol.Line outside no_role beside []) rule.CreateTeams parts i trees))
     (step k)
     ∙ teams_listed teams beside parts (suc k) trees stands.1)
   where
@@ -187,7 +187,7 @@ said sheet tree = cond (begins_with "create" "teams" tree) (members_of sheet.tea
 players_none : (sheet : Sheet) (n : ℕ) (tree : Tree) → StandsPlayers n tree → LineGives ℕ members_in (said sheet) tree
 players_none sheet n tree stands =
     row_word_part "create" "players" _ (LineGives ℕ members_in (said sheet)) tree stands
-    (λ f t f' t' from to a here beside. row_none (standing place.Line outside no_role beside []) rule.CreatePlayers
+    (λ f t f' t' from to a here beside. row_none (standing symbol.Line outside no_role beside []) rule.CreatePlayers
     (cons (word (codes "create") f t) (cons (word (codes "players") f' t') (cons a nil))) 0
     (cons (word (codes "create") f t) (cons (word (codes "players") f' t') (cons a nil))) refl)
 
@@ -203,7 +203,7 @@ deck_none : (sheet : Sheet) (line : DeckLine) (tree : Tree) → StandsDeck (shee
     → LineGives ℕ members_in (said sheet) tree
 deck_none sheet line tree stands =
     row_words "create" "deck" _ (LineGives ℕ members_in (said sheet)) tree stands.0
-    (λ f t f' t' from to parts more beside. row_none (standing place.Line outside no_role beside []) rule.CreateDeck
+    (λ f t f' t' from to parts more beside. row_none (standing symbol.Line outside no_role beside []) rule.CreateDeck
     (cons (word (codes "create") f t) (cons (word (codes "deck") f' t') parts)) 0
     (cons (word (codes "create") f t) (cons (word (codes "deck") f' t') parts)) refl)
 
@@ -211,7 +211,7 @@ map_none : (sheet : Sheet) (line : ℕ × List Entry) (tree : Tree) → StandsMa
     → LineGives ℕ members_in (said sheet) tree
 map_none sheet line tree stands =
     row_words "put" "points" _ (LineGives ℕ members_in (said sheet)) tree stands
-    (λ f t f' t' from to parts more beside. row_none (standing place.Line outside no_role beside []) rule.PutPoints
+    (λ f t f' t' from to parts more beside. row_none (standing symbol.Line outside no_role beside []) rule.PutPoints
     (cons (word (codes "put") f t) (cons (word (codes "points") f' t') parts)) 0
     (cons (word (codes "put") f t) (cons (word (codes "points") f' t') parts)) refl)
 
@@ -223,9 +223,9 @@ members_are sheet tree stands =
     (λ a b c d e f from to lines rest setup items.
     let parts = cons (word (codes "setup") c d) lines in
     let whole = cons (word (codes "game") a b) (cons (list parts e f) rest) in
-    flat_map-append members_in (parts_at (Some (standing place.Setup outside no_role whole [])) (list parts e f))
+    flat_map-append members_in (parts_at (Some (standing symbol.Setup outside no_role whole [])) (list parts e f))
     (parts_in standing_alone rule.Game whole 2 rest)
-    ∙ ap (λ l. flat_map members_in (parts_at (Some (standing place.Setup outside no_role whole [])) (list parts e f)) ++ l)
+    ∙ ap (λ l. flat_map members_in (parts_at (Some (standing symbol.Setup outside no_role whole [])) (list parts e f)) ++ l)
     (behind_none whole 0 rest)
     ∙ append-nil _
     ∙ lines_give ℕ members_in (said sheet) whole parts 0 lines

@@ -13,8 +13,8 @@ use Rattle.rc_sheet_model.specs.StandsExpressions.{StandsOwner, StandsHolder, St
 use Rattle.rc_sheet_model.specs.WellFormed.{Around, IsOwner, IsHolder}
 use Rattle.rc_grammar.specs.Faults.{is_variable, rule_of}
 use Rattle.rc_grammar.specs.declared.keyword.Keyword.{Keyword}
-use Rattle.rc_grammar.specs.declared.grammar.Place.{Place}
-use Rattle.rc_grammar.specs.declared.grammar.Place.TheVariants as place
+use Rattle.rc_grammar.specs.declared.grammar.Symbol.{Symbol}
+use Rattle.rc_grammar.specs.declared.grammar.Symbol.TheVariants as symbol
 use Rattle.rc_grammar.specs.declared.grammar.Rule.TheVariants as rule
 use Rattle.rc_faults.specs.Classes.{class_at}
 use Rattle.rc_faults.specs.declared.role.Role.{Role}
@@ -51,7 +51,7 @@ found_at (x ∷ scope) (suc var) v alone is =
 -- OWNERS
 
 -- what is around owners, by the places where they stand
-pub record TakesOwners (q : Place) : Type 0 where
+pub record TakesOwners (q : Symbol) : Type 0 where
   pub player : (f t f' t' : ℕ)
       → rule_of q (cons (word (codes "current") f t) (cons (word (codes "player") f' t') nil)) ≡ Some rule.CurrentPlayer
   pub team : (f t f' t' : ℕ)
@@ -60,7 +60,7 @@ pub record TakesOwners (q : Place) : Type 0 where
       → rule_of q (cons (word (codes "team") f t) (cons (word (codes "of") f' t') (cons player nil))) ≡ Some rule.TeamOf
   pub sort : (bytes : List ℕ) → is_other_sort (sorts_at q) (Some (record { word = bytes; sort = player_sort })) ≡ false
 
-pub owner_place : TakesOwners place.Owner
+pub owner_place : TakesOwners symbol.Owner
 owner_place = record {
   player = λ f t f' t'. refl;
   team = λ f t f' t'. refl;
@@ -68,7 +68,7 @@ owner_place = record {
   sort = λ bytes. refl;
 }
 
-pub holder_place : TakesOwners place.Holder
+pub holder_place : TakesOwners symbol.Holder
 holder_place = record {
   player = λ f t f' t'. refl;
   team = λ f t f' t'. refl;
@@ -76,7 +76,7 @@ holder_place = record {
   sort = λ bytes. refl;
 }
 
-pub side_place : TakesOwners place.Side
+pub side_place : TakesOwners symbol.Side
 side_place = record {
   player = λ f t f' t'. refl;
   team = λ f t f' t'. refl;
@@ -109,9 +109,9 @@ holder_class scope (who_var var) tree stands = owner_class scope (who_var var) t
 module _ (sheet : Sheet) (all : List Part) where
   -- a fixed word
   pub fixed : (k : Keyword) (around : Around) (beside : Trees) (above : List (List ℕ)) (bytes : List ℕ) (from : ℕ)
-      → IsSound sheet all (atom (standing (place.Word k) around no_role beside above) bytes from)
+      → IsSound sheet all (atom (standing (symbol.Word k) around no_role beside above) bytes from)
   fixed k around beside above bytes from =
-      plain_atom sheet all (standing (place.Word k) around no_role beside above) bytes from refl refl refl
+      plain_atom sheet all (standing (symbol.Word k) around no_role beside above) bytes from refl refl refl
 
   -- a variable in scope
   pub bound_atom : (at : Standing) (bytes : List ℕ) (from to var : ℕ) (sort : Sort) → Apart at.around.scope
@@ -130,7 +130,7 @@ module _ (sheet : Sheet) (all : List Part) where
       (ap (is_other_sort (sorts_at at.place)) found ∙ fits))
       other
 
-  pub var_sound : (q : Place) (around : Around) (sort : Sort) (var : ℕ) (tree : Tree) → Apart around.scope
+  pub var_sound : (q : Symbol) (around : Around) (sort : Sort) (var : ℕ) (tree : Tree) → Apart around.scope
       → ((bytes : List ℕ) → is_other_sort (sorts_at q) (Some (record { word = bytes; sort = sort })) ≡ false)
       → InScope around.scope sort var tree → Sound sheet all q around tree
   var_sound q around sort var (word bytes from to) alone fits stands role beside above plain = (
@@ -141,7 +141,7 @@ module _ (sheet : Sheet) (all : List Part) where
   var_sound q around sort var (list parts from to) alone fits stands role beside above plain = absurd stands
 
   -- `(current player)`
-  current_sound : (q : Place) (around : Around) (f t f' t' from to : ℕ)
+  current_sound : (q : Symbol) (around : Around) (f t f' t' from to : ℕ)
       → rule_of q (cons (word (codes "current") f t) (cons (word (codes "player") f' t') nil)) ≡ Some rule.CurrentPlayer
       → around.player_stage ≡ true
       → Sound sheet all q around (list (cons (word (codes "current") f t) (cons (word (codes "player") f' t') nil)) from to)
@@ -151,7 +151,7 @@ module _ (sheet : Sheet) (all : List Part) where
       (λ p r b a from plain. record { once = refl; known = ap not is; kind_fits = plain.other; shallow = refl; said = tt })
       (λ p r b a. (fixed _ _ _ _ _ _, (fixed _ _ _ _ _ _, tt)))
 
-  pub owner_sound : (q : Place) (around : Around) (who : Who) (tree : Tree) → TakesOwners q → Apart around.scope
+  pub owner_sound : (q : Symbol) (around : Around) (who : Who) (tree : Tree) → TakesOwners q → Apart around.scope
       → StandsOwner around.scope who tree → IsOwner around who → Sound sheet all q around tree
   owner_sound q around who tree takes alone stands =
       owner_forms around.scope (λ who tree. IsOwner around who → Sound sheet all q around tree)
@@ -162,13 +162,13 @@ module _ (sheet : Sheet) (all : List Part) where
       (λ p r b a. (fixed _ _ _ _ _ _, (fixed _ _ _ _ _ _, tt))))
       (λ f t f' t' g u g' u' start end from to is.
       let player = list (cons (word (codes "current") g u) (cons (word (codes "player") g' u') nil)) start end in
-      team_sound f t f' t' from to player (current_sound place.Player around g u g' u' start end refl is))
+      team_sound f t f' t' from to player (current_sound symbol.Player around g u g' u' start end refl is))
       (λ f t f' t' from to var player within is. team_sound f t f' t' from to player
-      (var_sound place.Player around player_sort var player alone (λ bytes. refl) within))
+      (var_sound symbol.Player around player_sort var player alone (λ bytes. refl) within))
       (λ bytes from to var within is. var_sound q around player_sort var (word bytes from to) alone takes.sort within)
       who tree stands
     where
-      team_sound : (f t f' t' from to : ℕ) (player : Tree) → Sound sheet all place.Player around player
+      team_sound : (f t f' t' from to : ℕ) (player : Tree) → Sound sheet all symbol.Player around player
           → Sound sheet all q around
           (list (cons (word (codes "team") f t) (cons (word (codes "of") f' t') (cons player nil))) from to)
       team_sound f t f' t' from to player sound =
@@ -180,29 +180,29 @@ module _ (sheet : Sheet) (all : List Part) where
             fixed _ _ _ _ _ _,
             (
               fixed _ _ _ _ _ _,
-              all_join sheet all _ [] (sound_alone sheet all place.Player around player _ _ sound) tt,
+              all_join sheet all _ [] (sound_alone sheet all symbol.Player around player _ _ sound) tt,
             ),
           ))
 
   -- HOLDER
   pub holder_sound : (around : Around) (who : Who) (tree : Tree) → Apart around.scope → StandsHolder around.scope who tree
-      → IsHolder around who → Sound sheet all place.Holder around tree
+      → IsHolder around who → Sound sheet all symbol.Holder around tree
   holder_sound around game (word bytes from to) alone stands is role beside above plain = (
-    constant_atom sheet all (standing place.Holder around role beside above) bytes from
+    constant_atom sheet all (standing symbol.Holder around role beside above) bytes from
         (ap is_variable stands) (plain.named bytes) plain.other,
     tt,
   )
   holder_sound around game (list parts from to) alone stands is role beside above plain = absurd stands
   holder_sound around current_player tree alone stands is role beside above plain =
-      owner_sound place.Holder around current_player tree holder_place alone stands is role beside above plain
+      owner_sound symbol.Holder around current_player tree holder_place alone stands is role beside above plain
   holder_sound around current_team tree alone stands is role beside above plain =
-      owner_sound place.Holder around current_team tree holder_place alone stands is role beside above plain
+      owner_sound symbol.Holder around current_team tree holder_place alone stands is role beside above plain
   holder_sound around team_of_current tree alone stands is role beside above plain =
-      owner_sound place.Holder around team_of_current tree holder_place alone stands is role beside above plain
+      owner_sound symbol.Holder around team_of_current tree holder_place alone stands is role beside above plain
   holder_sound around (team_of_var var) tree alone stands is role beside above plain =
-      owner_sound place.Holder around (team_of_var var) tree holder_place alone stands is role beside above plain
+      owner_sound symbol.Holder around (team_of_var var) tree holder_place alone stands is role beside above plain
   holder_sound around (who_var var) tree alone stands is role beside above plain =
-      owner_sound place.Holder around (who_var var) tree holder_place alone stands is role beside above plain
+      owner_sound symbol.Holder around (who_var var) tree holder_place alone stands is role beside above plain
 
   -- LOC
   -- a role takes the locations of this name
@@ -212,7 +212,7 @@ module _ (sheet : Sheet) (all : List Part) where
       → option_map (λ l. kind_bytes l.kind) (slice_get sheet.locs loc.name) ≡ Some mention.kind
       → mention.class ≡ class_of loc.who → is_misplaced role mention ≡ false
 
-  pub loc_sound : (q : Place) (around : Around) (loc : Loc) (tree : Tree) (role : Role) (beside : Trees)
+  pub loc_sound : (q : Symbol) (around : Around) (loc : Loc) (tree : Tree) (role : Role) (beside : Trees)
       (above : List (List ℕ)) → TakesHeld q rule.Location → Apart around.scope
       → is_other_side (standing q around role beside above) role ≡ false → Takes role loc
       → StandsLoc (sheet_naming sheet) around.scope loc tree → IsHolder around loc.who
@@ -247,21 +247,21 @@ module _ (sheet : Sheet) (all : List Part) where
               same_class = stands.1 ∙ ap Some (sym (holder_class around.scope loc.who holder holds));
             };
           })
-          (all_join sheet all (parts_at (Some (standing place.Holder around no_role parts (above ++ []))) holder) _
-          (sound_alone sheet all place.Holder around holder parts (above ++ [])
+          (all_join sheet all (parts_at (Some (standing symbol.Holder around no_role parts (above ++ []))) holder) _
+          (sound_alone sheet all symbol.Holder around holder parts (above ++ [])
           (holder_sound around loc.who holder alone holds is)) (
-            plain_atom sheet all (standing place.Kind around no_role parts (above ++ [])) kind f refl refl refl,
-            (plain_atom sheet all (standing place.Name around no_role parts (above ++ [])) name f' refl refl refl, tt),
+            plain_atom sheet all (standing symbol.Kind around no_role parts (above ++ [])) kind f refl refl refl,
+            (plain_atom sheet all (standing symbol.Name around no_role parts (above ++ [])) name f' refl refl refl, tt),
           ))
 
   -- at a place of which nothing more is wanted
-  pub plain_loc : (q : Place) (around : Around) (loc : Loc) (tree : Tree) → TakesHeld q rule.Location → Apart around.scope
+  pub plain_loc : (q : Symbol) (around : Around) (loc : Loc) (tree : Tree) → TakesHeld q rule.Location → Apart around.scope
       → StandsLoc (sheet_naming sheet) around.scope loc tree → IsHolder around loc.who → Sound sheet all q around tree
   plain_loc q around loc tree fits alone stands is role beside above plain =
       loc_sound q around loc tree role beside above fits alone plain.other (λ mention k class. plain.placed mention) stands is
 
   -- NUM
-  pub num_sound : (q : Place) (around : Around) (num : Num) (tree : Tree) → TakesHeld q rule.Counter → Apart around.scope
+  pub num_sound : (q : Symbol) (around : Around) (num : Num) (tree : Tree) → TakesHeld q rule.Counter → Apart around.scope
       → StandsNum (sheet_naming sheet) around.scope num tree → IsHolder around num.who → Sound sheet all q around tree
   num_sound q around num tree fits alone stands is =
       three_parts (StandsHolder around.scope num.who) (Atom "sto") (Named sheet.names.nums num.name)
@@ -289,8 +289,8 @@ module _ (sheet : Sheet) (all : List Part) where
               same_class = stands.1 ∙ ap Some (sym (holder_class around.scope num.who holder holds));
             };
           })
-          (λ p r b a. all_join sheet all (parts_at (Some (standing place.Holder around no_role parts (a ++ []))) holder) _
-          (sound_alone sheet all place.Holder around holder parts (a ++ []) (holder_sound around num.who holder alone holds is)) (
+          (λ p r b a. all_join sheet all (parts_at (Some (standing symbol.Holder around no_role parts (a ++ []))) holder) _
+          (sound_alone sheet all symbol.Holder around holder parts (a ++ []) (holder_sound around num.who holder alone holds is)) (
             fixed _ around parts (a ++ []) kind f,
-            (plain_atom sheet all (standing place.Name around no_role parts (a ++ [])) name f' refl refl refl, tt),
+            (plain_atom sheet all (standing symbol.Name around no_role parts (a ++ [])) name f' refl refl refl, tt),
           ))

@@ -14,7 +14,7 @@ use Rattle.rc_sheet_model.specs.Numbering.{IsNumbered}
 use Rattle.rc_sheet_model.specs.Stands.{Stands}
 use Rattle.rc_sheet_model.specs.WellFormed.{owner_count}
 use Rattle.rc_grammar.specs.Faults.{faults}
-use Rattle.rc_grammar.specs.declared.grammar.Place.TheVariants as place
+use Rattle.rc_grammar.specs.declared.grammar.Symbol.TheVariants as symbol
 use Rattle.rc_naming.specs.Mentions.{all_locations, all_numbers}
 use Rattle.rc_sheet_model.specs.WellFormed.{owner_count_by}
 use Rattle.rc_faults.specs.SecondParts.{Part, parts_of}
@@ -109,7 +109,7 @@ module _ (sheet : Sheet) (all : List Part) (differ : Differ sheet.names) (number
         owners (ap (λ n. num_class (sheet_naming sheet) n) (sym same) ∙ known.same_class))
 
 -- the first mentions have the names of the sheet
-pub locs_first : (sheet : Sheet) (tree : Tree) → faults place.Sheet tree ≡ [] → Stands sheet tree → IsNumbered sheet
+pub locs_first : (sheet : Sheet) (tree : Tree) → faults symbol.Sheet tree ≡ [] → Stands sheet tree → IsNumbered sheet
     → map name_of (firsts_from [] (flat_map locations_in (parts_of tree))) ≡ sheet.names.locs
 locs_first sheet tree shaped stands numbered =
     ap (λ l. map name_of (firsts_from [] l)) (locations_are tree shaped)
@@ -117,7 +117,7 @@ locs_first sheet tree shaped stands numbered =
     ∙ ap different (sym (loc_names_are tree))
     ∙ ap (λ n. n.locs) (sym (names_are sheet tree stands numbered))
 
-pub nums_first : (sheet : Sheet) (tree : Tree) → faults place.Sheet tree ≡ [] → Stands sheet tree → IsNumbered sheet
+pub nums_first : (sheet : Sheet) (tree : Tree) → faults symbol.Sheet tree ≡ [] → Stands sheet tree → IsNumbered sheet
     → map name_of (firsts_from [] (flat_map numbers_of (parts_of tree))) ≡ sheet.names.nums
 nums_first sheet tree shaped stands numbered =
     ap (λ l. map name_of (firsts_from [] l)) (gives_mentions tree shaped).numbers

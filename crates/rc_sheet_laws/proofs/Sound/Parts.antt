@@ -10,8 +10,8 @@ use Rattle.rc_sheet_model.specs.Naming.{kind_word as kind_bytes}
 use Rattle.rc_sheet_model.specs.WellFormed.{Around, IsAttr, IsValue, IsMap}
 use Rattle.rc_grammar.specs.Faults.{is_variable, rule_of}
 use Rattle.rc_grammar.specs.declared.keyword.Keyword.{Keyword}
-use Rattle.rc_grammar.specs.declared.grammar.Place.{Place}
-use Rattle.rc_grammar.specs.declared.grammar.Place.TheVariants as place
+use Rattle.rc_grammar.specs.declared.grammar.Symbol.{Symbol}
+use Rattle.rc_grammar.specs.declared.grammar.Symbol.TheVariants as symbol
 use Rattle.rc_grammar.specs.declared.grammar.Rule.{Rule}
 use Rattle.rc_grammar.specs.declared.grammar.Rule.TheVariants as rule
 use Rattle.rc_faults.specs.declared.role.Role.{Role}
@@ -23,7 +23,7 @@ use Rattle.rc_sheet.proofs.GoodParts.{Each}
 use Rattle.rc_sheet.proofs.Room.{all_both}
 
 -- a place, with what is around it
-abbrev pub standing : Place → Around → Role → Trees → List (List ℕ) → Standing
+abbrev pub standing : Symbol → Around → Role → Trees → List (List ℕ) → Standing
 standing place around role beside above =
     record { place = place; role = role; beside = beside; around = around; above = above }
 
@@ -42,20 +42,20 @@ is_easy rule.Counter = false
 is_easy r = not (is_binder r)
 
 -- The parts of a form from this index on stand at these places in these roles, with as much around them as around the form.
-abbrev pub StandAt : Standing → Rule → Trees → ℕ → List (Place × Role) → Type 0
+abbrev pub StandAt : Standing → Rule → Trees → ℕ → List (Symbol × Role) → Type 0
 StandAt at r parts k [] = Unit {0}
 StandAt at r parts k (s ∷ seats) =
     (standing_in at r parts k ≡ Some (standing s.0 at.around s.1 parts (at.above ++ []))) × StandAt at r parts (k + 1) seats
 
 -- And nothing can be wrong with the form by itself.
-abbrev pub IsRow : Rule → List (Place × Role) → Type 0
+abbrev pub IsRow : Rule → List (Symbol × Role) → Type 0
 IsRow r seats = (is_easy r ≡ true) × ((at : Standing) (parts : Trees) → StandAt at r parts 0 seats)
 
 -- a head, and a part without a role
-abbrev pub head_seat : Keyword → Place × Role
-head_seat k = (place.Word k, no_role)
+abbrev pub head_seat : Keyword → Symbol × Role
+head_seat k = (symbol.Word k, no_role)
 
-abbrev pub plain_seat : Place → Place × Role
+abbrev pub plain_seat : Symbol → Symbol × Role
 plain_seat q = (q, no_role)
 
 -- A sheet, and all parts of a form.
@@ -98,18 +98,18 @@ module _ (sheet : Sheet) (all : List Part) where
     pub named : (bytes : List ℕ) → is_unnamed all at.role bytes ≡ false
     pub placed : (mention : OwnedMention) → is_misplaced at.role mention ≡ false
 
-  pub no_role_plain : (place : Place) (around : Around) (beside : Trees) (above : List (List ℕ))
+  pub no_role_plain : (place : Symbol) (around : Around) (beside : Trees) (above : List (List ℕ))
       → IsPlain (standing place around no_role beside above)
   no_role_plain place around beside above = record { other = refl; named = λ bytes. refl; placed = λ mention. refl }
 
   -- all parts of a tree are sound at a place of which nothing more is wanted
-  abbrev pub Sound : Place → Around → Tree → Type 0
+  abbrev pub Sound : Symbol → Around → Tree → Type 0
   Sound place around tree =
       (role : Role) (beside : Trees) (above : List (List ℕ)) → IsPlain (standing place around role beside above)
       → AllSound (parts_at (Some (standing place around role beside above)) tree)
 
   -- and without a role
-  pub sound_alone : (place : Place) (around : Around) (tree : Tree) (beside : Trees) (above : List (List ℕ))
+  pub sound_alone : (place : Symbol) (around : Around) (tree : Tree) (beside : Trees) (above : List (List ℕ))
       → Sound place around tree → AllSound (parts_at (Some (standing place around no_role beside above)) tree)
   sound_alone place around tree beside above sound =
       sound no_role beside above (no_role_plain place around beside above)
@@ -117,12 +117,12 @@ module _ (sheet : Sheet) (all : List Part) where
   -- ATOMS
 
   -- no part before is in the first teams
-  no_player_again : (place : Place) (bytes : List ℕ) → is_player_again [] place bytes ≡ false
-  no_player_again place.Member bytes = refl
+  no_player_again : (place : Symbol) (bytes : List ℕ) → is_player_again [] place bytes ≡ false
+  no_player_again symbol.Member bytes = refl
   no_player_again place bytes = refl
 
-  known_player : (place : Place) (bytes : List ℕ) → is_no_player all [] place bytes ≡ false
-  known_player place.Member bytes = refl
+  known_player : (place : Symbol) (bytes : List ℕ) → is_no_player all [] place bytes ≡ false
+  known_player symbol.Member bytes = refl
   known_player place bytes = refl
 
   none_of_three : (a b c : Bool) → a ≡ false → b ≡ false → c ≡ false → (a || b || c) ≡ false
@@ -168,7 +168,7 @@ module _ (sheet : Sheet) (all : List Part) where
       (first_false (is_variable bytes) (some_of (sorts_at at.place)) _ none) other
 
   -- an atom of a place without variables is sound wherever it stands so
-  pub plain_word : (place : Place) (around : Around) (bytes : List ℕ) (from to : ℕ) → some_of (sorts_at place) ≡ false
+  pub plain_word : (place : Symbol) (around : Around) (bytes : List ℕ) (from to : ℕ) → some_of (sorts_at place) ≡ false
       → Sound place around (word bytes from to)
   plain_word place around bytes from to none role beside above plain =
       (plain_atom (standing place around role beside above) bytes from none (plain.named bytes) plain.other, tt)
@@ -178,13 +178,13 @@ module _ (sheet : Sheet) (all : List Part) where
   -- what holds of a form, and of its parts, wherever it stands
   abbrev pub FormSound : Rule → Around → Trees → Type 0
   FormSound r around parts =
-      (place : Place) (role : Role) (beside : Trees) (above : List (List ℕ)) (from : ℕ)
+      (place : Symbol) (role : Role) (beside : Trees) (above : List (List ℕ)) (from : ℕ)
       → IsPlain (standing place around role beside above)
       → IsSound (form (standing place around role beside above) r parts from)
 
   abbrev pub InnerSound : Rule → Around → Trees → Type 0
   InnerSound r around parts =
-      (place : Place) (role : Role) (beside : Trees) (above : List (List ℕ))
+      (place : Symbol) (role : Role) (beside : Trees) (above : List (List ℕ))
       → AllSound (parts_in (standing place around role beside above) r parts 0 parts)
 
   -- a list whose rule is known
@@ -194,7 +194,7 @@ module _ (sheet : Sheet) (all : List Part) where
   list_sound at r parts from to told outer inner =
       subst (λ o. AllSound (with_form at parts from (λ rule. parts_in at rule parts 0 parts) o)) (sym told) (outer, inner)
 
-  pub sound_list : (place : Place) (r : Rule) (around : Around) (parts : Trees) (from to : ℕ) → rule_of place parts ≡ Some r
+  pub sound_list : (place : Symbol) (r : Rule) (around : Around) (parts : Trees) (from to : ℕ) → rule_of place parts ≡ Some r
       → FormSound r around parts → InnerSound r around parts → Sound place around (list parts from to)
   sound_list place r around parts from to told outer inner role beside above plain =
       list_sound (standing place around role beside above) r parts from to told (outer place role beside above from plain)
@@ -227,7 +227,7 @@ module _ (sheet : Sheet) (all : List Part) where
       all_join (parts_at found tree) later (subst (λ o. AllSound (parts_at o tree)) (sym is) sound) more
 
   -- parts of one place, behind the first ones
-  pub rest_sound : (up : ℕ → ℕ) → ((k : ℕ) → up k + 1 ≡ up (suc k)) → (at : Standing) (r : Rule) (parts : Trees) (q : Place)
+  pub rest_sound : (up : ℕ → ℕ) → ((k : ℕ) → up k + 1 ≡ up (suc k)) → (at : Standing) (r : Rule) (parts : Trees) (q : Symbol)
       (around : Around) (above : List (List ℕ))
       → ((k : ℕ) → standing_in at r parts (up k) ≡ Some (standing q around no_role parts above))
       → (k : ℕ) (trees : Trees) → Each (Sound q around) trees → AllSound (parts_in at r parts (up k) trees)

@@ -16,8 +16,8 @@ use Rattle.rc_sheet_model.specs.StandsExpressions.{StandsOwner, StandsHolder, St
 use Rattle.rc_sheet_model.specs.WellFormed.{Around, IsAttr, IsValue, IsMap, IsBinder, behind}
 use Rattle.rc_grammar.specs.Faults.{is_variable, rule_of}
 use Rattle.rc_grammar.specs.declared.keyword.Keyword.{Keyword}
-use Rattle.rc_grammar.specs.declared.grammar.Place.{Place}
-use Rattle.rc_grammar.specs.declared.grammar.Place.TheVariants as place
+use Rattle.rc_grammar.specs.declared.grammar.Symbol.{Symbol}
+use Rattle.rc_grammar.specs.declared.grammar.Symbol.TheVariants as symbol
 use Rattle.rc_grammar.specs.declared.grammar.Rule.{Rule}
 use Rattle.rc_grammar.specs.declared.grammar.Rule.TheVariants as rule
 use Rattle.rc_faults.specs.Classes.{bound_in}
@@ -144,7 +144,7 @@ bound_word naming bound P (list parts f t) stands each = absurd stands
 -- A sheet, and all parts of a form, which give what the sheet's setup gives.
 module _ (sheet : Sheet) (all : List Part) (given : AreGiven sheet all) where
   -- a part of a list that is sound without a role, before others
-  pub then : (q : Place) (around : Around) (beside : Trees) (above : List (List ℕ)) (tree : Tree) (later : List Part)
+  pub then : (q : Symbol) (around : Around) (beside : Trees) (above : List (List ℕ)) (tree : Tree) (later : List Part)
       → Sound sheet all q around tree → AllSound sheet all later
       → AllSound sheet all (parts_at (Some (standing q around no_role beside above)) tree ++ later)
   then q around beside above tree later sound more =
@@ -153,12 +153,12 @@ module _ (sheet : Sheet) (all : List Part) (given : AreGiven sheet all) where
 
   -- a fixed word that isn't a head
   pub fixed_tree : (text : String) (k : Keyword) (around : Around) (tree : Tree) → Atom text tree
-      → Sound sheet all (place.Word k) around tree
-  fixed_tree text k around (word bytes from to) is = plain_word sheet all (place.Word k) around bytes from to refl
+      → Sound sheet all (symbol.Word k) around tree
+  fixed_tree text k around (word bytes from to) is = plain_word sheet all (symbol.Word k) around bytes from to refl
   fixed_tree text k around (list parts from to) is = absurd is
 
   -- the word `player` where cards may stand too
-  pub player_sound : (q : Place) (around : Around) (tree : Tree) → Atom "player" tree → Sound sheet all q around tree
+  pub player_sound : (q : Symbol) (around : Around) (tree : Tree) → Atom "player" tree → Sound sheet all q around tree
   player_sound q around (word bytes from to) is role beside above plain = (
     constant_atom sheet all (standing q around role beside above) bytes from (ap is_variable is) (plain.named bytes)
         plain.other,
@@ -169,9 +169,9 @@ module _ (sheet : Sheet) (all : List Part) (given : AreGiven sheet all) where
   -- ATTR, VALUE and MAP where they are used
   pub attr_sound : (around : Around) (n : ℕ) (tree : Tree) (beside : Trees) (above : List (List ℕ))
       → Named sheet.names.attrs n tree → IsAttr sheet n
-      → AllSound sheet all (parts_at (Some (standing place.Name around used_attribute beside above)) tree)
+      → AllSound sheet all (parts_at (Some (standing symbol.Name around used_attribute beside above)) tree)
   attr_sound around n (word bytes from to) beside above named is = (
-    plain_atom sheet all (standing place.Name around used_attribute beside above) bytes from refl
+    plain_atom sheet all (standing symbol.Name around used_attribute beside above) bytes from refl
         (ap not (given.attrs n bytes named.0 is)) refl,
     tt,
   )
@@ -179,9 +179,9 @@ module _ (sheet : Sheet) (all : List Part) (given : AreGiven sheet all) where
 
   pub value_sound : (around : Around) (n : ℕ) (tree : Tree) (beside : Trees) (above : List (List ℕ))
       → Named sheet.names.values n tree → IsValue sheet n
-      → AllSound sheet all (parts_at (Some (standing place.Name around used_value beside above)) tree)
+      → AllSound sheet all (parts_at (Some (standing symbol.Name around used_value beside above)) tree)
   value_sound around n (word bytes from to) beside above named is = (
-    plain_atom sheet all (standing place.Name around used_value beside above) bytes from refl
+    plain_atom sheet all (standing symbol.Name around used_value beside above) bytes from refl
         (ap not (given.values n bytes named.0 is)) refl,
     tt,
   )
@@ -189,9 +189,9 @@ module _ (sheet : Sheet) (all : List Part) (given : AreGiven sheet all) where
 
   pub map_sound : (around : Around) (n : ℕ) (tree : Tree) (beside : Trees) (above : List (List ℕ))
       → Named sheet.names.maps n tree → IsMap sheet n
-      → AllSound sheet all (parts_at (Some (standing place.Name around used_map beside above)) tree)
+      → AllSound sheet all (parts_at (Some (standing symbol.Name around used_map beside above)) tree)
   map_sound around n (word bytes from to) beside above named is = (
-    plain_atom sheet all (standing place.Name around used_map beside above) bytes from refl
+    plain_atom sheet all (standing symbol.Name around used_map beside above) bytes from refl
         (ap not (given.maps n bytes named.0 is)) refl,
     tt,
   )
@@ -235,7 +235,7 @@ module _ (sheet : Sheet) (all : List Part) (given : AreGiven sheet all) where
       → bound_in around bytes sort ≡ behind sheet around bound sort'
   behind_is around bound bytes sort sort' binds same = ap₂ (λ w s. bound_in around w s) (sym binds.word) same
 
-  pub behind_sound : (q : Place) (around : Around) (bound : ℕ) (bytes : List ℕ) (sort sort' : Sort) (tree : Tree)
+  pub behind_sound : (q : Symbol) (around : Around) (bound : ℕ) (bytes : List ℕ) (sort sort' : Sort) (tree : Tree)
       → Binds around bound bytes → sort ≡ sort' → Sound sheet all q (behind sheet around bound sort') tree
       → Sound sheet all q (bound_in around bytes sort) tree
   behind_sound q around bound bytes sort sort' tree binds same sound =
@@ -249,31 +249,31 @@ module _ (sheet : Sheet) (all : List Part) (given : AreGiven sheet all) where
   -- what is known of cards, of a card, and of a number
   abbrev pub CollSound : Around → Tree → Type 0
   CollSound around tree =
-      Sound sheet all place.Collection around tree × Sound sheet all place.Domain around tree
-      × Sound sheet all place.Members around tree
+      Sound sheet all symbol.Collection around tree × Sound sheet all symbol.Domain around tree
+      × Sound sheet all symbol.Members around tree
 
   abbrev pub SideSound : Around → SideSort → Tree → Type 0
-  SideSound around side tree = Sound sheet all place.Side around tree × (side_of around.scope tree ≡ Some side)
+  SideSound around side tree = Sound sheet all symbol.Side around tree × (side_of around.scope tree ≡ Some side)
 
   abbrev pub CardSound : Around → Tree → Type 0
-  CardSound around tree = Sound sheet all place.Card around tree × SideSound around card_side tree
+  CardSound around tree = Sound sheet all symbol.Card around tree × SideSound around card_side tree
 
   abbrev pub IntSound : Around → Tree → Type 0
-  IntSound around tree = Sound sheet all place.Integer around tree × SideSound around number_side tree
+  IntSound around tree = Sound sheet all symbol.Integer around tree × SideSound around number_side tree
 
   abbrev pub TestSound : Around → Tree → Type 0
-  TestSound around tree = Sound sheet all place.Test around tree
+  TestSound around tree = Sound sheet all symbol.Test around tree
 
   -- FORMS BY THEIR SHAPES
 
   -- a head
   head_sound : (around : Around) (k : Keyword) (beside : Trees) (above : List (List ℕ)) (bytes : List ℕ) (f t : ℕ)
-      → AllSound sheet all (parts_at (Some (standing (place.Word k) around no_role beside above)) (word bytes f t))
+      → AllSound sheet all (parts_at (Some (standing (symbol.Word k) around no_role beside above)) (word bytes f t))
   head_sound around k beside above bytes f t = (fixed sheet all k around beside above bytes f, tt)
 
   -- `(top COLL)` and the like
-  pub one_sound : (text : String) (r : Rule) (k : Keyword) (u : Place) → IsRow r (head_seat k ∷ plain_seat u ∷ [])
-      → (q : Place) (around : Around) (f t from to : ℕ) (x : Tree)
+  pub one_sound : (text : String) (r : Rule) (k : Keyword) (u : Symbol) → IsRow r (head_seat k ∷ plain_seat u ∷ [])
+      → (q : Symbol) (around : Around) (f t from to : ℕ) (x : Tree)
       → rule_of q (cons (word (codes text) f t) (cons x nil)) ≡ Some r → Sound sheet all u around x
       → Sound sheet all q around (list (cons (word (codes text) f t) (cons x nil)) from to)
   one_sound text r k u row q around f t from to x told sound =
@@ -285,8 +285,8 @@ module _ (sheet : Sheet) (all : List Part) (given : AreGiven sheet all) where
       (told_then sheet all _ _ x [] at.1.0 (sound_alone sheet all u around x parts (a ++ []) sound) tt))
 
   -- `(+ INT INT)` and the like
-  pub two_sound : (text : String) (r : Rule) (k : Keyword) (u v : Place) → IsRow r (head_seat k ∷ plain_seat u ∷ plain_seat v ∷ [])
-      → (q : Place) (around : Around) (f t from to : ℕ) (x y : Tree)
+  pub two_sound : (text : String) (r : Rule) (k : Keyword) (u v : Symbol) → IsRow r (head_seat k ∷ plain_seat u ∷ plain_seat v ∷ [])
+      → (q : Symbol) (around : Around) (f t from to : ℕ) (x y : Tree)
       → rule_of q (cons (word (codes text) f t) (cons x (cons y nil))) ≡ Some r
       → Sound sheet all u around x → Sound sheet all v around y
       → Sound sheet all q around (list (cons (word (codes text) f t) (cons x (cons y nil))) from to)
@@ -300,9 +300,9 @@ module _ (sheet : Sheet) (all : List Part) (given : AreGiven sheet all) where
       (told_then sheet all _ _ y [] at.1.1.0 (sound_alone sheet all v around y parts (a ++ []) sound') tt)))
 
   -- `(max COLL using MAP)` and the like
-  pub using_sound : (text : String) (r : Rule) (k k' : Keyword) (u : Place)
-      → IsRow r (head_seat k ∷ plain_seat u ∷ head_seat k' ∷ (place.Name, used_map) ∷ [])
-      → (q : Place) (around : Around) (map f t from to : ℕ) (c word_using m : Tree)
+  pub using_sound : (text : String) (r : Rule) (k k' : Keyword) (u : Symbol)
+      → IsRow r (head_seat k ∷ plain_seat u ∷ head_seat k' ∷ (symbol.Name, used_map) ∷ [])
+      → (q : Symbol) (around : Around) (map f t from to : ℕ) (c word_using m : Tree)
       → rule_of q (cons (word (codes text) f t) (cons c (cons word_using (cons m nil)))) ≡ Some r
       → Sound sheet all u around c → Atom "using" word_using → Named sheet.names.maps map m → IsMap sheet map
       → Sound sheet all q around (list (cons (word (codes text) f t) (cons c (cons word_using (cons m nil)))) from to)
@@ -311,7 +311,7 @@ module _ (sheet : Sheet) (all : List Part) (given : AreGiven sheet all) where
       sound_list sheet all q r around parts from to told (easy_sound sheet all r row.0 around parts)
       (λ p role b a.
       let at = row.1 (standing p around role b a) parts in
-      let fixed_word = sound_alone sheet all (place.Word k') around word_using parts (a ++ [])
+      let fixed_word = sound_alone sheet all (symbol.Word k') around word_using parts (a ++ [])
       (fixed_tree "using" k' around word_using using) in
       told_then sheet all _ _ (word (codes text) f t) _ at.0 (head_sound around k parts (a ++ []) (codes text) f t)
       (told_then sheet all _ _ c _ at.1.0 (sound_alone sheet all u around c parts (a ++ []) sound)
@@ -320,18 +320,18 @@ module _ (sheet : Sheet) (all : List Part) (given : AreGiven sheet all) where
 
   -- `(= SIDE SIDE)` and the like, with two sides of one sort
   pub sides_sound : (text : String) (r : Rule) (k : Keyword)
-      → IsRow r (head_seat k ∷ plain_seat place.Side ∷ (place.Side, second_side) ∷ [])
+      → IsRow r (head_seat k ∷ plain_seat symbol.Side ∷ (symbol.Side, second_side) ∷ [])
       → (around : Around) (side : SideSort) (f t from to : ℕ) (x y : Tree)
-      → rule_of place.Test (cons (word (codes text) f t) (cons x (cons y nil))) ≡ Some r
+      → rule_of symbol.Test (cons (word (codes text) f t) (cons x (cons y nil))) ≡ Some r
       → SideSound around side x → SideSound around side y
       → TestSound around (list (cons (word (codes text) f t) (cons x (cons y nil))) from to)
   sides_sound text r k row around side f t from to x y told sound sound' =
       let parts = cons (word (codes text) f t) (cons x (cons y nil)) in
-      sound_list sheet all place.Test r around parts from to told (easy_sound sheet all r row.0 around parts)
+      sound_list sheet all symbol.Test r around parts from to told (easy_sound sheet all r row.0 around parts)
       (λ p role b a.
       let at = row.1 (standing p around role b a) parts in
       told_then sheet all _ _ (word (codes text) f t) _ at.0 (head_sound around k parts (a ++ []) (codes text) f t)
-      (told_then sheet all _ _ x _ at.1.0 (sound_alone sheet all place.Side around x parts (a ++ []) sound.0)
+      (told_then sheet all _ _ x _ at.1.0 (sound_alone sheet all symbol.Side around x parts (a ++ []) sound.0)
       (told_then sheet all _ _ y [] at.1.1.0
       (sound'.0 second_side parts (a ++ []) (record {
         other = sides_same side (side_of around.scope x) (side_of around.scope y) sound.1 sound'.1;
@@ -340,10 +340,10 @@ module _ (sheet : Sheet) (all : List Part) (given : AreGiven sheet all) where
       })) tt)))
 
   -- `(and BOOL BOOL+)` and the like
-  pub many_sound : (text : String) (r : Rule) (k : Keyword) (u : Place) → IsRow r (head_seat k ∷ [])
+  pub many_sound : (text : String) (r : Rule) (k : Keyword) (u : Symbol) → IsRow r (head_seat k ∷ [])
       → ((at : Standing) (parts : Trees) (n : ℕ)
       → standing_in at r parts (suc n) ≡ Some (standing u at.around no_role parts (at.above ++ [])))
-      → (q : Place) (around : Around) (f t from to : ℕ) (parts : Trees)
+      → (q : Symbol) (around : Around) (f t from to : ℕ) (parts : Trees)
       → rule_of q (cons (word (codes text) f t) parts) ≡ Some r → Each (Sound sheet all u around) parts
       → Sound sheet all q around (list (cons (word (codes text) f t) parts) from to)
   many_sound text r k u row stands_rest q around f t from to parts told each =
@@ -355,12 +355,12 @@ module _ (sheet : Sheet) (all : List Part) (given : AreGiven sheet all) where
       (rest_sound sheet all suc (λ n. omega arith) at r whole u around (a ++ []) (stands_rest at whole) 0 parts each))
 
   -- `(filter COLL VAR BOOL)` and the like: what the variable runs over stands at one place, and the body at another
-  pub binder_sound : (text : String) (r : Rule) (k : Keyword) (u v : Place) → is_binder r ≡ true
-      → ((at : Standing) (parts : Trees) → StandAt at r parts 0 (head_seat k ∷ plain_seat u ∷ plain_seat place.Variable ∷ []))
+  pub binder_sound : (text : String) (r : Rule) (k : Keyword) (u v : Symbol) → is_binder r ≡ true
+      → ((at : Standing) (parts : Trees) → StandAt at r parts 0 (head_seat k ∷ plain_seat u ∷ plain_seat symbol.Variable ∷ []))
       → ((at : Standing) (parts : Trees)
       → standing_in at r parts 3
       ≡ Some (standing v (bound_in at.around (word_in 2 parts) (sort_over (part_at 1 parts))) no_role parts (at.above ++ [])))
-      → (q : Place) (around : Around) (bound : ℕ) (sort : Sort) (bytes : List ℕ) (f t f' t' from to : ℕ) (c x : Tree)
+      → (q : Symbol) (around : Around) (bound : ℕ) (sort : Sort) (bytes : List ℕ) (f t f' t' from to : ℕ) (c x : Tree)
       → rule_of q (cons (word (codes text) f t) (cons c (cons (word bytes f' t') (cons x nil)))) ≡ Some r
       → Binds around bound bytes → sort_over c ≡ sort → Sound sheet all u around c
       → Sound sheet all v (behind sheet around bound sort) x
@@ -371,7 +371,7 @@ module _ (sheet : Sheet) (all : List Part) (given : AreGiven sheet all) where
       sound_list sheet all q r around parts from to told (binder_form r around parts is binds.fresh binds.room)
       (λ p role b a.
       let at = stand (standing p around role b a) parts in
-      let variable = plain_atom sheet all (standing place.Variable around no_role parts (a ++ [])) bytes f' refl refl refl in
+      let variable = plain_atom sheet all (standing symbol.Variable around no_role parts (a ++ [])) bytes f' refl refl refl in
       let body = behind_sound v around bound bytes (sort_over c) sort x binds same sound' in
       told_then sheet all _ _ (word (codes text) f t) _ at.0 (head_sound around k parts (a ++ []) (codes text) f t)
       (told_then sheet all _ _ c _ at.1.0 (sound_alone sheet all u around c parts (a ++ []) sound)
@@ -380,30 +380,30 @@ module _ (sheet : Sheet) (all : List Part) (given : AreGiven sheet all) where
       (sound_alone sheet all v inner x parts (a ++ []) body) tt))))
 
   -- `(attr CARD ATTR)`
-  pub value_of_sound : (around : Around) (attr f t from to : ℕ) (c n : Tree) → Sound sheet all place.Card around c
+  pub value_of_sound : (around : Around) (attr f t from to : ℕ) (c n : Tree) → Sound sheet all symbol.Card around c
       → Named sheet.names.attrs attr n → IsAttr sheet attr
       → SideSound around value_side (list (cons (word (codes "attr") f t) (cons c (cons n nil))) from to)
   value_of_sound around attr f t from to c n sound named is = (
-    sound_list sheet all place.Side rule.AttributeOf around (cons (word (codes "attr") f t) (cons c (cons n nil))) from to refl
+    sound_list sheet all symbol.Side rule.AttributeOf around (cons (word (codes "attr") f t) (cons c (cons n nil))) from to refl
         (easy_sound sheet all rule.AttributeOf refl around _)
         (λ p r b a. (
           fixed sheet all _ _ _ _ _ _,
-          then place.Card around _ _ c _ sound
+          then symbol.Card around _ _ c _ sound
               (all_join sheet all _ [] (attr_sound around attr n _ _ named is) tt),
         )),
     refl,
   )
 
   -- `(is CARD ATTR VALUE)`
-  pub is_sound : (around : Around) (attr value f t from to : ℕ) (c n v : Tree) → Sound sheet all place.Card around c
+  pub is_sound : (around : Around) (attr value f t from to : ℕ) (c n v : Tree) → Sound sheet all symbol.Card around c
       → Named sheet.names.attrs attr n → IsAttr sheet attr → Named sheet.names.values value v → IsValue sheet value
       → TestSound around (list (cons (word (codes "is") f t) (cons c (cons n (cons v nil)))) from to)
   is_sound around attr value f t from to c n v sound named is named' is' =
-      sound_list sheet all place.Test rule.Is around (cons (word (codes "is") f t) (cons c (cons n (cons v nil)))) from to refl
+      sound_list sheet all symbol.Test rule.Is around (cons (word (codes "is") f t) (cons c (cons n (cons v nil)))) from to refl
       (easy_sound sheet all rule.Is refl around _)
       (λ p r b a. (
         fixed sheet all _ _ _ _ _ _,
-        then place.Card around _ _ c _ sound
+        then symbol.Card around _ _ c _ sound
             (all_join sheet all _ _ (attr_sound around attr n _ _ named is)
             (all_join sheet all _ [] (value_sound around value v _ _ named' is') tt)),
       ))

@@ -18,7 +18,7 @@ use Rattle.rc_sheet_model.specs.Stands.{StandsScoring, Stands}
 use Rattle.rc_model.specs.Deck.{face_count}
 use Rattle.rc_sheet_model.specs.WellFormed.{outside, is_among, owner_count, AreTeams, IsWellFormed}
 use Rattle.rc_grammar.specs.Faults.{faults, first}
-use Rattle.rc_grammar.specs.declared.grammar.Place.TheVariants as place
+use Rattle.rc_grammar.specs.declared.grammar.Symbol.TheVariants as symbol
 use Rattle.rc_grammar.specs.declared.grammar.Rule.TheVariants as rule
 use Rattle.rc_sheet_model.specs.WellFormed.{owner_count_by}
 use Rattle.rc_faults.specs.declared.role.Role.TheVariants.{No as no_role}
@@ -51,13 +51,13 @@ module _ (sheet : Sheet) (all : List Part) (given : AreGiven sheet all) (differ 
     (well : IsWellFormed sheet) (none : (teams : Teams) → sheet.teams ≡ Some teams → NoneLeft sheet all teams)
   where
     setup_sound : (whole : Trees) (tree : Tree) → Row (Atom "setup" ▸ Full (StandsSetup (sheet_naming sheet) sheet)) tree
-        → AllSound sheet all (parts_at (Some (standing place.Setup outside no_role whole [])) tree)
+        → AllSound sheet all (parts_at (Some (standing symbol.Setup outside no_role whole [])) tree)
     setup_sound whole tree stands =
         behind_word "setup" (Full (StandsSetup (sheet_naming sheet) sheet))
-        (λ tree. AllSound sheet all (parts_at (Some (standing place.Setup outside no_role whole [])) tree)) tree stands
+        (λ tree. AllSound sheet all (parts_at (Some (standing symbol.Setup outside no_role whole [])) tree)) tree stands
         (λ f t from to lines here.
         let parts = cons (word (codes "setup") f t) lines in
-        let at = standing place.Setup outside no_role whole [] in
+        let at = standing symbol.Setup outside no_role whole [] in
         list_sound sheet all at rule.Setup parts from to refl
         (record { once = refl; known = refl; kind_fits = refl; shallow = refl; said = tt }) (
           fixed sheet all _ _ _ _ _ _,
@@ -95,7 +95,7 @@ teams_fine players None are = (tt, tt)
 teams_fine players (Some teams) are = partition_differs players teams are
 
 module _ (sheet : Sheet) (tree : Tree) (stands : Stands sheet tree) (well : IsWellFormed sheet)
-    (shaped : faults place.Sheet tree ≡ [])
+    (shaped : faults symbol.Sheet tree ≡ [])
   where
     abbrev all : List Part
     all = parts_of tree

@@ -17,8 +17,8 @@ use Rattle.rc_sheet_model.specs.Stands.{StandsScoring, Stands}
 use Rattle.rc_sheet_model.specs.WellFormed.{Around, outside, in_stage}
 use Rattle.rc_grammar.specs.Grammar.{forms_of}
 use Rattle.rc_grammar.specs.Faults.{count}
-use Rattle.rc_grammar.specs.declared.grammar.Place.{Place}
-use Rattle.rc_grammar.specs.declared.grammar.Place.TheVariants as place
+use Rattle.rc_grammar.specs.declared.grammar.Symbol.{Symbol}
+use Rattle.rc_grammar.specs.declared.grammar.Symbol.TheVariants as symbol
 use Rattle.rc_grammar.specs.declared.grammar.Rule.{Rule}
 use Rattle.rc_grammar.specs.declared.grammar.Rule.TheVariants as rule
 use Rattle.rc_faults.specs.declared.role.Role.{Role}
@@ -34,9 +34,9 @@ use Rattle.rc_sheet_laws.proofs.Sound.Items.{stands_last, stands_item, one_more}
 use Rattle.rc_sheet_laws.proofs.Sound.Parts.{standing}
 
 -- the places that are no items, and the forms that are none
-abbrev no_items : Place → Bool
-no_items place.Sheet = false
-no_items place.Item = false
+abbrev no_items : Symbol → Bool
+no_items symbol.Sheet = false
+no_items symbol.Item = false
 no_items p = true
 
 abbrev is_no_item : Rule → Bool
@@ -46,9 +46,9 @@ is_no_item rule.TeamStage = false
 is_no_item rule.Choice = false
 is_no_item r = true
 
-no_items_below : (p : Place) → no_items p ≡ true → list_all (λ r. is_no_item r && lies_in no_items r) (forms_of p) ≡ true
-no_items_below place.Sheet inside = absurd cc
-no_items_below place.Item inside = absurd cc
+no_items_below : (p : Symbol) → no_items p ≡ true → list_all (λ r. is_no_item r && lies_in no_items r) (forms_of p) ≡ true
+no_items_below symbol.Sheet inside = absurd cc
+no_items_below symbol.Item inside = absurd cc
 no_items_below p inside = refl
 
 -- how many there are among items, where a stage counts for so many, and a choice
@@ -106,7 +106,7 @@ module _
         (λ at bytes from quiet. atoms at bytes from) forms at tree inside refl
 
     -- parts of one place that is no item's
-    rest_silent : (up : ℕ → ℕ) → ((k : ℕ) → up k + 1 ≡ up (suc k)) → (at : Standing) (r : Rule) (parts : Trees) (q : Place)
+    rest_silent : (up : ℕ → ℕ) → ((k : ℕ) → up k + 1 ≡ up (suc k)) → (at : Standing) (r : Rule) (parts : Trees) (q : Symbol)
         (around : Around) (above : List (List ℕ)) → no_items q ≡ true
         → ((k : ℕ) → standing_in at r parts (up k) ≡ Some (standing q around no_role parts above))
         → (k : ℕ) (trees : Trees) → flat_map f (parts_in at r parts (up k) trees) ≡ []
@@ -137,14 +137,14 @@ module _
       mutual
         item_size : (i : SheetItem) (tree : Tree) (around : Around) (role : Role) (beside : Trees) (above : List (List ℕ))
             → StandsItem naming i tree
-            → Size (parts_at (Some (standing place.Item around role beside above)) tree) ≡ counted_item s c i
+            → Size (parts_at (Some (standing symbol.Item around role beside above)) tree) ≡ counted_item s c i
         item_size (do_item effects) tree around role beside above stands =
             behind_word "do" (Full (StandEffects naming [] effects))
-            (λ tree. Size (parts_at (Some (standing place.Item around role beside above)) tree) ≡ 0) tree stands
+            (λ tree. Size (parts_at (Some (standing symbol.Item around role beside above)) tree) ≡ 0) tree stands
             (λ g t from to es there. ap length (ap₂ ◌++◌ (forms _ rule.Do _ from refl)
             (ap₂ ◌++◌ (atoms _ (codes "do") g)
-            (rest_silent suc (λ k. omega arith) (standing place.Item around role beside above) rule.Do
-            (cons (word (codes "do") g t) es) place.Effect around (above ++ []) refl (λ k. refl) 0 es))))
+            (rest_silent suc (λ k. omega arith) (standing symbol.Item around role beside above) rule.Do
+            (cons (word (codes "do") g t) es) symbol.Effect around (above ++ []) refl (λ k. refl) 0 es))))
         item_size (stage number game_class end body) (word bytes from to) around role beside above stands = absurd stands
         item_size (stage number game_class end body) (list nil from to) around role beside above stands = absurd stands
         item_size (stage number game_class end body) (list (cons a nil) from to) around role beside above stands =
@@ -154,18 +154,18 @@ module _
         item_size (stage number player_class end body) tree around role beside above stands =
             row_words "stage" "player"
             (Row (Atom "end" ▸ StandsTest naming [] end ▸ End) ▸ Full (StandItems naming body End))
-            (λ tree. Size (parts_at (Some (standing place.Item around role beside above)) tree) ≡ s + counted s c body) tree
+            (λ tree. Size (parts_at (Some (standing symbol.Item around role beside above)) tree) ≡ s + counted s c body) tree
             stands
             (λ g t g' t' from to parts more. first_part (Row (Atom "end" ▸ StandsTest naming [] end ▸ End))
             (Full (StandItems naming body End))
-            (λ l. Size (parts_at (Some (standing place.Item around role beside above))
+            (λ l. Size (parts_at (Some (standing symbol.Item around role beside above))
             (list (cons (word (codes "stage") g t) (cons (word (codes "player") g' t') l)) from to)) ≡ s + counted s c body)
             parts more
             (λ e is' here there.
             let whole = cons (word (codes "stage") g t) (cons (word (codes "player") g' t') (cons e is')) in
-            let at = standing place.Item around role beside above in
+            let at = standing symbol.Item around role beside above in
             stage_size (f (form at rule.PlayerStage whole from)) _ _
-            (parts_at (Some (standing place.End (in_stage player_class around) no_role whole (above ++ []))) e)
+            (parts_at (Some (standing symbol.End (in_stage player_class around) no_role whole (above ++ []))) e)
             (parts_in at rule.PlayerStage whole 3 is') (counted s c body) (players at whole from) (atoms _ (codes "stage") g)
             (atoms _ (codes "player") g') (silent _ e refl)
             (items_size body is' (λ k. suc (suc (suc k))) (λ k. omega arith) at rule.PlayerStage whole
@@ -173,30 +173,30 @@ module _
         item_size (stage number team_class end body) tree around role beside above stands =
             row_words "stage" "team"
             (Row (Atom "end" ▸ StandsTest naming [] end ▸ End) ▸ Full (StandItems naming body End))
-            (λ tree. Size (parts_at (Some (standing place.Item around role beside above)) tree) ≡ s + counted s c body) tree
+            (λ tree. Size (parts_at (Some (standing symbol.Item around role beside above)) tree) ≡ s + counted s c body) tree
             stands
             (λ g t g' t' from to parts more. first_part (Row (Atom "end" ▸ StandsTest naming [] end ▸ End))
             (Full (StandItems naming body End))
-            (λ l. Size (parts_at (Some (standing place.Item around role beside above))
+            (λ l. Size (parts_at (Some (standing symbol.Item around role beside above))
             (list (cons (word (codes "stage") g t) (cons (word (codes "team") g' t') l)) from to)) ≡ s + counted s c body)
             parts more
             (λ e is' here there.
             let whole = cons (word (codes "stage") g t) (cons (word (codes "team") g' t') (cons e is')) in
-            let at = standing place.Item around role beside above in
+            let at = standing symbol.Item around role beside above in
             stage_size (f (form at rule.TeamStage whole from)) _ _
-            (parts_at (Some (standing place.End (in_stage team_class around) no_role whole (above ++ []))) e)
+            (parts_at (Some (standing symbol.End (in_stage team_class around) no_role whole (above ++ []))) e)
             (parts_in at rule.TeamStage whole 3 is') (counted s c body) (teams at whole from) (atoms _ (codes "stage") g)
             (atoms _ (codes "team") g') (silent _ e refl)
             (items_size body is' (λ k. suc (suc (suc k))) (λ k. omega arith) at rule.TeamStage whole
             (in_stage team_class around) (above ++ []) (λ k. refl) 0 there.1)))
         item_size (choice site alts) tree around role beside above stands =
             behind_word "choice" (Full (StandAlts naming alts))
-            (λ tree. Size (parts_at (Some (standing place.Item around role beside above)) tree) ≡ c) tree stands
+            (λ tree. Size (parts_at (Some (standing symbol.Item around role beside above)) tree) ≡ c) tree stands
             (λ g t from to as' there.
             let whole = cons (word (codes "choice") g t) as' in
-            let at = standing place.Item around role beside above in
+            let at = standing symbol.Item around role beside above in
             let none = ap₂ ◌++◌ (atoms _ (codes "choice") g)
-            (rest_silent suc (λ k. omega arith) at rule.Choice whole place.Alternative around (above ++ []) refl (λ k. refl) 0
+            (rest_silent suc (λ k. omega arith) at rule.Choice whole symbol.Alternative around (above ++ []) refl (λ k. refl) 0
             as') in
             ap (λ l. length (f (form at rule.Choice whole from) ++ l)) none
             ∙ length-append (f (form at rule.Choice whole from)) [] ∙ no_more (length (f (form at rule.Choice whole from))) c
@@ -204,7 +204,7 @@ module _
 
         items_size : (items : SheetItems) (trees : Trees) (up : ℕ → ℕ) → ((k : ℕ) → up k + 1 ≡ up (suc k)) → (at : Standing)
             (r : Rule) (parts : Trees) (around : Around) (above : List (List ℕ))
-            → ((k : ℕ) → standing_in at r parts (up k) ≡ Some (standing place.Item around no_role parts above))
+            → ((k : ℕ) → standing_in at r parts (up k) ≡ Some (standing symbol.Item around no_role parts above))
             → (k : ℕ) → StandItems naming items End trees → Size (parts_in at r parts (up k) trees) ≡ counted s c items
         items_size no_item nil up next at r parts around above stand k stands = refl
         items_size no_item (cons tree trees) up next at r parts around above stand k stands = absurd stands
@@ -224,7 +224,7 @@ module _
     body_size sheet whole k no_item (cons tree nil) stands total =
         size_both (parts_at (standing_in standing_alone rule.Game whole (suc (suc k))) tree) []
         ∙ ap (λ n. n + 0) (ap (λ o. Size (parts_at o tree)) (stands_last whole k total)
-        ∙ ap length (silent (standing place.Scoring outside no_role whole []) tree refl))
+        ∙ ap length (silent (standing symbol.Scoring outside no_role whole []) tree refl))
     body_size sheet whole k no_item (cons tree (cons next trees)) stands total = absurd stands.1
     body_size sheet whole k (item i items) nil stands total = absurd stands
     body_size sheet whole k (item i items) (cons tree nil) stands total = absurd (none_left items stands.1)
@@ -247,10 +247,10 @@ module _
         (λ a b c' d e f' from to lines rest setup items.
         let all = cons (word (codes "game") a b) (cons (list (cons (word (codes "setup") c' d) lines) e f') rest) in
         ap length (ap₂ ◌++◌ (game standing_alone all from) (ap₂ ◌++◌ (atoms _ (codes "game") a)
-        (flat_map-append f (parts_at (Some (standing place.Setup outside no_role all []))
+        (flat_map-append f (parts_at (Some (standing symbol.Setup outside no_role all []))
         (list (cons (word (codes "setup") c' d) lines) e f')) (parts_in standing_alone rule.Game all 2 rest)
         ∙ ap (λ l. l ++ flat_map f (parts_in standing_alone rule.Game all 2 rest))
-        (silent (standing place.Setup outside no_role all []) (list (cons (word (codes "setup") c' d) lines) e f') refl))))
+        (silent (standing symbol.Setup outside no_role all []) (list (cons (word (codes "setup") c' d) lines) e f') refl))))
         ∙ body_size sheet all 0 sheet.items rest items (omega arith))
 
 -- STAGES AND CHOICES

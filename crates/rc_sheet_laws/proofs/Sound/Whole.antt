@@ -14,8 +14,8 @@ use Rattle.rc_sheet_model.specs.Naming.{loc_class, num_class, sheet_naming}
 use Rattle.rc_sheet_model.specs.Naming.{kind_word as kind_bytes}
 use Rattle.rc_model.specs.Limits.{most_cards, most_locations, most_numbers, most_attrs, most_values, most_maps, most_stages, most_sites}
 use Rattle.rc_sheet_model.specs.WellFormed.{is_among}
-use Rattle.rc_grammar.specs.declared.grammar.Place.{Place}
-use Rattle.rc_grammar.specs.declared.grammar.Place.TheVariants as place
+use Rattle.rc_grammar.specs.declared.grammar.Symbol.{Symbol}
+use Rattle.rc_grammar.specs.declared.grammar.Symbol.TheVariants as symbol
 use Rattle.rc_grammar.specs.declared.grammar.Rule.TheVariants as rule
 use Rattle.rc_grammar.specs.declared.fault.SheetKind.{SheetKind}
 use Rattle.rc_grammar.specs.declared.fault.SheetKind.TheVariants.{Twice, Unknown, WrongKind, TooMany, NoCards}
@@ -244,7 +244,7 @@ pub record IsTogether (all : List Part) : Type 0 where
 
 module _ (sheet : Sheet) (all : List Part) (differ : Differ sheet.names) (together : IsTogether all) where
   -- a member
-  member_fresh : (before later : List Part) (at : Standing) (bytes : List ℕ) (from : ℕ) → at.place ≡ place.Member
+  member_fresh : (before later : List Part) (at : Standing) (bytes : List ℕ) (from : ℕ) → at.place ≡ symbol.Member
       → all ≡ before ++ (atom at bytes from ∷ later)
       → (is_among (number_by bytes) (flat_map members_in before) ≡ false) × (number_by bytes < player_count all)
   member_fresh before later at bytes from here is =
@@ -260,8 +260,8 @@ module _ (sheet : Sheet) (all : List Part) (differ : Differ sheet.names) (togeth
       → is_twice before part ≡ false
   once_again before later (atom at bytes from) is sound = by at.place refl
     where
-      by : (q : Place) → at.place ≡ q → is_player_again before q bytes ≡ false
-      by place.Member here = and_right _ _ (member_fresh before later at bytes from here is).0
+      by : (q : Symbol) → at.place ≡ q → is_player_again before q bytes ≡ false
+      by symbol.Member here = and_right _ _ (member_fresh before later at bytes from here is).0
       by q here = refl
   once_again before later (form at rule.CreatePlayers parts from) is sound =
       none_before players_in before (form at rule.CreatePlayers parts from) later _ refl
@@ -282,8 +282,8 @@ module _ (sheet : Sheet) (all : List Part) (differ : Differ sheet.names) (togeth
       (or_parts (is_unbound at bytes || is_unnamed all at.role bytes) (is_no_player all [] at.place bytes) sound.known).0
       (by at.place refl)
     where
-      by : (q : Place) → at.place ≡ q → is_no_player all before q bytes ≡ false
-      by place.Member here =
+      by : (q : Symbol) → at.place ≡ q → is_no_player all before q bytes ≡ false
+      by symbol.Member here =
           and_right _ _ (lt-leb (player_count all) (number_by bytes) (member_fresh before later at bytes from here is).1)
       by q here = refl
   all_known before later (form at rule.CreateTeams parts from) is sound = and_right _ _ sound.known

@@ -4,14 +4,14 @@ use Rattle.rc_form.specs.Form.{tree_of, trees_of, packed}
 use Rattle.rc_form.specs.declared.form.Form.{Form}
 use Rattle.rc_grammar.specs.Faults as spec
 use Rattle.rc_grammar.specs.declared.fault.SheetFault.{SheetFault}
-use Rattle.rc_grammar.specs.declared.grammar.Place.{Place}
+use Rattle.rc_grammar.specs.declared.grammar.Symbol.{Symbol}
 use Rattle.rc_grammar.specs.declared.grammar.Rule.{Rule}
 use Rattle.rc_grammar.proofs.Counts.{count_packed}
 use Rattle.rc_grammar.proofs.FirstFault.{step_on, stop_here}
 use Rattle.rc_grammar.proofs.shape.+shapes.Goals as goal
 
 -- what looking at a part answers, at the place that the form has for it
-answered : (rule : Rule) (parts : List Form) (index : ℕ) (place : Option Place) (part : Form) (result : Result (Unit {0}) SheetFault)
+answered : (rule : Rule) (parts : List Form) (index : ℕ) (place : Option Symbol) (part : Form) (result : Result (Unit {0}) SheetFault)
     → place ≡ spec.place_at rule (length parts) index → spec.fault_of result ≡ spec.first (spec.faults_at place (tree_of part))
     → spec.first (spec.faults_at (spec.place_at rule (spec.count (packed (trees_of parts))) index) (tree_of part)) ≡ spec.fault_of result
 answered rule parts index place part result is answer =

@@ -4,7 +4,7 @@ use Rattle.rc_form.specs.Form.{tree_of}
 use Rattle.rc_grammar.specs.Faults as spec
 use Rattle.rc_grammar.specs.FirstOf.{IsFirstOf}
 use Rattle.rc_grammar.specs.declared.fault.SheetFault.{SheetFault}
-use Rattle.rc_grammar.specs.declared.grammar.Place.TheVariants.{Sheet}
+use Rattle.rc_grammar.specs.declared.grammar.Symbol.TheVariants.{Sheet}
 use Rattle.rc_grammar.proofs.InOrder.{Ordered, Ordered-faults, Ordered-first}
 use Rattle.rc_grammar.proofs.shape.check_shape.Goals as goal
 

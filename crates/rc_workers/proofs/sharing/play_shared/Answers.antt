@@ -16,7 +16,7 @@ use Rattle.rc_workers.proofs.sharing.play_shared.Goals as goal
 
 pub play_claimed-requires-send-C : goal.play_claimed-requires-send-C
 play_claimed-requires-send-C g c κs within =
-    param_send 0 _ (arg_send _ Exit.yes _ (choices_send _ (memo_send (Param.param 0 g.row.N) g.N.Naming record { mir = Syntax.named 5; lft = κs.1.1.1.1.1.0 } (Param.param 1 g.row.R) c.type_bounds.sync-R)))
+    param_send 0 _ (arg_send _ Exit.yes _ (choices_send _ (memo_send (Param.param 0 g.row.N) g.N.BookNaming record { mir = Syntax.named 5; lft = κs.1.1.1.1.1.0 } (Param.param 1 g.row.R) c.type_bounds.sync-R)))
 
 pub play_claimed-requires-clause-choosers : goal.play_claimed-requires-clause-choosers
 play_claimed-requires-clause-choosers g c κs within =
@@ -26,7 +26,7 @@ play_claimed-requires-clause-choosers g c κs within =
 pub play_claimed-requires-clause-served : goal.play_claimed-requires-clause-served
 play_claimed-requires-clause-served g c κs within =
     let stands : StandsFor c.args.about.now.value.sheet (code_seen c.in-Ok.code.value) = search rules in
-    all_so (λ c'. c'.code.value ≡ c.in-Ok.code.value) (λ c'. g.N.Naming.about ≡ c.args.about.now.value × StandsFor c.args.about.now.value.sheet (code_seen c'.code.value))
+    all_so (λ c'. c'.code.value ≡ c.in-Ok.code.value) (λ c'. g.N.BookNaming.about ≡ c.args.about.now.value × StandsFor c.args.about.now.value.sheet (code_seen c'.code.value))
     (λ c' same. (c.requires.about, subst (λ code. StandsFor c.args.about.now.value.sheet (code_seen code)) (sym same) stands))
     c.in-Ok-choosers_of.choosers.items c.in-Ok-choosers_of.ensures.code
 

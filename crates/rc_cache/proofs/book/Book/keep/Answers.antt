@@ -14,14 +14,14 @@ keep-requires g c =
 
 pub invariant_of-self-2 : goal.invariant_of-self-2
 invariant_of-self-2 g c =
-    let about = g.N.Naming.about in
+    let about = g.N.BookNaming.about in
     let entry = c.args.entry in
     let asked = c.in_ok-mark.ensures ∙ ap (λ key. key.ask) c.key-2.ensures in
     let line = log_seen _ _ _ _ _ c.write-made.ensures.items c.reserve.ensures.items
     (ap (λ key. line_of c.lane.inside.number (kept key)) (c.in_ok-known.ensures ∙ c.key.ensures)) in
     rw line (
       c.self.invariant.0,
-      keep_push about g.N.Naming.capacity c.self.inside.cache c.put.new.cache (map line_seen c.self.inside.journal.items) _ _ _
+      keep_push about g.N.BookNaming.capacity c.self.inside.cache c.put.new.cache (map line_seen c.self.inside.journal.items) _ _ _
           c.lane.inside.number c.self.invariant.1 c.put.ensures.capacity entry _ _ _ _ c.requires.served asked
           (c.in_ok-put.ensures.own about c.self.invariant.1.own (sym (own_key about entry _ c.requires.served asked)))
           (c.in_ok-put.ensures.keys about) c.keep.ensures.looks c.keep.ensures.hits c.keep.ensures.keeps,

@@ -28,14 +28,14 @@ invariant_of-self-2 g c =
     (ap (λ key. line_of c.lane.inside.number (looked key c.is_hit-hit.result)) c.in_ok-known.ensures) in
     rw line (
       c.self.invariant.0,
-      looked_push g.N.Naming.about g.N.Naming.capacity c.self.inside.cache c.bring.new.cache (map line_seen c.self.inside.journal.items) _ _ _
+      looked_push g.N.BookNaming.about g.N.BookNaming.capacity c.self.inside.cache c.bring.new.cache (map line_seen c.self.inside.journal.items) _ _ _
           c.lane.inside.number c.self.invariant.1 c.bring.ensures.capacity (key_seen c.args.key.now) _ c.is_hit-hit.result _ _ _ c.requires.served c.in_ok-mark.ensures
-          (c.is_hit-hit.ensures ∙ c.in_ok-reply.ensures.hit g.N.Naming.about) (c.bring.ensures.own g.N.Naming.about c.self.invariant.1.own)
-          (c.bring.ensures.keys g.N.Naming.about) c.look.ensures.looks c.look.ensures.hits c.look.ensures.keeps,
+          (c.is_hit-hit.ensures ∙ c.in_ok-reply.ensures.hit g.N.BookNaming.about) (c.bring.ensures.own g.N.BookNaming.about c.self.invariant.1.own)
+          (c.bring.ensures.keys g.N.BookNaming.about) c.look.ensures.looks c.look.ensures.hits c.look.ensures.keeps,
     )
 
 pub returns-clause-totals : goal.returns-clause-totals
 returns-clause-totals g c =
     subst (λ key. IfHit c.in_ok-reply.reply (λ totals. totals ≡ tally_of key.about key.ask))
-    (own_key g.N.Naming.about (key_seen c.args.key.now) _ c.requires.served c.in_ok-mark.ensures)
-    (c.in_ok-reply.ensures.totals g.N.Naming.about c.self.invariant.1.own)
+    (own_key g.N.BookNaming.about (key_seen c.args.key.now) _ c.requires.served c.in_ok-mark.ensures)
+    (c.in_ok-reply.ensures.totals g.N.BookNaming.about c.self.invariant.1.own)

@@ -8,7 +8,7 @@ use Rattle.rc_ast.specs.declared.expressions.Test.{Test}
 use Rattle.rc_ast.specs.Expressions.{card_seen, coll_seen, int_seen, test_seen, domain_seen}
 use Rattle.rc_sheet_model.specs.Sheet.{Sort, coll, test}
 use Rattle.rc_sheet_model.specs.Lists.{colls_from, tests_from}
-use Rattle.rc_grammar.specs.declared.grammar.Place.TheVariants as place
+use Rattle.rc_grammar.specs.declared.grammar.Symbol.TheVariants as symbol
 use Rattle.rc_reading.specs.ReadExpressions.{card_at, card_rule, coll_at, coll_rule, colls_at, int_at, int_rule, side_at, test_at, test_rule, tests_at}
 use Rattle.rc_reading.specs.ReadParts as behind
 use Rattle.rc_reading.specs.ReadParts.{card_and_attr, card_and_map, card_form, coll_and_map, coll_form, colls_behind, equality, filter_parts, int_form, is_parts, one_coll, side_form, test_form, tests_behind, two_ints}
@@ -55,7 +55,7 @@ pub card-returns-in_ok-rule-in-List : goal.card-returns-in_ok-rule-in-List
 card-returns-in_ok-rule-in-List t c =
     let naming = c.args.self.now in
     let scope = c.args.scope.now in
-    list_gives card_seen (card_at naming scope) place.Card (λ from. card_rule naming scope) (λ from. card_form naming scope)
+    list_gives card_seen (card_at naming scope) symbol.Card (λ from. card_rule naming scope) (λ from. card_form naming scope)
     (λ parts from to. refl) (λ from. card_forms naming scope) c.args.form.now c.in-List.items c.in-List.span
     c.in_ok-rule-in-List.rule c.as_slice-parts.result.now c.card_list.result c.in-List.is
     c.as_slice-parts.ensures.value c.in_ok-rule-in-List.ensures.given c.card_list.ensures
@@ -64,7 +64,7 @@ pub collection-returns-in_ok-rule-in-List : goal.collection-returns-in_ok-rule-i
 collection-returns-in_ok-rule-in-List t c =
     let naming = c.args.self.now in
     let scope = c.args.scope.now in
-    list_gives coll_seen (coll_at naming scope) place.Collection (coll_rule naming scope) (coll_form naming scope)
+    list_gives coll_seen (coll_at naming scope) symbol.Collection (coll_rule naming scope) (coll_form naming scope)
     (λ parts from to. refl) (coll_forms naming scope) c.args.form.now c.in-List.items c.in-List.span
     c.in_ok-rule-in-List.rule c.as_slice-parts.result.now c.collection_form.result c.in-List.is
     c.as_slice-parts.ensures.value c.in_ok-rule-in-List.ensures.given c.collection_form.ensures
@@ -73,7 +73,7 @@ pub integer-returns-in_ok-rule-in-List : goal.integer-returns-in_ok-rule-in-List
 integer-returns-in_ok-rule-in-List t c =
     let naming = c.args.self.now in
     let scope = c.args.scope.now in
-    list_gives int_seen (int_at naming scope) place.Integer (λ from. int_rule naming scope) (λ from. int_form naming scope)
+    list_gives int_seen (int_at naming scope) symbol.Integer (λ from. int_rule naming scope) (λ from. int_form naming scope)
     (λ parts from to. refl) (λ from. int_forms naming scope) c.args.form.now c.in-List.items c.in-List.span
     c.in_ok-rule-in-List.rule c.as_slice-parts.result.now c.integer_list.result c.in-List.is
     c.as_slice-parts.ensures.value c.in_ok-rule-in-List.ensures.given c.integer_list.ensures
@@ -82,7 +82,7 @@ pub test-returns-in_ok-rule-in-List : goal.test-returns-in_ok-rule-in-List
 test-returns-in_ok-rule-in-List t c =
     let naming = c.args.self.now in
     let scope = c.args.scope.now in
-    list_gives test_seen (test_at naming scope) place.Test (λ from. test_rule naming scope) (λ from. test_form naming scope)
+    list_gives test_seen (test_at naming scope) symbol.Test (λ from. test_rule naming scope) (λ from. test_form naming scope)
     (λ parts from to. refl) (λ from. test_forms naming scope) c.args.form.now c.in-List.items c.in-List.span
     c.in_ok-rule-in-List.rule c.as_slice-parts.result.now c.test_list.result c.in-List.is
     c.as_slice-parts.ensures.value c.in_ok-rule-in-List.ensures.given c.test_list.ensures
@@ -91,7 +91,7 @@ pub side-returns-in_ok-rule-in-List : goal.side-returns-in_ok-rule-in-List
 side-returns-in_ok-rule-in-List t c =
     let naming = c.args.self.now in
     let scope = c.args.scope.now in
-    list_gives side_seen (side_at naming scope) place.Side (λ from. side_rule naming scope) (λ from. side_form naming scope)
+    list_gives side_seen (side_at naming scope) symbol.Side (λ from. side_rule naming scope) (λ from. side_form naming scope)
     (λ parts from to. refl) (λ from. side_forms naming scope) c.args.form.now c.in-List.items c.in-List.span
     c.in_ok-rule-in-List.rule c.as_slice-parts.result.now c.side_list.result c.in-List.is
     c.as_slice-parts.ensures.value c.in_ok-rule-in-List.ensures.given c.side_list.ensures

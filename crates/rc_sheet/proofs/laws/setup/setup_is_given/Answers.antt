@@ -2,7 +2,7 @@ use Rattle.std.proofs.Common.{◌≡◌, ℕ, [], Some, ap, ◌∙◌}
 use Rattle.rc_model.specs.Tree.{Tree, list, Trees, cons}
 use Rattle.rc_sheet_model.specs.Sheet.{SheetItems, Best, IntExpr}
 use Rattle.rc_grammar.specs.Faults.{faults}
-use Rattle.rc_grammar.specs.declared.grammar.Place.TheVariants as place
+use Rattle.rc_grammar.specs.declared.grammar.Symbol.TheVariants as symbol
 use Rattle.rc_faults.specs.SecondFaults.{second_faults}
 use Rattle.rc_naming.specs.Naming.{naming_of}
 use Rattle.rc_reading.specs.ReadSetup.{Setup}
@@ -16,7 +16,7 @@ use Rattle.rc_sheet.proofs.laws.setup.setup_is_given.Goals as goal
 
 -- what a sheet with the setup of a form gives
 gives : (tree head setup : Tree) (rest : Trees) (from to : ℕ) (s : Setup) (body : SheetItems × (Best × IntExpr))
-    → tree ≡ list (cons head (cons setup rest)) from to → faults place.Sheet tree ≡ [] → second_faults tree ≡ []
+    → tree ≡ list (cons head (cons setup rest)) from to → faults symbol.Sheet tree ≡ [] → second_faults tree ≡ []
     → setup_form_at (naming_of tree) setup ≡ Some s → Gives (sheet_with (naming_of tree) s body) (given_of tree)
 gives tree head setup rest from to s body same shaped sound is =
     means_so (setup_form_at (naming_of tree) (setup_in tree)) s (is_set_up tree shaped sound)
