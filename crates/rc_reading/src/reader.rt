@@ -11,7 +11,7 @@ use std::alloc::{AllocError, Global};
 use std::marker::Model;
 
 /// The most variables of a sheet, which a number of 32 bits counts.
-const MOST_VARIABLES: usize = u32::MAX as usize;
+const MOST_NUMBERED: usize = u32::MAX as usize;
 
 /// A reader of forms: the names of the sheet, each numbered by its place.
 #[derive(Drop)]
@@ -48,7 +48,7 @@ impl Reader {
         ensures some { IfOk result (λ made. IfSome made (λ reader. reader ≡ naming_seen naming)) }
         ensures none { IfOk result (λ made. IfNone made (4294967295 < length naming.names.vars.items)) }
     {
-        if naming.names.vars.len() > MOST_VARIABLES {
+        if naming.names.vars.len() > MOST_NUMBERED {
             return Ok(None);
         }
         let variables = numbers_of(alloc, &naming.names.vars)?;
