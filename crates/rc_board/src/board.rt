@@ -1,5 +1,5 @@
 //! A table whose edits can be taken back, or which goes home.
-ghost use Rattle.std.specs.Prelude.{◌≡◌, ◌<◌, ◌≤◌, true, false, List, [], ◌∷◌, length, slice_index, None, IsSome, IfOk, OnOk};
+ghost use Rattle.std.specs.Prelude.{◌≡◌, ◌<◌, ◌≤◌, true, false, List, [], ◌∷◌, length, slice_index, None, IsSome, IfOk, OnOk, OnErr, IsOk};
 ghost use Rattle.std.specs.List.Sorted.{IsPermutation};
 ghost use Rattle.rc_model.specs.Numbers.{below};
 ghost use Rattle.rc_model.specs.Clamp.{IsWithinClamp};
@@ -100,6 +100,8 @@ impl Board {
         requires loc { HoldsCards self.old.laid.shape loc }
         ensures leads { OnOk result (self.new ≡ edited self.old (put_top self.old.laid.shape id loc self.old.laid.table)) }
         ensures keeps { Keeps self.old self.new }
+        ensures quiet { self.old.notes ≡ false → IsOk result }
+        ensures lacking { OnErr result (self.new ≡ self.old) }
     {
         if self.past.notes() {
             return self.note_and_put_top(id, loc);
@@ -117,6 +119,7 @@ impl Board {
         requires loc { HoldsCards self.old.laid.shape loc }
         ensures leads { OnOk result (self.new ≡ edited self.old (put_top self.old.laid.shape id loc self.old.laid.table)) }
         ensures keeps { Keeps self.old self.new }
+        ensures lacking { OnErr result (self.new ≡ self.old) }
     {
         // what a table keeps
         let _sound = self.table.shape();
@@ -143,6 +146,8 @@ impl Board {
         requires loc { HoldsCards self.old.laid.shape loc }
         ensures leads { OnOk result (self.new ≡ edited self.old (put_bottom self.old.laid.shape id loc self.old.laid.table)) }
         ensures keeps { Keeps self.old self.new }
+        ensures quiet { self.old.notes ≡ false → IsOk result }
+        ensures lacking { OnErr result (self.new ≡ self.old) }
     {
         // what a table keeps
         let _sound = self.table.shape();
@@ -167,6 +172,8 @@ impl Board {
         requires loc { HoldsReferences self.old.laid.shape loc }
         ensures leads { OnOk result (self.new.laid ≡ relaid self.old.laid (remember_top self.old.laid.shape id loc self.old.laid.table)) }
         ensures keeps { Keeps self.old self.new }
+        ensures quiet { self.old.notes ≡ false → IsOk result }
+        ensures lacking { OnErr result (self.new ≡ self.old) }
     {
         if self.past.notes() {
             return self.note_and_remember_top(id, loc);
@@ -183,6 +190,7 @@ impl Board {
         requires loc { HoldsReferences self.old.laid.shape loc }
         ensures leads { OnOk result (self.new.laid ≡ relaid self.old.laid (remember_top self.old.laid.shape id loc self.old.laid.table)) }
         ensures keeps { Keeps self.old self.new }
+        ensures lacking { OnErr result (self.new ≡ self.old) }
     {
         // what a table keeps
         let _sound = self.table.shape();
@@ -205,6 +213,8 @@ impl Board {
         requires loc { HoldsReferences self.old.laid.shape loc }
         ensures leads { OnOk result (self.new.laid ≡ relaid self.old.laid (remember_bottom self.old.laid.shape id loc self.old.laid.table)) }
         ensures keeps { Keeps self.old self.new }
+        ensures quiet { self.old.notes ≡ false → IsOk result }
+        ensures lacking { OnErr result (self.new ≡ self.old) }
     {
         // what a table keeps
         let _sound = self.table.shape();
@@ -225,6 +235,8 @@ impl Board {
         requires loc { HoldsReferences self.old.laid.shape loc }
         ensures leads { OnOk result (self.new.laid ≡ relaid self.old.laid (forget_in self.old.laid.shape id loc self.old.laid.table)) }
         ensures keeps { Keeps self.old self.new }
+        ensures quiet { self.old.notes ≡ false → IsOk result }
+        ensures lacking { OnErr result (self.new ≡ self.old) }
     {
         if self.past.notes() {
             return self.note_and_forget(id, loc);
@@ -241,6 +253,7 @@ impl Board {
         requires loc { HoldsReferences self.old.laid.shape loc }
         ensures leads { OnOk result (self.new.laid ≡ relaid self.old.laid (forget_in self.old.laid.shape id loc self.old.laid.table)) }
         ensures keeps { Keeps self.old self.new }
+        ensures lacking { OnErr result (self.new ≡ self.old) }
     {
         edits_keep_tables_sound();
         // what a table keeps
@@ -268,6 +281,8 @@ impl Board {
         requires clamped { IsWithinClamp value }
         ensures leads { OnOk result (self.new ≡ edited self.old (set_number num value self.old.laid.table)) }
         ensures keeps { Keeps self.old self.new }
+        ensures quiet { self.old.notes ≡ false → IsOk result }
+        ensures lacking { OnErr result (self.new ≡ self.old) }
     {
         if self.past.notes() {
             return self.note_and_set(num, value);
@@ -283,6 +298,7 @@ impl Board {
         requires clamped { IsWithinClamp value }
         ensures leads { OnOk result (self.new ≡ edited self.old (set_number num value self.old.laid.table)) }
         ensures keeps { Keeps self.old self.new }
+        ensures lacking { OnErr result (self.new ≡ self.old) }
     {
         // what a table keeps
         let _sound = self.table.shape();
@@ -302,6 +318,8 @@ impl Board {
         requires order { IsPermutation (below (length (list_at self.old.laid.table loc))) order.now }
         ensures leads { OnOk result (self.new ≡ edited self.old (reorder loc order.now self.old.laid.table)) }
         ensures keeps { Keeps self.old self.new }
+        ensures quiet { self.old.notes ≡ false → IsOk result }
+        ensures lacking { OnErr result (self.new ≡ self.old) }
     {
         // what a table keeps
         let _sound = self.table.shape();

@@ -1,5 +1,5 @@
 //! What a board keeps of what was before.
-ghost use Rattle.std.specs.Prelude.{◌≡◌, ◌∷◌, [], length, MatchOption, IfOk, OnOk, OnErr};
+ghost use Rattle.std.specs.Prelude.{◌≡◌, ◌∷◌, [], length, false, MatchOption, IfOk, OnOk, OnErr, IsOk};
 ghost use Rattle.rc_table.specs.Laid.{relaid};
 ghost use Rattle.rc_board.specs.Undo.{ordered};
 ghost use Rattle.rc_board.specs.Entry.{entry_seen, log_seen};
@@ -69,6 +69,7 @@ impl Past {
     pub fn note(&mut self, entry: LogEntry) -> Result<(), Memory>
         ensures noted { OnOk result (past_seen self.new ≡ noted_in (entry_seen entry) (past_seen self.old)) }
         ensures lacking { OnErr result (past_seen self.new ≡ past_seen self.old) }
+        ensures quiet { notes_of (past_seen self.old) ≡ false → IsOk result }
     {
         match self {
             Past::Nothing => Ok(()),
@@ -82,6 +83,7 @@ impl Past {
     pub fn note_order(&mut self, alloc: Global, loc: u16, list: &[u16]) -> Result<(), Memory>
         ensures noted { OnOk result (past_seen self.new ≡ noted_in (ordered loc list.now) (past_seen self.old)) }
         ensures lacking { OnErr result (past_seen self.new ≡ past_seen self.old) }
+        ensures quiet { notes_of (past_seen self.old) ≡ false → IsOk result }
     {
         match self {
             Past::Nothing => Ok(()),

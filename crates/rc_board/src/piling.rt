@@ -1,5 +1,5 @@
 //! Cards of a location that are put on top of another one.
-ghost use Rattle.std.specs.Prelude.{◌≡◌, ◌<◌, [], ◌∷◌, length, fold, All, IfSome, OnOk};
+ghost use Rattle.std.specs.Prelude.{◌≡◌, ◌<◌, [], ◌∷◌, length, false, fold, All, IfSome, OnOk, IsOk};
 ghost use Rattle.rc_play_model.specs.Bound.{HoldsCards};
 ghost use Rattle.rc_play_model.specs.Table.{list_at, put_top};
 ghost use Rattle.rc_table.specs.Laid.{relaid};
@@ -19,6 +19,7 @@ impl Board {
         requires { HoldsCards self.old.laid.shape to }
         ensures leads { OnOk result (self.new.laid ≡ relaid self.old.laid (piled self.old.laid.shape to from self.old.laid.table)) }
         ensures keeps { Keeps self.old self.new }
+        ensures quiet { self.old.notes ≡ false → IsOk result }
     {
         // what a list keeps
         let _few = self.table().list(from);
@@ -36,6 +37,7 @@ fn pile_cards(board: &mut Board, from: u16, to: u16) -> Result<(), Memory>
     ensures leads { OnOk result (board.new.laid ≡ relaid board.old.laid
         (fold (λ table id. put_top board.old.laid.shape id to table) board.old.laid.table (list_at board.old.laid.table from))) }
     ensures keeps { Keeps board.old board.new }
+    ensures quiet { board.old.notes ≡ false → IsOk result }
 {
     // what a table keeps
     let _sound = board.table().shape();
@@ -63,6 +65,7 @@ fn pile_many(board: &mut Board, from: u16, to: u16) -> Result<(), Memory>
     ensures leads { OnOk result (board.new.laid ≡ relaid board.old.laid
         (fold (λ table id. put_top board.old.laid.shape id to table) board.old.laid.table (list_at board.old.laid.table from))) }
     ensures keeps { Keeps board.old board.new }
+    ensures quiet { board.old.notes ≡ false → IsOk result }
 {
     // what a table keeps
     let _sound = board.table().shape();
@@ -77,6 +80,7 @@ fn put_these(board: &mut Board, ids: &[u16], to: u16) -> Result<(), Memory>
     requires holds { HoldsCards board.old.laid.shape to }
     ensures leads { OnOk result (board.new.laid ≡ relaid board.old.laid (fold (λ table id. put_top board.old.laid.shape id to table) board.old.laid.table ids.now)) }
     ensures keeps { Keeps board.old board.new }
+    ensures quiet { board.old.notes ≡ false → IsOk result }
 {
     for id in ids {
         match board.put_top(*id, to) {
