@@ -1,5 +1,5 @@
 //! Where a card is, and how many references there are.
-ghost use Rattle.std.specs.Prelude.{◌≡◌, ◌<◌, nat_lt, if◌then◌else◌, length, slice_get, reverse, remove, MatchOption};
+ghost use Rattle.std.specs.Prelude.{◌≡◌, ◌<◌, nat_lt, if◌then◌else◌, length, slice_get, reverse, remove, Some, MatchOption};
 ghost use Rattle.rc_model.specs.Limits.{most_in_mem, most_references};
 ghost use Rattle.rc_play_model.specs.Shape.{holds_references};
 ghost use Rattle.rc_play_model.specs.Table.{list_at, place_of, references, has_room, without_face, forget_in};
@@ -30,6 +30,7 @@ impl Table {
         requires { id < length self.now.shape.faces }
         ensures is { result ≡ place_of self.now.shape self.now.table id }
         ensures there { result.1 < length (list_at self.now.table result.0) }
+        ensures stands { slice_get (list_at self.now.table result.0) result.1 ≡ Some id }
     {
         self.whereabouts[id as usize]
     }

@@ -1,6 +1,7 @@
-use Rattle.std.proofs.Common.{ℕ, ◌<◌, length, get_or, arith, ap, ◌∙◌, sym, subst}
+use Rattle.std.proofs.Common.{◌≡◌, ℕ, ◌<◌, length, slice_get, Some, get_or, arith, ap, ◌∙◌, sym, subst}
 use Rattle.std.proofs.lemmas.List.{get_or_default}
-use Rattle.rc_play_model.specs.Table.{IsSound, list_at}
+use Rattle.std.proofs.lemmas.Option.{slice_get-get_or}
+use Rattle.rc_play_model.specs.Table.{IsSound, list_at, place_of}
 use Rattle.rc_table.specs.Laid.{Laid}
 use Rattle.rc_table.specs.Whereabouts.{whereabouts}
 use Rattle.rc_table.proofs.WhereaboutLemmas.{nowhere, noted_of, noted_all, stands}
@@ -34,3 +35,13 @@ returns-clause-there c =
     let is = c.index.ensures ∙ get_or_default stand id c.index.result.now nowhere (omega (arith, c.requires, long)) ∙ ap (λ stand. get_or stand id nowhere) noted
     ∙ noted_of laid.shape laid.table id c.requires in
     subst (λ (at : ℕ × ℕ). at.1 < length (list_at laid.table at.0)) (sym is) (stands laid.shape laid.table sound id c.requires).1
+
+pub returns-clause-stands : goal.returns-clause-stands
+returns-clause-stands c =
+    let id = c.args.id in
+    let laid = c.args.self.now in
+    let sound = subst (λ (laid : Laid). IsSound laid.shape laid.table) c.self.view_is c.self.invariant.sound in
+    let s = stands laid.shape laid.table sound id c.requires in
+    let at = place_of laid.shape laid.table id in
+    subst (λ (at : ℕ × ℕ). slice_get (list_at laid.table at.0) at.1 ≡ Some id) (sym (returns-clause-is c))
+    (slice_get-get_or (list_at laid.table at.0) at.1 0 s.1 ∙ ap Some s.2)
