@@ -10,3 +10,4 @@ pub mod OnePlace
 pub mod WhereaboutLemmas
 pub mod WhereaboutEdits
 pub mod TopLemmas
+pub mod Others

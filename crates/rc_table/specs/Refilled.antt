@@ -1,6 +1,6 @@
 -- Locations that are filled anew, each with as many ids as it has.
-use Rattle.std.specs.Prelude.{ℕ, ◌<◌, ◌≤◌, List, [], ◌∷◌, length, take, drop, slice_index_or, slice_set}
-use Rattle.rc_play_model.specs.Table.{Table}
+use Rattle.std.specs.Prelude.{◌≡◌, ℕ, ◌<◌, ◌≤◌, List, [], ◌∷◌, length, take, drop, slice_index_or, slice_set, Contains}
+use Rattle.rc_play_model.specs.Table.{Table, list_at}
 
 -- the lists where these, one after another, hold the next of the ids
 abbrev pub lists_refilled : List ℕ → List ℕ → List (List ℕ) → List (List ℕ)
@@ -17,3 +17,7 @@ CanRefill (loc ∷ locs) ids lists =
 
 abbrev pub refilled : List ℕ → List ℕ → Table → Table
 refilled locs ids table = record { lists = lists_refilled locs ids table.lists; numbers = table.numbers }
+
+-- each location that isn't one of these holds the same in both tables
+abbrev pub DifferAtMostIn : List ℕ → Table → Table → Type 0
+DifferAtMostIn locs table other = (loc : ℕ) → (Contains locs loc → ⊥) → list_at table loc ≡ list_at other loc

@@ -2,7 +2,7 @@
 ghost use Rattle.std.specs.Prelude.{◌≡◌, length, map};
 ghost use Rattle.rc_play_model.specs.Table.{IsSound};
 ghost use Rattle.rc_table.specs.Laid.{relaid};
-ghost use Rattle.rc_table.specs.Refilled.{CanRefill, refilled};
+ghost use Rattle.rc_table.specs.Refilled.{CanRefill, refilled, DifferAtMostIn};
 
 use crate::table::Table;
 use crate::whereabouts::note_all;
@@ -33,7 +33,8 @@ impl Table {
     pub fn refill(&mut self, locs: &[u16], ids: &[u16])
         requires enough { CanRefill locs.now ids.now self.old.table.lists }
         requires sound { IsSound self.old.shape (refilled locs.now ids.now self.old.table) }
-        ensures { self.new ≡ relaid self.old (refilled locs.now ids.now self.old.table) }
+        ensures is { self.new ≡ relaid self.old (refilled locs.now ids.now self.old.table) }
+        ensures others { DifferAtMostIn locs.now self.new.table self.old.table }
     {
         self.lists.refill(locs, ids);
         note_all(&mut self.whereabouts, &self.shape, &self.lists);

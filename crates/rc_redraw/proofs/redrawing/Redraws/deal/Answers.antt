@@ -40,7 +40,7 @@ invariant_of-self c =
     let ids = c.deref-3.ensures.value ∙ c.shuffle.ensures.is ∙ ap (permuted key) c.deref.ensures.value in
     let long = ap length c.deref-3.ensures.value ∙ c.shuffle.ensures.each ∙ ap length c.deref.ensures.value in
     let new = dealt r key _ _ _ _ _ kept count c.deref-2.ensures.value ids long in
-    let is = c.refill.ensures ∙ ap (λ table. record { shape = r.shape; table = table }) new.1 in
+    let is = c.refill.ensures.is ∙ ap (λ table. record { shape = r.shape; table = table }) new.1 in
     rw is
     (record {
       of = kept.of;
@@ -60,7 +60,7 @@ returns-clause-is c =
     let ids = c.deref-3.ensures.value ∙ c.shuffle.ensures.is ∙ ap (permuted key) c.deref.ensures.value in
     let long = ap length c.deref-3.ensures.value ∙ c.shuffle.ensures.each ∙ ap length c.deref.ensures.value in
     let new = dealt r key _ _ _ _ _ kept count c.deref-2.ensures.value ids long in
-    let is = c.refill.ensures ∙ ap (λ table. record { shape = r.shape; table = table }) new.1 in
+    let is = c.refill.ensures.is ∙ ap (λ table. record { shape = r.shape; table = table }) new.1 in
     ap (λ (laid : Laid). record { shape = laid.shape; view = r.view; table = laid.table }) is ∙ ap (redealt key) c.self.view_is
 
 pub returns-clause-sound : goal.returns-clause-sound
@@ -72,7 +72,7 @@ returns-clause-sound c =
     let ids = c.deref-3.ensures.value ∙ c.shuffle.ensures.is ∙ ap (permuted key) c.deref.ensures.value in
     let long = ap length c.deref-3.ensures.value ∙ c.shuffle.ensures.each ∙ ap length c.deref.ensures.value in
     let new = dealt r key _ _ _ _ _ kept count c.deref-2.ensures.value ids long in
-    let is = c.refill.ensures ∙ ap (λ table. record { shape = r.shape; table = table }) new.1 in
+    let is = c.refill.ensures.is ∙ ap (λ table. record { shape = r.shape; table = table }) new.1 in
     subst (λ (laid : Laid). IsSound laid.shape laid.table) (sym is) (c.redrawn_tables_are_sound.ensures r.shape r.view key kept.of)
 
 pub returns-clause-view : goal.returns-clause-view
@@ -84,6 +84,6 @@ returns-clause-view c =
     let ids = c.deref-3.ensures.value ∙ c.shuffle.ensures.is ∙ ap (permuted key) c.deref.ensures.value in
     let long = ap length c.deref-3.ensures.value ∙ c.shuffle.ensures.each ∙ ap length c.deref.ensures.value in
     let new = dealt r key _ _ _ _ _ kept count c.deref-2.ensures.value ids long in
-    let is = c.refill.ensures ∙ ap (λ table. record { shape = r.shape; table = table }) new.1 in
+    let is = c.refill.ensures.is ∙ ap (λ table. record { shape = r.shape; table = table }) new.1 in
     subst (λ (laid : Laid). view_of laid.shape r.view.seat laid.table r.view.control ≡ r.view) (sym is)
     (c.redrawn_tables_keep_the_view.ensures.view r.shape r.view key kept.of)
