@@ -11,3 +11,4 @@ pub mod WhereaboutLemmas
 pub mod WhereaboutEdits
 pub mod TopLemmas
 pub mod Others
+pub mod CopiedLists

@@ -1,6 +1,7 @@
 //! A list of ids for each location.
-ghost use Rattle.std.specs.Prelude.{◌≡◌, ◌<◌, ◌≤◌, ◌-◌, [], ◌∷◌, ◌++◌, length, map, take, replicate, slice_index_or, slice_set, IfOk};
+ghost use Rattle.std.specs.Prelude.{◌≡◌, ℕ, ◌<◌, ◌≤◌, ◌-◌, [], ◌∷◌, ◌++◌, length, map, take, replicate, slice_index_or, slice_set, IfOk};
 ghost use Rattle.std.specs.List.{remove, insert};
+ghost use Rattle.rc_model.specs.Limits.{most_locations};
 ghost use Rattle.rc_table.specs.Rows.{HaveRoom};
 ghost use Rattle.rc_table.specs.Laid.{rooms};
 ghost use Rattle.rc_table.specs.Refilled.{CanRefill, lists_refilled};
@@ -20,8 +21,11 @@ pub(crate) struct Row {
     room: u16,
 }
 
+/// Copying a list by itself takes about as long as copying this many ids together with others.
+const ROOM_COPIED_AT_ONCE: usize = 128;
+
 /// Lists of ids, each in a row of its own, so that an edit of one moves no other. All rows lie in one memory, one behind the
-/// other, so that all of them are copied at once. Edits keep within the room that each row was given when the rows were made.
+/// other, so that all of them can be copied at once. Edits keep within the room that each row was given when the rows were made.
 #[derive(Drop)]
 pub(crate) struct Rows {
     ids: Vec<u16>,
@@ -187,13 +191,66 @@ impl Rows {
         }
     }
 
-    /// Writes the lists of other rows over all of these, each with as much room.
+    /// Writes the lists of other rows over all of these, each with as much room. Where there is much room for a list, most of it is
+    /// likely free, and what is free isn't copied.
     pub(crate) fn copy_from(&mut self, other: &Rows)
+        requires room { other.now.room ≡ self.old.room }
+        requires few { length other.now.all ≤ most_locations }
+        ensures { self.new ≡ other.now }
+    {
+        if self.ids.len() / ROOM_COPIED_AT_ONCE <= self.rows.len() {
+            self.copy_room(other);
+        } else {
+            self.copy_lists(other);
+        }
+    }
+
+    // The same with all room.
+    #[inline(always)]
+    fn copy_room(&mut self, other: &Rows)
         requires { other.now.room ≡ self.old.room }
         ensures { self.new ≡ other.now }
     {
         self.ids.copy_from_slice(&other.ids);
         self.rows.copy_from_slice(&other.rows);
+    }
+
+    // The same, list by list.
+    #[inline(never)]
+    fn copy_lists(&mut self, other: &Rows)
+        requires room { other.now.room ≡ self.old.room }
+        requires few { length other.now.all ≤ most_locations }
+        ensures { self.new ≡ other.now }
+    {
+        self.copy_counts(other);
+        for at in 0..other.rows.len() {
+            self.copy_list(other, at as u16);
+        }
+    }
+
+    // Makes each list as long as that of other rows. Which ids it then has isn't said.
+    #[inline(always)]
+    fn copy_counts(&mut self, other: &Rows)
+        requires { other.now.room ≡ self.old.room }
+        ensures room { self.new.room ≡ self.old.room }
+        ensures each { length self.new.all ≡ length other.now.all }
+        ensures lengths { (at : ℕ) → length (slice_index_or self.new.all at []) ≡ length (slice_index_or other.now.all at []) }
+    {
+        self.rows.copy_from_slice(&other.rows);
+    }
+
+    // Writes the list of other rows over one that is as long.
+    #[inline(always)]
+    fn copy_list(&mut self, other: &Rows, at: u16)
+        requires list { at < length self.old.all }
+        requires length { length (slice_index_or self.old.all at []) ≡ length (slice_index_or other.now.all at []) }
+        ensures { self.new ≡ record { all = slice_set self.old.all at (slice_index_or other.now.all at []); room = self.old.room } }
+    {
+        let list = other.list(at);
+        if list.is_empty() {
+            return;
+        }
+        self.rewrite(at, list);
     }
 
     /// Writes ids over these lists, one list after another, each with as many of them as it has.

@@ -1,7 +1,7 @@
 use Rattle.std.proofs.Common.{length, sym, ap, ap₂, ◌∙◌}
 use Rattle.rc_table.specs.Rows.{Lists}
 use Rattle.rc_table.proofs.RowLemmas.{rows_seen, same_ends}
-use Rattle.rc_table.proofs.rows.Rows.copy_from.Goals as goal
+use Rattle.rc_table.proofs.rows.Rows.copy_room.Goals as goal
 
 pub copy_from_slice-requires : goal.copy_from_slice-requires
 copy_from_slice-requires c =
