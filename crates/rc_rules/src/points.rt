@@ -13,12 +13,11 @@ use rc_ast::{Best, Sheet};
 /// Each player's rank points: 2 for each player of another team whose team's score is worse, and 1 for each whose team's score
 /// is equal. A team's score is the sum of its members'.
 pub fn rank_points(sheet: &Sheet, scores: &Scores) -> ArrayVec<u8, 8>
-    requires players { sheet.now.players ≤ 8 }
     requires each { length scores.now.items ≡ sheet.now.players }
     ensures { result.items ≡ map (play.rank_points (sheet_seen sheet.now) scores.now.items) (below sheet.now.players) }
 {
     let mut points = ArrayVec::new();
-    for player in 0..sheet.players {
+    for player in 0..scores.len() as u8 {
         points.push(rank_points_of(sheet, scores, player));
     }
     points
@@ -26,13 +25,13 @@ pub fn rank_points(sheet: &Sheet, scores: &Scores) -> ArrayVec<u8, 8>
 
 /// The rank points of one player, by the scores of all.
 pub fn rank_points_of(sheet: &Sheet, scores: &Scores, player: u8) -> u8
-    requires { sheet.now.players ≤ 8 }
+    requires each { length scores.now.items ≡ sheet.now.players }
     ensures { result ≡ play.rank_points (sheet_seen sheet.now) scores.now.items player }
 {
     let team = team_in(sheet, player);
     let score = team_score(sheet, scores, team);
     let mut points = 0;
-    for other in 0..sheet.players {
+    for other in 0..scores.len() as u8 {
         points += points_against(sheet, scores, team, score, team_in(sheet, other));
     }
     points
