@@ -1,4 +1,5 @@
 pub mod StageLemmas
+pub mod ClassLemmas
 pub mod TeamLemmas
 pub mod PointLemmas
 pub mod PartitionLemmas

@@ -1,5 +1,5 @@
 -- What names and cards come to.
-use Rattle.std.specs.Prelude.{◌≡◌, ℕ, ◌+◌, ◌<◌, ◌&&◌, nat_lt, if◌then◌else◌, length, List, [], ◌∷◌, map, slice_get, Option, Some, None, ℤ, Vec}
+use Rattle.std.specs.Prelude.{◌≡◌, ℕ, ◌+◌, ◌&&◌, nat_lt, if◌then◌else◌, length, List, [], ◌∷◌, map, Option, Some, None, ℤ, Vec}
 use Rattle.std.specs.Global.{Global}
 use Rattle.rc_model.specs.Numbers.{below}
 use Rattle.rc_model.specs.Deck.{Face, Entry, value_at, points_of}
@@ -44,13 +44,15 @@ worth_row faces entries = map (points_of entries) faces
 abbrev pub rows_seen : {A : Type 0} → List (Vec A Global) → List (List A)
 rows_seen rows = map (λ row. row.items) rows
 
--- the classes of the first stages, and maybe not of all
+-- the classes of all stages, by their numbers
 abbrev pub AreStages : Sheet → List Class → Type 0
-AreStages sheet classes = (n : ℕ) → n < length classes → slice_get classes n ≡ slice_get (classes_in sheet.items) n
+AreStages sheet classes = classes ≡ classes_in sheet.items
 
+-- Each name of a location or number, each stage, each attribute and each point map has its row: no table is cut short.
 pub record IsLookup (sheet : Sheet) (shape : Shape) (lookup : Lookup) : Type 0 where
   pub locs : ranges_seen lookup.locs.items ≡ ranges_from sheet 0 (map (λ loc. loc.class) sheet.locs)
   pub nums : ranges_seen lookup.nums.items ≡ ranges_from sheet 0 (map (λ num. num.class) sheet.nums)
   pub stages : AreStages sheet lookup.stages.items
+  pub attrs : length lookup.values.items ≡ length sheet.names.attrs
   pub values : rows_seen lookup.values.items ≡ map (value_row shape.faces) (below (length lookup.values.items))
   pub worths : rows_seen lookup.worths.items ≡ map (worth_row shape.faces) sheet.points

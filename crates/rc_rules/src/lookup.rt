@@ -1,20 +1,21 @@
 //! What names and cards come to: found once for a sheet, and not at each use.
-ghost use Rattle.std.specs.Prelude.{◌≡◌, ◌+◌, ◌≤◌, map, option_map, sum_by, IfOk, All, Some, None, slice_get};
+ghost use Rattle.std.specs.Prelude.{◌≡◌, ◌+◌, ◌≤◌, length, map, option_map, sum_by, IfOk, All, Some, None, slice_get};
 ghost use Rattle.rc_model.specs.Numbers.{below};
-ghost use Rattle.rc_model.specs.Limits.{most_locations, most_numbers, most_attrs};
+ghost use Rattle.rc_model.specs.Limits.{most_locations, most_numbers, most_attrs, most_stages};
 ghost use Rattle.rc_model.specs.Clamp.{IsWithinClamp};
 ghost use Rattle.rc_model.specs.Deck.{points_of, value_at};
 ghost use Rattle.rc_deck.specs.Points.{entries_of};
 ghost use Rattle.rc_sheet_model.specs.WellFormed.{IsWellFormed, owner_count as pure_owner_count};
+ghost use Rattle.rc_play_model.specs.Owners.{classes_in};
 ghost use Rattle.rc_play_model.specs.Shape.{face_at};
 ghost use Rattle.rc_ast.specs.Sheet.{sheet_seen};
-ghost use Rattle.rc_rules.specs.Lookup.{AreStages, IsLookup, ranges_from, ranges_seen, place_in, range_seen, value_row, worth_row, rows_seen};
+ghost use Rattle.rc_rules.specs.Lookup.{IsLookup, ranges_from, ranges_seen, place_in, range_seen, value_row, worth_row, rows_seen};
 
 use crate::range::Range;
 use crate::stages::{class_of_stage, owner_count};
 use rc_ast::{Class, Sheet};
 use rc_deck::{Memory, PointMap, attr, points};
-use rc_names::limits::{MOST_NAMES, MOST_STAGES};
+use rc_names::limits::MOST_STAGES;
 use rc_table::Shape;
 use std::alloc::Global;
 
@@ -81,7 +82,7 @@ impl Lookup {
         place_at(&self.nums, name, class, owner)
     }
 
-    /// The class of the stage with this number, if it is looked up.
+    /// The class of the stage with this number, if there is one.
     #[inline(always)]
     pub fn stage(&self, number: u16) -> Option<Class>
         ensures { result ≡ slice_get self.now.stages.items number }
@@ -125,11 +126,7 @@ pub fn lookup_of(alloc: Global, sheet: &Sheet, shape: &Shape) -> Result<Lookup, 
     let locs = loc_ranges(alloc, sheet)?;
     let nums = num_ranges(alloc, sheet)?;
     let stages = stage_classes(alloc, sheet)?;
-    let values = value_rows(
-        alloc,
-        shape,
-        sheet.names.attrs.len().min(MOST_NAMES as usize),
-    )?;
+    let values = value_rows(alloc, shape, sheet.names.attrs.len())?;
     let worths = worth_rows(alloc, sheet, shape)?;
     Ok(Lookup {
         locs,
@@ -180,7 +177,8 @@ fn num_ranges(alloc: Global, sheet: &Sheet) -> Result<Vec<Range>, Memory>
 
 // The class of each stage, by the stages' numbers.
 fn stage_classes(alloc: Global, sheet: &Sheet) -> Result<Vec<Class>, Memory>
-    ensures { IfOk result (λ list. AreStages (sheet_seen sheet.now) list.items) }
+    requires few { length (classes_in (sheet_seen sheet.now).items) ≤ most_stages }
+    ensures { IfOk result (λ list. list.items ≡ classes_in (sheet_seen sheet.now).items) }
 {
     let mut list = Vec::new(alloc);
     for number in 0..MOST_STAGES {

@@ -53,20 +53,9 @@ fn pass_items(items: &Vec<SheetItem>, number: u16) -> ControlFlow<Class, u16>
 pub fn is_stage_of(about: &About, class: Class, number: u16) -> bool
     ensures { result ≡ owners.is_stage_of about.now.sheet class number }
 {
-    match class_at(about, number) {
+    match about.lookup().stage(number) {
         Some(other) => other == class,
         None => false,
-    }
-}
-
-// The class of the stage with this number: that of one of the first is looked up.
-#[inline(always)]
-fn class_at(about: &About, number: u16) -> Option<Class>
-    ensures { result ≡ slice_get (classes_in about.now.sheet.items) number }
-{
-    match about.lookup().stage(number) {
-        Some(class) => Some(class),
-        None => class_of_stage(about.sheet(), number),
     }
 }
 
