@@ -13,6 +13,7 @@ mod points;
 mod range;
 mod record;
 mod shape;
+mod side_by_side;
 mod stages;
 mod teams;
 
@@ -27,5 +28,6 @@ pub use plan::{Deal, Plan, Strategy};
 pub use points::{rank_points, rank_points_of};
 pub use record::{Ended, MatchRecord, Pick, Score, Standing};
 pub use shape::shape_of;
+pub use side_by_side::{machines_go_alike, machines_stop_alike};
 pub use stages::{class_of_stage, current_in, is_stage_of, owner_count};
 pub use teams::team_in;
