@@ -1,1 +1,2 @@
+pub mod FlatLemmas
 pub mod GuardLemmas

@@ -1,3 +1,4 @@
 pub mod Codes
 pub mod Guards
 pub mod Meaning
+pub mod Flatness

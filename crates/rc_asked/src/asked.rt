@@ -24,7 +24,9 @@ impl Model for Asked {
     ghost use Rattle.rc_sheet_model.specs.Sheet.{Test as PureTest};
     ghost use Rattle.rc_ast.specs.Expressions.{test_seen};
     ghost use Rattle.rc_asked.specs.Codes.{coded_test};
+    ghost use Rattle.std.specs.Prelude.{◌≡◌, is_some};
     ghost use Rattle.rc_asked.specs.Meaning.{IsFlatForm};
+    ghost use Rattle.rc_asked.specs.Flatness.{has_flat_form};
 
     ghost Value = { PureTest };
 
@@ -32,13 +34,14 @@ impl Model for Asked {
 
     ghost view = { λ a. test_seen a.test };
 
-    ghost invariant = { λ a. IsFlatForm (test_seen a.test) a.flat };
+    ghost invariant = { λ a. IsFlatForm (test_seen a.test) a.flat × (is_some a.flat ≡ has_flat_form (test_seen a.test)) };
 }
 
 impl Asked {
-    ghost use Rattle.std.specs.Prelude.{◌≡◌, IfSome};
+    ghost use Rattle.std.specs.Prelude.{◌≡◌, is_some, IfSome};
     ghost use Rattle.rc_ast.specs.Expressions.{test_seen};
     ghost use Rattle.rc_asked.specs.Meaning.{flat_meant};
+    ghost use Rattle.rc_asked.specs.Flatness.{has_flat_form};
 
     /// A test that is to be asked.
     pub fn new(test: Test) -> Asked
@@ -59,7 +62,8 @@ impl Asked {
     /// Its flat form, if it has one.
     #[inline(always)]
     pub fn flat(&self) -> Option<&Flat>
-        ensures { IfSome result (λ flat. flat_meant flat.now ≡ self.now) }
+        ensures same { IfSome result (λ flat. flat_meant flat.now ≡ self.now) }
+        ensures found { is_some result ≡ has_flat_form self.now }
     {
         match &self.flat {
             Some(flat) => Some(flat),

@@ -1,8 +1,9 @@
 //! Tests with no other test inside them.
-ghost use Rattle.std.specs.Prelude.{◌≡◌, IfSome};
+ghost use Rattle.std.specs.Prelude.{◌≡◌, ◌&&◌, is_some, IfSome};
 ghost use Rattle.rc_sheet_model.specs.Sheet.{eq_attr};
 ghost use Rattle.rc_ast.specs.Expressions.{card_seen, int_seen, test_seen};
 ghost use Rattle.rc_asked.specs.Meaning.{atom_meant, compared};
+ghost use Rattle.rc_asked.specs.Flatness.{is_top, is_at_hand, is_comparison};
 
 use crate::amounts::{Amount, amount_of, topped_by};
 use rc_ast::{CardExpr, IntExpr, Loc, Test};
@@ -34,7 +35,8 @@ pub enum Atom {
 }
 
 fn compare_of(how: Comparison, a: &IntExpr, b: &IntExpr) -> Option<Atom>
-    ensures { IfSome result (λ atom. atom_meant atom ≡ compared how (int_seen a.now) (int_seen b.now)) }
+    ensures same { IfSome result (λ atom. atom_meant atom ≡ compared how (int_seen a.now) (int_seen b.now)) }
+    ensures found { is_some result ≡ is_at_hand (int_seen a.now) && is_at_hand (int_seen b.now) }
 {
     match amount_of(a) {
         Some(one) => match amount_of(b) {
@@ -46,7 +48,8 @@ fn compare_of(how: Comparison, a: &IntExpr, b: &IntExpr) -> Option<Atom>
 }
 
 fn same_of(a: &CardExpr, name: u16, b: &CardExpr, other_name: u16) -> Option<Atom>
-    ensures { IfSome result (λ atom. atom_meant atom ≡ eq_attr (card_seen a.now) name (card_seen b.now) other_name) }
+    ensures same { IfSome result (λ atom. atom_meant atom ≡ eq_attr (card_seen a.now) name (card_seen b.now) other_name) }
+    ensures found { is_some result ≡ is_top (card_seen a.now) && is_top (card_seen b.now) }
 {
     match topped_by(a) {
         Some(one) => match topped_by(b) {
@@ -64,7 +67,8 @@ fn same_of(a: &CardExpr, name: u16, b: &CardExpr, other_name: u16) -> Option<Ato
 
 /// A test in flat form, if it has no other test inside it and has one.
 pub(crate) fn atom_of(test: &Test) -> Option<Atom>
-    ensures { IfSome result (λ atom. atom_meant atom ≡ test_seen test.now) }
+    ensures same { IfSome result (λ atom. atom_meant atom ≡ test_seen test.now) }
+    ensures found { is_some result ≡ is_comparison (test_seen test.now) }
 {
     match test {
         Test::EqInt(a, b) => compare_of(Comparison::Equal, a, b),

@@ -1,9 +1,10 @@
 //! Tests in flat form.
-ghost use Rattle.std.specs.Prelude.{◌≡◌, IfSome};
+ghost use Rattle.std.specs.Prelude.{◌≡◌, ◌&&◌, is_some, IfSome};
 ghost use Rattle.rc_sheet_model.specs.Sheet.{all_of, and_of, cards_in, each_player, eq_int, literal, size_of};
 ghost use Rattle.rc_ast.specs.Names.{loc_seen};
 ghost use Rattle.rc_ast.specs.Expressions.{coll_seen, domain_seen, int_seen, test_seen, tests_seen};
 ghost use Rattle.rc_asked.specs.Meaning.{flat_meant, IsFlatForm};
+ghost use Rattle.rc_asked.specs.Flatness.{are_players, are_two_comparisons, counts_own, has_flat_form, is_comparison, is_outermost, is_own, is_own_size, is_written_out};
 
 use crate::atoms::{Atom, atom_of};
 use rc_ast::{CollExpr, Domain, IntExpr, Loc, Test, Who};
@@ -23,7 +24,8 @@ pub enum Flat {
 }
 
 fn both_of(tests: &Vec<Test>) -> Option<Flat>
-    ensures { IfSome result (λ flat. flat_meant flat ≡ and_of (tests_seen tests.now.items)) }
+    ensures same { IfSome result (λ flat. flat_meant flat ≡ and_of (tests_seen tests.now.items)) }
+    ensures found { is_some result ≡ are_two_comparisons (tests_seen tests.now.items) }
 {
     if tests.len() != 2 {
         return None;
@@ -39,7 +41,8 @@ fn both_of(tests: &Vec<Test>) -> Option<Flat>
 
 // So many in a location of the player that the outermost variable stands for.
 fn each_has(bound: u32, loc: &Loc, count: i64) -> Option<Flat>
-    ensures { IfSome result (λ flat. flat_meant flat ≡ all_of each_player bound (eq_int (size_of (cards_in (loc_seen loc.now))) (literal count))) }
+    ensures same { IfSome result (λ flat. flat_meant flat ≡ all_of each_player bound (eq_int (size_of (cards_in (loc_seen loc.now))) (literal count))) }
+    ensures found { is_some result ≡ is_outermost (loc_seen loc.now).who }
 {
     match loc.who {
         Who::Var(0) => Some(Flat::EachHas {
@@ -54,7 +57,8 @@ fn each_has(bound: u32, loc: &Loc, count: i64) -> Option<Flat>
 
 // As many as a number, if it is a literal.
 fn each_has_literal(bound: u32, loc: &Loc, expr: &IntExpr) -> Option<Flat>
-    ensures { IfSome result (λ flat. flat_meant flat ≡ all_of each_player bound (eq_int (size_of (cards_in (loc_seen loc.now))) (int_seen expr.now))) }
+    ensures same { IfSome result (λ flat. flat_meant flat ≡ all_of each_player bound (eq_int (size_of (cards_in (loc_seen loc.now))) (int_seen expr.now))) }
+    ensures found { is_some result ≡ is_outermost (loc_seen loc.now).who && is_written_out (int_seen expr.now) }
 {
     match expr {
         IntExpr::Lit(count) => each_has(bound, loc, *count),
@@ -63,7 +67,8 @@ fn each_has_literal(bound: u32, loc: &Loc, expr: &IntExpr) -> Option<Flat>
 }
 
 fn each_size(bound: u32, cards: &CollExpr, expr: &IntExpr) -> Option<Flat>
-    ensures { IfSome result (λ flat. flat_meant flat ≡ all_of each_player bound (eq_int (size_of (coll_seen cards.now)) (int_seen expr.now))) }
+    ensures same { IfSome result (λ flat. flat_meant flat ≡ all_of each_player bound (eq_int (size_of (coll_seen cards.now)) (int_seen expr.now))) }
+    ensures found { is_some result ≡ is_own (coll_seen cards.now) && is_written_out (int_seen expr.now) }
 {
     match cards {
         CollExpr::Loc(loc) => each_has_literal(bound, loc, expr),
@@ -72,7 +77,8 @@ fn each_size(bound: u32, cards: &CollExpr, expr: &IntExpr) -> Option<Flat>
 }
 
 fn each_equal(bound: u32, a: &IntExpr, b: &IntExpr) -> Option<Flat>
-    ensures { IfSome result (λ flat. flat_meant flat ≡ all_of each_player bound (eq_int (int_seen a.now) (int_seen b.now))) }
+    ensures same { IfSome result (λ flat. flat_meant flat ≡ all_of each_player bound (eq_int (int_seen a.now) (int_seen b.now))) }
+    ensures found { is_some result ≡ is_own_size (int_seen a.now) && is_written_out (int_seen b.now) }
 {
     match a {
         IntExpr::Size(cards) => each_size(bound, cards, b),
@@ -81,7 +87,8 @@ fn each_equal(bound: u32, a: &IntExpr, b: &IntExpr) -> Option<Flat>
 }
 
 fn of_each(bound: u32, test: &Test) -> Option<Flat>
-    ensures { IfSome result (λ flat. flat_meant flat ≡ all_of each_player bound (test_seen test.now)) }
+    ensures same { IfSome result (λ flat. flat_meant flat ≡ all_of each_player bound (test_seen test.now)) }
+    ensures found { is_some result ≡ counts_own (test_seen test.now) }
 {
     match test {
         Test::EqInt(a, b) => each_equal(bound, a, b),
@@ -91,7 +98,8 @@ fn of_each(bound: u32, test: &Test) -> Option<Flat>
 
 // A test of all members of a domain in flat form, if they are the players and it has one.
 fn all_in(domain: &Domain, bound: u32, test: &Test) -> Option<Flat>
-    ensures { IfSome result (λ flat. flat_meant flat ≡ all_of (domain_seen domain.now) bound (test_seen test.now)) }
+    ensures same { IfSome result (λ flat. flat_meant flat ≡ all_of (domain_seen domain.now) bound (test_seen test.now)) }
+    ensures found { is_some result ≡ are_players (domain_seen domain.now) && counts_own (test_seen test.now) }
 {
     match domain {
         Domain::Players => of_each(bound, test),
@@ -100,7 +108,8 @@ fn all_in(domain: &Domain, bound: u32, test: &Test) -> Option<Flat>
 }
 
 fn one_of(test: &Test) -> Option<Flat>
-    ensures { IfSome result (λ flat. flat_meant flat ≡ test_seen test.now) }
+    ensures same { IfSome result (λ flat. flat_meant flat ≡ test_seen test.now) }
+    ensures found { is_some result ≡ is_comparison (test_seen test.now) }
 {
     match atom_of(test) {
         Some(atom) => Some(Flat::One(atom)),
@@ -110,7 +119,8 @@ fn one_of(test: &Test) -> Option<Flat>
 
 /// A test in flat form, if it has one.
 pub(crate) fn flat_of(test: &Test) -> Option<Flat>
-    ensures { IsFlatForm (test_seen test.now) result }
+    ensures same { IsFlatForm (test_seen test.now) result }
+    ensures found { is_some result ≡ has_flat_form (test_seen test.now) }
 {
     match test {
         Test::And(tests) => both_of(tests),

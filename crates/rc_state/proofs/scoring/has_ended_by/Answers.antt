@@ -20,4 +20,4 @@ returns-in-Some-EachHas c =
     let kept = to_z-of_z w64 it.count fits in
     c.each_has.ensures it.field-0-0 it.field-0-2 ∙ ap (λ count. test_value seen [] (flat_meant (each count))) kept
     ∙ ap (λ s. test_value s [] (flat_meant (each it.count))) here
-    ∙ ap (λ f. test_value scene [] (flat_meant f)) (sym it.field-0-is) ∙ ap (test_value scene []) it.ensures
+    ∙ ap (λ f. test_value scene [] (flat_meant f)) (sym it.field-0-is) ∙ ap (test_value scene []) it.ensures.same
