@@ -1,2 +1,3 @@
 pub mod FlatLemmas
 pub mod GuardLemmas
+pub mod PartLemmas

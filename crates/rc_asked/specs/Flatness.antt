@@ -1,5 +1,5 @@
 -- Which tests have a flat form.
-use Rattle.std.specs.Prelude.{zero, suc, Bool, true, false, ◌&&◌}
+use Rattle.std.specs.Prelude.{zero, Bool, true, false, ◌&&◌}
 use Rattle.rc_sheet_model.specs.Sheet.{Who, who_var, CardExpr, top_card, CollExpr, cards_in, IntExpr, literal, number, size_of, worth_of, Test, eq_int, eq_attr, less, less_eq, more, more_eq, and_of, all_of, Tests, no_test, test, Domain, each_player}
 
 -- the cards of a location, and the top one of them

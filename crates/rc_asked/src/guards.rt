@@ -1,10 +1,12 @@
 //! Guards of the cards of one location, in parts.
-ghost use Rattle.std.specs.Prelude.{◌≡◌, ℕ, true, map, All, IfSome, if◌then◌else◌};
+ghost use Rattle.std.specs.Prelude.{◌≡◌, ℕ, true, ◌&&◌, ◌||◌, map, All, is_some, IfSome, if◌then◌else◌};
 ghost use Rattle.rc_sheet_model.specs.Sheet.{and_of, any_alt, any_of, cards_in, card_var, each_card, eq_attr, has_value, or_of, top_card};
 ghost use Rattle.rc_ast.specs.Names.{loc_seen};
 ghost use Rattle.rc_ast.specs.Expressions.{card_seen, coll_seen, domain_seen, test_seen, tests_seen};
 ghost use Rattle.rc_ast.specs.Items.{alt_seen};
 ghost use Rattle.rc_asked.specs.Guards.{in_sense, part_meant, guard_meant, IsFixedLoc, IsFixedAmount, IsFixedAtom, IsFixedPart, IsFixedGuard, IsQuestionOf, IsPartOf, IsGuardOf, IsWishOf};
+ghost use Rattle.rc_asked.specs.GuardParts.{is_fixed_who, is_fixed_location, is_fixed_top, is_fixed_domain, is_fixed_number, is_fixed_comparison, is_the_variable, is_wish, is_question, is_part, are_few_parts, is_in_parts, is_guarded, has_guard};
+ghost use Rattle.rc_asked.specs.Meaning.{amount_meant, atom_meant};
 
 use crate::amounts::Amount;
 use crate::atoms::{Atom, atom_of};
@@ -64,7 +66,8 @@ pub struct Guard {
 
 // Whether no variable owns a location.
 fn is_fixed(loc: &Loc) -> bool
-    ensures { result ≡ true → IsFixedLoc (loc_seen loc.now) }
+    ensures fixed { result ≡ true → IsFixedLoc (loc_seen loc.now) }
+    ensures told { result ≡ is_fixed_who (loc_seen loc.now).who }
 {
     match loc.who {
         Who::Game => true,
@@ -77,7 +80,8 @@ fn is_fixed(loc: &Loc) -> bool
 
 // Whether no variable owns what a number is read off. A number that the game keeps isn't looked at: few guards ask for one.
 fn is_fixed_amount(amount: &Amount) -> bool
-    ensures { result ≡ true → IsFixedAmount amount.now }
+    ensures fixed { result ≡ true → IsFixedAmount amount.now }
+    ensures told { result ≡ is_fixed_number (amount_meant amount.now) }
 {
     match amount {
         Amount::Literal(_) => true,
@@ -88,7 +92,8 @@ fn is_fixed_amount(amount: &Amount) -> bool
 }
 
 fn is_fixed_atom(atom: &Atom) -> bool
-    ensures { result ≡ true → IsFixedAtom atom.now }
+    ensures fixed { result ≡ true → IsFixedAtom atom.now }
+    ensures told { result ≡ is_fixed_comparison (atom_meant atom.now) }
 {
     match atom {
         Atom::Compare { how: _, one, other } => is_fixed_amount(one) && is_fixed_amount(other),
@@ -105,6 +110,7 @@ fn is_fixed_atom(atom: &Atom) -> bool
 fn fixed_location(cards: &CollExpr) -> Option<Loc>
     ensures same { IfSome result (λ loc. cards_in (loc_seen loc) ≡ coll_seen cards.now) }
     ensures fixed { IfSome result (λ loc. IsFixedLoc (loc_seen loc)) }
+    ensures found { is_some result ≡ is_fixed_location (coll_seen cards.now) }
 {
     match cards {
         CollExpr::Loc(loc) => { if is_fixed(loc) { Some(*loc) } else { None } }
@@ -116,6 +122,7 @@ fn fixed_location(cards: &CollExpr) -> Option<Loc>
 fn fixed_top(card: &CardExpr) -> Option<Loc>
     ensures same { IfSome result (λ loc. top_card (cards_in (loc_seen loc)) ≡ card_seen card.now) }
     ensures fixed { IfSome result (λ loc. IsFixedLoc (loc_seen loc)) }
+    ensures found { is_some result ≡ is_fixed_top (card_seen card.now) }
 {
     match card {
         CardExpr::Top(cards) => fixed_location(cards),
@@ -127,6 +134,7 @@ fn fixed_top(card: &CardExpr) -> Option<Loc>
 fn fixed_domain(domain: &Domain) -> Option<Loc>
     ensures same { IfSome result (λ loc. each_card (cards_in (loc_seen loc)) ≡ domain_seen domain.now) }
     ensures fixed { IfSome result (λ loc. IsFixedLoc (loc_seen loc)) }
+    ensures found { is_some result ≡ is_fixed_domain (domain_seen domain.now) }
 {
     match domain {
         Domain::Coll(cards) => fixed_location(cards),
@@ -136,7 +144,8 @@ fn fixed_domain(domain: &Domain) -> Option<Loc>
 
 // Whether a card is the variable at this place.
 fn is_variable(card: &CardExpr, place: u8) -> bool
-    ensures { result ≡ true → card_seen card.now ≡ card_var place }
+    ensures same { result ≡ true → card_seen card.now ≡ card_var place }
+    ensures told { result ≡ is_the_variable place (card_seen card.now) }
 {
     match card {
         CardExpr::Var(var) => *var == place,
@@ -146,7 +155,8 @@ fn is_variable(card: &CardExpr, place: u8) -> bool
 
 // What is wished of the card of the variable at this place, where that is what two cards' values are compared for.
 fn wish_between(a: &CardExpr, name: u16, b: &CardExpr, other: u16, place: u8) -> Option<Wish>
-    ensures { IfSome result (IsWishOf place (eq_attr (card_seen a.now) name (card_seen b.now) other)) }
+    ensures is { IfSome result (IsWishOf place (eq_attr (card_seen a.now) name (card_seen b.now) other)) }
+    ensures found { is_some result ≡ is_the_variable place (card_seen a.now) && is_fixed_top (card_seen b.now) }
 {
     if !is_variable(a, place) {
         return None;
@@ -163,7 +173,8 @@ fn wish_between(a: &CardExpr, name: u16, b: &CardExpr, other: u16, place: u8) ->
 
 // The same where a card is asked for a value.
 fn wish_named(card: &CardExpr, name: u16, value: u16, place: u8) -> Option<Wish>
-    ensures { IfSome result (IsWishOf place (has_value (card_seen card.now) name value)) }
+    ensures is { IfSome result (IsWishOf place (has_value (card_seen card.now) name value)) }
+    ensures found { is_some result ≡ is_the_variable place (card_seen card.now) }
 {
     if is_variable(card, place) {
         return Some(Wish::Value { name, value });
@@ -172,7 +183,8 @@ fn wish_named(card: &CardExpr, name: u16, value: u16, place: u8) -> Option<Wish>
 }
 
 fn wish_of(test: &Test, place: u8) -> Option<Wish>
-    ensures { IfSome result (IsWishOf place (test_seen test.now)) }
+    ensures is { IfSome result (IsWishOf place (test_seen test.now)) }
+    ensures found { is_some result ≡ is_wish place (test_seen test.now) }
 {
     match test {
         Test::EqAttr(a, name, b, other) => wish_between(a, *name, b, *other, place),
@@ -182,7 +194,8 @@ fn wish_of(test: &Test, place: u8) -> Option<Wish>
 }
 
 fn known_of(test: &Test) -> Option<Question>
-    ensures { IfSome result (IsQuestionOf (test_seen test.now)) }
+    ensures is { IfSome result (IsQuestionOf (test_seen test.now)) }
+    ensures found { is_some result ≡ is_fixed_comparison (test_seen test.now) }
 {
     match atom_of(test) {
         Some(atom) => {
@@ -198,7 +211,8 @@ fn known_of(test: &Test) -> Option<Question>
 
 // The question that a test is which binds no variable.
 fn plain_question(test: &Test) -> Option<Question>
-    ensures { IfSome result (IsQuestionOf (test_seen test.now)) }
+    ensures is { IfSome result (IsQuestionOf (test_seen test.now)) }
+    ensures found { is_some result ≡ is_wish 0 (test_seen test.now) || is_fixed_comparison (test_seen test.now) }
 {
     match wish_of(test, 0) {
         Some(wish) => Some(Question::Wished(wish)),
@@ -208,7 +222,8 @@ fn plain_question(test: &Test) -> Option<Question>
 
 // The question whether one of a domain passes a test.
 fn some_of(domain: &Domain, bound: u32, inner: &Test) -> Option<Question>
-    ensures { IfSome result (IsQuestionOf (any_of (domain_seen domain.now) bound (test_seen inner.now))) }
+    ensures is { IfSome result (IsQuestionOf (any_of (domain_seen domain.now) bound (test_seen inner.now))) }
+    ensures found { is_some result ≡ is_fixed_domain (domain_seen domain.now) && is_wish 1 (test_seen inner.now) }
 {
     match fixed_domain(domain) {
         Some(among) => some_in(among, bound, inner),
@@ -218,7 +233,8 @@ fn some_of(domain: &Domain, bound: u32, inner: &Test) -> Option<Question>
 
 fn some_in(among: Loc, bound: u32, inner: &Test) -> Option<Question>
     requires { IsFixedLoc (loc_seen among) }
-    ensures { IfSome result (IsQuestionOf (any_of (each_card (cards_in (loc_seen among))) bound (test_seen inner.now))) }
+    ensures is { IfSome result (IsQuestionOf (any_of (each_card (cards_in (loc_seen among))) bound (test_seen inner.now))) }
+    ensures found { is_some result ≡ is_wish 1 (test_seen inner.now) }
 {
     match wish_of(inner, 1) {
         Some(wish) => Some(Question::Some { among, bound, wish }),
@@ -227,7 +243,8 @@ fn some_in(among: Loc, bound: u32, inner: &Test) -> Option<Question>
 }
 
 fn question_of(test: &Test) -> Option<Question>
-    ensures { IfSome result (IsQuestionOf (test_seen test.now)) }
+    ensures is { IfSome result (IsQuestionOf (test_seen test.now)) }
+    ensures found { is_some result ≡ is_question (test_seen test.now) }
 {
     match test {
         Test::Any(domain, bound, inner) => some_of(domain, *bound, inner),
@@ -236,7 +253,8 @@ fn question_of(test: &Test) -> Option<Question>
 }
 
 fn sensed(sense: Sense, test: &Test) -> Option<Part>
-    ensures { IfSome result (IsPartOf (in_sense sense (test_seen test.now))) }
+    ensures is { IfSome result (IsPartOf (in_sense sense (test_seen test.now))) }
+    ensures found { is_some result ≡ is_question (test_seen test.now) }
 {
     match question_of(test) {
         Some(question) => Some(Part { sense, question }),
@@ -245,7 +263,8 @@ fn sensed(sense: Sense, test: &Test) -> Option<Part>
 }
 
 fn part_of(test: &Test) -> Option<Part>
-    ensures { IfSome result (IsPartOf (test_seen test.now)) }
+    ensures is { IfSome result (IsPartOf (test_seen test.now)) }
+    ensures found { is_some result ≡ is_part (test_seen test.now) }
 {
     match test {
         Test::Ne(inner) => sensed(Sense::Ne, inner),
@@ -257,6 +276,7 @@ fn part_of(test: &Test) -> Option<Part>
 fn parts_of(tests: &Vec<Test>) -> Option<FewParts>
     ensures same { IfSome result (λ parts. map part_meant parts.items ≡ map test_seen tests.now.items) }
     ensures fixed { IfSome result (λ parts. All IsFixedPart parts.items) }
+    ensures found { is_some result ≡ are_few_parts (tests_seen tests.now.items) }
 {
     if tests.len() > 4 {
         return None;
@@ -277,6 +297,7 @@ fn joined(loc: Loc, any: bool, tests: &Vec<Test>) -> Option<Guard>
     ensures place { IfSome result (λ guard. guard.loc ≡ loc) }
     ensures same { IfSome result (λ guard. guard_meant guard ≡ (if any then or_of (tests_seen tests.now.items) else and_of (tests_seen tests.now.items))) }
     ensures fixed { IfSome result IsFixedGuard }
+    ensures found { is_some result ≡ are_few_parts (tests_seen tests.now.items) }
 {
     match parts_of(tests) {
         Some(parts) => Some(Guard { loc, any, parts }),
@@ -290,6 +311,7 @@ fn guard_by(loc: Loc, test: &Test) -> Option<Guard>
     ensures place { IfSome result (λ guard. guard.loc ≡ loc) }
     ensures same { IfSome result (λ guard. guard_meant guard ≡ test_seen test.now) }
     ensures fixed { IfSome result IsFixedGuard }
+    ensures found { is_some result ≡ is_in_parts (test_seen test.now) }
 {
     match test {
         Test::Or(tests) => joined(loc, true, tests),
@@ -300,7 +322,8 @@ fn guard_by(loc: Loc, test: &Test) -> Option<Guard>
 
 fn guard_in(loc: Loc, alt: &Alt) -> Option<Guard>
     requires { IsFixedLoc (loc_seen loc) }
-    ensures { IfSome result (λ guard. (bound : ℕ) → IsGuardOf (any_alt (each_card (cards_in (loc_seen loc))) bound (alt_seen alt.now)) guard) }
+    ensures is { IfSome result (λ guard. (bound : ℕ) → IsGuardOf (any_alt (each_card (cards_in (loc_seen loc))) bound (alt_seen alt.now)) guard) }
+    ensures found { is_some result ≡ is_guarded (alt_seen alt.now) }
 {
     match alt {
         Alt::If(guard, _) => guard_by(loc, guard),
@@ -309,7 +332,8 @@ fn guard_in(loc: Loc, alt: &Alt) -> Option<Guard>
 }
 
 fn guard_among(domain: &Domain, alt: &Alt) -> Option<Guard>
-    ensures { IfSome result (λ guard. (bound : ℕ) → IsGuardOf (any_alt (domain_seen domain.now) bound (alt_seen alt.now)) guard) }
+    ensures is { IfSome result (λ guard. (bound : ℕ) → IsGuardOf (any_alt (domain_seen domain.now) bound (alt_seen alt.now)) guard) }
+    ensures found { is_some result ≡ is_fixed_domain (domain_seen domain.now) && is_guarded (alt_seen alt.now) }
 {
     match fixed_domain(domain) {
         Some(loc) => guard_in(loc, alt),
@@ -319,7 +343,8 @@ fn guard_among(domain: &Domain, alt: &Alt) -> Option<Guard>
 
 /// The guard of an alternative outside all binders that offers the cards of a location, if it is one in such parts.
 pub(crate) fn guard_of(alt: &Alt) -> Option<Guard>
-    ensures { IfSome result (IsGuardOf (alt_seen alt.now)) }
+    ensures is { IfSome result (IsGuardOf (alt_seen alt.now)) }
+    ensures found { is_some result ≡ has_guard (alt_seen alt.now) }
 {
     match alt {
         Alt::Any(domain, _, inner) => guard_among(domain, inner),

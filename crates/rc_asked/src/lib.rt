@@ -9,6 +9,7 @@ mod atoms;
 mod flat;
 mod guards;
 mod offer;
+mod tricks;
 
 pub use amounts::Amount;
 pub use asked::Asked;
@@ -16,3 +17,4 @@ pub use atoms::{Atom, Comparison};
 pub use flat::Flat;
 pub use guards::{FewParts, Guard, Part, Question, Sense, Wish};
 pub use offer::Offer;
+pub use tricks::trick_tests_have_flat_forms;

@@ -21,11 +21,12 @@ impl Drop for Offer {
 }
 
 impl Model for Offer {
-    ghost use Rattle.std.specs.Prelude.{IfSome};
+    ghost use Rattle.std.specs.Prelude.{◌≡◌, is_some, IfSome};
     ghost use Rattle.rc_sheet_model.specs.Sheet.{Alt as PureAlt};
     ghost use Rattle.rc_ast.specs.Items.{alt_seen};
     ghost use Rattle.rc_asked.specs.Codes.{coded_alt};
     ghost use Rattle.rc_asked.specs.Guards.{IsGuardOf};
+    ghost use Rattle.rc_asked.specs.GuardParts.{has_guard};
 
     ghost Value = { PureAlt };
 
@@ -33,13 +34,14 @@ impl Model for Offer {
 
     ghost view = { λ o. alt_seen o.alt };
 
-    ghost invariant = { λ o. IfSome o.guard (IsGuardOf (alt_seen o.alt)) };
+    ghost invariant = { λ o. IfSome o.guard (IsGuardOf (alt_seen o.alt)) × (is_some o.guard ≡ has_guard (alt_seen o.alt)) };
 }
 
 impl Offer {
-    ghost use Rattle.std.specs.Prelude.{◌≡◌, IfSome};
+    ghost use Rattle.std.specs.Prelude.{◌≡◌, is_some, IfSome};
     ghost use Rattle.rc_ast.specs.Items.{alt_seen};
     ghost use Rattle.rc_asked.specs.Guards.{IsGuardOf};
+    ghost use Rattle.rc_asked.specs.GuardParts.{has_guard};
 
     /// An alternative of which menus are to be made.
     pub fn new(alt: Alt) -> Offer
@@ -60,7 +62,8 @@ impl Offer {
     /// Its guard in parts, if it has such a one.
     #[inline(always)]
     pub fn guard(&self) -> Option<&Guard>
-        ensures { IfSome result (λ guard. IsGuardOf self.now guard.now) }
+        ensures is { IfSome result (λ guard. IsGuardOf self.now guard.now) }
+        ensures found { is_some result ≡ has_guard self.now }
     {
         match &self.guard {
             Some(guard) => Some(guard),
