@@ -6,17 +6,22 @@ lines, one behind the other; they may be indented otherwise. In a block of the l
 is a command, which is run by the shell at the root of the repository, and the lines behind it are what it writes to standard
 output and then to standard error. The line that tells the looks of the cache may be left out. Other blocks of the pages in
 `QUOTING` are of the language `sh`, which is for commands that aren't run here, or `text`.
+
+Where the program isn't built, no command is run, which would have it proved and built: this is said, and the status is 127.
 """
 
 from __future__ import annotations
 
 import re
-import subprocess
 import sys
 from collections.abc import Iterator
 from dataclasses import dataclass
 from pathlib import Path
+from subprocess import TimeoutExpired
 from textwrap import dedent
+
+from built import NOT_BUILT, is_built
+from started import run
 
 ROOT = Path(__file__).resolve().parent.parent
 QUOTING = (
@@ -31,6 +36,7 @@ QUOTING = (
 )
 FREE = ("sh", "text")
 SECONDS = 120
+UNBUILT = 127
 LOOKS = re.compile(r"^cache looks \d+ hits \d+\n", re.MULTILINE)
 LINK = re.compile(r"\[[^\]]*\]\(([^)\s]+)\)")
 
@@ -96,20 +102,23 @@ def quoting_fault(root: Path, block: Block) -> str | None:
 
 def running_fault(root: Path, command: Command) -> str | None:
     """What is wrong with what a block says of a command."""
-    ran = subprocess.run(["sh", "-c", command.words], cwd=root, capture_output=True, text=True, timeout=SECONDS, check=False)
+    try:
+        ran = run(["sh", "-c", command.words], seconds=SECONDS, cwd=root, text=True)
+    except TimeoutExpired:
+        return f"'{command.words}' doesn't end within {SECONDS} seconds"
     written = ran.stdout + ran.stderr
     if command.written in (written, LOOKS.sub("", written)):
         return None
     return f"'{command.words}' writes\n{written}and not\n{command.written}"
 
 
-def block_faults(root: Path, block: Block) -> Iterator[str]:
-    """What is wrong with a block of a page."""
+def block_faults(root: Path, block: Block, runs: bool = True) -> Iterator[str]:
+    """What is wrong with a block of a page. Its commands may be left alone."""
     if block.comment:
         found = [quoting_fault(root, block)]
     elif block.language == "console":
         commands = read_commands(block.text)
-        found = [running_fault(root, command) for command in commands] or ["no command stands here"]
+        found = [running_fault(root, command) for command in commands if runs] if commands else ["no command stands here"]
     else:
         found = [None if block.language in FREE else "this block is neither quoted from a file nor run"]
     yield from (f"line {block.line}: {fault}" for fault in found if fault)
@@ -135,19 +144,23 @@ def link_faults(page: Path) -> Iterator[str]:
             yield f"the link {target} leads to no heading"
 
 
-def all_faults(root: Path) -> Iterator[str]:
-    """What is wrong with the pages below the root."""
+def all_faults(root: Path, runs: bool) -> Iterator[str]:
+    """What is wrong with the pages below the root. Their commands may be left alone."""
     for name in QUOTING:
         for block in read_blocks((root / name).read_text("utf-8")):
-            yield from (f"{name}: {fault}" for fault in block_faults(root, block))
+            yield from (f"{name}: {fault}" for fault in block_faults(root, block, runs))
     for page in sorted([*root.glob("*.md"), *root.glob("*/*.md")]):
         yield from (f"{page.relative_to(root)}: {fault}" for fault in link_faults(page))
 
 
 def main() -> int:
-    faults = list(all_faults(ROOT))
+    runs = is_built(ROOT)
+    faults = list(all_faults(ROOT, runs))
     for fault in faults:
         print(f"tools/pages.py: {fault}", file=sys.stderr)
+    if not runs:
+        print(f"tools/pages.py: no command was run, since {NOT_BUILT}", file=sys.stderr)
+        return UNBUILT
     if not faults:
         print("pages: what they quote stands in the files, and what they run writes what they say")
     return 1 if faults else 0

@@ -8,7 +8,10 @@ import tempfile
 import unittest
 from pathlib import Path
 
+from started import run
+
 ROOT = Path(__file__).resolve().parent.parent
+SECONDS = 120
 
 # Writes what it reads, then a note, and ends as it is told. Its words go to a file.
 PROGRAM = """#!/bin/sh
@@ -60,8 +63,8 @@ class Scripted(unittest.TestCase):
         """Runs the script in its folder. The program ends with a note and a status, and the kit with lines and the status."""
         told = {"NOTE": note, "STATUS": str(status), "KIT_NOTE": kit, "SAID": str(self.root / "said")}
         env = {**os.environ, **told, "PATH": f"{self.root / 'bin'}:{os.environ['PATH']}"}
-        how = {"input": b"\n )\n", "capture_output": True, "env": env, "cwd": self.root, **how}
-        return subprocess.run([self.root / "cardhouse", *words], **how)  # type: ignore[call-overload, no-any-return]
+        how = {"given": b"\n )\n", "seconds": SECONDS, "env": env, "cwd": self.root, **how}
+        return run([self.root / "cardhouse", *words], **how)  # type: ignore[arg-type]
 
     def said(self) -> str:
         """The words that the program was handed, or the kit."""

@@ -4,19 +4,18 @@ indented, faults are found, and snippets are of the language."""
 import json
 import re
 import shutil
-import subprocess
 import tempfile
 import unittest
 from pathlib import Path
 from typing import Any
 
+from built import PROGRAM, ROOT, skip_unless_built
 from linting.running import findings
 from linting.trees import placed, read_lists, read_sheet
+from started import run
 
-ROOT = Path(__file__).resolve().parent.parent
 VIM = ROOT / "editors/vim"
 VSCODE = ROOT / "editors/vscode"
-PROGRAM = ROOT / "crates/rc_main/out/rc_main"
 
 SHEETS = sorted([*(ROOT / "examples").glob("**/*.sheet"), *(ROOT / "bench").glob("*.sheet")])
 
@@ -102,7 +101,7 @@ class InFolder(unittest.TestCase):
         script = [f"set nocompatible runtimepath^={VIM}", "filetype plugin on", "syntax on", *commands, "qall!", ""]
         (self.folder / "script.vim").write_text("\n".join(script))
         command = ["vim", "-u", "NONE", "-es", "-S", self.folder / "script.vim"]
-        subprocess.run(command, cwd=self.folder, timeout=300, stdin=subprocess.DEVNULL, stdout=subprocess.DEVNULL)
+        run(command, seconds=300, cwd=self.folder)
 
 
 class Colours(InFolder):
@@ -157,7 +156,8 @@ class Colours(InFolder):
         console.log(JSON.stringify(found));
         """
         given = json.dumps([grammar(name), text])
-        ran = subprocess.run(["node", "-e", script], input=given, capture_output=True, text=True, check=True, timeout=60)
+        ran = run(["node", "-e", script], given, seconds=60, text=True)
+        ran.check_returncode()
         return [(run, SCOPES[scope.rpartition(".")[0]]) for run, scope in json.loads(ran.stdout)]
 
     @unittest.skipUnless(shutil.which("vim"), "no Vim on the path")
@@ -326,10 +326,10 @@ class Snippets(unittest.TestCase):
     def test_nothing_is_told_of_the_game(self) -> None:
         self.assertEqual(findings(read_sheet(self.texts["game"].encode())), [])
 
-    @unittest.skipUnless(PROGRAM.is_file(), "the program isn't built")
     def test_the_game_is_played_by_the_plan(self) -> None:
+        skip_unless_built()
         source = self.texts["game"] + self.texts["plan"].replace("(from 1 1 10)", "(from 1 1 2)")
-        ran = subprocess.run([PROGRAM, "play"], input=source, capture_output=True, text=True, timeout=600)
+        ran = run([PROGRAM, "play"], source, seconds=600, text=True)
         self.assertEqual((ran.returncode, ran.stdout.count("\nend done ")), (0, 2))
 
 

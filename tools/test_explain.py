@@ -18,7 +18,8 @@ from faults.explaining import explanation
 from faults.forms import FORMS, MEANINGS, forms_of, forms_with, is_fixed, is_plural, meant_behind, parts_of
 from faults.places import picture, place_of, shown
 from faults.tokens import end_of, lists_around, rest_of
-from scripted import Scripted
+from scripted import SECONDS, Scripted
+from started import run
 
 PAGES = [ROOT / "docs/LANGUAGE.md", ROOT / "docs/REFUSALS.md", ROOT / "docs/FORMATS.md"]
 
@@ -407,8 +408,8 @@ class Program(Built):
     """The program by itself and explained ends alike, but for what is said below its line."""
 
     def run_both(self, words: list[str], source: bytes) -> tuple[int, str, str]:
-        alone = subprocess.run([PROGRAM, *words], input=source, capture_output=True)
-        explained = subprocess.run([ROOT / "tools/explain", PROGRAM, *words], input=source, capture_output=True)
+        alone = run([PROGRAM, *words], source, seconds=SECONDS)
+        explained = run([ROOT / "tools/explain", PROGRAM, *words], source, seconds=SECONDS)
         self.assertEqual((explained.returncode, explained.stdout), (alone.returncode, alone.stdout))
         self.assertTrue(explained.stderr.startswith(alone.stderr))
         return alone.returncode, alone.stderr.decode(), explained.stderr[len(alone.stderr) :].decode()
@@ -455,13 +456,13 @@ class Script(Scripted):
         source.write_bytes(b"read before\n\n )\n")
         with source.open("rb") as file:
             os.lseek(file.fileno(), 12, os.SEEK_SET)
-            ran = self.run_script("--explain", "sheet", input=None, stdin=file)
+            ran = self.run_script("--explain", "sheet", given=None, stdin=file)
         self.assertEqual(ran.stdout, b"\n )\n")
         self.assertIn(b"line 2, column 2:", ran.stderr)
 
     def test_a_terminal_is_enough(self) -> None:
         leader, follower = pty.openpty()
-        ran = self.run_script("sheet", capture_output=False, stdout=subprocess.PIPE, stderr=follower)
+        ran = self.run_script("sheet", stdout=subprocess.PIPE, stderr=follower)
         os.close(follower)
         said = os.read(leader, 4096)
         os.close(leader)
@@ -471,7 +472,7 @@ class Script(Scripted):
     def test_words_are_judged_before_anything_is_read(self) -> None:
         reading, writing = os.pipe()
         note = "usage: cardhouse play, check, sheet or bench"
-        ran = self.run_script("--explain", "words", note=note, status=2, input=None, stdin=reading, timeout=20)
+        ran = self.run_script("--explain", "words", note=note, status=2, given=None, stdin=reading, seconds=20)
         os.close(reading)
         os.close(writing)
         self.assertEqual(ran.returncode, 2)
@@ -479,7 +480,7 @@ class Script(Scripted):
 
     def test_a_folder_is_left_to_the_program(self) -> None:
         folder = os.open(self.root, os.O_RDONLY)
-        ran = self.run_script("--explain", "sheet", note="read fault", status=6, input=None, stdin=folder)
+        ran = self.run_script("--explain", "sheet", note="read fault", status=6, given=None, stdin=folder)
         os.close(folder)
         self.assertEqual(ran.returncode, 6)
         self.assertTrue(ran.stderr.endswith(b"read fault\n"))
@@ -490,7 +491,7 @@ class Script(Scripted):
 
     def test_a_note_that_cant_be_written(self) -> None:
         with open("/dev/full", "wb") as full:
-            how = {"capture_output": False, "stdout": subprocess.PIPE, "stderr": full}
+            how = {"stdout": subprocess.PIPE, "stderr": full}
             done = self.run_script("--explain", "play", note="cache looks 0 hits 0", status=0, **how)
             refused = self.run_script("--explain", "play", **how)
         self.assertEqual((done.returncode, refused.returncode), (7, 1))

@@ -12,7 +12,8 @@ from faults.explaining import explanation
 from faults.files import LONGEST, FilesRefused, looked_at
 from faults.places import place_of
 from faults.sources import File, Source
-from scripted import Scripted
+from scripted import SECONDS, Scripted
+from started import run, started
 
 ROOT = Path(__file__).resolve().parent.parent
 
@@ -112,18 +113,18 @@ class Script(Scripted):
             self.check(f"{option}sheet a.sheet", "sheet", SHEET)
             self.check(f"{option}play --workers 2 a.sheet a.plan", "play --workers 2", f"{SHEET}\n{PLAN}")
             self.check(f"{option}check a.sheet a.plan 7up", "check", SOURCE.decode())
-            self.check(f"{option}check a.sheet a.plan /dev/stdin", "check", f"{SHEET}\n{PLAN}given", input=b"given")
+            self.check(f"{option}check a.sheet a.plan /dev/stdin", "check", f"{SHEET}\n{PLAN}given", given=b"given")
 
     def test_without_a_file_standard_input_is_read(self) -> None:
         for words in ("play", "play --cache 7", "play 7", "words a.sheet"):
-            self.check(words, words, "" if words.startswith("words") else "given", input=b"given")
+            self.check(words, words, "" if words.startswith("words") else "given", given=b"given")
 
     def test_standard_input_may_be_closed_where_files_are_named(self) -> None:
         folder = os.open(self.root, os.O_RDONLY)
-        self.check("sheet a.sheet", "sheet", SHEET, input=None, stdin=folder)
+        self.check("sheet a.sheet", "sheet", SHEET, given=None, stdin=folder)
         os.close(folder)
-        ran = subprocess.run(["sh", "-c", './cardhouse sheet a.sheet <&-'], cwd=self.root, capture_output=True,
-                             env={**os.environ, "NOTE": "", "STATUS": "0", "SAID": "said"})
+        names = {**os.environ, "NOTE": "", "STATUS": "0", "SAID": "said"}
+        ran = run(["sh", "-c", "./cardhouse sheet a.sheet <&-"], seconds=SECONDS, cwd=self.root, env=names)
         self.assertEqual((ran.returncode, ran.stdout), (0, SHEET.encode()))
 
     def test_the_line_and_the_status_stay(self) -> None:
@@ -136,7 +137,7 @@ class Script(Scripted):
 
     def test_at_a_terminal_it_is_explained(self) -> None:
         leader, follower = pty.openpty()
-        how = {"capture_output": False, "stdout": subprocess.PIPE, "stderr": follower}
+        how = {"stdout": subprocess.PIPE, "stderr": follower}
         self.run_script("sheet", "a.sheet", note="sheet Twice 32", **how)
         os.close(follower)
         self.assertIn(b"a.sheet:2:1: ", os.read(leader, 4096))
@@ -162,10 +163,11 @@ class Script(Scripted):
 
     def test_a_reader_that_ends_ends_the_program(self) -> None:
         self.make(self.program, "#!/bin/sh\nwhile :; do echo more; done\n")
-        running = subprocess.Popen([self.root / "cardhouse", "sheet", "a.sheet"], cwd=self.root, stdout=subprocess.PIPE)
-        assert running.stdout
-        running.stdout.close()
-        self.assertEqual(running.wait(20), -signal.SIGPIPE)
+        command = [self.root / "cardhouse", "sheet", "a.sheet"]
+        with started(command, cwd=self.root, stdout=subprocess.PIPE) as running:
+            assert running.stdout
+            running.stdout.close()
+            self.assertEqual(running.wait(20), -signal.SIGPIPE)
 
     def test_tools_beside_the_program_are_handed_the_words(self) -> None:
         self.program.unlink()

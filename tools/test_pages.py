@@ -1,8 +1,12 @@
 """Tests of tools/pages.py."""
 
+import io
 import tempfile
+import time
 import unittest
+from contextlib import redirect_stderr
 from pathlib import Path
+from unittest.mock import patch
 
 import pages
 
@@ -57,6 +61,25 @@ class Faults(unittest.TestCase):
     def test_a_block_without_a_source_is_told(self):
         self.assertEqual(self.faults("(a)\n"), ["line 7: this block is neither quoted from a file nor run"])
         self.assertEqual(self.faults(".ci/run\n", "sh"), [])
+
+    def test_commands_may_be_left_alone(self):
+        block = pages.Block(7, "console", "", "$ echo x >b.sheet\ny\n")
+        self.assertEqual(list(pages.block_faults(self.root, block, runs=False)), [])
+        self.assertFalse((self.root / "b.sheet").exists())
+
+    def test_a_command_ends_with_what_it_started(self):
+        with patch("pages.SECONDS", 0.2):
+            (said,) = self.faults("$ (sleep 0.6; echo >b.sheet) & sleep 30\n", "console")
+        self.assertIn("doesn't end within 0.2 seconds", said)
+        time.sleep(0.8)
+        self.assertFalse((self.root / "b.sheet").exists())
+
+    def test_nothing_is_run_where_the_program_isnt_built(self):
+        notes = io.StringIO()
+        with patch("pages.is_built", lambda root: False), patch("pages.run") as run, redirect_stderr(notes):
+            self.assertEqual(pages.main(), pages.UNBUILT)
+        run.assert_not_called()
+        self.assertEqual(notes.getvalue(), f"tools/pages.py: no command was run, since {pages.NOT_BUILT}\n")
 
     def test_links_lead_to_files_and_headings(self):
         page = self.root / "page.md"

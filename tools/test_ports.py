@@ -4,15 +4,17 @@ import subprocess
 import unittest
 
 from built import PROGRAM, ROOT, Built
+from started import run, started
 
 SOURCE = b"".join((ROOT / f"examples/first.{part}").read_bytes() for part in ("sheet", "plan"))
 READ_FAULT, WRITE_FAULT = 6, 7
+SECONDS = 60
 
 
 class Ports(Built):
     def shell(self, command: str, source: bytes = SOURCE) -> tuple[int, bytes, bytes]:
         """The status, the output and the notes of `play` where the shell changes its ports."""
-        ran = subprocess.run(["sh", "-c", f'"$0" play {command}', PROGRAM], input=source, capture_output=True)
+        ran = run(["sh", "-c", f'"$0" play {command}', PROGRAM], source, seconds=SECONDS)
         return ran.returncode, ran.stdout, ran.stderr
 
     def test_output_that_is_closed_or_full(self) -> None:
@@ -35,12 +37,12 @@ class Ports(Built):
         plan = b"(plan (seats (random 1) (random 2)) (matches (from 1 1 4096)) (turns 60))"
         source = (ROOT / "examples/first.sheet").read_bytes() + plan
         pipe = subprocess.PIPE
-        with subprocess.Popen([PROGRAM, "play"], stdin=pipe, stdout=pipe, stderr=pipe) as ran:
+        with started([PROGRAM, "play"], stdin=pipe, stdout=pipe, stderr=pipe) as ran:
             ran.stdin.write(source)
             ran.stdin.close()
             self.assertEqual(ran.stdout.read(8), b"house 1\n")
             ran.stdout.close()
-            self.assertEqual((ran.wait(), ran.stderr.read()), (WRITE_FAULT, b"write fault\n"))
+            self.assertEqual((ran.wait(SECONDS), ran.stderr.read()), (WRITE_FAULT, b"write fault\n"))
 
 
 if __name__ == "__main__":

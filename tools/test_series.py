@@ -4,7 +4,6 @@ import io
 import json
 import os
 import shutil
-import signal
 import subprocess
 import sys
 import tempfile
@@ -15,7 +14,8 @@ from pathlib import Path
 from typing import NamedTuple
 from unittest.mock import patch
 
-from built import PROGRAM, ROOT, Built
+import started
+from built import PROGRAM, ROOT, Built, skip_unless_built
 from pieces.folder import Piece, Series, Split, write_object
 from pieces.plans import plan_of, size_of
 from pieces.playing import line_of, picked
@@ -30,12 +30,6 @@ SHEET = ROOT / "examples/draws.sheet"
 
 # The first plan that isn't too large has these matches, of which a piece takes 102.
 PLAN = "(plan (seats (random 1) (random 7))\n  (matches (from 1 5 300)) ; a series\n  (turns 40))\n"
-
-
-def skip(test: str, reason: str) -> unittest.SkipTest:
-    """Says why a test is skipped, since unittest prints a letter alone."""
-    print(f"\n{test} is skipped: {reason}", file=sys.stderr)
-    return unittest.SkipTest(reason)
 
 
 class End(NamedTuple):
@@ -61,7 +55,7 @@ def ran(*words: object, **environment: str) -> End:
 def ended(command: list[object], given: str = "", **environment: str) -> End:
     """How a call of another command ends."""
     names = {**os.environ, "CARDHOUSE": str(PROGRAM), **environment}
-    end = subprocess.run(list(map(str, command)), input=given, capture_output=True, text=True, env=names, timeout=300)
+    end = started.run(list(map(str, command)), given, seconds=300, text=True, env=names)
     return End(end.returncode, end.stdout, end.stderr)
 
 
@@ -334,11 +328,9 @@ class Played(Housed):
         ran("split", self.folder, SHEET, self.root / "series.plan", "--size", 30)
         names = {**os.environ, "CARDHOUSE": str(PROGRAM)}
         command = ["make", "-s", "-j", "4", "-C", self.folder]
-        made = subprocess.Popen(command, env=names, start_new_session=True, stdout=subprocess.DEVNULL)
-        while not Series(self.folder).played():
-            time.sleep(0.01)
-        os.killpg(made.pid, signal.SIGKILL)
-        made.wait()
+        with started.started(command, env=names, stdout=subprocess.DEVNULL) as made:
+            while made.poll() is None and not Series(self.folder).played():
+                time.sleep(0.01)
         done = Series(self.folder).played()
         self.assertLess(done, 10)
         end = ended(["make", "-s", "-j", 4, "-C", self.folder])
@@ -347,7 +339,9 @@ class Played(Housed):
 
     def test_parallel_goes_on_by_its_log(self) -> None:
         if not shutil.which("parallel"):
-            raise skip(self.id(), "no GNU 'parallel' on the path")
+            reason = "no GNU 'parallel' on the path"
+            print(f"\n{self.id()} is skipped: {reason}", file=sys.stderr)
+            self.skipTest(reason)
         for file in self.folder.glob("[0-9].json"):
             file.unlink()
         command = ["parallel", "--will-cite", "--joblog", self.folder / "joblog", "--resume", COMMAND, "run", self.folder, ":::"]
@@ -400,8 +394,7 @@ class Compared(Housed):
 
 class Refusals(unittest.TestCase):
     def setUp(self) -> None:
-        if not PROGRAM.exists():
-            raise skip(self.id(), "the program isn't built")
+        skip_unless_built()
         folder = tempfile.TemporaryDirectory()
         self.addCleanup(folder.cleanup)
         self.root = Path(folder.name)

@@ -24,7 +24,7 @@ class Trying(Scripted):
     def terminal(self, *words: str, **how: object) -> tuple[int, bytes]:
         """The status of a run whose standard error is a terminal, and what stands there."""
         leader, follower = pty.openpty()
-        ran = self.run_script(*words, capture_output=False, stdout=subprocess.PIPE, stderr=follower, **how)
+        ran = self.run_script(*words, stdout=subprocess.PIPE, stderr=follower, **how)
         os.close(follower)
         said = b""
         while b"\n" in (more := read_some(leader)):
@@ -57,7 +57,7 @@ class Trying(Scripted):
 
     def test_bench_reads_nothing(self) -> None:
         reading, writing = os.pipe()
-        ran = self.run_script("--try", "bench", "7", kit=ENDED.format(0), input=None, stdin=reading, timeout=20)
+        ran = self.run_script("--try", "bench", "7", kit=ENDED.format(0), given=None, stdin=reading, seconds=20)
         os.close(reading)
         os.close(writing)
         self.assertEqual((ran.returncode, ran.stdout), (0, b""))
