@@ -98,9 +98,11 @@ class Trying(Scripted):
 
     def test_a_terminal_is_told_what_is_built_and_how_to_try_without(self) -> None:
         self.program.unlink()
+        (self.root / "docs").mkdir()
+        self.write("docs/times.txt", "# head\nrc_a proof 700 alone\nrc_a tests 900 alone\nrc_b proof 100 busy\n")
         status, said = self.terminal("play", "--cache", "7", "a.sheet")
         self.assertEqual((status, self.said()), (127, "run --"))
-        self.assertIn(b"80 minutes", said)
+        self.assertIn(b"the proofs took 13 minutes of one processor", said)
         self.assertIn(b"./cardhouse --try play --cache 7 a.sheet\r\n", said)
         ran = self.run_script("play")
         self.assertEqual(ran.returncode, 127)
