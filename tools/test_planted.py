@@ -42,9 +42,11 @@ class Planted(unittest.TestCase):
         for crate in ("rc_a", "rc_b", "rc_c"):
             self.make(self.root / "crates" / crate / "src/lib.rt", "a\n")
         self.make(self.root / "crates/rc_c/must-fail/own.edit", "file: src/lib.rt\nold: a\nnew: b\n")
-        who = ("-c", "user.name=a", "-c", "user.email=a")
-        for words in (("init", "-q"), ("add", "-A"), (*who, "commit", "-q", "-m", "All")):
-            subprocess.run(["git", *words], cwd=self.root, check=True, capture_output=True)
+        # What git is told of the repository around, as by a hook, isn't handed on.
+        self.env = {name: value for name, value in os.environ.items() if not name.startswith("GIT_")}
+        set_so = ("-c", "user.name=a", "-c", "user.email=a", "-c", "core.hooksPath=/dev/null")
+        for words in (("init", "-q"), ("add", "-A"), (*set_so, "commit", "-q", "-m", "All")):
+            subprocess.run(["git", *words], cwd=self.root, env=self.env, check=True, capture_output=True)
 
     def make(self, file: Path, text: str) -> None:
         file.parent.mkdir(parents=True, exist_ok=True)
@@ -55,7 +57,7 @@ class Planted(unittest.TestCase):
         """How it ends where the kit says this of the edits, the last line that it writes, and what it notes."""
         (self.room / "says").write_text("".join(f"{line.format(edit)}\n" for line, edit in zip(says, EDITS)))
         path = f"{self.room / 'bin'}:{os.environ['PATH']}"
-        env = {**os.environ, "PATH": path, "ROOM": str(self.room), "STATUS": str(status)}
+        env = {**self.env, "PATH": path, "ROOM": str(self.room), "STATUS": str(status)}
         ran = run([self.root / "planted/try", *words], seconds=SECONDS, env=env, text=True)
         return ran.returncode, ran.stdout.splitlines()[-1] if ran.stdout else "", ran.stderr
 
