@@ -2,9 +2,11 @@
 #![tactic(auto)]
 
 mod about;
+mod laws;
 mod records;
 mod series;
 
 pub use about::shared_about;
+pub use laws::looks_are_rollout_picks;
 pub use records::{record_of, records_of};
 pub use series::{Series, told};
