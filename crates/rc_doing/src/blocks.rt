@@ -1,5 +1,5 @@
 //! Blocks of code: effects, one after the other.
-ghost use Rattle.std.specs.Prelude.{◌≡◌, ◌+◌, ◌<◌, ◌≤◌, [], ◌∷◌, ◌++◌, length, take, drop, map, fold, All, OnOk, IfOk, IfSome};
+ghost use Rattle.std.specs.Prelude.{◌≡◌, ◌+◌, ◌<◌, ◌≤◌, [], ◌∷◌, ◌++◌, false, length, take, drop, map, fold, All, OnOk, IfOk, IfSome, IsOk};
 ghost use Rattle.rc_model.specs.Numbers.{below};
 ghost use Rattle.rc_sheet_model.specs.Sheet.{effect, no_effect, when, repeat as repeat_of, for_each as for_each_of};
 ghost use Rattle.rc_play_model.specs.Value.{Bind as PureBind, player_bound, card_bound, coll_value};
@@ -94,6 +94,7 @@ pub fn do_block<D: Dealer>(
         (point_of board.old.laid frames.old.items (D.state dealer.old)) ≡ point_of board.new.laid frames.new.items (D.state dealer.new)) }
     ensures stands { OnOk result (Stands context.now board.new.laid frames.new.items) }
     ensures keeps { Keeps board.old board.new }
+    ensures quiet { board.old.notes ≡ false → IsOk result }
     ensures shuffled { HasShuffled (D.dealing dealer.old) (D.state dealer.old) (D.state dealer.new) }
     ensures dealing { D.dealing dealer.new ≡ D.dealing dealer.old }
 {
@@ -130,6 +131,7 @@ fn do_first<'c, D: Dealer>(
     ensures shorter { IfOk result (λ left. length left.now ≤ length behind.now) }
     ensures stands { OnOk result (Stands context.now board.new.laid frames.new.items) }
     ensures keeps { Keeps board.old board.new }
+    ensures quiet { board.old.notes ≡ false → IsOk result }
     ensures shuffled { HasShuffled (D.dealing dealer.old) (D.state dealer.old) (D.state dealer.new) }
     ensures dealing { D.dealing dealer.new ≡ D.dealing dealer.old }
 {
@@ -191,6 +193,7 @@ fn do_if<D: Dealer>(
         (point_of board.old.laid frames.old.items (D.state dealer.old)) ≡ point_of board.new.laid frames.new.items (D.state dealer.new)) }
     ensures stands { OnOk result (Stands context.now board.new.laid frames.new.items) }
     ensures keeps { Keeps board.old board.new }
+    ensures quiet { board.old.notes ≡ false → IsOk result }
     ensures shuffled { HasShuffled (D.dealing dealer.old) (D.state dealer.old) (D.state dealer.new) }
     ensures dealing { D.dealing dealer.new ≡ D.dealing dealer.old }
 {
@@ -218,6 +221,7 @@ fn repeat<D: Dealer>(
         (point_of board.old.laid frames.old.items (D.state dealer.old)) ≡ point_of board.new.laid frames.new.items (D.state dealer.new)) }
     ensures stands { OnOk result (Stands context.now board.new.laid frames.new.items) }
     ensures keeps { Keeps board.old board.new }
+    ensures quiet { board.old.notes ≡ false → IsOk result }
     ensures shuffled { HasShuffled (D.dealing dealer.old) (D.state dealer.old) (D.state dealer.new) }
     ensures dealing { D.dealing dealer.new ≡ D.dealing dealer.old }
 {
@@ -258,6 +262,7 @@ fn for_each<D: Dealer>(
         (point_of board.old.laid frames.old.items (D.state dealer.old)) ≡ point_of board.new.laid frames.new.items (D.state dealer.new)) }
     ensures stands { OnOk result (Stands context.now board.new.laid frames.new.items) }
     ensures keeps { Keeps board.old board.new }
+    ensures quiet { board.old.notes ≡ false → IsOk result }
     ensures shuffled { HasShuffled (D.dealing dealer.old) (D.state dealer.old) (D.state dealer.new) }
     ensures dealing { D.dealing dealer.new ≡ D.dealing dealer.old }
 {
@@ -293,6 +298,7 @@ fn for_players<D: Dealer>(
         ≡ point_of board.new.laid frames.new.items (D.state dealer.new)) }
     ensures stands { OnOk result (Stands context.now board.new.laid frames.new.items) }
     ensures keeps { Keeps board.old board.new }
+    ensures quiet { board.old.notes ≡ false → IsOk result }
     ensures shuffled { HasShuffled (D.dealing dealer.old) (D.state dealer.old) (D.state dealer.new) }
     ensures dealing { D.dealing dealer.new ≡ D.dealing dealer.old }
 {
@@ -330,6 +336,7 @@ fn for_cards<D: Dealer>(
         ≡ point_of board.new.laid frames.new.items (D.state dealer.new)) }
     ensures stands { OnOk result (Stands context.now board.new.laid frames.new.items) }
     ensures keeps { Keeps board.old board.new }
+    ensures quiet { board.old.notes ≡ false → IsOk result }
     ensures shuffled { HasShuffled (D.dealing dealer.old) (D.state dealer.old) (D.state dealer.new) }
     ensures dealing { D.dealing dealer.new ≡ D.dealing dealer.old }
 {
@@ -363,6 +370,7 @@ fn for_these<D: Dealer>(
         ≡ point_of board.new.laid frames.new.items (D.state dealer.new)) }
     ensures stands { OnOk result (Stands context.now board.new.laid frames.new.items) }
     ensures keeps { Keeps board.old board.new }
+    ensures quiet { board.old.notes ≡ false → IsOk result }
     ensures shuffled { HasShuffled (D.dealing dealer.old) (D.state dealer.old) (D.state dealer.new) }
     ensures dealing { D.dealing dealer.new ≡ D.dealing dealer.old }
 {
@@ -400,6 +408,7 @@ fn do_for<'g, D: Dealer>(
     ensures scope { (other : PureBind CardValue) × (scope.new ≡ context.now.scope.now ++ other ∷ []) }
     ensures stands { OnOk result (Stands context.now board.new.laid frames.new.items) }
     ensures keeps { Keeps board.old board.new }
+    ensures quiet { board.old.notes ≡ false → IsOk result }
     ensures shuffled { HasShuffled (D.dealing dealer.old) (D.state dealer.old) (D.state dealer.new) }
     ensures dealing { D.dealing dealer.new ≡ D.dealing dealer.old }
 {
@@ -430,6 +439,7 @@ fn do_inside<D: Dealer>(
         (point_of board.old.laid frames.old.items (D.state dealer.old)) ≡ point_of board.new.laid frames.new.items (D.state dealer.new)) }
     ensures stands { OnOk result (Stands context.now board.new.laid frames.new.items) }
     ensures keeps { Keeps board.old board.new }
+    ensures quiet { board.old.notes ≡ false → IsOk result }
     ensures shuffled { HasShuffled (D.dealing dealer.old) (D.state dealer.old) (D.state dealer.new) }
     ensures dealing { D.dealing dealer.new ≡ D.dealing dealer.old }
 {

@@ -1,5 +1,5 @@
 //! What is done for each player without a variable: a number of each is set to one value, or cards of each are gathered.
-ghost use Rattle.std.specs.Prelude.{◌≡◌, true, false, length, map, fold, Some, IfSome, OnOk};
+ghost use Rattle.std.specs.Prelude.{◌≡◌, true, false, length, map, fold, Some, IfSome, OnOk, IsOk};
 ghost use Rattle.rc_model.specs.Clamp.{IsWithinClamp};
 ghost use Rattle.rc_model.specs.Numbers.{below};
 ghost use Rattle.rc_sheet_model.specs.Sheet.{effect, no_effect, who_var};
@@ -83,6 +83,7 @@ pub fn set_all(about: &About, each: EachNumber, board: &mut Board) -> Result<(),
     ensures leads { OnOk result (board.new.laid ≡ relaid board.old.laid
         (fold (set_for about.now.sheet each.name each.value) board.old.laid.table (map (λ n. player_bound n) (below about.now.sheet.players)))) }
     ensures keeps { Keeps board.old board.new }
+    ensures quiet { board.old.notes ≡ false → IsOk result }
 {
     for player in 0..about.sheet().players {
         match set_one(about, each, player, board) {
@@ -99,6 +100,7 @@ fn set_one(about: &About, each: EachNumber, player: u8, board: &mut Board) -> Re
     requires { IsWithinClamp each.value }
     ensures leads { OnOk result (board.new.laid ≡ relaid board.old.laid (set_for about.now.sheet each.name each.value board.old.laid.table (player_bound player))) }
     ensures keeps { Keeps board.old board.new }
+    ensures quiet { board.old.notes ≡ false → IsOk result }
 {
     match number_at(about, each.name, player) {
         Some(at) => change_at(board, at, Change::Set, each.value),
@@ -185,6 +187,7 @@ pub fn gather_all(
         (if_some (λ to table. fold (gather_for context.now.about.now.sheet board.old.laid.shape each.entry.from.now.name to) table (map (λ n. player_bound n) (below context.now.about.now.sheet.players)))
         (loc_place (scene_in context.now board.old.laid frames.now.items).known context.now.scope.now (loc_seen each.entry.to.now)) board.old.laid.table)) }
     ensures keeps { Keeps board.old board.new }
+    ensures quiet { board.old.notes ≡ false → IsOk result }
 {
     match loc_now(context, each.to, board.table(), frames) {
         Some(to) => gather_on(context.about, each.from.name, to, board),
@@ -199,6 +202,7 @@ fn gather_on(about: &About, name: u16, to: u16, board: &mut Board) -> Result<(),
     ensures leads { OnOk result (board.new.laid ≡ relaid board.old.laid
         (fold (gather_for about.now.sheet board.old.laid.shape name to) board.old.laid.table (map (λ n. player_bound n) (below about.now.sheet.players)))) }
     ensures keeps { Keeps board.old board.new }
+    ensures quiet { board.old.notes ≡ false → IsOk result }
 {
     for player in 0..about.sheet().players {
         match gather_one(about, name, player, to, board) {
@@ -221,6 +225,7 @@ fn gather_one(
     requires { HoldsCards board.old.laid.shape to }
     ensures leads { OnOk result (board.new.laid ≡ relaid board.old.laid (gather_for about.now.sheet board.old.laid.shape name to board.old.laid.table (player_bound player))) }
     ensures keeps { Keeps board.old board.new }
+    ensures quiet { board.old.notes ≡ false → IsOk result }
 {
     match location_at(about, name, player) {
         Some(from) => board.pile(from, to),

@@ -1,5 +1,5 @@
 //! The effects of an item that was chosen.
-ghost use Rattle.std.specs.Prelude.{◌≡◌, ◌<◌, [], ◌∷◌, ◌++◌, length, OnOk};
+ghost use Rattle.std.specs.Prelude.{◌≡◌, ◌<◌, [], ◌∷◌, ◌++◌, false, length, OnOk, IsOk};
 ghost use Rattle.rc_sheet_model.specs.Sheet.{any_alt};
 ghost use Rattle.rc_play_model.specs.Value.{Bind as PureBind};
 ghost use Rattle.rc_play_model.specs.Scene.{CardValue};
@@ -58,6 +58,7 @@ pub fn do_item<D: Dealer>(
         (point_of board.old.laid frames.old.items (D.state dealer.old)) ≡ point_of board.new.laid frames.new.items (D.state dealer.new)) }
     ensures current { OnOk result (IsCurrent about.now.sheet (frames_seen frames.new.items) current) }
     ensures keeps { Keeps board.old board.new }
+    ensures quiet { board.old.notes ≡ false → IsOk result }
     ensures shuffled { HasShuffled (D.dealing dealer.old) (D.state dealer.old) (D.state dealer.new) }
     ensures dealing { D.dealing dealer.new ≡ D.dealing dealer.old }
 {
@@ -103,6 +104,7 @@ fn do_here<D: Dealer>(
         (point_of board.old.laid frames.old.items (D.state dealer.old)) ≡ point_of board.new.laid frames.new.items (D.state dealer.new)) }
     ensures current { OnOk result (IsCurrent context.now.about.now.sheet (frames_seen frames.new.items) context.now.current) }
     ensures keeps { Keeps board.old board.new }
+    ensures quiet { board.old.notes ≡ false → IsOk result }
     ensures shuffled { HasShuffled (D.dealing dealer.old) (D.state dealer.old) (D.state dealer.new) }
     ensures dealing { D.dealing dealer.new ≡ D.dealing dealer.old }
 {
@@ -137,6 +139,7 @@ fn do_alt<D: Dealer>(
         (point_of board.old.laid frames.old.items (D.state dealer.old)) ≡ point_of board.new.laid frames.new.items (D.state dealer.new)) }
     ensures current { OnOk result (IsCurrent context.now.about.now.sheet (frames_seen frames.new.items) context.now.current) }
     ensures keeps { Keeps board.old board.new }
+    ensures quiet { board.old.notes ≡ false → IsOk result }
     ensures shuffled { HasShuffled (D.dealing dealer.old) (D.state dealer.old) (D.state dealer.new) }
     ensures dealing { D.dealing dealer.new ≡ D.dealing dealer.old }
 {
@@ -165,6 +168,7 @@ fn do_inner<D: Dealer>(
         (point_of board.old.laid frames.old.items (D.state dealer.old)) ≡ point_of board.new.laid frames.new.items (D.state dealer.new)) }
     ensures current { OnOk result (IsCurrent context.now.about.now.sheet (frames_seen frames.new.items) context.now.current) }
     ensures keeps { Keeps board.old board.new }
+    ensures quiet { board.old.notes ≡ false → IsOk result }
     ensures shuffled { HasShuffled (D.dealing dealer.old) (D.state dealer.old) (D.state dealer.new) }
     ensures dealing { D.dealing dealer.new ≡ D.dealing dealer.old }
 {
@@ -202,6 +206,7 @@ fn do_any<D: Dealer>(
         (point_of board.old.laid frames.old.items (D.state dealer.old)) ≡ point_of board.new.laid frames.new.items (D.state dealer.new)) }
     ensures current { OnOk result (IsCurrent context.now.about.now.sheet (frames_seen frames.new.items) context.now.current) }
     ensures keeps { Keeps board.old board.new }
+    ensures quiet { board.old.notes ≡ false → IsOk result }
     ensures shuffled { HasShuffled (D.dealing dealer.old) (D.state dealer.old) (D.state dealer.new) }
     ensures dealing { D.dealing dealer.new ≡ D.dealing dealer.old }
 {
@@ -243,6 +248,7 @@ fn do_member<D: Dealer>(
         (point_of board.old.laid frames.old.items (D.state dealer.old)) ≡ point_of board.new.laid frames.new.items (D.state dealer.new)) }
     ensures current { OnOk result (IsCurrent context.now.about.now.sheet (frames_seen frames.new.items) context.now.current) }
     ensures keeps { Keeps board.old board.new }
+    ensures quiet { board.old.notes ≡ false → IsOk result }
     ensures shuffled { HasShuffled (D.dealing dealer.old) (D.state dealer.old) (D.state dealer.new) }
     ensures dealing { D.dealing dealer.new ≡ D.dealing dealer.old }
 {
@@ -278,6 +284,7 @@ fn do_bound<D: Dealer>(
         (point_of board.old.laid frames.old.items (D.state dealer.old)) ≡ point_of board.new.laid frames.new.items (D.state dealer.new)) }
     ensures current { OnOk result (IsCurrent context.now.about.now.sheet (frames_seen frames.new.items) context.now.current) }
     ensures keeps { Keeps board.old board.new }
+    ensures quiet { board.old.notes ≡ false → IsOk result }
     ensures shuffled { HasShuffled (D.dealing dealer.old) (D.state dealer.old) (D.state dealer.new) }
     ensures dealing { D.dealing dealer.new ≡ D.dealing dealer.old }
 {

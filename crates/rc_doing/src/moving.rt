@@ -1,5 +1,5 @@
 //! Cards that go somewhere else.
-ghost use Rattle.std.specs.Prelude.{◌≡◌, fold, All, OnOk};
+ghost use Rattle.std.specs.Prelude.{◌≡◌, false, fold, All, OnOk, IsOk};
 ghost use Rattle.rc_sheet_model.specs.Sheet.{move, move_all as move_all_of};
 ghost use Rattle.rc_play_model.specs.Bound.{HoldsCards, IsCardOf};
 ghost use Rattle.rc_play_model.specs.Effects.{move_card};
@@ -34,6 +34,7 @@ pub fn move_one(
     requires well { IsEffectUnder context.now.about.now.sheet context.now.scope.now (move (card_seen card.now) (end_seen end) (loc_seen loc.now)) }
     ensures leads { OnOk result (LeadsTo context.now (move (card_seen card.now) (end_seen end) (loc_seen loc.now)) board.old.laid frames.now.items board.new.laid frames.now.items) }
     ensures keeps { Keeps board.old board.new }
+    ensures quiet { board.old.notes ≡ false → IsOk result }
 {
     let Some(at) = loc_now(context, loc, board.table(), frames) else {
         return Ok(());
@@ -57,6 +58,7 @@ pub fn move_all(
     requires well { IsEffectUnder context.now.about.now.sheet context.now.scope.now (move_all_of (coll_seen cards.now) (end_seen end) (loc_seen loc.now)) }
     ensures leads { OnOk result (LeadsTo context.now (move_all_of (coll_seen cards.now) (end_seen end) (loc_seen loc.now)) board.old.laid frames.now.items board.new.laid frames.now.items) }
     ensures keeps { Keeps board.old board.new }
+    ensures quiet { board.old.notes ≡ false → IsOk result }
 {
     let Some(at) = loc_now(context, loc, board.table(), frames) else {
         return Ok(());
@@ -83,6 +85,7 @@ fn put_some(
     ensures leads { OnOk result (board.new.laid ≡ relaid board.old.laid (fold (move_card board.old.laid.shape (end_seen end) at) board.old.laid.table
         (coll_value (scene_in context.now board.old.laid frames.now.items) context.now.scope.now (coll_seen cards.now)))) }
     ensures keeps { Keeps board.old board.new }
+    ensures quiet { board.old.notes ≡ false → IsOk result }
 {
     let mut few = FewCards::new();
     if few_cards_now(context, cards, board.table(), frames, &mut few) {
@@ -107,6 +110,7 @@ fn put_many(
     ensures leads { OnOk result (board.new.laid ≡ relaid board.old.laid (fold (move_card board.old.laid.shape (end_seen end) at) board.old.laid.table
         (coll_value (scene_in context.now board.old.laid frames.now.items) context.now.scope.now (coll_seen cards.now)))) }
     ensures keeps { Keeps board.old board.new }
+    ensures quiet { board.old.notes ≡ false → IsOk result }
 {
     let mut room = Cards::new();
     cards_now(context, cards, board.table(), frames, &mut room);
@@ -119,6 +123,7 @@ fn put_all(board: &mut Board, cards: &[Card], end: End, at: u16) -> Result<(), M
     requires holds { HoldsCards board.old.laid.shape at }
     ensures leads { OnOk result (board.new.laid ≡ relaid board.old.laid (fold (move_card board.old.laid.shape (end_seen end) at) board.old.laid.table (values_seen cards.now))) }
     ensures keeps { Keeps board.old board.new }
+    ensures quiet { board.old.notes ≡ false → IsOk result }
 {
     for card in cards {
         match put(board, *card, end, at) {
@@ -136,6 +141,7 @@ fn put(board: &mut Board, card: Card, end: End, at: u16) -> Result<(), Memory>
     requires holds { HoldsCards board.old.laid.shape at }
     ensures leads { OnOk result (board.new.laid ≡ relaid board.old.laid (move_card board.old.laid.shape (end_seen end) at board.old.laid.table (value_seen card))) }
     ensures keeps { Keeps board.old board.new }
+    ensures quiet { board.old.notes ≡ false → IsOk result }
 {
     match card {
         Card::Held(id) => match end {

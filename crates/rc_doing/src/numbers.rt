@@ -1,5 +1,5 @@
 //! Numbers that are set and changed.
-ghost use Rattle.std.specs.Prelude.{◌≡◌, OnOk};
+ghost use Rattle.std.specs.Prelude.{◌≡◌, false, OnOk, IsOk};
 ghost use Rattle.rc_model.specs.Clamp.{IsWithinClamp};
 ghost use Rattle.rc_play_model.specs.Effects as effects;
 ghost use Rattle.rc_ast.specs.Names.{num_seen};
@@ -31,6 +31,7 @@ pub fn change_number(
     requires well { IsEffectUnder context.now.about.now.sheet context.now.scope.now (effect_by how (num_seen num.now) (int_seen value.now)) }
     ensures leads { OnOk result (LeadsTo context.now (effect_by how (num_seen num.now) (int_seen value.now)) board.old.laid frames.now.items board.new.laid frames.now.items) }
     ensures keeps { Keeps board.old board.new }
+    ensures quiet { board.old.notes ≡ false → IsOk result }
 {
     change(context, how, num, value, board, frames)
 }
@@ -48,6 +49,7 @@ pub fn set_number(
     requires well { IsEffectUnder context.now.about.now.sheet context.now.scope.now (effect_by Set (num_seen num.now) (int_seen value.now)) }
     ensures leads { OnOk result (LeadsTo context.now (effect_by Set (num_seen num.now) (int_seen value.now)) board.old.laid frames.now.items board.new.laid frames.now.items) }
     ensures keeps { Keeps board.old board.new }
+    ensures quiet { board.old.notes ≡ false → IsOk result }
 {
     match value {
         IntExpr::Lit(_) => change(context, Change::Set, num, value, board, frames),
@@ -69,6 +71,7 @@ fn change(
     requires well { IsEffectUnder context.now.about.now.sheet context.now.scope.now (effect_by how (num_seen num.now) (int_seen value.now)) }
     ensures leads { OnOk result (LeadsTo context.now (effect_by how (num_seen num.now) (int_seen value.now)) board.old.laid frames.now.items board.new.laid frames.now.items) }
     ensures keeps { Keeps board.old board.new }
+    ensures quiet { board.old.notes ≡ false → IsOk result }
 {
     let table = board.table();
     let Some(at) = num_now(context, num, table, frames) else {
@@ -87,6 +90,7 @@ pub fn change_at(board: &mut Board, at: u16, how: Change, value: i64) -> Result<
     requires clamped { IsWithinClamp value }
     ensures leads { OnOk result (board.new.laid ≡ relaid board.old.laid (effects.change (new_by how) value at board.old.laid.table)) }
     ensures keeps { Keeps board.old board.new }
+    ensures quiet { board.old.notes ≡ false → IsOk result }
 {
     let old = board.table().number(at);
     board.set_number(at, changed(how, old, value))

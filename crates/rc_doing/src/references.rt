@@ -1,5 +1,5 @@
 //! References that are put down and taken away.
-ghost use Rattle.std.specs.Prelude.{◌≡◌, ◌<◌, length, OnOk};
+ghost use Rattle.std.specs.Prelude.{◌≡◌, ◌<◌, false, length, OnOk, IsOk};
 ghost use Rattle.rc_sheet_model.specs.Sheet.{remember as remember_of, forget as forget_of};
 ghost use Rattle.rc_play_model.specs.Bound.{HoldsReferences, IsCardOf};
 ghost use Rattle.rc_play_model.specs.Effects.{note as noted_at, forget_card};
@@ -34,6 +34,7 @@ pub fn remember(
     requires well { IsEffectUnder context.now.about.now.sheet context.now.scope.now (remember_of (card_seen card.now) (end_seen end) (loc_seen loc.now)) }
     ensures leads { OnOk result (LeadsTo context.now (remember_of (card_seen card.now) (end_seen end) (loc_seen loc.now)) board.old.laid frames.now.items board.new.laid frames.now.items) }
     ensures keeps { Keeps board.old board.new }
+    ensures quiet { board.old.notes ≡ false → IsOk result }
 {
     let Some(at) = loc_now(context, loc, board.table(), frames) else {
         return Ok(());
@@ -49,6 +50,7 @@ fn note(board: &mut Board, id: u16, end: End, at: u16) -> Result<(), Memory>
     requires holds { HoldsReferences board.old.laid.shape at }
     ensures leads { OnOk result (board.new.laid ≡ relaid board.old.laid (noted_at board.old.laid.shape (end_seen end) id at board.old.laid.table)) }
     ensures keeps { Keeps board.old board.new }
+    ensures quiet { board.old.notes ≡ false → IsOk result }
 {
     match end {
         End::Top => board.remember_top(id, at),
@@ -76,6 +78,7 @@ pub fn forget(
     requires well { IsEffectUnder context.now.about.now.sheet context.now.scope.now (forget_of (card_seen card.now)) }
     ensures leads { OnOk result (LeadsTo context.now (forget_of (card_seen card.now)) board.old.laid frames.now.items board.new.laid frames.now.items) }
     ensures keeps { Keeps board.old board.new }
+    ensures quiet { board.old.notes ≡ false → IsOk result }
 {
     let Some(card) = card_now(context, card, board.table(), frames) else {
         return Ok(());
@@ -87,6 +90,7 @@ fn forget_one(board: &mut Board, card: Card) -> Result<(), Memory>
     requires card { IsCardOf board.old.laid.shape (value_seen card) }
     ensures leads { OnOk result (board.new.laid ≡ relaid board.old.laid (forget_card board.old.laid.shape (value_seen card) board.old.laid.table)) }
     ensures keeps { Keeps board.old board.new }
+    ensures quiet { board.old.notes ≡ false → IsOk result }
 {
     match card {
         Card::Noted { loc, id } => board.forget(id, loc),

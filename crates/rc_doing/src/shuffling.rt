@@ -1,5 +1,5 @@
 //! Locations that are shuffled.
-ghost use Rattle.std.specs.Prelude.{◌≡◌, ◌<◌, length, OnOk};
+ghost use Rattle.std.specs.Prelude.{◌≡◌, ◌<◌, false, length, OnOk, IsOk};
 ghost use Rattle.rc_sheet_model.specs.Sheet.{shuffle as shuffle_of};
 ghost use Rattle.rc_play_model.specs.Table.{list_at, reorder};
 ghost use Rattle.rc_play_model.specs.Effects.{does_one};
@@ -32,6 +32,7 @@ pub fn shuffle<D: Dealer>(
     ensures does { OnOk result (does_one context.now.about.now (D.dealing dealer.old) context.now.scope.now (shuffle_of (loc_seen loc.now))
         (point_of board.old.laid frames.now.items (D.state dealer.old)) ≡ point_of board.new.laid frames.now.items (D.state dealer.new)) }
     ensures keeps { Keeps board.old board.new }
+    ensures quiet { board.old.notes ≡ false → IsOk result }
     ensures shuffled { HasShuffled (D.dealing dealer.old) (D.state dealer.old) (D.state dealer.new) }
     ensures dealing { D.dealing dealer.new ≡ D.dealing dealer.old }
 {
@@ -46,6 +47,7 @@ fn shuffle_at<D: Dealer>(board: &mut Board, at: u16, dealer: &mut D) -> Result<(
     requires there { at < length board.old.laid.shape.places }
     ensures table { OnOk result (board.new.laid ≡ relaid board.old.laid (reorder at ((D.dealing dealer.old).order (D.state dealer.old) (length (list_at board.old.laid.table at))) board.old.laid.table)) }
     ensures keeps { Keeps board.old board.new }
+    ensures quiet { board.old.notes ≡ false → IsOk result }
     ensures next { D.state dealer.new ≡ (D.dealing dealer.old).next (D.state dealer.old) (length (list_at board.old.laid.table at)) }
     ensures shuffled { HasShuffled (D.dealing dealer.old) (D.state dealer.old) (D.state dealer.new) }
     ensures dealing { D.dealing dealer.new ≡ D.dealing dealer.old }
