@@ -1,4 +1,5 @@
 -- A machine that goes home as the definitions of play have it.
+use Rattle.std.specs.Prelude.{◌≡◌, false}
 use Rattle.rc_flat.specs.Home.{Homing, config_at_home, IsHome}
 use Rattle.rc_flat.specs.declared.homing.HomeMachine.TheInside.{Inside}
 
@@ -11,5 +12,6 @@ homing_seen h =
       spent = h.machine.spent;
     }
 
+-- it has a home, and notes nothing
 abbrev pub KeepsHome : Inside → Type 0
-KeepsHome h = IsHome h.machine.about h.machine.code h.machine.home h.stand
+KeepsHome h = IsHome h.machine.about h.machine.code h.machine.home h.stand × (h.machine.notes ≡ false)

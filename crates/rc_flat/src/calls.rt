@@ -1,5 +1,5 @@
 //! The calls of the machine.
-ghost use Rattle.std.specs.Prelude.{◌≡◌, ℕ, ◌<◌, ◌≤◌, ◌++◌, List, true, false, length, Some, is_err, IsSome, IfOk, OnOk, OnErr};
+ghost use Rattle.std.specs.Prelude.{◌≡◌, ℕ, ◌<◌, ◌≤◌, ◌++◌, List, true, false, length, Some, is_err, IsSome, IfOk, OnOk, OnErr, IsOk};
 ghost use Rattle.rc_model.specs.Limits.{most_items};
 ghost use Rattle.rc_play_model.specs.Table.{Table as PureTable};
 ghost use Rattle.rc_play_model.specs.About.{menu_at};
@@ -62,6 +62,7 @@ impl FlatMachine {
         ensures at { self.new.config ≡ config_at_home self.old.about self.old.code self.old.home stand.now }
         ensures about { self.new.about ≡ self.old.about }
         ensures code { self.new.code ≡ self.old.code }
+        ensures notes { self.new.notes ≡ self.old.notes }
         ensures home { self.new.home ≡ self.old.home }
         ensures fresh { self.new.spent ≡ false }
     {
@@ -78,6 +79,7 @@ impl FlatMachine {
             ≡ config_of (flat_from self.old.about self.old.code stand.now.place table.now.table (control_seen stand.now.control)) }
         ensures about { self.new.about ≡ self.old.about }
         ensures code { self.new.code ≡ self.old.code }
+        ensures notes { self.new.notes ≡ false }
         ensures home { self.new.home ≡ Some table.now.table }
         ensures fresh { self.new.spent ≡ false }
     {
@@ -116,6 +118,7 @@ impl Machine for FlatMachine {
         ensures same { self.new.about ≡ self.old.about }
         ensures dealing { D.dealing dealer.new ≡ D.dealing dealer.old }
         ensures keeps { KeepsTables self.old self.new }
+        ensures quiet { self.old.spent ≡ false → self.old.notes ≡ false → IsOk result }
     {
         if self.spent {
             return Err(Memory);
@@ -167,6 +170,7 @@ impl Machine for FlatMachine {
         ensures same { self.new.about ≡ self.old.about }
         ensures dealing { D.dealing dealer.new ≡ D.dealing dealer.old }
         ensures keeps { KeepsTables self.old self.new }
+        ensures quiet { self.old.spent ≡ false → self.old.notes ≡ false → IsOk result }
     {
         if self.spent {
             return Err(Memory);

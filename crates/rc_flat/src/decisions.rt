@@ -1,5 +1,5 @@
 //! Decisions: what a mover may pick, and what follows.
-ghost use Rattle.std.specs.Prelude.{◌≡◌, ℕ, ◌<◌, length, map, slice_get, slice_index_or, Some, OnOk};
+ghost use Rattle.std.specs.Prelude.{◌≡◌, ℕ, ◌<◌, false, length, map, slice_get, slice_index_or, Some, OnOk, IsOk};
 ghost use Rattle.rc_play_model.specs.Step.{goes};
 ghost use Rattle.rc_play_model.specs.Decision.{choose};
 ghost use Rattle.rc_rules.specs.Machine.{StandsAtDecision, menu_here};
@@ -36,6 +36,7 @@ pub fn apply<D: Dealer>(
         ≡ goes (D.state dealer.new) (config_at about.now (list_seen code.now) state.new)) }
     ensures ready { OnOk result (IsReady about.now (list_seen code.now) state.new) }
     ensures keeps { Keeps state.old.board state.new.board }
+    ensures quiet { state.old.board.notes ≡ false → IsOk result }
     ensures shuffled { HasShuffled (D.dealing dealer.old) (D.state dealer.old) (D.state dealer.new) }
     ensures dealing { D.dealing dealer.new ≡ D.dealing dealer.old }
 {
@@ -73,6 +74,7 @@ fn take_item<D: Dealer>(
         ≡ goes (D.state dealer.new) (config_at about.now (list_seen code.now) state.new)) }
     ensures ready { OnOk result (IsReady about.now (list_seen code.now) state.new) }
     ensures keeps { Keeps state.old.board state.new.board }
+    ensures quiet { state.old.board.notes ≡ false → IsOk result }
     ensures shuffled { HasShuffled (D.dealing dealer.old) (D.state dealer.old) (D.state dealer.new) }
     ensures dealing { D.dealing dealer.new ≡ D.dealing dealer.old }
 {

@@ -1,5 +1,5 @@
 //! Machines that go home.
-ghost use Rattle.std.specs.Prelude.{◌≡◌, ◌<◌, true, false, length, Some, is_err, IfOk, OnOk, OnErr};
+ghost use Rattle.std.specs.Prelude.{◌≡◌, ◌<◌, true, false, length, Some, is_err, IfOk, OnOk, OnErr, IsOk};
 ghost use Rattle.rc_play_model.specs.Step.{goes};
 ghost use Rattle.rc_play_model.specs.Stop.{stop_of};
 ghost use Rattle.rc_play_model.specs.Decision.{at_site, choose};
@@ -122,6 +122,7 @@ impl Machine for HomeMachine {
         ensures same { self.new.about ≡ self.old.about }
         ensures dealing { D.dealing dealer.new ≡ D.dealing dealer.old }
         ensures home { self.new.home ≡ self.old.home }
+        ensures quiet { self.old.spent ≡ false → IsOk result }
     {
         self.machine.advance(dealer)
     }
@@ -147,6 +148,7 @@ impl Machine for HomeMachine {
         ensures same { self.new.about ≡ self.old.about }
         ensures dealing { D.dealing dealer.new ≡ D.dealing dealer.old }
         ensures home { self.new.home ≡ self.old.home }
+        ensures quiet { self.old.spent ≡ false → IsOk result }
     {
         self.machine.apply(item, dealer)
     }

@@ -1,5 +1,5 @@
 //! The steps of a match.
-ghost use Rattle.std.specs.Prelude.{◌≡◌, ◌+◌, ◌<◌, IsSome, None, Some, false, List, slice_get, IfOk, OnOk};
+ghost use Rattle.std.specs.Prelude.{◌≡◌, ◌+◌, ◌<◌, IsSome, None, Some, false, List, slice_get, IfOk, OnOk, IsOk};
 ghost use Rattle.rc_play_model.specs.Owners.{mover};
 ghost use Rattle.rc_play_model.specs.Step.{goes, step};
 ghost use Rattle.rc_rules.specs.Control.{frames_seen};
@@ -37,6 +37,7 @@ fn do_next<D: Dealer>(
         ≡ goes (D.state dealer.new) (config_at about.now (list_seen code.now) state.new)) }
     ensures ready { OnOk result (IsReady about.now (list_seen code.now) state.new) }
     ensures keeps { Keeps state.old.board state.new.board }
+    ensures quiet { state.old.board.notes ≡ false → IsOk result }
     ensures shuffled { HasShuffled (D.dealing dealer.old) (D.state dealer.old) (D.state dealer.new) }
     ensures dealing { D.dealing dealer.new ≡ D.dealing dealer.old }
 {
@@ -134,6 +135,7 @@ pub fn one_step<D: Dealer>(
         ≡ next_seen stop (config_at about.now (list_seen code.now) state.new) (D.state dealer.new)) }
     ensures ready { OnOk result (IsReady about.now (list_seen code.now) state.new) }
     ensures keeps { Keeps state.old.board state.new.board }
+    ensures quiet { state.old.board.notes ≡ false → IsOk result }
     ensures shuffled { HasShuffled (D.dealing dealer.old) (D.state dealer.old) (D.state dealer.new) }
     ensures dealing { D.dealing dealer.new ≡ D.dealing dealer.old }
     ensures kept { IfOk result (λ stop. IsSome stop → D.state dealer.new ≡ D.state dealer.old) }

@@ -64,7 +64,7 @@ made c =
     )
 
 pub invariant_of-result : goal.invariant_of-result
-invariant_of-result c = (made c).0
+invariant_of-result c = ((made c).0, c.at_place-machine.ensures.notes ∙ ap (λ (k : Kept). k.notes) c.in_ok-board.ensures)
 
 pub returns-clause-home : goal.returns-clause-home
 returns-clause-home c = (made c).1 ∙ (made c).2

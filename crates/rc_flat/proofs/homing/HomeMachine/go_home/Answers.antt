@@ -6,7 +6,7 @@ use Rattle.rc_flat.proofs.homing.HomeMachine.go_home.Goals as goal
 pub invariant_of-self : goal.invariant_of-self
 invariant_of-self c =
     let back = c.go_home.ensures in
-    home_stays c.self.inside.machine c.go_home.new.self c.self.inside.stand back.about back.code back.home c.self.invariant
+    (home_stays c.self.inside.machine c.go_home.new.self c.self.inside.stand back.about back.code back.home c.self.invariant.0, back.notes ∙ c.self.invariant.1)
 
 pub returns-clause-home : goal.returns-clause-home
 returns-clause-home c =

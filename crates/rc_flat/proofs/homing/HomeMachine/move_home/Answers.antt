@@ -8,12 +8,12 @@ use Rattle.rc_flat.proofs.HomeLemmas.{home_made, home_here}
 use Rattle.rc_flat.proofs.homing.HomeMachine.move_home.Goals as goal
 
 pub move_home-requires-clause-home : goal.move_home-requires-clause-home
-move_home-requires-clause-home c = let some : IsSome (Some c.self.invariant.table) = refl in subst IsSome (sym c.self.invariant.is) some
+move_home-requires-clause-home c = let some : IsSome (Some c.self.invariant.0.table) = refl in subst IsSome (sym c.self.invariant.0.is) some
 
 pub move_home-requires-clause-on : goal.move_home-requires-clause-on
 move_home-requires-clause-on c =
     let can = subst (λ (h : Homing). CanDecide h.about c.args.table.now.table h.home.control) (sym c.self.view_is) c.requires.decides in
-    (c.self.invariant.site c.args.table.now.table can).0
+    (c.self.invariant.0.site c.args.table.now.table can).0
 
 -- it is at home, where it stands, at the site
 moved : (c : goal.After-write_menu) →
@@ -31,15 +31,15 @@ moved c =
     let table = c.args.table.now.table in
     let control = control_seen old.control in
     let can = subst (λ (h : Homing). CanDecide h.about table h.home.control) (sym c.self.view_is) c.requires.decides in
-    let there = c.self.invariant.site table can in
+    let there = c.self.invariant.0.site table can in
     let is = c.move_home.ensures in (
-      home_made about code old.place table control m stand is.about is.code is.home refl refl is.at there.0 c.write_menu.ensures c.self.invariant.site,
+      home_made about code old.place table control m stand is.about is.code is.home refl refl is.at there.0 c.write_menu.ensures c.self.invariant.0.site,
       home_here about code old.place table control m stand is.about is.code is.home refl refl is.at,
       is.at ∙ there.1 ∙ ap (λ (h : Homing). at_site h.about table h.home.control) c.self.view_is,
     )
 
 pub invariant_of-self : goal.invariant_of-self
-invariant_of-self c = (moved c).0
+invariant_of-self c = ((moved c).0, c.move_home.ensures.notes)
 
 pub returns-clause-home : goal.returns-clause-home
 returns-clause-home c = (moved c).1 ∙ (moved c).2
