@@ -1,4 +1,5 @@
 pub mod CacheLemmas
+pub mod DistinctLemmas
 pub mod KeptLemmas
 pub mod LaneLemmas
 pub mod MarkLemmas

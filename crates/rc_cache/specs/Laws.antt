@@ -1,16 +1,26 @@
 -- Statements of laws.
 use Rattle.std.specs.Prelude.{◌≡◌, ℕ, ◌+◌, ◌≤◌, ◌<◌, true, List, [], length, Some, IfSome, Decides}
+use Rattle.std.specs.List.{IsDistinct}
 use Rattle.rc_redraw.specs.Asking.{Key}
 use Rattle.rc_redraw.specs.Counts.{Call, Counts}
 use Rattle.rc_redraw.specs.Choosing.{AsksAll, AsksSome}
 use Rattle.rc_cache.specs.Same.{same_key}
-use Rattle.rc_cache.specs.Replay.{is_legal}
+use Rattle.rc_cache.specs.Replay.{stands, replay, is_legal}
 use Rattle.rc_cache.specs.Hits.{hits, cost, different}
 use Rattle.rc_cache.specs.Sums.{looks_of, hits_of, keeps_of}
 
 -- of one about, the keys that are told to be the same are equal, and no others
 abbrev pub SameKeysAreEqual : Type 0
 SameKeysAreEqual = (j k : Key) → j.about ≡ k.about → Decides (same_key j k) (j ≡ k)
+
+-- no key stands twice in a replay, whatever the calls are
+abbrev pub NoKeyTwice : Type 0
+NoKeyTwice = (capacity : ℕ) (calls : List Call) → IsDistinct same_key (replay capacity calls)
+
+-- The replay of legal calls has at most as many keys as there is room for. A call that isn't legal may bring a key to the front that
+-- wasn't there.
+abbrev pub ReplayFits : Type 0
+ReplayFits = (capacity : ℕ) (calls : List Call) → is_legal capacity calls ≡ true → length (replay capacity calls) ≤ capacity
 
 -- without a keep there is no hit
 abbrev pub NoHitUnkept : Type 0
@@ -21,6 +31,17 @@ abbrev pub SomeLookMisses : Type 0
 SomeLookMisses =
     (capacity : ℕ) (calls : List Call) → is_legal capacity calls ≡ true → keeps_of calls + hits_of calls ≡ looks_of calls →
     0 < looks_of calls → hits_of calls < looks_of calls
+
+-- exactly the keys of these looks stand here
+abbrev pub HasKeysOf : List Key → List Key → Type 0
+HasKeysOf looks keys = (key : Key) → stands key keys ≡ stands key looks
+
+-- Each list that has exactly the keys of these looks, and none twice, is as long as these have different keys; and there is such a list.
+abbrev pub DifferentKeys : Type 0
+DifferentKeys =
+    (looks : List Key) →
+    ((keys : List Key) → IsDistinct same_key keys → HasKeysOf looks keys → length keys ≡ different looks)
+    × ((keys : List Key) × IsDistinct same_key keys × HasKeysOf looks keys)
 
 -- the looks that miss are at least as many as the different keys
 abbrev pub MissesEachOnce : Type 0

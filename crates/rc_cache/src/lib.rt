@@ -20,9 +20,10 @@ pub use calls::Call;
 pub use closing::{Totals, close};
 pub use lanes::Lane;
 pub use laws::{
-    misses_are_at_least_the_different, one_worker_has_the_hits_of_its_looks,
+    a_legal_replay_is_within_its_room, misses_are_at_least_the_different,
+    no_key_is_twice_in_a_replay, one_worker_has_the_hits_of_its_looks,
     one_worker_lacking_memory_takes_no_more_steps, same_keys_are_equal, some_look_misses,
-    without_a_keep_none_hits,
+    the_different_are_each_key_once, without_a_keep_none_hits,
 };
 pub use naming::{BookNaming, Fresh, HitsOf, KeepsOf, LooksOf};
 pub use own::OwnBook;
