@@ -1,5 +1,5 @@
 //! What chooses for the seats.
-ghost use Rattle.std.specs.Prelude.{◌≡◌, ◌≤◌, ◌+◌, IfOk, OnOk, OnErr};
+ghost use Rattle.std.specs.Prelude.{◌≡◌, ℕ, ◌≤◌, ◌+◌, IfOk, OnOk, OnErr};
 ghost use Rattle.rc_play_model.specs.About.{About as PureAbout};
 ghost use Rattle.rc_play_model.specs.Keyed.{choice_of};
 ghost use Rattle.rc_redraw.specs.Counts.{Counts};
@@ -13,11 +13,14 @@ use std::alloc::Global;
 use std::sync::ledger::Ledger;
 
 /// Chooses as strategies do. For a rollout it asks a memo once, and what that misses is played out, a step for each playout. Other
-/// strategies ask nothing. Where memory runs out, nothing was kept.
+/// strategies ask nothing. Where memory runs out, nothing was kept. It has a name, which no call changes, so that it is known again
+/// among others.
 pub trait Chooser {
     ghost serves: { Self → PureAbout → Type 0 };
 
     ghost counts: { Self → Counts };
+
+    ghost name: { Self → ℕ };
 
     /// The item that the strategy chooses.
     fn choose<L: Ledger>(
@@ -34,5 +37,6 @@ pub trait Chooser {
         ensures lacking { OnErr result (AsksSome (asked_for (need_seen need.now)) (counts self.old) (counts self.new) steps.old steps.new) }
         ensures rises { steps.old ≤ steps.new }
         ensures bounded { steps.new ≤ steps.old + most_steps (need_seen need.now) }
-        ensures same { (about : PureAbout) → serves self.old about → serves self.new about };
+        ensures same { (about : PureAbout) → serves self.old about → serves self.new about }
+        ensures named { name self.new ≡ name self.old };
 }

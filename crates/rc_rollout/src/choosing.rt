@@ -42,6 +42,7 @@ pub fn choose<M: Memo, L: Ledger>(
     ensures rises { steps.old ≤ steps.new }
     ensures bounded { steps.new ≤ steps.old + most_steps (need_seen need.now) }
     ensures same { M.serves memo.new ≡ M.serves memo.old }
+    ensures named { M.name memo.new ≡ M.name memo.old }
 {
     let view = &need.view;
     match &need.strategy {
@@ -135,6 +136,7 @@ fn best_of<M: Memo, L: Ledger>(
     ensures rises { steps.old ≤ steps.new }
     ensures bounded { steps.new ≤ steps.old + cost_of (key_seen key.now) }
     ensures same { M.serves memo.new ≡ M.serves memo.old }
+    ensures named { M.name memo.new ≡ M.name memo.old }
 {
     tallies_are_bounded();
     let reply = memo.look(alloc, key)?;
@@ -164,6 +166,7 @@ fn best_played<M: Memo, L: Ledger>(
     ensures rises { steps.old ≤ steps.new }
     ensures bounded { steps.new ≤ steps.old + cost_of (key_seen key.now) }
     ensures same { M.serves memo.new ≡ M.serves memo.old }
+    ensures named { M.name memo.new ≡ M.name memo.old }
 {
     tallies_are_bounded();
     let entry = tally(alloc, key, code, steps)?;
