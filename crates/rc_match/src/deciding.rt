@@ -51,6 +51,7 @@ pub(crate) fn picked_at<M: Machine, C: Chooser, L: Ledger>(
         (asked_at (phase_at job.now.about.value (plan_seen job.now.plan.value) job.now.number (stop_seen stop) (M.config machine.now)))
         (C.counts chooser.old) (C.counts chooser.new) steps.old steps.new) }
     ensures same { (about : PureAbout) → C.serves chooser.old about → C.serves chooser.new about }
+    ensures named { C.name chooser.new ≡ C.name chooser.old }
 {
     match stop {
         Stop::Decide { seat, .. } => {
@@ -95,6 +96,7 @@ fn item_of<M: Machine, C: Chooser, L: Ledger>(
         (asked_for (need_at job.now.about.value (plan_seen job.now.plan.value) job.now.number seat (M.config machine.now)))
         (C.counts chooser.old) (C.counts chooser.new) steps.old steps.new) }
     ensures same { (about : PureAbout) → C.serves chooser.old about → C.serves chooser.new about }
+    ensures named { C.name chooser.new ≡ C.name chooser.old }
 {
     match offhand_at(job, seat, machine) {
         Some(item) => Ok(item),

@@ -73,6 +73,7 @@ pub fn record_of<C: Chooser, L: Ledger>(
     ensures lacking { OnErr result (AsksSome (asks_of about.now.value (plan_seen plan.now.value) number)
         (C.counts chooser.old) (C.counts chooser.new) steps.old steps.new) }
     ensures same { (other : PureAbout) → C.serves chooser.old other → C.serves chooser.new other }
+    ensures named { C.name chooser.new ≡ C.name chooser.old }
     ensures rises { steps.old ≤ steps.new }
     ensures bounded { steps.new ≤ steps.old + all_costs (asks_of about.now.value (plan_seen plan.now.value) number) }
 {
