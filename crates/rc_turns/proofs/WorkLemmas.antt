@@ -26,12 +26,12 @@ keys_rise keys before after steps steps' asked =
     record { looked = looks_rise keys before after steps steps' asked; hit = keeps.0; kept = keeps.1 }
 
 -- a claim behind which nothing is left
-pub worked : (about : About) (plan : Plan) (before pass after : Pass) (asked asked' : Counts) (records : List MatchRecord) (last : ℕ) →
+pub worked : (about : About) (plan : Plan) (before pass after : Pass) (name name' : ℕ) (asked asked' : Counts) (records : List MatchRecord) (last : ℕ) →
     pass.table ≡ before.table → pass.holders ≡ before.holders → pass.numbers ≡ map number_of records →
     All (λ n. n < length plan.matches) pass.numbers → length plan.matches ≤ last → after ≡ with_number pass last →
-    AllByRecursion (IsRecordIn about plan) records → Rise (asked_by_all about plan (map number_of records)) asked asked' →
-    IsWork about plan before after asked asked' records
-worked about plan before pass after asked asked' records last own holders numbers all late is are rise =
+    AllByRecursion (IsRecordIn about plan) records → name' ≡ name → Rise (asked_by_all about plan (map number_of records)) asked asked' →
+    IsWork about plan before after name name' asked asked' records
+worked about plan before pass after name name' asked asked' records last own holders numbers all late is are named rise =
     rw is
     record {
       own = own;
@@ -39,6 +39,7 @@ worked about plan before pass after asked asked' records last own holders number
       numbers = counted_before (length plan.matches) pass.numbers last all late ∙ numbers;
       past = omega (arith, length-append pass.numbers (last ∷ []), ap length numbers, length-map records number_of);
       are = are;
+      named = named;
       rise = rise;
     }
 

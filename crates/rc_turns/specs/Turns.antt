@@ -35,15 +35,17 @@ abbrev pub counted : ℕ → List ℕ → List ℕ
 counted count numbers = filter (λ n. ltb n count) numbers
 
 -- A pass claimed until none was left: those of its numbers that count are the numbers of the records, in order, and it has one more
--- at least. The records are those of the plan's matches, and the counts rose by what these ask.
-pub record IsWork (about : About) (plan : Plan) (before after : Pass) (asked asked' : Counts) (records : List MatchRecord) : Type 0 where
+-- at least. The records are those of the plan's matches. The chooser is called as before, and its counts rose by what these ask.
+pub record IsWork (about : About) (plan : Plan) (before after : Pass) (name name' : ℕ) (asked asked' : Counts) (records : List MatchRecord) : Type 0 where
   pub own : after.table ≡ before.table
   pub holders : after.holders ≡ before.holders
   pub numbers : counted (length plan.matches) after.numbers ≡ map number_of records
   pub past : length records < length after.numbers
   pub are : AllByRecursion (IsRecordIn about plan) records
+  pub named : name' ≡ name
   pub rise : Rise (asked_by_all about plan (map number_of records)) asked asked'
 
-abbrev pub IsTurn : {C : Type 0} → (C → Counts) → About → Plan → Worker C → Turn C → Type 0
-IsTurn counts about plan worker turn =
-    IsWork about plan worker.pass turn.pass (counts worker.chooser) (counts turn.chooser) turn.records.items
+abbrev pub IsTurn : {C : Type 0} → (C → ℕ) → (C → Counts) → About → Plan → Worker C → Turn C → Type 0
+IsTurn name counts about plan worker turn =
+    IsWork about plan worker.pass turn.pass (name worker.chooser) (name turn.chooser) (counts worker.chooser) (counts turn.chooser)
+    turn.records.items

@@ -31,8 +31,8 @@ pub(crate) fn gather<C: Chooser + Drop>(
     requires some { 0 < length turns.items }
     requires own { AllByRecursion (IsOwn claims.now.table) turns.items }
     ensures own { IfOk result (λ g. g.pass.table ≡ claims.now.table) }
-    ensures gathered { IfOk result (λ g. (about : About) (plan : Plan) (workers : List (Worker C)) → AreTurns C.counts about plan workers turns.items
-        → IsGathered C.counts about plan workers g.pass g.records.items g.choosers.items) }
+    ensures gathered { IfOk result (λ g. (about : About) (plan : Plan) (workers : List (Worker C)) → AreTurns C.name C.counts about plan workers turns.items
+        → IsGathered C.name C.counts about plan workers g.pass g.records.items g.choosers.items) }
 {
     let mut rest = turns;
     let mut gathered = match rest.remove(0) {

@@ -51,7 +51,7 @@ pub(crate) fn take_turn<C: Chooser + Drop, G: Gate>(
     requires seats { length plan.now.value.strategies.items ≡ about.now.value.sheet.players }
     requires served { C.serves worker.chooser about.now.value }
     requires code { StandsFor about.now.value.sheet (code_seen code.now.value) }
-    ensures { IfOk result (IsTurn C.counts about.now.value (plan_seen plan.now.value) worker) }
+    ensures { IfOk result (IsTurn C.name C.counts about.now.value (plan_seen plan.now.value) worker) }
 {
     counted_turn::<C, G, Brand>(
         alloc,
@@ -85,7 +85,7 @@ fn counted_turn<C: Chooser + Drop, G: Gate, L: Ledger>(
     requires seats { length plan.now.value.strategies.items ≡ about.now.value.sheet.players }
     requires served { C.serves worker.chooser about.now.value }
     requires code { StandsFor about.now.value.sheet (code_seen code.now.value) }
-    ensures { IfOk result (IsTurn C.counts about.now.value (plan_seen plan.now.value) worker) }
+    ensures { IfOk result (IsTurn C.name C.counts about.now.value (plan_seen plan.now.value) worker) }
 {
     let Worker {
         mut pass,
@@ -131,7 +131,8 @@ fn work<C: Chooser, G: Gate, L: Ledger>(
     requires seats { length plan.now.value.strategies.items ≡ about.now.value.sheet.players }
     requires served { C.serves chooser.old about.now.value }
     requires code { StandsFor about.now.value.sheet (code_seen code.now.value) }
-    ensures { IfOk result (λ records. IsWork about.now.value (plan_seen plan.now.value) pass.old pass.new (C.counts chooser.old) (C.counts chooser.new) records.items) }
+    ensures { IfOk result (λ records. IsWork about.now.value (plan_seen plan.now.value) pass.old pass.new (C.name chooser.old) (C.name chooser.new)
+        (C.counts chooser.old) (C.counts chooser.new) records.items) }
 {
     let mut records = Vec::new(alloc);
     while let Some(number) = claims.claim(pass) {
@@ -166,6 +167,7 @@ fn play<C: Chooser, L: Ledger>(
     ensures is { IfOk result (IsRecordIn about.now.value (plan_seen plan.now.value)) }
     ensures rise { OnOk result (Rise (length (asks_of about.now.value (plan_seen plan.now.value) number)) (C.counts chooser.old) (C.counts chooser.new)) }
     ensures same { (other : PureAbout) → C.serves chooser.old other → C.serves chooser.new other }
+    ensures named { C.name chooser.new ≡ C.name chooser.old }
 {
     record_of(alloc, about, plan, code, number, chooser, steps)
 }

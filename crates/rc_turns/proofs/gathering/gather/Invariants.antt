@@ -12,8 +12,8 @@ invariant-loop-rest g l =
       own : AllByRecursion (IsOwn l.claims.table) l.rest.items;
       pass : l.gathered.pass.table ≡ l.claims.table;
       so_far :
-          (about : About) (plan : Plan) (workers : List (Worker g.row.C.Denot)) → AreTurns g.C.Chooser.counts about plan workers l.fn.turns.items →
-          Gathers g.C.Chooser.counts about plan workers l.rest.items l.gathered;
+          (about : About) (plan : Plan) (workers : List (Worker g.row.C.Denot)) → AreTurns g.C.Chooser.name g.C.Chooser.counts about plan workers l.fn.turns.items →
+          Gathers g.C.Chooser.name g.C.Chooser.counts about plan workers l.rest.items l.gathered;
     }
 
 abbrev pub decreases-loop-rest : goal.decreases-loop-rest

@@ -12,7 +12,8 @@ returns g c =
     let is = c.loop-number.invariant in
     let none = c.in_default.ensures.none in
     worked c.args.about.now.value plan c.args.pass.now c.loop-number.pass c.claim.new.pass
+    (g.C.Chooser.name c.args.chooser.now) (g.C.Chooser.name c.loop-number.chooser)
     (g.C.Chooser.counts c.args.chooser.now) (g.C.Chooser.counts c.loop-number.chooser) c.loop-number.records.items none.0
     (is.own ∙ sym c.requires.own) is.holders is.numbers
     (subst (λ count. All (λ n. n < count) c.loop-number.pass.numbers) same is.counted)
-    (subst (λ count. count ≤ none.0) same none.1) none.2 is.are is.rise
+    (subst (λ count. count ≤ none.0) same none.1) none.2 is.are is.named is.rise
