@@ -19,8 +19,9 @@ use std::sync::{Arc, Mutex, Wait};
 use std::thread::Threads;
 
 /// Plays every match of a plan, with one worker for each lane to the book, on code that is made of the sheet once. The records are
-/// those of the matches, in order. As many lanes come back, in whatever order, and their numbers rise together by what the matches
-/// ask: each decision that asks for totals is one look, and each look hits, or is followed by a keep. Memory may run out.
+/// those of the matches, in order. The lanes come back in the order of the memos, each by its number, and their counts rise together
+/// by what the matches ask: each decision that asks for totals is one look, and each look hits, or is followed by a keep. Memory may
+/// run out.
 pub fn play_shared<'a, N: BookNaming + Send + Sync, R: Threads + Wait + Sync, G: Gate>(
     rt: &R,
     alloc: Global,
@@ -39,6 +40,7 @@ pub fn play_shared<'a, N: BookNaming + Send + Sync, R: Threads + Wait + Sync, G:
     ensures rise { IfOk result (λ r. RiseTogether (length (looks_of about.now.value (plan_seen plan.now.value)))
         (map shared_counts memos.entry.items) (map shared_counts r.1.items)) }
     ensures lanes { IfOk result (λ r. length r.1.items ≡ length memos.entry.items) }
+    ensures order { IfOk result (λ r. map (λ lane. lane.number) r.1.items ≡ map (λ memo. memo.number) memos.entry.items) }
 {
     let code = match shared_code(alloc, about) {
         Ok(code) => code,

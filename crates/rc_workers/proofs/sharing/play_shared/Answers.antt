@@ -1,4 +1,4 @@
-use Rattle.std.proofs.Common.{◌≡◌, length, map, sym, ap, ◌∙◌, subst, arith, rules}
+use Rattle.std.proofs.Common.{◌≡◌, ℕ, length, map, sym, ap, ◌∙◌, subst, arith, rules}
 use Rattle.std.proofs.lemmas.List.{length-map}
 use denote.Exit
 use denote.Param
@@ -8,6 +8,7 @@ use Rattle.rc_rules.specs.Plan.{plan_seen}
 use Rattle.rc_code.specs.Seen.{code_seen}
 use Rattle.rc_code.specs.Stands.{StandsFor}
 use Rattle.rc_cache.specs.Memos.{shared_counts}
+use Rattle.rc_cache.specs.Sums.{Lane}
 use Rattle.rc_records.specs.Series.{looks_of}
 use Rattle.rc_turns.specs.Gathered.{RiseTogether}
 use Rattle.rc_workers.proofs.LaneLemmas.{all_so, map_twice}
@@ -47,3 +48,11 @@ returns-clause-lanes g c =
     ap length c.in-Ok-lanes_of.ensures ∙ length-map after (λ c. c.memo) ∙ sym (length-map after (λ c. shared_counts c.memo))
     ∙ c.in-Ok-play_claimed.ensures.rise.each ∙ length-map before (λ c. shared_counts c.memo) ∙ sym (length-map before (λ c. c.memo))
     ∙ ap length c.in-Ok-choosers_of.ensures.memos
+
+pub returns-clause-order : goal.returns-clause-order
+returns-clause-order g c =
+    let before = c.in-Ok-choosers_of.choosers.items in
+    let after = c.in-Ok-play_claimed.played.1.items in
+    let number : Lane → ℕ = λ lane. lane.number in
+    ap (map number) c.in-Ok-lanes_of.ensures ∙ sym (map_twice (λ c. c.memo) number after) ∙ c.in-Ok-play_claimed.ensures.order
+    ∙ map_twice (λ c. c.memo) number before ∙ ap (map number) c.in-Ok-choosers_of.ensures.memos
