@@ -1,5 +1,5 @@
 //! The step of a match from one stop to the next.
-ghost use Rattle.std.specs.Prelude.{◌≡◌, ◌<◌, false, length, Some, IfSome, IfOk, OnOk};
+ghost use Rattle.std.specs.Prelude.{◌≡◌, ◌<◌, false, length, Some, IfSome, IfOk, OnOk, OnErr};
 ghost use Rattle.rc_play_model.specs.Owners.{mover};
 ghost use Rattle.rc_play_model.specs.Step.{goes};
 ghost use Rattle.rc_play_model.specs.Stop.{stop_of};
@@ -12,7 +12,7 @@ ghost use Rattle.rc_rules.specs.Record.{pick_seen, ending_seen, record_seen};
 ghost use Rattle.rc_rules.specs.Machine.{StandsAtDecision, StandsWhereItStops, menu_here};
 ghost use Rattle.rc_redraw.specs.Need.{need_seen};
 ghost use Rattle.rc_match.specs.Lane.{ready, over, lane_of, phase_seen, pick_here, noted, next_stop, need_at, stopped_at, lane_at, completed, notes_at, phase_at, stepped};
-ghost use Rattle.rc_match.specs.Way.{IsOnWay, HaveSameHead};
+ghost use Rattle.rc_match.specs.Way.{IsOnWay, HasMorePicks};
 
 use crate::ending::complete;
 use crate::job::{Job, deal_of, strategy_of};
@@ -50,7 +50,7 @@ pub(crate) fn go_on<M: Machine>(
     ensures about { M.about machine.new ≡ job.now.about.value }
     ensures deal { dealing_of dealer.new.deal ≡ dealing_of (deal_at (plan_seen job.now.plan.value) job.now.number).deal }
     ensures fresh { OnOk result (M.spent machine.new ≡ false) }
-    ensures head { HaveSameHead (record_seen notes.old) (record_seen notes.new) }
+    ensures kept { OnErr result (HasMorePicks (record_seen notes.old) (record_seen notes.new)) }
 {
     let stop = go_to_stop(job, pick, machine, dealer, notes)?;
     arrive(alloc, job, stop, machine, dealer, notes)
@@ -82,7 +82,7 @@ pub(crate) fn go_to_stop<M: Machine>(
     ensures about { M.about machine.new ≡ job.now.about.value }
     ensures deal { dealing_of dealer.new.deal ≡ dealing_of (deal_at (plan_seen job.now.plan.value) job.now.number).deal }
     ensures fresh { OnOk result (M.spent machine.new ≡ false) }
-    ensures head { HaveSameHead (record_seen notes.old) (record_seen notes.new) }
+    ensures picks { HasMorePicks (record_seen notes.old) (record_seen notes.new) }
 {
     // what an about keeps
     let _sheet = job.about.sheet();
@@ -110,7 +110,7 @@ fn take_any<M: Machine>(
     ensures about { M.about machine.new ≡ about.now }
     ensures deal { dealing_of dealer.new.deal ≡ dealing_of dealer.old.deal }
     ensures fresh { OnOk result (M.spent machine.new ≡ false) }
-    ensures head { HaveSameHead (record_seen notes.old) (record_seen notes.new) }
+    ensures picks { HasMorePicks (record_seen notes.old) (record_seen notes.new) }
 {
     match pick {
         Some(item) => take(about, item, machine, dealer, notes),
@@ -137,7 +137,7 @@ fn take<M: Machine>(
     ensures about { M.about machine.new ≡ about.now }
     ensures deal { dealing_of dealer.new.deal ≡ dealing_of dealer.old.deal }
     ensures fresh { OnOk result (M.spent machine.new ≡ false) }
-    ensures head { HaveSameHead (record_seen notes.old) (record_seen notes.new) }
+    ensures picks { HasMorePicks (record_seen notes.old) (record_seen notes.new) }
 {
     let pick = pick_of(about, machine, item);
     notes.picks.push(pick)?;
@@ -181,7 +181,7 @@ fn arrive<M: Machine>(
         ≡ phase_at job.now.about.value (plan_seen job.now.plan.value) job.now.number (stop_seen stop) (M.config machine.now)) }
     ensures notes { OnOk result (record_seen notes.new
         ≡ notes_at job.now.about.value (record_seen notes.old) (stop_seen stop) (M.config machine.now) dealer.now.count) }
-    ensures head { HaveSameHead (record_seen notes.old) (record_seen notes.new) }
+    ensures kept { OnErr result (notes.new ≡ notes.old) }
 {
     match stop {
         Stop::Decide { seat, .. } => Ok(Phase::Asks(need_of(alloc, job, seat, machine)?)),
@@ -240,7 +240,7 @@ fn end<M: Machine>(
     ensures is { IfOk result (λ phase. phase_seen phase ≡ over) }
     ensures notes { OnOk result (record_seen notes.new
         ≡ completed job.now.about.value (record_seen notes.old) (ending_seen stop) (M.config machine.now) dealer.now.count) }
-    ensures head { HaveSameHead (record_seen notes.old) (record_seen notes.new) }
+    ensures kept { OnErr result (notes.new ≡ notes.old) }
 {
     complete(alloc, &job.about, machine, dealer, stop, notes)?;
     Ok(Phase::Over)
