@@ -18,16 +18,18 @@ use Rattle.rc_match.specs.declared.lane.Phase.{Phase as StoredPhase}
 use Rattle.rc_match.specs.LaneLaws.{with_phase}
 use Rattle.rc_match.specs.Sound.{IsSound as IsSoundMatch}
 use Rattle.rc_match.specs.declared.lane.LaneState.{LaneState}
+use Rattle.rc_match.proofs.SoundLemmas.{sound_spent}
 use Rattle.rc_core.specs.House.{House, with_match, with_entries}
 use Rattle.rc_core.specs.Events.{Event, works, looks, keeps, worked, looked_up, handed_over, after_event}
 use Rattle.rc_core.specs.Kept.{house_seen, IsKept}
 use Rattle.rc_core.specs.Laws.{IsChecked, IsOf}
-use Rattle.rc_core.specs.Short.{named_by, FindsSpent, FailsAt}
-use Rattle.rc_core.specs.Sound.{UnlessSpent, IsSound}
+use Rattle.rc_core.specs.Short.{named_by, FindsSpent, BecomesSpent, FailsAt, KeepsSpent}
+use Rattle.rc_core.specs.Sound.{IsSound}
 use Rattle.rc_core.specs.Stored.{lane_in, IsOwn, AreOwn, Wants}
 use Rattle.rc_core.specs.declared.house.House.TheInside.{Inside}
 use Rattle.rc_core.proofs.HouseLemmas.{match_changed, event_sound, matches_of_plan}
 use Rattle.rc_core.proofs.MatchSteps.{work_sound}
+use Rattle.rc_core.proofs.SpentLemmas.{changed_keeps}
 use Rattle.rc_core.proofs.StoredLemmas.{lane_there, own_set, not_spent, work_there, look_there, keep_there, match_wants}
 
 -- the same of equal parts
@@ -43,14 +45,13 @@ set_same (y ∷ xs) (suc m) x is = ap (λ zs. y ∷ zs) (set_same xs m x is)
 
 -- what a match is behind work that was refused, or wasn't
 worked_sound : {T E : Type 0} (r : Result T E) (about : About) (plan : Plan) (m : ℕ) (lane lane' : Lane) → IsChecked about →
-    UnlessSpent lane.phase (IsSoundMatch about plan m lane) → OnOk r (lane' ≡ worked about plan m lane lane.phase) →
-    OnErr r ((lane' ≡ lane) ⊎ (lane'.phase ≡ spent)) → UnlessSpent lane'.phase (IsSoundMatch about plan m lane')
+    IsSoundMatch about plan m lane → OnOk r (lane' ≡ worked about plan m lane lane.phase) →
+    OnErr r ((lane' ≡ lane) ⊎ BecomesSpent lane lane') → IsSoundMatch about plan m lane'
 worked_sound (Ok x) about plan m lane lane' checked sound is lacks =
-    subst (λ (l : Lane). UnlessSpent l.phase (IsSoundMatch about plan m l)) (sym is) (work_sound about plan m checked lane sound)
+    subst (IsSoundMatch about plan m) (sym is) (work_sound about plan m checked lane sound)
 worked_sound (Err e) about plan m lane lane' checked sound is (inl same) =
-    subst (λ (l : Lane). UnlessSpent l.phase (IsSoundMatch about plan m l)) (sym same) sound
-worked_sound (Err e) about plan m lane lane' checked sound is (inr gone) =
-    subst (λ ph. UnlessSpent ph (IsSoundMatch about plan m lane')) (sym gone) tt
+    subst (IsSoundMatch about plan m) (sym same) sound
+worked_sound (Err e) about plan m lane lane' checked sound is (inr gone) = sound_spent about plan m lane lane' gone.behind gone.notes sound
 
 -- what an about keeps
 pub checked_of : (a about : About) → a ≡ about → a.shape ≡ shape_of a.sheet → IsWellFormed a.sheet → IsInSight a.sheet → IsChecked about
@@ -108,7 +109,7 @@ module _ (i : Inside) (kept : IsKept i) (m : ℕ) (state : LaneState Machine) (l
       ap (λ ms. record { about = i.about.value; plan = plan_seen i.plan.value; capacity = i.capacity; matches = ms; entries = entries })
       (map-set lane_in i.matches.items m state')
 
-  pub known : UnlessSpent (lane_in state).phase (IsSoundMatch i.about.value (plan_seen i.plan.value) m (lane_in state))
+  pub known : IsSoundMatch i.about.value (plan_seen i.plan.value) m (lane_in state)
   known = kept.sound.each m (lane_in state) seen_there
 
   pub own_there : IsOwn i.about.value (plan_seen i.plan.value) m state
@@ -152,15 +153,19 @@ module _ (i : Inside) (kept : IsKept i) (m : ℕ) (state : LaneState Machine) (l
             on_ok_weaker r (λ e. subst (λ x. put_in i m state' i.entries.items ≡ after_event x (works m)) view
             (put_is state' i.entries.items ∙ work_there (house_seen i) m (lane_in state) seen_there (lane_in state') e)) is
 
-        pub work_lacks : OnErr r ((lane_in state' ≡ lane_in state) ⊎ ((lane_in state').phase ≡ spent)) →
+        pub work_lacks : OnErr r ((lane_in state' ≡ lane_in state) ⊎ BecomesSpent (lane_in state) (lane_in state')) →
             OnErr r (FailsAt h (works m) (put_in i m state' i.entries.items))
         work_lacks lacks =
             on_err_weaker r (λ e. subst (λ x. FailsAt x (works m) (put_in i m state' i.entries.items)) view (by_case e)) lacks
           where
-            by_case : (lane_in state' ≡ lane_in state) ⊎ ((lane_in state').phase ≡ spent) → FailsAt (house_seen i) (works m) (put_in i m state' i.entries.items)
+            by_case : (lane_in state' ≡ lane_in state) ⊎ BecomesSpent (lane_in state) (lane_in state') → FailsAt (house_seen i) (works m) (put_in i m state' i.entries.items)
             by_case (inl same) =
                 inl (put_is state' i.entries.items ∙ ap (with_match (house_seen i) m) same ∙ sym (put_is state i.entries.items) ∙ same_there)
-            by_case (inr gone) = inr (m, lane_in state', refl, gone, put_is state' i.entries.items)
+            by_case (inr gone) = inr (m, lane_in state, lane_in state', refl, seen_there, gone, put_is state' i.entries.items)
+
+        pub work_keeps : OnOk r (lane_in state' ≡ worked i.about.value (plan_seen i.plan.value) m (lane_in state) (lane_in state).phase) →
+            OnErr r ((lane_in state' ≡ lane_in state) ⊎ BecomesSpent (lane_in state) (lane_in state')) → KeepsSpent h (put_in i m state' i.entries.items)
+        work_keeps is lacks = changed_keeps r h (put_in i m state' i.entries.items) (works m) (work_leaves is) (work_lacks lacks)
 
       -- behind a look or a keep, which leave machine, dealer and record
       module _ (phase : StoredPhase) (entries : List Key) where
@@ -186,10 +191,24 @@ module _ (i : Inside) (kept : IsKept i) (m : ℕ) (state : LaneState Machine) (l
             ∙ ap (λ ph. with_match (house_seen i) m (with_phase (lane_in state) ph)) e.0
             ∙ sym (put_is state i.entries.items) ∙ same_there)) lacks
 
+        module _ (lacks : OnErr r ((phase_seen phase ≡ (lane_in state).phase) × (entries ≡ i.entries.items))) where
+          refused_keeps : (event : Event) → OnOk r (put_in i m (waiting state phase) entries ≡ after_event h event) →
+              KeepsSpent h (put_in i m (waiting state phase) entries)
+          refused_keeps event is =
+              changed_keeps r h (put_in i m (waiting state phase) entries) event is (on_err_weaker r (λ e. inl e) (nothing_left lacks))
+
+          pub look_keeps : OnOk r ((capacity : ℕ) → (phase_seen phase, entries) ≡ looked_up capacity i.entries.items (lane_in state).phase) →
+              KeepsSpent h (put_in i m (waiting state phase) entries)
+          look_keeps is = refused_keeps (looks m) (look_leaves is)
+
+          pub keep_keeps : OnOk r ((phase_seen phase, entries) ≡ handed_over i.capacity i.entries.items (lane_in state).phase) →
+              KeepsSpent h (put_in i m (waiting state phase) entries)
+          keep_keeps is = refused_keeps (keeps m) (keep_leaves is)
+
     module _ (checked : IsChecked i.about.value) where
       pub work_kept : (state' : LaneState Machine) →
           OnOk r (lane_in state' ≡ worked i.about.value (plan_seen i.plan.value) m (lane_in state) (lane_in state).phase) →
-          OnErr r ((lane_in state' ≡ lane_in state) ⊎ ((lane_in state').phase ≡ spent)) → IsSound (put_in i m state' i.entries.items)
+          OnErr r ((lane_in state' ≡ lane_in state) ⊎ BecomesSpent (lane_in state) (lane_in state')) → IsSound (put_in i m state' i.entries.items)
       work_kept state' is lacks =
           subst IsSound (sym (put_is state' i.entries.items))
           (match_changed (house_seen i) m (lane_in state') kept.sound
@@ -214,9 +233,9 @@ module _ (i : Inside) (kept : IsKept i) (m : ℕ) (state : LaneState Machine) (l
 
 -- each match of a sound house is that of the plan
 of_plan_from : (h : House) (m : ℕ) (sound : IsSound h) (o : Option Lane) → slice_get h.matches m ≡ o →
-    IfSome o (λ lane. UnlessSpent lane.phase (IsOf h.about h.plan m lane))
+    IfSome o (λ lane. IsOf h.about h.plan m lane)
 of_plan_from h m sound None is = tt
 of_plan_from h m sound (Some lane) is = matches_of_plan h sound m lane is
 
-pub of_plan_at : (h : House) (m : ℕ) → IsSound h → IfSome (slice_get h.matches m) (λ lane. UnlessSpent lane.phase (IsOf h.about h.plan m lane))
+pub of_plan_at : (h : House) (m : ℕ) → IsSound h → IfSome (slice_get h.matches m) (λ lane. IsOf h.about h.plan m lane)
 of_plan_at h m sound = of_plan_from h m sound (slice_get h.matches m) refl

@@ -9,9 +9,9 @@ ghost use Rattle.rc_redraw.specs.Asking.{key_seen};
 ghost use Rattle.rc_match.specs.Lane.{begun, phase_seen};
 ghost use Rattle.rc_core.specs.House.{opened, with_entries, AreOfOnePlan};
 ghost use Rattle.rc_core.specs.Events.{event_seen, works, looks, keeps, loses, after_event, after_events};
-ghost use Rattle.rc_core.specs.Short.{FindsSpent, FailsAt, StopsShort, NoneFindsSpent};
+ghost use Rattle.rc_core.specs.Short.{FindsSpent, FailsAt, StopsShort, KeepsSpent, NoneFindsSpent};
 ghost use Rattle.rc_core.specs.Laws.{IsOf};
-ghost use Rattle.rc_core.specs.Sound.{IsSound, UnlessSpent};
+ghost use Rattle.rc_core.specs.Sound.{IsSound};
 ghost use Rattle.rc_core.specs.Stored.{lane_in, IsOwn, AreOwn};
 
 use crate::entries::taken;
@@ -30,7 +30,7 @@ use std::marker::Model;
 use std::sync::Arc;
 
 /// The matches of a plan on their way, with a machine for each, and the entries that they share, the most recent first. Contracts see
-/// where each match stands and the keys of the entries. Each match that isn't spent is, as far as it was played, the one of the plan.
+/// where each match stands and the keys of the entries. Each match is, as far as it was played, the one of the plan.
 #[derive(Drop)]
 pub struct House {
     about: Arc<About>,
@@ -94,12 +94,12 @@ impl House {
         self.matches.len()
     }
 
-    /// The record of a match as far as it was played. Unless the match is spent, its picks are the first ones of the match of the plan,
+    /// The record of a match as far as it was played. Its picks are the first ones of the match of the plan, also where it is spent,
     /// and where it is over, its record is that match's.
     pub fn notes_of(&self, m: u32) -> &MatchRecord
         requires { m < length self.now.matches }
         ensures is { IfSome (slice_get self.now.matches m) (λ lane. record_seen result.now ≡ lane.notes) }
-        ensures of_plan { IfSome (slice_get self.now.matches m) (λ lane. UnlessSpent lane.phase (IsOf self.now.about self.now.plan m lane)) }
+        ensures of_plan { IfSome (slice_get self.now.matches m) (λ lane. IsOf self.now.about self.now.plan m lane) }
     {
         &self.matches[m as usize].notes
     }
@@ -116,6 +116,7 @@ impl House {
     fn change(&mut self, alloc: Global, event: &Event) -> Result<(), Memory>
         ensures is { OnOk result (self.new ≡ after_event self.old (event_seen event.now)) }
         ensures open { OnOk result (FindsSpent self.old (event_seen event.now) → ⊥) }
+        ensures spent { KeepsSpent self.old self.new }
         ensures lacking { OnErr result (FailsAt self.old (event_seen event.now) self.new) }
     {
         match event {
@@ -133,6 +134,7 @@ impl House {
     fn work(&mut self, alloc: Global, m: u32) -> Result<(), Memory>
         ensures is { OnOk result (self.new ≡ after_event self.old (works m)) }
         ensures open { OnOk result (FindsSpent self.old (works m) → ⊥) }
+        ensures spent { KeepsSpent self.old self.new }
         ensures lacking { OnErr result (FailsAt self.old (works m) self.new) }
     {
         if m as usize >= self.matches.len() {
@@ -148,6 +150,7 @@ impl House {
     fn look(&mut self, alloc: Global, m: u32) -> Result<(), Memory>
         ensures is { OnOk result (self.new ≡ after_event self.old (looks m)) }
         ensures open { OnOk result (FindsSpent self.old (looks m) → ⊥) }
+        ensures spent { KeepsSpent self.old self.new }
         ensures lacking { OnErr result (self.new ≡ self.old) }
     {
         if m as usize >= self.matches.len() {
@@ -166,6 +169,7 @@ impl House {
     fn keep(&mut self, m: u32) -> Result<(), Memory>
         ensures is { OnOk result (self.new ≡ after_event self.old (keeps m)) }
         ensures open { OnOk result (FindsSpent self.old (keeps m) → ⊥) }
+        ensures spent { KeepsSpent self.old self.new }
         ensures lacking { OnErr result (self.new ≡ self.old) }
     {
         if m as usize >= self.matches.len() {
@@ -182,7 +186,8 @@ impl House {
 
     // The entry of a key is lost.
     fn lose(&mut self, key: &Key)
-        ensures { self.new ≡ after_event self.old (loses (key_seen key.now)) }
+        ensures is { self.new ≡ after_event self.old (loses (key_seen key.now)) }
+        ensures spent { KeepsSpent self.old self.new }
     {
         // the sheet is well formed and in sight
         let _sheet = self.about.sheet();
@@ -190,14 +195,15 @@ impl House {
     }
 }
 
-/// What follows from events, one after another: their number. A match that lacked memory is spent, and an event that names it answers
-/// Memory. Where memory runs out, some first events were done, and of the next one nothing, or its match is spent. The house is sound
-/// again but for its spent matches.
+/// What follows from events, one after another: their number. A match that lacked memory is spent: it stays as it is from then on, and
+/// an event that names it answers Memory. Where memory runs out, some first events were done, and of the next one nothing, or its match
+/// becomes spent and keeps its record. The house is sound again.
 pub fn run_core(alloc: Global, house: &mut House, events: &[Event]) -> Result<usize, Memory>
     ensures count { IfOk result (λ count. count ≡ length events.now) }
     ensures leaves { OnOk result (house.new ≡ after_events house.old (map event_seen events.now)) }
     ensures open { OnOk result (NoneFindsSpent house.old (map event_seen events.now)) }
     ensures short { OnErr result (StopsShort house.old (map event_seen events.now) house.new) }
+    ensures spent { KeepsSpent house.old house.new }
     ensures plan { AreOfOnePlan house.old house.new }
     ensures sound { IsSound house.new }
 {

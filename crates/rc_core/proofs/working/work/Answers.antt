@@ -1,4 +1,4 @@
-use Rattle.std.proofs.Common.{sym, subst}
+use Rattle.std.proofs.Common.{sym, ap, subst}
 use Rattle.rc_play_model.specs.About.{About}
 use Rattle.rc_rules.specs.Plan.{plan_seen}
 use Rattle.rc_code.specs.Seen.{code_seen}
@@ -6,6 +6,7 @@ use Rattle.rc_code.specs.Stands.{StandsFor}
 use Rattle.rc_match.specs.Lane.{phase_seen}
 use Rattle.rc_core.specs.Stored.{lane_in, Wants}
 use Rattle.rc_core.proofs.StoredLemmas.{match_wants}
+use Rattle.rc_core.proofs.SpentLemmas.{became_spent}
 use Rattle.rc_core.proofs.working.work.Goals as goal
 
 pub missed_entry-requires-clause-code : goal.missed_entry-requires-clause-code
@@ -14,3 +15,8 @@ missed_entry-requires-clause-code c =
     let wants = match_wants job.about.value (plan_seen job.plan.value) job.number (lane_in c.args.state.now) c.requires.sound in
     let here = subst (λ ph. Wants job.about.value (phase_seen ph)) c.in-Missed.is wants in
     subst (λ (a : About). StandsFor a.sheet (code_seen c.args.code.now.value)) (sym here.1) c.requires.code
+
+pub returns-in-Ready-clause-lacking : goal.returns-in-Ready-clause-lacking
+returns-in-Ready-clause-lacking c =
+    became_spent c.lane_step.result (lane_in c.args.state.now) (lane_in c.lane_step.new.state) _ (ap phase_seen c.in-Ready.is)
+    c.lane_step.ensures.lacking c.lane_step.ensures.kept

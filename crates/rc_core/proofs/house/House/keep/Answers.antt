@@ -1,6 +1,6 @@
 use Rattle.std.proofs.Common.{◌≡◌, refl, rules}
 use Rattle.rc_core.specs.Events.{keeps}
-use Rattle.rc_core.proofs.HouseSteps.{checked_of, wants_there, own_waits, keep_kept, keep_leaves, nothing_left, named_open}
+use Rattle.rc_core.proofs.HouseSteps.{checked_of, wants_there, own_waits, keep_kept, keep_leaves, nothing_left, keep_keeps, named_open}
 use Rattle.rc_core.proofs.house.House.keep.Goals as goal
 
 pub hand_over-requires : goal.hand_over-requires
@@ -39,3 +39,8 @@ pub returns-clause-lacking : goal.returns-clause-lacking
 returns-clause-lacking c =
     nothing_left c.self.inside c.self.invariant c.args.m c.index_mut.result.now (search rules) c.index_mut.ensures.value c.hand_over.result c.self.view_is
     c.hand_over.new.phase c.hand_over.new.entries.items c.hand_over.ensures.lacking
+
+pub returns-clause-spent : goal.returns-clause-spent
+returns-clause-spent c =
+    keep_keeps c.self.inside c.self.invariant c.args.m c.index_mut.result.now (search rules) c.index_mut.ensures.value c.hand_over.result c.self.view_is
+    c.hand_over.new.phase c.hand_over.new.entries.items c.hand_over.ensures.lacking c.hand_over.ensures.is

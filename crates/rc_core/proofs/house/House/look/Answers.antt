@@ -1,6 +1,6 @@
 use Rattle.std.proofs.Common.{◌≡◌, refl, rules}
 use Rattle.rc_core.specs.Events.{looks}
-use Rattle.rc_core.proofs.HouseSteps.{checked_of, wants_there, own_waits, look_kept, look_leaves, nothing_left, named_open}
+use Rattle.rc_core.proofs.HouseSteps.{checked_of, wants_there, own_waits, look_kept, look_leaves, nothing_left, look_keeps, named_open}
 use Rattle.rc_core.proofs.house.House.look.Goals as goal
 
 pub look_up-requires : goal.look_up-requires
@@ -39,3 +39,8 @@ pub returns-clause-lacking : goal.returns-clause-lacking
 returns-clause-lacking c =
     nothing_left c.self.inside c.self.invariant c.args.m c.index_mut.result.now (search rules) c.index_mut.ensures.value c.look_up.result c.self.view_is
     c.look_up.new.phase c.look_up.new.entries.items c.look_up.ensures.lacking
+
+pub returns-clause-spent : goal.returns-clause-spent
+returns-clause-spent c =
+    look_keeps c.self.inside c.self.invariant c.args.m c.index_mut.result.now (search rules) c.index_mut.ensures.value c.look_up.result c.self.view_is
+    c.look_up.new.phase c.look_up.new.entries.items c.look_up.ensures.lacking c.look_up.ensures.is

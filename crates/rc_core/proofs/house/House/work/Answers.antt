@@ -5,9 +5,8 @@ use Rattle.rc_code.specs.Seen.{code_seen}
 use Rattle.rc_code.specs.Stands.{StandsFor}
 use Rattle.rc_match.specs.Sound.{IsSound as IsSoundMatch}
 use Rattle.rc_core.specs.Events.{works, worked}
-use Rattle.rc_core.specs.Sound.{UnlessSpent}
 use Rattle.rc_core.specs.Stored.{lane_in, IsOwn}
-use Rattle.rc_core.proofs.HouseSteps.{along, checked_of, known, own_there, own_put, work_kept, work_leaves, work_lacks, named_open}
+use Rattle.rc_core.proofs.HouseSteps.{along, checked_of, known, own_there, own_put, work_kept, work_leaves, work_lacks, work_keeps, named_open}
 use Rattle.rc_core.proofs.house.House.work.Goals as goal
 
 pub work-requires-clause-code : goal.work-requires-clause-code
@@ -23,7 +22,7 @@ work-requires-clause-own c =
 pub work-requires-clause-sound : goal.work-requires-clause-sound
 work-requires-clause-sound c =
     let state = c.index_mut.result.now in
-    along (λ a p n. UnlessSpent (lane_in state).phase (IsSoundMatch a p n (lane_in state)))
+    along (λ a p n. IsSoundMatch a p n (lane_in state))
     (sym c.in_ok-job.ensures.about) (sym (ap plan_seen c.in_ok-job.ensures.plan)) (sym c.in_ok-job.ensures.number)
     (known c.self.inside c.self.invariant c.args.m state (search rules) c.index_mut.ensures.value)
 
@@ -63,3 +62,12 @@ pub returns-clause-lacking : goal.returns-clause-lacking
 returns-clause-lacking c =
     work_lacks c.self.inside c.self.invariant c.args.m c.index_mut.result.now (search rules) c.index_mut.ensures.value c.work.result c.self.view_is
     c.work.new.state c.work.ensures.lacking
+
+pub returns-clause-spent : goal.returns-clause-spent
+returns-clause-spent c =
+    let state = c.index_mut.result.now in
+    let state' = c.work.new.state in
+    let is = along (λ a p n. OnOk c.work.result (lane_in state' ≡ worked a p n (lane_in state) (lane_in state).phase))
+    c.in_ok-job.ensures.about (ap plan_seen c.in_ok-job.ensures.plan) c.in_ok-job.ensures.number c.work.ensures.is in
+    work_keeps c.self.inside c.self.invariant c.args.m state (search rules) c.index_mut.ensures.value c.work.result c.self.view_is state' is
+    c.work.ensures.lacking
