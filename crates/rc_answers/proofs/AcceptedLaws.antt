@@ -84,8 +84,8 @@ one_first_fault : (form : Tree) (kind other : SourceKind) (at offset : ℕ)
 one_first_fault form kind other at offset (inl has) (inl has') =
     let same : has'.0 ≡ has.0 = some_is (sym has'.1 ∙ has.1) in
     same_fault kind other at offset
-    (has'.2 ∙ ap (λ (found : SheetFault). sheet_kind found.kind) same ∙ sym has.2)
-    (has'.3 ∙ ap (λ (found : SheetFault). found.at) same ∙ sym has.3)
+    (has'.3 ∙ ap (λ (found : SheetFault). sheet_kind found.kind) same ∙ sym has.3)
+    (has'.4 ∙ ap (λ (found : SheetFault). found.at) same ∙ sym has.4)
 one_first_fault form kind other at offset (inl has) (inr has') = absurd (no_part_fault form kind at has'.2.faultless has)
 one_first_fault form kind other at offset (inr has) (inl has') = absurd (no_part_fault form other offset has.2.faultless has')
 one_first_fault form kind other at offset (inr has) (inr has') =

@@ -2,6 +2,7 @@ pub mod AcceptedLaws
 pub mod AnswerLaws
 pub mod BenchLaws
 pub mod Exits
+pub mod FirstFaults
 pub mod OneAnswer
 pub mod OneReading
 pub mod Options

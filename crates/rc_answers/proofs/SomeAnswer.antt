@@ -32,6 +32,7 @@ use Rattle.rc_answers.specs.Reading.{IsAcceptedWith}
 use Rattle.rc_answers.specs.Players.{AreHits, alone, shared}
 use Rattle.rc_answers.specs.Answer.{Answer, text, refused, house_played, text_judged, HasAnswer, form_faulty}
 use Rattle.rc_answers.proofs.AcceptedLaws.{in_sight_or_not}
+use Rattle.rc_answers.proofs.FirstFaults.{first_found}
 use Rattle.rc_answers.proofs.AnswerLaws.{missing_answer, refused_answer, first_accepted, accepted_answer, plan_answer}
 use Rattle.rc_answers.proofs.PlanLaws.{IsPlanOrFault, plan_or_fault, IsReadOrFault, read_or_fault}
 
@@ -122,7 +123,7 @@ read task source (form ∷ others) rest spelled = by (sheet_fault form) refl
     by (Some found) is = (
       refused (refusal.Sheet (sheet_kind found.kind) found.at),
       refused_answer task source (form ∷ others) form others rest (sheet_kind found.kind) found.at refl spelled
-          (inl (found, is, refl, refl)),
+          (inl (found, is, first_found source (wanted task) form others rest found spelled is, refl, refl)),
     )
     by None none =
         let made = has_sheet form none (fits-first source (wanted task) form others rest spelled) (of_atoms-first source (wanted task) form others rest spelled) in
