@@ -9,5 +9,7 @@ pub mod Options
 pub mod PlanLaws
 pub mod PlayedLaws
 pub mod PlayedLemmas
+pub mod PlaysLaw
+pub mod PlaysLemmas
 pub mod PrintedTwice
 pub mod SomeAnswer

@@ -6,6 +6,7 @@ pub mod Laws
 pub mod Note
 pub mod Players
 pub mod PlayedLaws
+pub mod Plays
 pub mod Reading
 pub mod Status
 pub mod Task

@@ -1,6 +1,7 @@
 //! Laws of what commands answer. No function here does anything: its contract is the law.
 ghost use Rattle.rc_answers.specs.Laws.{AnswersAreAlike, OneAnswer, PrintedAgain, SomeAnswer, TextsAreTheSame};
 ghost use Rattle.rc_answers.specs.PlayedLaws.{PlayedIsAnsweredLegal, PlayedIsChecked, PlayedIsLegal};
+ghost use Rattle.rc_answers.specs.Plays.{WrittenIsPlayed};
 
 /// A command has at most one answer to a source, where one worker runs it.
 pub fn one_answer()
@@ -33,4 +34,10 @@ pub fn what_is_played_is_judged_legal()
     ensures legal { PlayedIsLegal }
     ensures answered { PlayedIsAnsweredLegal }
     ensures checked { PlayedIsChecked }
+{}
+
+/// What `play` writes for a source tells each match of its plan: a play that the sheet allows for its seeded shuffles, up to its end or
+/// the turn limit, in which each choice is its strategy's function of its seat's view and of the seed of the seats.
+pub fn what_is_written_is_played()
+    ensures { WrittenIsPlayed }
 {}

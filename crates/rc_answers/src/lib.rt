@@ -19,7 +19,7 @@ pub use answer::{Answer, Game, Prepared, prepare};
 pub use benching::bench_game;
 pub use laws::{
     a_printed_sheet_is_printed_again, answers_are_alike, one_answer, some_answer,
-    texts_are_the_same, what_is_played_is_judged_legal,
+    texts_are_the_same, what_is_played_is_judged_legal, what_is_written_is_played,
 };
 pub use note::Note;
 pub use refusal::Refusal;
