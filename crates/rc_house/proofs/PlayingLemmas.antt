@@ -1,11 +1,15 @@
 -- How the answers of commands that have matches played come about.
-use Rattle.std.proofs.Common.{◌≡◌, ◌≤◌, ◌+◌, inr, ℕ, List, map, Option, Some, None, Result, Ok, Err, Vec, refl, sym, subst, ap, ◌∙◌, arith}
+use Rattle.std.proofs.Common.{◌≡◌, ◌<◌, ◌≤◌, ◌+◌, inr, ℕ, List, length, map, Option, Some, None, Result, Ok, Err, IfOk, Vec, refl, sym, subst, ap, ◌∙◌, arith}
+use Rattle.std.specs.Prelude.{nat_lt, if◌then◌else◌}
+use Rattle.std.proofs.lemmas.Bool.{lt-ltb}
 use Rattle.std.specs.Global.{Global}
 use Rattle.rc_model.specs.Transcript.{house_text}
 use Rattle.rc_sheet_model.specs.Sheet.{Sheet}
-use Rattle.rc_play_model.specs.About.{about_of}
+use Rattle.rc_play_model.specs.About.{About, about_of}
+use Rattle.rc_play_model.specs.House.{standings_of}
 use Rattle.rc_play_model.specs.Keyed.{keyed_house}
 use Rattle.rc_play_model.specs.Plan.{Plan}
+use Rattle.rc_cache.specs.Hits.{hits, cost}
 use Rattle.rc_trick.specs.Bench.{bench_plan, bench_text}
 use Rattle.rc_records.specs.Series.{looks_of, matches_of}
 use Rattle.rc_records.specs.declared.series.Series.{Series}
@@ -27,13 +31,13 @@ use Rattle.rc_answers.specs.declared.status.Status.{Status}
 use Rattle.rc_answers.specs.declared.status.Status.TheVariants.{Memory}
 use Rattle.rc_answers.specs.declared.task.Task.{Task}
 use Rattle.rc_answers.specs.declared.task.Task.TheVariants.{Play, Check, Sheet as PrintsSheet}
-use Rattle.rc_answers.specs.Answer.{Answer, text, house_played, playouts_of, seen}
+use Rattle.rc_answers.specs.Answer.{Answer, text, house_played, playouts_of, seen, IsGame}
 use Rattle.rc_answers.specs.Bench.{IsBenchAnswer}
 use Rattle.rc_house.specs.Bench.{BenchOutcome, summary, no_memory as bench_no_memory}
 use Rattle.rc_house.specs.Ends.{Runs}
 use Rattle.rc_answers.specs.Note.{looks_line, note_line}
 use Rattle.rc_house.specs.Outcome.{Answers, CountedFew}
-use Rattle.rc_answers.specs.Players.{counted_playouts}
+use Rattle.rc_answers.specs.Players.{AreHits, alone, shared, counted_playouts}
 use Rattle.rc_house.specs.Port.{Port, Ports, port, IsSteady}
 use Rattle.rc_house.specs.Running.{ReadsAnswer, ReadsGame, IsSeriesOf, TellsOf, PreparesCommand, AnswersBench, AnswersSource, AnswersCommand, Concludes}
 use Rattle.rc_answers.proofs.AnswerLaws.{counted_few}
@@ -101,6 +105,14 @@ module _ (before after : Port) where
   answered command.Sheet steps answer is = unplayed PrintsSheet steps answer is
   answered (command.Bench number options) steps answer is = absurd is.1
 
+  -- what it has played is the game of a sheet and a plan
+  pub game_prepared : (called : Command) (game : Game) → PreparesCommand called before after (Playing game)
+      → IsGame game.checked (plan_seen game.plan)
+  game_prepared (command.Play options) game prepared = prepared.0
+  game_prepared command.Check game prepared = prepared.0
+  game_prepared command.Sheet game prepared = prepared.0
+  game_prepared (command.Bench number options) game prepared = let made = prepared.1 in made.0
+
   -- what it tells of the matches that were played for it
   pub told : (called : Command) (game : Game) (steps steps' : ℕ) (series : Series) (answer : Stored)
       → PreparesCommand called before after (Playing game)
@@ -142,6 +154,52 @@ pub are_of_one : (options told : Options) → options ≡ told → told.workers 
 are_of_one options told same one =
     let own : options.workers ≡ 1 = ap (λ (options : Options). options.workers) same ∙ one in
     ap (λ workers. options_with workers options.cache) (sym own) ∙ same
+
+-- what one worker plays is a series by the options of one
+pub played_alone : (options told : Options) (about : About) (plan : Plan) (steps steps' : ℕ) (series : Series) → options ≡ told → told.workers ≡ 1
+    → map record_seen series.text.matches.items ≡ matches_of about plan
+    → map standing_seen series.text.standings.items ≡ standings_of plan (matches_of about plan)
+    → (series.totals.capacity ≡ options.cache) × (series.totals.lanes ≡ 1)
+    → series.totals.looks ≡ length (looks_of about plan)
+    → series.totals.hits ≡ hits (looks_of about plan) options.cache
+    → steps' ≡ steps + cost (looks_of about plan) options.cache
+    → IsSeriesOf told about plan steps steps' series
+played_alone options told about plan steps steps' series same one matches standings book looks found counted =
+    let by_one : IsSeriesOf (options_with 1 options.cache) about plan steps steps' series =
+    record { matches = matches; standings = standings; book = book; looks = looks; hits = alone (omega arith) found; counted = counted } in
+    subst (λ options. IsSeriesOf options about plan steps steps' series) (are_of_one options told same one) by_one
+
+-- of what several workers play no playout is counted
+several_count : (workers missed : ℕ) → 1 < workers → 0 ≡ 0 + (if nat_lt 1 workers then 0 else missed)
+several_count workers missed several = ap (λ more. 0 + (if more then 0 else missed)) (sym (lt-ltb 1 workers several))
+
+-- of their looks not all hit
+several_hits : (options : Options) (about : About) (plan : Plan) (series : Series) → 1 < options.workers
+    → series.totals.looks ≡ length (looks_of about plan) → series.totals.hits ≤ series.totals.looks → (0 < series.totals.looks → series.totals.hits < series.totals.looks)
+    → AreHits options (looks_of about plan) series.totals.hits
+several_hits options about plan series several looked found missed =
+    shared several (subst (λ looks. series.totals.hits ≤ looks) looked found)
+    (subst (λ looks. 0 < looks → series.totals.hits < looks) looked missed)
+
+-- what they play is a series by their options
+pub played_together : (options : Options) (about : About) (plan : Plan) {E : Type 0} (result : Result Series E) → 1 < options.workers
+    → IfOk result (λ series. map record_seen series.text.matches.items ≡ matches_of about plan)
+    → IfOk result (λ series. map standing_seen series.text.standings.items ≡ standings_of plan (matches_of about plan))
+    → IfOk result (λ series. (series.totals.capacity ≡ options.cache) × (series.totals.lanes ≡ options.workers))
+    → IfOk result (λ series. series.totals.looks ≡ length (looks_of about plan))
+    → IfOk result (λ series. series.totals.hits ≤ series.totals.looks)
+    → IfOk result (λ series. 0 < series.totals.looks → series.totals.hits < series.totals.looks)
+    → IfOk result (IsSeriesOf options about plan 0 0)
+played_together options about plan (Err fail) several matches standings book looks found missed = tt
+played_together options about plan (Ok series) several matches standings book looks found missed =
+    record {
+      matches = matches;
+      standings = standings;
+      book = book;
+      looks = looks;
+      hits = several_hits options about plan series several looks found missed;
+      counted = several_count options.workers _ several;
+    }
 
 -- what was done with the answer of the bench
 bench_concluded : (options : Options) (number : ℕ) (before after : Ports) (steps steps' : ℕ) (answered : Result Stored Status) (status : Status)

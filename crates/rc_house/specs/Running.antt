@@ -74,6 +74,11 @@ pub record IsSeriesOf (options : Options) (about : About) (plan : Plan) (steps s
   pub hits : AreHits options (looks_of about plan) series.totals.hits
   pub counted : steps' ≡ steps + counted_playouts options (looks_of about plan)
 
+-- The matches of some sheet and plan were played so.
+abbrev pub ArePlayedBy : Options → Series → Type 0
+ArePlayedBy options series =
+    (about : About) × (plan : Plan) × (steps : ℕ) × (steps' : ℕ) × IsSeriesOf options about plan steps steps' series
+
 -- What a command tells of the matches of a series: their house text, or the summary of the bench.
 abbrev pub told_of : Command → Series → List ℕ
 told_of (command.Play options) series = text_of series.text

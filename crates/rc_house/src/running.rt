@@ -1,14 +1,17 @@
 //! The calls that a program makes: they run a command from its words to its end.
 ghost use Rattle.std.specs.Prelude.{◌≡◌, ◌<◌, ◌≤◌, ℕ, List, map, string_bytes, IfOk, IfErr};
+ghost use Rattle.rc_play_model.specs.About.{about_of};
 ghost use Rattle.rc_play_model.specs.MatchLaws.{AlikeSamePicks};
-ghost use Rattle.rc_command.specs.Command.{IsCommand, workers_of};
+ghost use Rattle.rc_rules.specs.Plan.{plan_seen};
+ghost use Rattle.rc_command.specs.Command.{IsCommand, options_of, workers_of};
 ghost use Rattle.rc_answers.specs.declared.note.Note.TheVariants.{Looks};
+ghost use Rattle.rc_answers.specs.Answer.{IsGame};
 ghost use Rattle.rc_house.specs.Ends.{Ends, RefusesMany, Runs};
 ghost use Rattle.rc_answers.specs.Laws.{TextsAreTheSame};
 ghost use Rattle.rc_answers.specs.PlayedLaws.{PlayedIsChecked};
 ghost use Rattle.rc_answers.specs.Players.{CanPlay};
 ghost use Rattle.rc_house.specs.Port.{moment, port};
-ghost use Rattle.rc_house.specs.Running.{AnswersCommand, NamesNone, PreparesCommand, PreparesNone, ReadsNone, ReadsPrepared, TellsOf, told_of};
+ghost use Rattle.rc_house.specs.Running.{AnswersCommand, ArePlayedBy, IsSeriesOf, NamesNone, PreparesCommand, PreparesNone, ReadsNone, ReadsPrepared, TellsOf, told_of};
 
 use crate::handing::{conclude, refuse};
 use rc_answers::{
@@ -73,8 +76,9 @@ fn told_text(alloc: Global, command: Command, series: &Series) -> Result<Vec<u8>
     }
 }
 
-/// What a command answers where these matches were played for it. Memory may run out.
+/// What a command answers where these matches were played for it, as its options say. Memory may run out.
 fn played_answer(alloc: Global, command: Command, series: &Series) -> Result<Answer, Memory>
+    requires played { ArePlayedBy (options_of command) series.now }
     ensures { IfOk result (TellsOf command series.now) }
 {
     let text = told_text(alloc, command, series)?;
@@ -115,6 +119,25 @@ fn answer_alone<S: Source, L: Ledger>(
     }
 }
 
+/// The matches of a game, as several workers play them for a command: so many as its words say, over one book of as many entries. Each
+/// calls the gate before it plays a match. Memory may run out.
+fn play_together<R: Threads + Wait + Sync, G: Gate>(
+    alloc: Global,
+    rt: &R,
+    command: Command,
+    game: Game,
+    gate: &G,
+) -> Result<Series, Memory>
+    requires named { (words : List (List ℕ)) × IsCommand words command }
+    requires many { 1 < workers_of command }
+    requires game { IsGame game.checked (plan_seen game.plan) }
+    ensures { IfOk result (IsSeriesOf (options_of command) (about_of game.checked game.plan.turns) (plan_seen game.plan) 0 0) }
+{
+    let Game { checked, plan } = game;
+    let Options { workers, cache } = command.options();
+    series_by_workers(rt, alloc, checked, plan, workers, cache, gate)
+}
+
 /// What a command answers that several workers run, over one book, or the status that it ends with. Each calls the gate before it plays
 /// a match.
 fn answer_together<R: Threads + Wait + Sync, S: Source, G: Gate>(
@@ -133,9 +156,7 @@ fn answer_together<R: Threads + Wait + Sync, S: Source, G: Gate>(
     match prepare_command(alloc, command, source)? {
         Prepared::Answered(answer) => Ok(answer),
         Prepared::Playing(game) => {
-            let Game { checked, plan } = game;
-            let Options { workers, cache } = command.options();
-            let series = series_by_workers(rt, alloc, checked, plan, workers, cache, gate)?;
+            let series = play_together(alloc, rt, command, game, gate)?;
             let answer = played_answer(alloc, command, &series)?;
             Ok(answer)
         }
