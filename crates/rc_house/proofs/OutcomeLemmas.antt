@@ -1,5 +1,5 @@
 -- How the outcome of a command follows from what its parts did.
-use Rattle.std.proofs.Common.{◌≡◌, ◌≢◌, ◌<◌, ◌≤◌, ◌+◌, ◌⊎◌, ◌↔◌, ℕ, List, [], ◌∷◌, ◌++◌, length, drop, length-append, Option, Some, None, Result, Ok, Err, inl, inr, refl, sym, ◌∙◌, ap, subst, arith}
+use Rattle.std.proofs.Common.{◌≡◌, ◌≢◌, ◌<◌, ◌≤◌, ◌+◌, ◌⊎◌, ◌↔◌, ℕ, List, [], ◌∷◌, ◌++◌, length, drop, length-append, Option, Some, None, IfSome, Result, Ok, Err, inl, inr, refl, sym, ◌∙◌, ap, subst, arith}
 use Rattle.std.proofs.lemmas.Bool.{cases_lt}
 use Rattle.std.proofs.lemmas.List.{append-nil}
 use Rattle.rc_model.specs.Tree.{Tree}
@@ -20,8 +20,9 @@ use Rattle.rc_answers.specs.declared.task.Task.{Task}
 use Rattle.rc_answers.specs.declared.task.Task.TheVariants as named
 use Rattle.rc_answers.specs.declared.task.Task.TheVariants.{Play}
 use Rattle.rc_answers.specs.declared.refusal.Refusal.{Refusal}
+use Rattle.rc_answers.specs.declared.refusal.Refusal.TheVariants as refusals
 use Rattle.rc_answers.specs.declared.status.Status.{Status}
-use Rattle.rc_answers.specs.declared.status.Status.TheVariants.{Memory, TooLong}
+use Rattle.rc_answers.specs.declared.status.Status.TheVariants.{Done, Memory, TooLong}
 use Rattle.rc_answers.specs.declared.answer.Answer.{Answer as Stored}
 use Rattle.rc_answers.specs.declared.answer.Answer.TheVariants.{Text, Refused}
 use Rattle.rc_answers.specs.declared.answer.Prepared.{Prepared}
@@ -30,12 +31,14 @@ use Rattle.rc_answers.specs.Task.{IsNoteOf, limit_of}
 use Rattle.rc_answers.specs.Note.{note_line}
 use Rattle.rc_answers.specs.Answer.{Answer, text, refused, seen, text_judged, verdict, AreAlike, IsAnswered, HasAnswer, form_faulty, sheet_faulty, plan_faulty, accepted, IsGameOf, IsPrepared}
 use Rattle.rc_answers.specs.Status.{refusal_status, read_status}
-use Rattle.rc_house.specs.Port.{Port, Ports, port, HasFailed, IsSteady, Supplied, Delivers}
-use Rattle.rc_house.specs.Outcome.{GaveTooMuch, Answers, CountedFew, Refuses, Outcome, written, refusing, no_memory, read_failed, too_long, text_failed, note_failed, NoPortFailed, Succeeds, status_of}
-use Rattle.rc_house.specs.Ends.{Performs}
+use Rattle.rc_house.specs.Port.{Port, Ports, port, HasFailed, IsSteady, Supplied, Received, Delivers}
+use Rattle.rc_house.specs.Outcome.{GaveTooMuch, Answers, IsTextWith, CountedFew, Refuses, Outcome, written, refusing, no_memory, read_failed, too_long, text_failed, note_failed, NoPortFailed, Succeeds, status_of}
+use Rattle.rc_house.specs.Ends.{WritesPlays, Performs}
+use Rattle.rc_answers.specs.Plays.{TellsPlaysOf}
 use Rattle.rc_answers.specs.Reading.{IsAcceptedWith}
 use Rattle.rc_house.specs.Running.{HasNoteOf, ReadsGame, ReadsNone, ReadsPrepared, AnswersSource, Concludes}
 use Rattle.rc_answers.proofs.OneAnswer.{alike_answers}
+use Rattle.rc_answers.proofs.PlaysLaw.{written_played}
 
 -- what a source gave to its end is all that it told
 gave_all : (whole rest bytes : List ℕ) (after : Option (List ℕ)) → after ≡ Some rest → whole ≡ bytes ++ rest → IsAtEnd after → (bytes ≡ whole) × (after ≡ Some [])
@@ -275,8 +278,40 @@ succeeds : (task : Task) (before after : Ports) (steps steps' : ℕ) (status : S
 succeeds task before after steps steps' status ends =
     record { answers = answers_due task before after steps steps' status ends; too_long = too_long_due task before after steps steps' status ends }
 
+-- a refusal isn't done
+refusal_not_done : (refusal : Refusal) (status : Status) → status ≡ refusal_status refusal → status ≡ Done → ⊥
+refusal_not_done (refusals.Sheet kind at) status is done = absurd cc
+refusal_not_done (refusals.Plan kind at) status is done = absurd cc
+refusal_not_done (refusals.Text line) status is done = absurd cc
+refusal_not_done (refusals.Illegal line why) status is done = absurd cc
+
+-- what `play` writes where it is done tells plays
+writes_plays : (task : Task) (before after : Ports) (steps steps' : ℕ) (status : Status) → Outcome task before after steps steps' status
+    → WritesPlays task before after status
+writes_plays named.Check before after steps steps' status ends = tt
+writes_plays named.Sheet before after steps steps' status ends = tt
+writes_plays (Play options) before after steps steps' status (written is note noted answers took steady quiet) = λ done. by before.source.told answers
+  where
+    by : (told : Option (List ℕ)) → Answers (port told before.source.faults) after.source (Play options) (IsTextWith note steps steps' (Received before.out after.out))
+        → IfSome told (λ source. (bytes : List ℕ) × Received before.out after.out bytes × TellsPlaysOf source bytes)
+    by None answers = tt
+    by (Some source) answers =
+        let is = answers.4 in
+        (is.0, is.4, written_played options source is.0 note is.1 (subst (HasAnswer (Play options) source) is.2 answers.3))
+writes_plays (Play options) before after steps steps' status (refusing refusal is answers refuses counted steady) = λ done.
+    absurd (refusal_not_done refusal status is done)
+writes_plays (Play options) before after steps steps' status (no_memory is gave refuses counted steady) = λ done. absurd cc
+writes_plays (Play options) before after steps steps' status (read_failed is failed gave refuses counted) = λ done. absurd cc
+writes_plays (Play options) before after steps steps' status (too_long is gave refuses counted steady) = λ done. absurd cc
+writes_plays (Play options) before after steps steps' status (text_failed is failed note noted answers took steady) = λ done. absurd cc
+writes_plays (Play options) before after steps steps' status (note_failed is failed note noted answers took steady quiet) = λ done. absurd cc
+
 -- a source was read and answered
 pub performed : (task : Task) (before after : Ports) (steps steps' : ℕ) (status : Status) → Outcome task before after steps steps' status
     → Performs task before after steps steps' status
 performed task before after steps steps' status ends =
-    record { outcome = ends; succeeds = succeeds task before after steps steps' status ends }
+    record {
+      outcome = ends;
+      succeeds = succeeds task before after steps steps' status ends;
+      plays = writes_plays task before after steps steps' status ends;
+    }

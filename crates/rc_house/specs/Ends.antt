@@ -1,6 +1,6 @@
 -- How words end: those of a command, and all others. Ends is what `run` and `run_alone` promise, all of it: of the words, the ports,
 -- the steps and the status. For `run`, `many` is Runs and the steps are some number that fits, since it is handed no counter.
-use Rattle.std.specs.Prelude.{◌≡◌, ◌<◌, ℕ, Bool, true, false, List}
+use Rattle.std.specs.Prelude.{◌≡◌, ◌<◌, ℕ, Bool, true, false, List, IfSome}
 use Rattle.rc_command.specs.Command.{IsCommand, workers_of}
 use Rattle.rc_command.specs.declared.command.Command.{Command}
 use Rattle.rc_command.specs.declared.command.Command.TheVariants.{Play, Check, Sheet, Bench}
@@ -8,14 +8,25 @@ use Rattle.rc_answers.specs.declared.status.Status.{Status}
 use Rattle.rc_answers.specs.declared.status.Status.TheVariants as ending
 use Rattle.rc_answers.specs.declared.task.Task.{Task}
 use Rattle.rc_answers.specs.declared.task.Task.TheVariants as task
+use Rattle.rc_answers.specs.Plays.{TellsPlaysOf}
 use Rattle.rc_house.specs.Bench.{BenchOutcome}
 use Rattle.rc_house.specs.Outcome.{Outcome, Succeeds, Refuses}
-use Rattle.rc_house.specs.Port.{Ports, NoCountFell}
+use Rattle.rc_house.specs.Port.{Ports, Received, NoCountFell}
+
+-- Where `play` is done and its source tells its bytes, `out` has received a text that tells plays: each match is one that the accepted
+-- sheet allows for its seeded shuffles, up to its end or the turn limit, with choices by views and seeds (Plays.antt of rc_answers).
+abbrev pub WritesPlays : Task → Ports → Ports → Status → Type 0
+WritesPlays (task.Play options) before after status =
+    status ≡ ending.Done →
+    IfSome before.source.told (λ source. (bytes : List ℕ) × Received before.out after.out bytes × TellsPlaysOf source bytes)
+WritesPlays task.Check before after status = Unit {0}
+WritesPlays task.Sheet before after status = Unit {0}
 
 -- A source was read and answered.
 pub record Performs (task : Task) (before after : Ports) (steps steps' : ℕ) (status : Status) : Type 0 where
   pub outcome : Outcome task before after steps steps' status
   pub succeeds : Succeeds task before after status
+  pub plays : WritesPlays task before after status
 
 -- The command was run: Outcome.antt and Bench.antt say what it then did.
 abbrev pub Runs : Command → Ports → Ports → ℕ → ℕ → Status → Type 0

@@ -9,6 +9,7 @@ ghost use Rattle.rc_answers.specs.Answer.{IsGame};
 ghost use Rattle.rc_house.specs.Ends.{Ends, RefusesMany, Runs};
 ghost use Rattle.rc_answers.specs.Laws.{TextsAreTheSame};
 ghost use Rattle.rc_answers.specs.PlayedLaws.{PlayedIsChecked};
+ghost use Rattle.rc_answers.specs.Plays.{WrittenIsPlayed};
 ghost use Rattle.rc_answers.specs.Players.{CanPlay};
 ghost use Rattle.rc_house.specs.Port.{moment, port};
 ghost use Rattle.rc_house.specs.Running.{AnswersCommand, ArePlayedBy, IsSeriesOf, NamesNone, PreparesCommand, PreparesNone, ReadsNone, ReadsPrepared, TellsOf, told_of};
@@ -16,7 +17,7 @@ ghost use Rattle.rc_house.specs.Running.{AnswersCommand, ArePlayedBy, IsSeriesOf
 use crate::handing::{conclude, refuse};
 use rc_answers::{
     Answer, Game, Note, Prepared, Status, Task, bench_game, prepare, texts_are_the_same,
-    what_is_played_is_judged_legal,
+    what_is_played_is_judged_legal, what_is_written_is_played,
 };
 use rc_command::{Command, Options, command_of};
 use rc_deck::Memory;
@@ -203,7 +204,9 @@ fn command_for(alloc: Global, words: &[String], several: bool) -> Result<Command
 /// returns. Each playout is a step. The other clauses hand on laws and refuse no body. `alike`: in what is played, two decisions of
 /// one seat with one strategy and one seed of the seats, at states that are alike to that seat, have the same item, in whatever
 /// matches of that sheet and turn limit they stand. `same`: what is written to a source is the same whoever plays. `legal`: what
-/// `play` writes for a source, `check` answers to be legal behind that source.
+/// `play` writes for a source, `check` answers to be legal behind that source. `plays`: in what `play` writes, each match is a play that
+/// the sheet allows for its seeded shuffles, up to its end or the turn limit, and each choice is its strategy's function of its seat's
+/// view and of the seed of the seats.
 pub fn run_alone<S: Source, O: Sink, N: Sink, L: Ledger>(
     alloc: Global,
     words: &[String],
@@ -219,10 +222,12 @@ pub fn run_alone<S: Source, O: Sink, N: Sink, L: Ledger>(
     ensures alike { AlikeSamePicks }
     ensures same { TextsAreTheSame }
     ensures legal { PlayedIsChecked }
+    ensures plays { WrittenIsPlayed }
 {
     alike_decisions_have_one_item();
     texts_are_the_same();
     what_is_played_is_judged_legal();
+    what_is_written_is_played();
     match command_for(alloc, words, false) {
         Ok(command) => {
             let answered = answer_alone(alloc, command, source, steps);
@@ -233,7 +238,7 @@ pub fn run_alone<S: Source, O: Sink, N: Sink, L: Ledger>(
 }
 
 /// Runs a command. It may wait for workers, and what it promises holds if it returns. Where words name several workers, these play the
-/// matches at one time, and each calls the gate before it plays one. `alike`, `same` and `legal` are those of `run_alone`.
+/// matches at one time, and each calls the gate before it plays one. `alike`, `same`, `legal` and `plays` are those of `run_alone`.
 pub fn run<R: Threads + Wait + Sync, S: Source, O: Sink, N: Sink, G: Gate>(
     alloc: Global,
     rt: &R,
@@ -250,10 +255,12 @@ pub fn run<R: Threads + Wait + Sync, S: Source, O: Sink, N: Sink, G: Gate>(
     ensures alike { AlikeSamePicks }
     ensures same { TextsAreTheSame }
     ensures legal { PlayedIsChecked }
+    ensures plays { WrittenIsPlayed }
 {
     alike_decisions_have_one_item();
     texts_are_the_same();
     what_is_played_is_judged_legal();
+    what_is_written_is_played();
     match command_for(alloc, words, true) {
         Ok(command) if command.options().workers == 1 => {
             let answered = answer_from::<S, Brand>(alloc, command, source, Blank::new(1));
