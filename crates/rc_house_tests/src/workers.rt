@@ -12,14 +12,15 @@ use std::sync::atomic::{AtomicU64, Ordering};
 use std::test::Fail;
 use std::thread::Threads;
 
-/// How often a match that is held looks whether another one has entered. That takes some seconds, and only a play that fails takes them.
-const TURNS: u64 = 1_000_000_000;
+/// How many turns a match that is held waits for another one to enter. That takes about a second, and only a play that fails takes it.
+const TURNS: u64 = 100_000_000;
 
 /// Holds one match until another one enters, but not forever, and tells whether that one entered in time.
 #[derive(Drop)]
 struct Held {
     held: u32,
     until: u32,
+    turns: AtomicU64,
     entered: AtomicU64,
     in_time: AtomicU64,
 }
@@ -29,18 +30,20 @@ impl Held {
         Held {
             held,
             until,
+            turns: AtomicU64::new(0),
             entered: AtomicU64::new(0),
             in_time: AtomicU64::new(0),
         }
     }
 
-    /// Waits for the other match.
+    /// Waits for the other match, and counts each turn.
     fn hold(&self) {
         for _ in 0..TURNS {
             if self.entered.load(Ordering::SeqCst) == 1 {
                 self.in_time.store(1, Ordering::SeqCst);
                 return;
             }
+            self.turns.fetch_add(1, Ordering::SeqCst);
         }
     }
 }
@@ -56,12 +59,42 @@ impl Gate for Held {
     }
 }
 
-/// A plan of three matches of the game.
-const PLAN: &[u8] =
-    b"(plan (seats (rollout 4 9) (rollout 4 9)) (matches (0 7) (0 7) (0 7)) (turns 100))";
+/// A plan of matches of the game, which are all alike, and the text of their play. Both cards of a player are played in any case, so all
+/// items do as well, and the first one is taken.
+#[derive(Clone, Copy)]
+struct Alike {
+    plan: &'static [u8],
+    text: &'static [u8],
+}
 
-/// The text of that plan. Both cards of a player are played in any case, so all items do as well, and the first one is taken.
-const TEXT: &[u8] = b"\
+const TWO: Alike = Alike {
+    plan: b"(plan (seats (rollout 4 9) (rollout 4 9)) (matches (0 7) (0 7)) (turns 100))",
+    text: b"\
+house 1
+match 0 deal 0 seats 7
+choose 0 0 0 2
+choose 1 0 0 2
+choose 0 0 0 1
+choose 1 0 0 1
+end done 8
+score 0 7 2
+score 1 3 0
+match 1 deal 0 seats 7
+choose 0 0 0 2
+choose 1 0 0 2
+choose 0 0 0 1
+choose 1 0 0 1
+end done 8
+score 0 7 2
+score 1 3 0
+standing 1 strategy 0 points 2
+standing 1 strategy 1 points 2
+",
+};
+
+const THREE: Alike = Alike {
+    plan: b"(plan (seats (rollout 4 9) (rollout 4 9)) (matches (0 7) (0 7) (0 7)) (turns 100))",
+    text: b"\
 house 1
 match 0 deal 0 seats 7
 choose 0 0 0 2
@@ -89,25 +122,27 @@ score 0 7 2
 score 1 3 0
 standing 1 strategy 0 points 4
 standing 2 strategy 1 points 2
-";
+",
+};
 
 const WORDS: &[&str] = &["play", "--workers", "2", "--cache", "65536"];
 
-/// The game with the plan.
-fn source_of(alloc: Global) -> Result<Plain, Fail> {
+/// The game with a plan.
+fn source_of(alloc: Global, plan: &[u8]) -> Result<Plain, Fail> {
     let sheet = SOURCE.get(..SHEET).ok_or("the source is long enough")?;
     let mut text = sheet.to_vec(alloc)?;
-    text.extend_from_slice(PLAN)?;
+    text.extend_from_slice(plan)?;
     Ok(Plain::new(text))
 }
 
 fn run_words<R: AllocGlobal + Threads + Wait + Sync>(
     rt: &R,
+    plan: &[u8],
     sinks: &mut Sinks,
     gate: &Held,
 ) -> Result<Status, Fail> {
     let words = owned(rt.alloc(), WORDS)?;
-    let mut source = source_of(rt.alloc())?;
+    let mut source = source_of(rt.alloc(), plan)?;
     let Sinks { out, notes } = sinks;
     Ok(run(
         rt.alloc(),
@@ -120,34 +155,41 @@ fn run_words<R: AllocGlobal + Threads + Wait + Sync>(
     ))
 }
 
-/// What two workers write and note who play the plan behind a gate. Fails unless the gate lets a match enter in time, and the text is
+/// What two workers write and note who play a plan behind a gate. Fails unless the gate lets a match enter in time, and the text is
 /// right.
 fn played<R: AllocGlobal + Abort + Threads + Wait + Sync>(
     rt: &R,
+    alike: Alike,
     gate: &Held,
 ) -> Result<Sinks, Fail> {
     let mut sinks = sinks_of(rt.alloc(), (WIDE, WIDE))?;
-    let status = run_words(rt, &mut sinks, gate)?;
+    let status = run_words(rt, alike.plan, &mut sinks, gate)?;
     expect_same(rt, status, Status::Done);
     expect_same(rt, gate.in_time.load(Ordering::SeqCst), 1);
-    expect_same(rt, sinks.out.written(), TEXT);
+    expect_same(rt, sinks.out.written(), alike.text);
     Ok(sinks)
 }
 
-/// Workers that play one behind the other, in whatever order, let none of the two enter while the other is held. Where each worker
-/// played every second match, match 2 would come behind match 0.
+/// Workers that play one behind the other, in whatever order, let none of the two enter while the other is held.
 #[test]
-fn other_matches_enter_while_one_is_held(rt: HostRuntime) -> Result<(), Fail> {
-    for (held, until) in [(0, 1), (1, 0), (0, 2)] {
-        played(&rt, &Held::new(held, until))?;
+fn either_of_two_matches_enters_while_the_other_is_held(rt: HostRuntime) -> Result<(), Fail> {
+    for (held, until) in [(0, 1), (1, 0)] {
+        played(&rt, TWO, &Held::new(held, until))?;
     }
+    Ok(())
+}
+
+/// Where each worker played every second match, match 2 would come behind match 0.
+#[test]
+fn the_matches_behind_a_held_one_are_played(rt: HostRuntime) -> Result<(), Fail> {
+    played(&rt, THREE, &Held::new(0, 2))?;
     Ok(())
 }
 
 /// Match 1 is held until match 2 enters, which it does behind all of match 0. So both find the four totals that match 0 left.
 #[test]
 fn matches_find_the_totals_of_one_that_is_over(rt: HostRuntime) -> Result<(), Fail> {
-    let sinks = played(&rt, &Held::new(1, 2))?;
+    let sinks = played(&rt, THREE, &Held::new(1, 2))?;
     expect_same(
         &rt,
         sinks.notes.written(),
