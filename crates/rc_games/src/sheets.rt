@@ -23,6 +23,8 @@ pub enum NoGame {
     Sheet,
     /// The sheet breaks the sight rule.
     Sight,
+    /// The other text's first list is no plan for its players, or it has none.
+    Plan,
     /// There was no memory.
     Memory,
 }
