@@ -1,5 +1,6 @@
-//! Tests of calls below the commands: readers and writers of std, draws, claims, the largest sheet, a dealer whose orders are stated, the
-//! bytes of views, and what matches remember, in a house over events and in the book that workers share.
+//! Tests of calls below the commands: readers and writers of std, decks, forms, draws and claims; machines side by side, and the ways back
+//! of playouts; redrawn tables, what seats see, and the bytes of views; when a gate is asked; and what matches remember: in a house over
+//! events, in the book that workers share, and in a memo that forgets.
 #![tactic(auto)]
 
 #[cfg(test)]
@@ -10,6 +11,8 @@ mod claims;
 mod draw;
 #[cfg(test)]
 mod expect;
+#[cfg(test)]
+mod flat;
 #[cfg(test)]
 mod largest;
 #[cfg(test)]
