@@ -14,6 +14,8 @@ mod expect;
 #[cfg(test)]
 mod flat;
 #[cfg(test)]
+mod forgetting;
+#[cfg(test)]
 mod largest;
 #[cfg(test)]
 mod matches;
