@@ -1,4 +1,4 @@
-//! What workers claim at one time.
+//! What workers claim, by turns and at one time.
 ghost use Rattle.std.specs.Prelude.{◌≡◌, [], map, All, IfOk};
 
 use crate::expect::expect_same;
@@ -7,6 +7,28 @@ use rc_deck::Memory;
 use std::alloc::Global;
 use std::test::Fail;
 use std::thread::{self, Threads};
+
+/// Five numbers are drawn by turns, of which the last two don't count. A pass that got none claims no more.
+#[test]
+fn two_passes_claim_by_turns(rt: HostRuntime) -> Result<(), Fail> {
+    let (claims, mut passes) = Claims::new(rt.alloc(), 3, 2).ok().ok_or("there is memory")?;
+    let mut second = passes.pop().ok_or("there are two passes")?;
+    let mut first = passes.pop().ok_or("there are two passes")?;
+    let Some(0) = claims.claim(&mut first) else {
+        return Err("the first claim is 0".into());
+    };
+    let Some(1) = claims.claim(&mut first) else {
+        return Err("the second claim is 1".into());
+    };
+    let Some(2) = claims.claim(&mut second) else {
+        return Err("the third claim is 2".into());
+    };
+    expect_same(&rt, claims.claim(&mut second), None);
+    expect_same(&rt, claims.claim(&mut first), None);
+    claims.join(&mut first, second);
+    expect_same(&rt, claims.close(first), 5);
+    Ok(())
+}
 
 // All that a pass gets.
 fn claimed(alloc: Global, claims: &Claims, pass: Pass) -> Result<Vec<u32>, Memory>

@@ -1,9 +1,27 @@
-//! What keys pick.
+//! What keys are, and what they pick and permute.
+ghost use Rattle.std.specs.Prelude.{◌≤◌, length};
+
 use crate::expect::expect_same;
+use rand::RngExt;
 use rand_chacha::ChaCha8Rng;
 use rand_core::{Rng, SeedableRng};
-use rc_draw::{key32, pick_by};
+use rc_draw::{key32, pick_by, shuffle_by};
+use std::alloc::{AllocError, Global};
 use std::process::Abort;
+use std::test::Fail;
+
+/// Eight bytes for each number, the lowest first.
+const KEY: [u8; 32] = [
+    0, 0, 0, 0, 0, 0, 0, 0, // 0
+    1, 0, 0, 0, 0, 0, 0, 0, // 1
+    2, 0, 0, 0, 0, 0, 0, 0, // 2
+    0, 0, 0, 0, 0, 0, 0, 0, // 0
+];
+
+#[test]
+fn a_key_has_its_numbers_with_the_lowest_bytes_first(rt: HostRuntime) {
+    expect_same(&rt, key32(0, 1, 2, 0), KEY);
+}
 
 /// Four numbers of a key, a number of items, and the item that the key picks. With w the first word of the key, that is w * n / 2^32.
 /// The words were made by a ChaCha8 written apart from this program.
@@ -47,4 +65,43 @@ fn a_key_picks_as_the_generator_does(rt: HostRuntime) {
         );
         expect_pick(&rt, key, numbers.next_u32() | 1);
     }
+}
+
+/// So many numbers, from 0 on.
+fn numbered(alloc: Global, size: u16) -> Result<Vec<u16>, AllocError> {
+    let mut list = Vec::new(alloc);
+    for item in 0..size {
+        list.push(item)?;
+    }
+    Ok(list)
+}
+
+/// A list as a key with this first number shuffles it, and then sorted.
+fn sorted_again(alloc: Global, initial: &[u16], first: u64) -> Result<Vec<u16>, AllocError>
+    requires { length initial.now ≤ 512 }
+{
+    let mut list = initial.to_vec(alloc)?;
+    shuffle_by(&key32(first, 0, 0, 0), &mut list);
+    list.sort()?;
+    Ok(list)
+}
+
+/// Fails unless a key with this first number permutes a list of so many numbers.
+fn expect_permutation(rt: &(impl AllocGlobal + Abort), first: u64, size: u16) -> Result<(), Fail> {
+    let initial = numbered(rt.alloc(), size)?;
+    assert!(rt; initial.len() <= 512);
+    let list = sorted_again(rt.alloc(), &initial, first)?;
+    expect_same(rt, list.as_slice(), initial.as_slice());
+    Ok(())
+}
+
+#[test]
+fn keys_permute_lists_of_all_lengths(rt: HostRuntime) -> Result<(), Fail> {
+    let mut numbers = ChaCha8Rng::from_seed(key32(0, 0, 0, 0));
+    for _ in 0..100u8 {
+        let first = numbers.random_range(0u64..1_000_000_000_000_000_000);
+        let size = numbers.random_range(0u16..513);
+        expect_permutation(&rt, first, size)?;
+    }
+    Ok(())
 }

@@ -8,6 +8,8 @@ mod book;
 #[cfg(test)]
 mod claims;
 #[cfg(test)]
+mod deck;
+#[cfg(test)]
 mod draw;
 #[cfg(test)]
 mod expect;
@@ -15,6 +17,8 @@ mod expect;
 mod flat;
 #[cfg(test)]
 mod forgetting;
+#[cfg(test)]
+mod form;
 #[cfg(test)]
 mod largest;
 #[cfg(test)]
