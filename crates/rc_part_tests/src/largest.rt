@@ -1,4 +1,5 @@
-//! The largest sheet: 512 cards, 256 locations and 256 numbers, and in a match as many references as there may be.
+//! Machines that are made anew at a decision: of a small game, and of the largest sheet, with 512 cards, 256 locations and 256 numbers,
+//! and in a match as many references as there may be.
 ghost use Rattle.std.specs.Prelude.{◌≡◌, IfOk};
 ghost use Rattle.rc_play_model.specs.Shape.{shape_of as shape_for};
 ghost use Rattle.rc_play_model.specs.Step.{start};
@@ -7,7 +8,7 @@ ghost use Rattle.rc_plain.specs.Plain.{config_of};
 
 use crate::expect::expect_same;
 use crate::matches::{copied_key, go_on, seen_by};
-use rc_games::{Basis, basis_in, largest};
+use rc_games::{Basis, GAME, basis_in, largest};
 use rc_plain::PlainMachine;
 use rc_play_model::controls_fit_their_sites;
 use rc_rules::{About, Machine, MatchDealer, Stop};
@@ -17,7 +18,7 @@ use std::process::Abort;
 use std::sync::Arc;
 use std::test::Fail;
 
-/// What matches of it share.
+/// What matches of the largest sheet share.
 fn largest_basis(alloc: Global) -> Result<Basis, Fail>
     ensures { IfOk result (λ basis. basis.shape.value ≡ shape_for basis.checked.value) }
 {
@@ -128,5 +129,16 @@ fn the_largest_sheet_is_played_copied_and_seen(rt: HostRuntime) -> Result<(), Fa
     for seat in 0..8u8 {
         expect_key(&rt, &made, seat)?;
     }
+    Ok(())
+}
+
+/// Of two cards each, the first player has chosen none.
+#[test]
+fn a_machine_is_made_at_a_decision(rt: HostRuntime) -> Result<(), Fail> {
+    let basis = basis_in(rt.alloc(), GAME)?;
+    let mut dealer = MatchDealer::new(0);
+    let mut made = made_at_first(rt.alloc(), &basis, &mut dealer)?;
+    go_on(&mut made, &mut dealer)?;
+    expect_same(&rt, made.menu().len(), 2);
     Ok(())
 }

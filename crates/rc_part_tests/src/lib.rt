@@ -26,6 +26,8 @@ mod matches;
 #[cfg(test)]
 mod outside;
 #[cfg(test)]
+mod redraw;
+#[cfg(test)]
 mod stated;
 #[cfg(test)]
 mod turns;

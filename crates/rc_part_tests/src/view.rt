@@ -1,11 +1,108 @@
-//! The bytes by which what a seat sees of a match is known.
+//! What a seat sees of a match, and the bytes by which a view is known.
+ghost use Rattle.std.specs.Prelude.{◌≡◌};
+ghost use Rattle.rc_plain.specs.Plain.{config_of};
+ghost use Rattle.rc_rules.specs.Machine.{StandsAtDecision};
+
 use crate::expect::expect_same;
 use crate::matches::{copied_key, go_on, seen_by, start_of};
-use rc_games::OPEN_CARD;
+use rc_games::{OPEN_CARD, are_same_controls, are_same_menus, are_same_tables};
 use rc_plain::PlainMachine;
-use rc_rules::{Machine, MatchDealer};
+use rc_rules::{Machine, MatchDealer, Menu};
+use rc_table::Table;
+use rc_trick::trick_text;
+use rc_view::{Sight, View};
 use std::process::Abort;
 use std::test::Fail;
+
+/// A decision of the first seat: the table, what is offered, what the seat sees, and the bytes by which that is known.
+#[derive(Drop)]
+struct Decision {
+    table: Table,
+    menu: Menu,
+    view: View,
+    key: Vec<u8>,
+}
+
+/// The decision at which a match stands.
+fn decision_of(rt: &(impl AllocGlobal + Abort), machine: &PlainMachine) -> Result<Decision, Fail>
+    requires { StandsAtDecision machine.now.about (config_of machine.now) }
+{
+    let view = seen_by(rt, machine, 0)?;
+    let key = copied_key(rt.alloc(), &view)?;
+    let table = machine.table().copy(rt.alloc())?;
+    let menu = machine.menu();
+    Ok(Decision {
+        table,
+        menu,
+        view,
+        key,
+    })
+}
+
+/// The first decision of a match of the trick game, where the first two seats hold these cards, from bottom to top.
+fn dealt(
+    rt: &(impl AllocGlobal + Abort),
+    deal: u64,
+    first: &[u16],
+    second: &[u16],
+) -> Result<Decision, Fail> {
+    let mut machine = start_of(rt.alloc(), trick_text())?;
+    go_on(&mut machine, &mut MatchDealer::new(deal))?;
+    expect_same(rt, machine.table().list(1), first);
+    expect_same(rt, machine.table().list(2), second);
+    decision_of(rt, &machine)
+}
+
+fn are_same_sights(one: &[Sight], other: &[Sight]) -> bool {
+    for pair in one.iter().zip(other) {
+        let same = match pair {
+            (Sight::Faces(one), Sight::Faces(other)) => one.as_slice() == other.as_slice(),
+            (Sight::Length(one), Sight::Length(other)) => one == other,
+            _ => false,
+        };
+        if !same {
+            return false;
+        }
+    }
+    one.len() == other.len()
+}
+
+fn are_same_views(one: &View, other: &View) -> bool {
+    one.seat == other.seat
+        && are_same_controls(&one.control, &other.control)
+        && one.numbers.as_slice() == other.numbers.as_slice()
+        && are_same_sights(&one.sights, &other.sights)
+}
+
+/// The hand of the first seat in the first two deals.
+const HAND: &[u16] = &[23, 20, 25, 12, 34, 32];
+
+/// Fails unless all is the same in a deal that differs only in cards which the first seat doesn't see.
+fn expect_alike(rt: &(impl AllocGlobal + Abort), one: &Decision) -> Result<(), Fail> {
+    let alike = dealt(rt, 904_383, HAND, &[10, 27, 9, 22, 16, 33])?;
+    assert!(rt; !are_same_tables(&one.table, &alike.table));
+    assert!(rt; are_same_menus(&one.menu, &alike.menu));
+    assert!(rt; are_same_views(&one.view, &alike.view));
+    expect_same(rt, one.key.as_slice(), alike.key.as_slice());
+    Ok(())
+}
+
+/// Fails unless the view is another one in a deal that differs in a card of the first seat's own.
+fn expect_other(rt: &(impl AllocGlobal + Abort), one: &Decision) -> Result<(), Fail> {
+    let other = dealt(rt, 17_525, &[23, 20, 25, 12, 2, 32], &[28, 3, 13, 10, 5, 6])?;
+    assert!(rt; !are_same_views(&one.view, &other.view));
+    assert!(rt; one.key.as_slice() != other.key.as_slice());
+    Ok(())
+}
+
+/// The hands were made by a ChaCha8 written apart from this program.
+#[test]
+fn a_seat_sees_its_own_cards_alone(rt: HostRuntime) -> Result<(), Fail> {
+    let one = dealt(&rt, 37_085, HAND, &[8, 16, 22, 31, 14, 13])?;
+    expect_same(&rt, one.menu.len(), 6);
+    expect_alike(&rt, &one)?;
+    expect_other(&rt, &one)
+}
 
 /// What the last seat of the game with an open card sees before the match begins.
 const KEY_AT_START: &[u8] = &[
