@@ -12,6 +12,8 @@ mod deck;
 #[cfg(test)]
 mod draw;
 #[cfg(test)]
+mod entering;
+#[cfg(test)]
 mod expect;
 #[cfg(test)]
 mod flat;

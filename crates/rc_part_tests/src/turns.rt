@@ -136,7 +136,8 @@ fn expect_match(
     Ok(())
 }
 
-/// The first match finds nothing, and the second one what the first one kept, where that isn't lost. Each of the four entries is, or not.
+/// The first match finds nothing, and the second one what the first one kept, where that isn't lost. Each of the four entries is lost in
+/// both matches, or not.
 #[test]
 fn matches_are_the_same_whatever_is_lost(rt: HostRuntime) -> Result<(), Fail> {
     for lost in 0..16u8 {
@@ -144,7 +145,7 @@ fn matches_are_the_same_whatever_is_lost(rt: HostRuntime) -> Result<(), Fail> {
         let mut house = opened(&rt)?;
         let losing = [(false, a), (false, b), (false, c), (false, d)];
         expect_match(&rt, &mut house, 0, losing, FIRST)?;
-        let finding = [(!a, false), (!b, false), (!c, false), (!d, false)];
+        let finding = [(!a, a), (!b, b), (!c, c), (!d, d)];
         expect_match(&rt, &mut house, 1, finding, SECOND)?;
     }
     Ok(())
