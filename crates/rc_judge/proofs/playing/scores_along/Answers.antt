@@ -10,11 +10,14 @@ use Rattle.rc_judge.proofs.Steps.{dropped, halts, hands_on}
 use Rattle.rc_judge.proofs.Told.{long_scores}
 use Rattle.rc_judge.proofs.playing.scores_along.Goals as goal
 
-pub rank_points-points-requires-clause-each : goal.rank_points-points-requires-clause-each
-rank_points-points-requires-clause-each g c =
+pub rank_points-points-requires : goal.rank_points-points-requires
+rank_points-points-requires g c =
     let here = g.M.Machine.config c.args.machine.now in
-    long_scores (g.M.Machine.about c.args.machine.now) here c.scores-scores.result.items c.scores-scores.ensures
-    ∙ ap (λ a. a.sheet.players) c.requires.about ∙ ap (λ (s : Sheet). s.players) (sym c.sheet.ensures.same)
+    record {
+      each =
+          long_scores (g.M.Machine.about c.args.machine.now) here c.scores-scores.result.items c.scores-scores.ensures
+          ∙ ap (λ a. a.sheet.players) c.requires.about ∙ ap (λ (s : Sheet). s.players) (sym c.sheet.ensures.same);
+    }
 
 pub returns-in_err-on_row-clause-is : goal.returns-in_err-on_row-clause-is
 returns-in_err-on_row-clause-is g c = λ stop count.
