@@ -24,8 +24,8 @@ returns-in_err-series-in-Playing-clause-answers g c =
     at_err (AnswersCommand c.args.command before after c.args.steps.now c.series_of.new.steps) c.from_residual-in_err-series-in-Playing.result c.from_residual-in_err-series-in-Playing.ensures.1
     (λ status lacks. lacking before after c.args.command game c.args.steps.now c.series_of.new.steps status prepared few lacks)
 
-pub played_answer-requires-clause-played : goal.played_answer-requires-clause-played
-played_answer-requires-clause-played g c =
+pub played_answer-requires : goal.played_answer-requires
+played_answer-requires g c =
     let game = c.in-Playing.game in
     let about = about_of game.checked game.plan.turns in
     let plan = plan_seen game.plan in
@@ -34,7 +34,7 @@ played_answer-requires-clause-played g c =
     let is =
     played_alone c.options.result (options_of c.args.command) about plan c.args.steps.now c.series_of.new.steps series c.options.ensures c.requires.alone
     played.matches played.standings played.book played.looks played.hits played.counted in
-    (about, plan, c.args.steps.now, c.series_of.new.steps, is)
+    record { played = (about, plan, c.args.steps.now, c.series_of.new.steps, is) }
 
 pub returns-in_err-answer-in-Playing-clause-answers : goal.returns-in_err-answer-in-Playing-clause-answers
 returns-in_err-answer-in-Playing-clause-answers g c =

@@ -9,17 +9,17 @@ use Rattle.rc_house.proofs.PlayingLemmas.{game_prepared, lacking, told}
 use Rattle.rc_house.proofs.running.answer_together.Goals as goal
 
 pub play_together-requires-clause-game : goal.play_together-requires-clause-game
-play_together-requires-clause-game g c =
+play_together-requires-clause-game g c = λ lifetimes outlive.
     let before = port (g.S.Source.left c.args.source.now) (g.S.Source.faults c.args.source.now) in
     let after = port (g.S.Source.left c.prepare_command.new.source) (g.S.Source.faults c.prepare_command.new.source) in
     let game = c.in-Playing.game in
     let prepared : PreparesCommand c.args.command before after (Playing game) = rw c.in-Playing.is at c.in_ok-answer.ensures.prepared in
     game_prepared before after c.args.command game prepared
 
-pub played_answer-requires-clause-played : goal.played_answer-requires-clause-played
-played_answer-requires-clause-played g c =
+pub played_answer-requires : goal.played_answer-requires
+played_answer-requires g c =
     let game = c.in-Playing.game in
-    (about_of game.checked game.plan.turns, plan_seen game.plan, 0, 0, c.in_ok-series-in-Playing.ensures)
+    record { played = (about_of game.checked game.plan.turns, plan_seen game.plan, 0, 0, c.in_ok-series-in-Playing.ensures) }
 
 pub returns-in_err-answer-in-Playing-clause-answers : goal.returns-in_err-answer-in-Playing-clause-answers
 returns-in_err-answer-in-Playing-clause-answers g c =
