@@ -1,5 +1,6 @@
 //! Two machines side by side.
-ghost use Rattle.std.specs.Prelude.{◌≡◌, ◌<◌, false, length, IfOk, OnOk};
+ghost use Rattle.std.specs.Prelude.{◌≡◌, ◌<◌, ◌≤◌, false, length, IfOk, OnOk};
+ghost use Rattle.rc_model.specs.Limits.{most_items};
 ghost use Rattle.rc_play_model.specs.Step.{start};
 ghost use Rattle.rc_code.specs.Seen.{code_seen};
 ghost use Rattle.rc_code.specs.Stands.{StandsFor};
@@ -10,7 +11,6 @@ ghost use Rattle.rc_games.specs.Alike.{AreAlike};
 use crate::game::Game;
 use crate::same::{are_same_controls, are_same_menus, are_same_tables};
 use crate::stray::Stray;
-use rc_deck::Memory;
 use rc_flat::FlatMachine;
 use rc_plain::PlainMachine;
 use rc_rules::{
@@ -72,6 +72,7 @@ pub fn items_of_both<T: Machine, F: Machine>(tree: &T, other: &F) -> Result<usiz
     requires other_decides { StandsAtDecision (F.about other.now) (F.config other.now) }
     ensures tree { IfOk result (λ n. n ≡ length (menu_here (T.about tree.now) (T.config tree.now))) }
     ensures other { IfOk result (λ n. n ≡ length (menu_here (F.about other.now) (F.config other.now))) }
+    ensures few { IfOk result (λ n. n ≤ most_items) }
 {
     let size = tree.menu_size();
     if other.menu_size() != size || !are_same_menus(&tree.menu(), &other.menu()) {
@@ -94,33 +95,20 @@ pub fn expect_same_scores<T: Machine, F: Machine>(tree: &T, other: &F) -> Result
 
 /// Plays a record's picks once more, on the tree machine and on flat machines, of which one notes nothing, as matches are played, and one
 /// notes its edits. Fails unless all come to the stops that the record tells, and have the same tables, controls, menus and scores there.
-pub fn replay(alloc: Global, game: &Game, record: &MatchRecord) -> Result<(), Stray>
+pub fn replay(alloc: Global, game: &Game, played: &MatchRecord) -> Result<(), Stray>
     requires { StandsFor game.now.about.value.sheet (code_seen game.now.code.value) }
 {
     let onward = FlatMachine::onward_start(alloc, &game.code, &game.about)?;
-    replay_beside(alloc, &game.about, record, onward)?;
-    let noting = noting_start(alloc, game)?;
-    replay_beside(alloc, &game.about, record, noting)
-}
-
-/// A flat machine that notes its edits, at the start of a match.
-fn noting_start(alloc: Global, game: &Game) -> Result<FlatMachine, Memory>
-    requires { StandsFor game.now.about.value.sheet (code_seen game.now.code.value) }
-    ensures about { IfOk result (λ m. m.about ≡ game.now.about.value) }
-    ensures start { IfOk result (λ m. m.config ≡ start game.now.about.value) }
-{
-    let about = &game.about;
-    // what an about keeps
-    let _sheet = about.sheet();
-    let (checked, shape, turns) = (about.checked(), about.shape(), about.turns());
-    FlatMachine::start(alloc, &game.code, checked, shape, turns)
+    replay_beside(alloc, &game.about, played, onward)?;
+    let noting = FlatMachine::start_of(alloc, &game.code, &game.about)?;
+    replay_beside(alloc, &game.about, played, noting)
 }
 
 /// The same on the tree machine and on another one, which stands at the start of the match.
 fn replay_beside<F: Machine + Drop>(
     alloc: Global,
     about: &About,
-    record: &MatchRecord,
+    played: &MatchRecord,
     other: F,
 ) -> Result<(), Stray>
     requires about { F.about other ≡ about.now }
@@ -128,11 +116,11 @@ fn replay_beside<F: Machine + Drop>(
 {
     let mut other = other;
     let mut tree = PlainMachine::start_of(alloc, about)?;
-    let mut dealers = Dealers::new(record.deal);
-    for pick in &record.picks {
+    let mut dealers = Dealers::new(played.deal);
+    for pick in &played.picks {
         pick_on_both(&mut tree, &mut other, &mut dealers, pick)?;
     }
-    end_both(&mut tree, &mut other, &mut dealers, record)
+    end_both(&mut tree, &mut other, &mut dealers, played)
 }
 
 /// Both machines go on to the next stop. Fails unless that is the same.
@@ -203,13 +191,13 @@ fn end_both<T: Machine, F: Machine>(
     tree: &mut T,
     other: &mut F,
     dealers: &mut Dealers,
-    record: &MatchRecord,
+    played: &MatchRecord,
 ) -> Result<(), Stray>
     requires { AreAlike (T.about tree.old) (F.about other.old) (T.config tree.old) (F.config other.old) dealers.old.tree dealers.old.other }
 {
     let stop = stop_both(tree, other, dealers)?;
     expect_same_scores(tree, other)?;
-    expect_end(stop, tree, dealers.tree.count(), record)
+    expect_end(stop, tree, dealers.tree.count(), played)
 }
 
 /// Fails unless a machine stands at the end of a record, after as many shuffles.
@@ -217,22 +205,22 @@ fn expect_end<T: Machine>(
     stop: Stop,
     tree: &T,
     shuffles: u32,
-    record: &MatchRecord,
+    played: &MatchRecord,
 ) -> Result<(), Stray>
     requires { T.spent tree.now ≡ false }
 {
-    let end = match record.stop {
+    let end = match played.stop {
         Ended::Done => Stop::Done,
         Ended::Limit => Stop::Limit,
     };
-    if stop != end || tree.control().turn != record.turn {
+    if stop != end || tree.control().turn != played.turn {
         return Err(Stray::Stop);
     }
-    if shuffles != record.shuffles {
+    if shuffles != played.shuffles {
         return Err(Stray::Shuffles);
     }
     let scores = tree.scores();
-    for (score, told) in scores.as_slice().iter().zip(&record.scores) {
+    for (score, told) in scores.as_slice().iter().zip(&played.scores) {
         if *score != told.score {
             return Err(Stray::Scores);
         }

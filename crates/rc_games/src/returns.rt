@@ -13,6 +13,7 @@ use crate::picks::{Picks, Rollout};
 use crate::stray::Stray;
 use crate::there::{There, flat_at, home_at, redrawn, tree_at};
 use rc_code::Code;
+use rc_deck::Memory;
 use rc_flat::{FlatMachine, HomeMachine};
 use rc_plain::PlainMachine;
 use rc_redraw::Need;
@@ -282,7 +283,6 @@ fn goes_back(
 }
 
 /// Fails unless the machine stands at the decision, where this item is offered.
-#[tactic(auto, using(rc_flat::proofs::MarkLemmas::keeps_then))]
 fn stand_at_decision(
     there: &There<'_>,
     item: u16,
@@ -305,7 +305,6 @@ fn stand_at_decision(
 }
 
 /// Takes an item and plays on to the end.
-#[tactic(auto, using(rc_flat::proofs::MarkLemmas::keeps_then))]
 fn play_item(
     there: &There<'_>,
     item: u16,
@@ -328,7 +327,6 @@ fn play_item(
 }
 
 /// Goes on to the next stop, and behind it, unless it is the end.
-#[tactic(auto, using(rc_flat::proofs::MarkLemmas::keeps_then))]
 fn is_over(
     picks: &mut Picks,
     flat: &mut FlatMachine,
@@ -336,12 +334,24 @@ fn is_over(
 ) -> Result<bool, Stray>
     ensures { KeepsTables flat.old flat.new }
 {
-    match flat.advance(dealer)? {
-        Stop::Decide { .. } => {
-            let item = picks.next(flat.menu_size() as u16, dealer.count());
-            flat.apply(item, dealer)?;
-            Ok(false)
-        }
-        _ => Ok(true),
-    }
+    let Stop::Decide { .. } = flat.advance(dealer)? else {
+        return Ok(true);
+    };
+    take_next(picks, flat, dealer)?;
+    Ok(false)
+}
+
+/// Takes the item that is picked where the machine stands.
+fn take_next(
+    picks: &mut Picks,
+    flat: &mut FlatMachine,
+    dealer: &mut MatchDealer,
+) -> Result<(), Memory>
+    requires fresh { flat.old.spent ≡ false }
+    requires decision { StandsAtDecision flat.old.about flat.old.config }
+    ensures { KeepsTables flat.old flat.new }
+{
+    let size = flat.menu_size();
+    let item = picks.next(size as u16, dealer.count());
+    flat.apply(item, dealer)
 }

@@ -1,10 +1,9 @@
 //! The decision from which playouts are made.
-ghost use Rattle.std.specs.Prelude.{◌≡◌, false, IfOk};
+ghost use Rattle.std.specs.Prelude.{◌≡◌, true, false, IfOk};
 ghost use Rattle.rc_rules.specs.Control.{control_seen};
 ghost use Rattle.rc_rules.specs.Machine.{CanDecide, StandsAtDecision};
 ghost use Rattle.rc_code.specs.Seen.{code_seen};
 ghost use Rattle.rc_code.specs.Stands.{StandsFor};
-ghost use Rattle.rc_plain.specs.Plain.{config_of};
 ghost use Rattle.rc_redraw.specs.Need.{need_seen, IsNeed};
 
 use crate::same::{are_same_controls, are_same_menus, are_same_tables};
@@ -22,7 +21,6 @@ use std::alloc::Global;
 use std::sync::Arc;
 
 /// The table of a round that a rollout with this key redraws for a decision.
-#[tactic(auto, using(crate::proofs::RedrawnLemmas::can_decide))]
 pub fn redrawn(alloc: Global, need: &Need, key: u64, round: u16) -> Result<Table, Memory>
     requires { IsNeed (need_seen need.now) }
     ensures laid { IfOk result (λ table. table.shape ≡ (need_seen need.now).about.shape) }
@@ -37,7 +35,8 @@ pub fn redrawn(alloc: Global, need: &Need, key: u64, round: u16) -> Result<Table
         need.seed,
         u64::from(round),
     );
-    redraw(alloc, need.about.shape(), &need.view, &key)
+    let table = redraw(alloc, need.about.shape(), &need.view, &key)?;
+    Ok(table)
 }
 
 /// The tree machine at a decision with a table.
@@ -62,13 +61,9 @@ pub fn flat_at(
     requires code { StandsFor (need_seen need.now).about.sheet (code_seen code.now.value) }
     ensures notes { IfOk result (λ m. m.notes ≡ true) }
 {
-    let about = &need.about;
-    // what an about keeps
-    let _sheet = about.sheet();
+    let about = need.about.copy()?;
     let table = table.copy(alloc)?;
-    let control = need.view.control.copy();
-    let (checked, shape, turns) = (about.checked(), about.shape(), about.turns());
-    FlatMachine::at(alloc, code, checked, shape, turns, table, control)
+    FlatMachine::at_decision(alloc, code, about, table, need.view.control.copy())
 }
 
 /// A machine that is at home there.
