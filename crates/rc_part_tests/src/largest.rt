@@ -1,14 +1,18 @@
 //! Machines that are made anew at a decision: of a small game, and of the largest sheet, with 512 cards, 256 locations and 256 numbers,
 //! and in a match as many references as there may be.
-ghost use Rattle.std.specs.Prelude.{◌≡◌, IfOk};
+ghost use Rattle.std.specs.Prelude.{◌≡◌, false, IfOk};
 ghost use Rattle.rc_play_model.specs.Shape.{shape_of as shape_for};
 ghost use Rattle.rc_play_model.specs.Step.{start};
 ghost use Rattle.rc_rules.specs.Machine.{CanDecide};
 ghost use Rattle.rc_plain.specs.Plain.{config_of};
+ghost use Rattle.rc_code.specs.Seen.{code_seen};
+ghost use Rattle.rc_code.specs.Stands.{StandsFor};
 
 use crate::expect::expect_same;
 use crate::matches::{copied_key, go_on, seen_by};
-use rc_games::{Basis, GAME, basis_in, largest};
+use rc_code::{Code, compile};
+use rc_flat::FlatMachine;
+use rc_games::{Basis, GAME, are_same_controls, are_same_tables, basis_in, largest};
 use rc_plain::PlainMachine;
 use rc_play_model::controls_fit_their_sites;
 use rc_rules::{About, Machine, MatchDealer, Stop};
@@ -90,6 +94,77 @@ fn made_at_first(
     made_there(alloc, basis, &machine)
 }
 
+/// The code of a sheet.
+fn code_on(alloc: Global, basis: &Basis) -> Result<Arc<Code>, Fail>
+    ensures { IfOk result (λ code. StandsFor basis.now.checked.value (code_seen code.value)) }
+{
+    let code = compile(alloc, &basis.checked)?;
+    Ok(Arc::new(alloc, code)?)
+}
+
+/// A flat machine that is made by its parts where another machine stands, at a decision.
+fn flat_there(
+    alloc: Global,
+    basis: &Basis,
+    code: &Arc<Code>,
+    machine: &PlainMachine,
+) -> Result<FlatMachine, Fail>
+    requires shape { basis.now.shape.value ≡ shape_for basis.now.checked.value }
+    requires code { StandsFor basis.now.checked.value (code_seen code.now.value) }
+    requires about { machine.now.about ≡ record { sheet = basis.now.checked.value; shape = basis.now.shape.value; turns = 100 } }
+    requires decides { CanDecide machine.now.about (config_of machine.now).table (config_of machine.now).control }
+    ensures fresh { IfOk result (λ m. m.spent ≡ false) }
+{
+    let table = machine.table().copy(alloc)?;
+    let control = machine.control().copy();
+    let (checked, shape) = (&basis.checked, &basis.shape);
+    Ok(FlatMachine::at(alloc, code, checked, shape, 100, table, control)?)
+}
+
+/// A flat machine that is made by its parts at the start of a match goes on to its first decision.
+fn flat_first(
+    alloc: Global,
+    basis: &Basis,
+    code: &Arc<Code>,
+    dealer: &mut MatchDealer,
+) -> Result<FlatMachine, Fail>
+    requires shape { basis.now.shape.value ≡ shape_for basis.now.checked.value }
+    requires code { StandsFor basis.now.checked.value (code_seen code.now.value) }
+    ensures fresh { IfOk result (λ m. m.spent ≡ false) }
+{
+    let mut machine = FlatMachine::start(alloc, code, &basis.checked, &basis.shape, 100)?;
+    match machine.advance(dealer) {
+        Ok(Stop::Decide { .. }) => Ok(machine),
+        _ => Err("somebody decides".into()),
+    }
+}
+
+/// Fails unless a flat machine has the table and the control of another machine.
+fn expect_there(rt: &impl Abort, flat: &FlatMachine, machine: &PlainMachine)
+    requires { flat.now.spent ≡ false }
+{
+    assert!(rt; are_same_tables(flat.table(), machine.table()));
+    assert!(rt; are_same_controls(flat.control(), machine.control()));
+}
+
+/// Fails unless flat machines that are made by their parts stand at the first decision where the tree machine does.
+fn expect_flat(
+    rt: &(impl AllocGlobal + Abort),
+    basis: &Basis,
+    machine: &PlainMachine,
+) -> Result<(), Fail>
+    requires shape { basis.now.shape.value ≡ shape_for basis.now.checked.value }
+    requires about { machine.now.about ≡ record { sheet = basis.now.checked.value; shape = basis.now.shape.value; turns = 100 } }
+    requires decides { CanDecide machine.now.about (config_of machine.now).table (config_of machine.now).control }
+{
+    let code = code_on(rt.alloc(), basis)?;
+    let there = flat_there(rt.alloc(), basis, &code, machine)?;
+    expect_there(rt, &there, machine);
+    let first = flat_first(rt.alloc(), basis, &code, &mut MatchDealer::new(0))?;
+    expect_there(rt, &first, machine);
+    Ok(())
+}
+
 /// Fails unless a table has all cards, and players the number 1.
 fn expect_full(rt: &(impl AllocGlobal + Abort), table: &Table) {
     expect_same(rt, table.shape().locations(), 256);
@@ -130,6 +205,15 @@ fn the_largest_sheet_is_played_copied_and_seen(rt: HostRuntime) -> Result<(), Fa
         expect_key(&rt, &made, seat)?;
     }
     Ok(())
+}
+
+/// Machines of both kinds that are made by their parts, at the start and at the first decision, stand where the match does.
+#[test]
+fn machines_are_made_by_their_parts(rt: HostRuntime) -> Result<(), Fail> {
+    let basis = basis_in(rt.alloc(), GAME)?;
+    let about = about_on(rt.alloc(), &basis)?;
+    let machine = first_on(rt.alloc(), &about, &mut MatchDealer::new(0))?;
+    expect_flat(&rt, &basis, &machine)
 }
 
 /// Of two cards each, the first player has chosen none.
