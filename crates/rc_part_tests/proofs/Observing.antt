@@ -1,0 +1,22 @@
+-- What a doorkeeper watches may be sent to a thread.
+use denote.Param.Send.{IsSend, sendable, recorded_send, struct_send}
+use denote.RattleType.{RattleType}
+use denote.Struct.Declared
+use Rattle.std.proofs.Crossing
+use Rattle.rc_rollout.proofs.blank.Blank.TheSendSync as Blanks
+use Rattle.rc_rollout.specs.contracts.blank.Blank
+use Rattle.rc_rollout.specs.contracts.choices.Choices
+use Rattle.rc_turns.proofs.Threaded.{code_sync, code_send}
+use Rattle.rc_games.specs.contracts.observed.Observed
+
+-- the code and what remembers nothing
+choices_send : IsSend (Choices.the_row Blank.the_row)
+choices_send =
+    recorded_send (Choices.the_field Blank.the_row).row _ _ (Choices.the_type Blank.the_row).to_one
+    (struct_send (Declared.shape (Choices.the_type Blank.the_row)) (search (code_sync, code_send, Crossing.crosses, sendable) depth 20, (Blanks.the_send, tt)))
+
+-- choices, the code once more, and an observer that may be sent
+pub observed_send : (O : RattleType) → IsSend O → IsSend (Observed.the_row O)
+observed_send O s =
+    recorded_send (Observed.the_field O).row _ _ (Observed.the_type O).to_one
+    (struct_send (Declared.shape (Observed.the_type O)) (choices_send, (search (code_sync, code_send, Crossing.crosses, sendable) depth 20, (s, tt))))
