@@ -10,10 +10,9 @@ use Rattle.rc_turns.proofs.Threaded.{code_sync, code_send}
 use Rattle.rc_games.specs.contracts.observed.Observed
 
 -- the code and what remembers nothing
-choices_send : IsSend (Choices.the_row Blank.the_row)
+choices_send : IsSend (Choices.the_field Blank.the_row).row
 choices_send =
-    recorded_send (Choices.the_field Blank.the_row).row _ _ (Choices.the_type Blank.the_row).to_one
-    (struct_send (Declared.shape (Choices.the_type Blank.the_row)) (search (code_sync, code_send, Crossing.crosses, sendable) depth 20, (Blanks.the_send, tt)))
+    struct_send (Declared.shape (Choices.the_type Blank.the_row)) (search (code_sync, code_send, Crossing.crosses, sendable) depth 20, (Blanks.the_send, tt))
 
 -- choices, the code once more, and an observer that may be sent
 pub observed_send : (O : RattleType) → IsSend O → IsSend (Observed.the_row O)
