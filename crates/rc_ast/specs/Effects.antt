@@ -1,11 +1,11 @@
 -- Effects as the pure trees have them. A row is a vector's items.
 use Rattle.std.specs.Prelude.{List, map}
-use Rattle.rc_sheet_model.specs.Sheet.{top, bottom, move, move_all, remember, forget, shuffle, set_to, increase, decrease, when, repeat, for_each, next_is, turn_round, Effects, no_effect, effect}
+use Rattle.rc_sheet_model.specs.Sheet.{top, bottom, move, move_all, remember, forget, shuffle, set_to, increase, decrease, when, repeat, for_each, next_is, turn_round, peek, Effects, no_effect, effect}
 use Rattle.rc_sheet_model.specs.Sheet.{End as PureEnd, Effect as PureEffect}
 use Rattle.rc_sheet_model.specs.Lists.{effects_from}
 use Rattle.rc_ast.specs.declared.effects.End.{End}
 use Rattle.rc_ast.specs.declared.effects.End.TheVariants.{Top, Bottom}
-use Rattle.rc_ast.specs.declared.effects.Effect.{Effect, Move, MoveAll, Remember, Forget, Shuffle, Set, Inc, Dec, If', Repeat', Each', Next, Reverse, Row_of-Effect, end_of-Effect, more_of-Effect}
+use Rattle.rc_ast.specs.declared.effects.Effect.{Effect, Move, MoveAll, Remember, Forget, Shuffle, Set, Inc, Dec, If', Repeat', Each', Next, Reverse, Peek, Row_of-Effect, end_of-Effect, more_of-Effect}
 use Rattle.rc_ast.specs.Names.{who_seen, loc_seen, num_seen}
 use Rattle.rc_ast.specs.Expressions.{card_seen, coll_seen, int_seen, test_seen, domain_seen}
 
@@ -28,6 +28,7 @@ abbrev mutual
   effect_seen (Each' domain bound shape row) = for_each (domain_seen domain) bound (effects_of_row row)
   effect_seen (Next who) = next_is (who_seen who)
   effect_seen Reverse = turn_round
+  effect_seen (Peek cards who) = peek (coll_seen cards) (who_seen who)
 
   pub effects_of_row : {m : _} → Row_of-Effect m → Effects
   effects_of_row end_of-Effect = no_effect

@@ -1,10 +1,10 @@
 -- Expressions and tests as the pure trees have them. A row is a vector's items.
 use Rattle.std.specs.Prelude.{List, map}
-use Rattle.rc_sheet_model.specs.Sheet.{card_var, top_card, bottom_card, max_card, min_card, group_var, cards_in, filtered, union_of, CollExprs, no_coll, coll, literal, number, size_of, sum_of, worth_of, add, subtract, multiply, eq_int, eq_card, eq_attr, eq_who, ne, less, less_eq, more, more_eq, has_value, and_of, or_of, not_of, all_of, any_of, Tests, no_test, test, each_player, each_card, each_group}
+use Rattle.rc_sheet_model.specs.Sheet.{card_var, top_card, bottom_card, max_card, min_card, group_var, cards_in, filtered, union_of, known_in, CollExprs, no_coll, coll, literal, number, size_of, sum_of, worth_of, add, subtract, multiply, eq_int, eq_card, eq_attr, eq_who, ne, less, less_eq, more, more_eq, has_value, and_of, or_of, not_of, all_of, any_of, Tests, no_test, test, each_player, each_card, each_group}
 use Rattle.rc_sheet_model.specs.Sheet.{CardExpr as PureCard, CollExpr as PureColl, IntExpr as PureInt, Test as PureTest, Domain as PureDomain}
 use Rattle.rc_sheet_model.specs.Lists.{colls_from, tests_from}
 use Rattle.rc_ast.specs.declared.expressions.CardExpr.{CardExpr, Var as CardVar, Top', Bottom', Max', Min'}
-use Rattle.rc_ast.specs.declared.expressions.CollExpr.{CollExpr, Var as GroupVar, Loc as CardsIn, Filter', Union', Row_of-CollExpr, end_of-CollExpr, more_of-CollExpr}
+use Rattle.rc_ast.specs.declared.expressions.CollExpr.{CollExpr, Var as GroupVar, Loc as CardsIn, Filter', Union', Known, Row_of-CollExpr, end_of-CollExpr, more_of-CollExpr}
 use Rattle.rc_ast.specs.declared.expressions.IntExpr.{IntExpr, Lit, Num as Number, Size', Sum', Points', Add', Sub', Mul'}
 use Rattle.rc_ast.specs.declared.expressions.Test.{Test, EqInt', EqCard', EqAttr', EqWho, Ne', Less', LessEq', More', MoreEq', Is', And', Or', Not', All', Any', Row_of-Test, end_of-Test, more_of-Test}
 use Rattle.rc_ast.specs.declared.expressions.Domain.{Domain, Players, Coll as Cards, Parts}
@@ -23,6 +23,7 @@ abbrev mutual
   coll_seen (CardsIn loc) = cards_in (loc_seen loc)
   coll_seen (Filter' p cards bound q t) = filtered (coll_seen cards) bound (test_seen t)
   coll_seen (Union' shape row) = union_of (colls_of_row row)
+  coll_seen (Known loc) = known_in (loc_seen loc)
 
   pub colls_of_row : {m : _} → Row_of-CollExpr m → CollExprs
   colls_of_row end_of-CollExpr = no_coll

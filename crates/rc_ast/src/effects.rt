@@ -28,6 +28,7 @@ pub enum Effect {
     Each(Domain, u32, Vec<Effect>),
     Next(Who),
     Reverse,
+    Peek(CollExpr, Who),
 }
 
 // A derived drop is proved again in each crate that may drop a sheet, and this one once.
@@ -47,6 +48,7 @@ impl Drop for Effect {
             Effect::Each(_domain, _, _effects) => {}
             Effect::Next(_) => {}
             Effect::Reverse => {}
+            Effect::Peek(_cards, _) => {}
         }
     }
 }

@@ -39,13 +39,15 @@ pub enum CardExpr {
     Min(Box<CollExpr>, u16),
 }
 
-/// A list of cards. The number beside a binder is that of its variable's word.
+/// A list of cards. The number beside a binder is that of its variable's word. `Known` are those of a location that the current player
+/// sees.
 #[cycle(expressions)]
 pub enum CollExpr {
     Var(u8),
     Loc(Loc),
     Filter(Box<CollExpr>, u32, Box<Test>),
     Union(Vec<CollExpr>),
+    Known(Loc),
 }
 
 /// A number.
@@ -112,6 +114,7 @@ impl Drop for CollExpr {
             CollExpr::Loc(_) => {}
             CollExpr::Filter(_cards, _, _test) => {}
             CollExpr::Union(_parts) => {}
+            CollExpr::Known(_) => {}
         }
     }
 }

@@ -2,7 +2,7 @@
 use Prim.Native.String.{String}
 use Rattle.std.proofs.Common.{◌≡◌, ℕ, true, codes, refl, sym, subst}
 use Rattle.rc_model.specs.Tree.{Tree, list, Trees, cons}
-use Rattle.rc_sheet_model.specs.Sheet.{Sort, card_sort, group_sort, CardExpr, card_var, top_card, bottom_card, max_card, min_card, CollExpr, group_var, cards_in, filtered, union_of, CollExprs, no_coll, coll, IntExpr, literal, number, size_of, sum_of, worth_of, add, subtract, multiply, Test, eq_int, eq_card, eq_attr, eq_who, ne, less, less_eq, more, more_eq, has_value, and_of, or_of, not_of, all_of, any_of, Tests, no_test, test, Domain, each_player, each_card, each_group, Sheet}
+use Rattle.rc_sheet_model.specs.Sheet.{Sort, card_sort, group_sort, CardExpr, card_var, top_card, bottom_card, max_card, min_card, CollExpr, group_var, cards_in, filtered, union_of, known_in, CollExprs, no_coll, coll, IntExpr, literal, number, size_of, sum_of, worth_of, add, subtract, multiply, Test, eq_int, eq_card, eq_attr, eq_who, ne, less, less_eq, more, more_eq, has_value, and_of, or_of, not_of, all_of, any_of, Tests, no_test, test, Domain, each_player, each_card, each_group, Sheet}
 use Rattle.rc_sheet_model.specs.Rows.{◌▸◌, End, Row, Atom}
 use Rattle.rc_sheet_model.specs.Naming.{Naming, Scope, bind, sort_of, Named, Binder, sheet_naming}
 use Rattle.rc_sheet_model.specs.Printing.{packed, keyword, named, Bound, card_form, coll_form, coll_forms, int_form, test_form, test_forms, domain_form, attr_form}
@@ -62,6 +62,7 @@ module _ (sheet : Sheet) (words : HasWords sheet) where
         part_copied (test_copied (bind_fits sheet words fits card_sort var form stands) t) end_copied))))
     coll_copied fits (union_of parts) =
         row_copied (part_copied (keyword_copied "union" refl) (least_copied 2 (colls_copied fits parts)))
+    coll_copied fits (known_in loc) = one_copied "known" refl (loc_copied sheet words fits loc)
 
     colls_copied : {scope : Scope} {bound : Bound} → Fits scope bound → (parts : CollExprs)
         → AreCopied (StandColls naming scope parts) (StandColls naming scope (colls_unplaced parts))

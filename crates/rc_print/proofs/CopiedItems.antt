@@ -1,7 +1,7 @@
 -- Effects, alternatives and items, printed in the place of their forms.
 use Rattle.std.proofs.Common.{List, [], ◌∷◌, ◌++◌, map, refl}
 use Rattle.rc_model.specs.Tree.{Tree, Trees}
-use Rattle.rc_sheet_model.specs.Sheet.{End as Place, top, bottom, Loc, Effect, move, move_all, remember, forget, shuffle, set_to, increase, decrease, when, repeat, for_each, next_is, turn_round, Effects, no_effect, effect, Alt, do_alt, if_alt, any_alt, Class, game_class, player_class, team_class, SheetItem, do_item, stage, choice, SheetItems, no_item, item, Sheet}
+use Rattle.rc_sheet_model.specs.Sheet.{End as Place, top, bottom, Loc, Effect, move, move_all, remember, forget, shuffle, set_to, increase, decrease, when, repeat, for_each, next_is, turn_round, peek, Effects, no_effect, effect, Alt, do_alt, if_alt, any_alt, Class, game_class, player_class, team_class, SheetItem, do_item, stage, choice, SheetItems, no_item, item, Sheet}
 use Rattle.rc_sheet_model.specs.Rows.{◌▸◌, End, Some}
 use Rattle.rc_sheet_model.specs.Naming.{Naming, Scope, bind, sort_of, sheet_naming}
 use Rattle.rc_sheet_model.specs.Printing.{packed, Bound, spot_form, effect_form, effect_forms, alt_form, class_form, item_form, item_forms}
@@ -53,6 +53,7 @@ module _ (sheet : Sheet) (words : HasWords sheet) where
         (λ form stands. least_copied 1 (effects_copied (bind_fits sheet words fits (sort_of domain) var form stands) effects))
     effect_copied fits (next_is who) = two_copied "cycle" refl (keyword_copied "next" refl) (owner_copied fits who)
     effect_copied fits turn_round = one_copied "cycle" refl (keyword_copied "reverse" refl)
+    effect_copied fits (peek cards who) = two_copied "peek" refl (coll_copied sheet words fits cards) (owner_copied fits who)
 
     effects_copied : {scope : Scope} {bound : Bound} → Fits scope bound → (effects : Effects)
         → AreCopied (StandEffects naming scope effects) (StandEffects naming scope (effects_unplaced effects))

@@ -1,7 +1,7 @@
 -- A sheet with each of its offsets 0, as they are in the form that is printed for it, and forms whose words are atoms.
 use Rattle.std.specs.Prelude.{◌≡◌, true, map}
 use Rattle.rc_model.specs.Tree.{Tree, word, list, Trees, nil, cons}
-use Rattle.rc_sheet_model.specs.Sheet.{Loc, CardExpr, card_var, top_card, bottom_card, max_card, min_card, CollExpr, group_var, cards_in, filtered, union_of, CollExprs, no_coll, coll, IntExpr, literal, number, size_of, sum_of, worth_of, add, subtract, multiply, Test, eq_int, eq_card, eq_attr, eq_who, ne, less, less_eq, more, more_eq, has_value, and_of, or_of, not_of, all_of, any_of, Tests, no_test, test, Domain, each_player, each_card, each_group, Effect, move, move_all, remember, forget, shuffle, set_to, increase, decrease, when, repeat, for_each, next_is, turn_round, Effects, no_effect, effect, Alt, do_alt, if_alt, any_alt, SheetItem, do_item, stage, choice, SheetItems, no_item, item, Sheet}
+use Rattle.rc_sheet_model.specs.Sheet.{Loc, CardExpr, card_var, top_card, bottom_card, max_card, min_card, CollExpr, group_var, cards_in, filtered, union_of, known_in, CollExprs, no_coll, coll, IntExpr, literal, number, size_of, sum_of, worth_of, add, subtract, multiply, Test, eq_int, eq_card, eq_attr, eq_who, ne, less, less_eq, more, more_eq, has_value, and_of, or_of, not_of, all_of, any_of, Tests, no_test, test, Domain, each_player, each_card, each_group, Effect, move, move_all, remember, forget, shuffle, set_to, increase, decrease, when, repeat, for_each, next_is, turn_round, peek, Effects, no_effect, effect, Alt, do_alt, if_alt, any_alt, SheetItem, do_item, stage, choice, SheetItems, no_item, item, Sheet}
 use Rattle.rc_sheet_model.specs.WellFormed.{is_atom}
 
 -- each word of the form is 1 to 64 bytes that may stand in an atom, and each of its offsets is 0
@@ -30,6 +30,7 @@ abbrev mutual
   coll_unplaced (cards_in loc) = cards_in (loc_unplaced loc)
   coll_unplaced (filtered cards bound t) = filtered (coll_unplaced cards) bound (test_unplaced t)
   coll_unplaced (union_of parts) = union_of (colls_unplaced parts)
+  coll_unplaced (known_in loc) = known_in (loc_unplaced loc)
 
   pub colls_unplaced : CollExprs → CollExprs
   colls_unplaced no_coll = no_coll
@@ -86,6 +87,7 @@ abbrev mutual
   effect_unplaced (for_each domain bound effects) = for_each (domain_unplaced domain) bound (effects_unplaced effects)
   effect_unplaced (next_is who) = next_is who
   effect_unplaced turn_round = turn_round
+  effect_unplaced (peek cards who) = peek (coll_unplaced cards) who
 
   pub effects_unplaced : Effects → Effects
   effects_unplaced no_effect = no_effect

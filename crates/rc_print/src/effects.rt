@@ -120,6 +120,25 @@ fn push_next(
     out.close()
 }
 
+/// Adds that cards are shown to an owner.
+fn push_peeked(
+    out: &mut Printer,
+    sheet: &Sheet,
+    bound: &[Variable],
+    cards: &CollExpr,
+    who: Who,
+) -> Result<(), AllocError>
+    ensures { OnOk result (out.new.bytes.items ≡ out.old.bytes.items
+        ++ 32 ∷ printed (row (keyword "peek"
+        ∷ coll_form (naming_seen sheet.now) (bound_seen sheet.now bound.now) (coll_seen cards.now)
+        ∷ who_form (bound_seen sheet.now bound.now) (who_seen who) ∷ []))) }
+{
+    out.open_part("peek")?;
+    push_coll(out, sheet, bound, cards)?;
+    push_part_who(out, sheet, bound, who)?;
+    out.close()
+}
+
 /// Adds what happens to a number that the game keeps.
 fn push_change(
     out: &mut Printer,
@@ -166,6 +185,7 @@ fn push_effect(
         Effect::Each(domain, var, effects) => push_each(out, sheet, bound, effects, domain, *var),
         Effect::Next(who) => push_next(out, sheet, bound, *who),
         Effect::Reverse => out.keyword(" (cycle reverse)"),
+        Effect::Peek(cards, who) => push_peeked(out, sheet, bound, cards, *who),
     }
 }
 

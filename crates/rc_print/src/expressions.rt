@@ -1,8 +1,8 @@
 //! Prints expressions and tests, each with a space before it.
 ghost use Rattle.std.specs.Prelude.{◌≡◌, ◌∷◌, ◌++◌, [], codes, OnOk};
 ghost use Rattle.rc_model.specs.Tree.{printed, printed_behind};
-ghost use Rattle.rc_sheet_model.specs.Printing.{packed, atom, keyword, row, named, number_form, binding, who_form, attr_form, card_form, coll_form, coll_forms, int_form, test_form, test_forms, sides, domain_form};
-ghost use Rattle.rc_ast.specs.Names.{who_seen};
+ghost use Rattle.rc_sheet_model.specs.Printing.{packed, atom, keyword, row, named, number_form, binding, who_form, attr_form, card_form, loc_form, coll_form, coll_forms, int_form, test_form, test_forms, sides, domain_form};
+ghost use Rattle.rc_ast.specs.Names.{who_seen, loc_seen};
 ghost use Rattle.rc_ast.specs.Expressions.{card_seen, coll_seen, colls_seen, int_seen, test_seen, tests_seen, domain_seen};
 ghost use Rattle.rc_print.specs.Printing.{naming_seen, bound_seen};
 
@@ -10,7 +10,7 @@ use crate::printer::Printer;
 use crate::words::{
     Variable, behind, push_binder, push_loc, push_num, push_part_variable, push_part_who, push_word,
 };
-use rc_ast::{CardExpr, CollExpr, Domain, IntExpr, Sheet, Test, Who};
+use rc_ast::{CardExpr, CollExpr, Domain, IntExpr, Loc, Sheet, Test, Who};
 use std::alloc::AllocError;
 
 /// Adds the word of a point map behind its keyword.
@@ -148,7 +148,24 @@ pub fn push_coll(
             close_within(out, sheet, bound, *var, test)
         }
         CollExpr::Union(parts) => push_union(out, sheet, bound, parts),
+        CollExpr::Known(loc) => push_known(out, sheet, bound, loc),
     }
+}
+
+/// Adds the cards of a location that the current player sees.
+fn push_known(
+    out: &mut Printer,
+    sheet: &Sheet,
+    bound: &[Variable],
+    loc: &Loc,
+) -> Result<(), AllocError>
+    ensures { OnOk result (out.new.bytes.items ≡ out.old.bytes.items
+        ++ 32 ∷ printed (row (keyword "known"
+        ∷ loc_form (naming_seen sheet.now) (bound_seen sheet.now bound.now) (loc_seen loc.now) ∷ []))) }
+{
+    out.open_part("known")?;
+    push_loc(out, sheet, bound, loc)?;
+    out.close()
 }
 
 /// Opens the cards that a test holds of, with a variable behind those that it runs over.

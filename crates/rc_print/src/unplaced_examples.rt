@@ -2,7 +2,7 @@
 //! contract that the check proves by computing.
 ghost use Rattle.std.specs.Prelude.{◌≡◌, ◌∷◌, [], codes, replicate};
 ghost use Rattle.rc_model.specs.Tree.{word, list, nil, cons};
-ghost use Rattle.rc_sheet_model.specs.Sheet.{top, game, who_var, card_var, top_card, max_card, cards_in, filtered, not_of, any_of, each_card, each_group, if_alt, any_alt, move, when};
+ghost use Rattle.rc_sheet_model.specs.Sheet.{top, game, who_var, card_var, top_card, max_card, cards_in, filtered, known_in, not_of, any_of, each_card, each_group, if_alt, any_alt, move, when, peek};
 ghost use Rattle.rc_sheet_model.specs.Lists.{effects_from};
 ghost use Rattle.rc_sheet_model.specs.PartExamples.{swapped, loc_at, truth};
 ghost use Rattle.rc_sheet_model.specs.ClauseExamples.{shuffled_item};
@@ -18,6 +18,8 @@ pub fn offsets_taken_away()
         (effects_from (move (top_card (cards_in (loc_at game 0 30))) top (loc_at game 2 40) ∷ [])))
         ≡ when (not_of (any_of (each_card (cards_in (loc_at (who_var 0) 1 0))) 1 truth))
         (effects_from (move (top_card (cards_in (loc_at game 0 0))) top (loc_at game 2 0) ∷ [])) }
+    ensures peeked { effect_unplaced (peek (known_in (loc_at game 0 30)) (who_var 0))
+        ≡ peek (known_in (loc_at game 0 0)) (who_var 0) }
     ensures alternative { alt_unplaced (any_alt (each_group (cards_in (loc_at game 0 9)) 3) 1
         (if_alt truth (effects_from (move (card_var 0) top (loc_at game 0 12) ∷ []))))
         ≡ any_alt (each_group (cards_in (loc_at game 0 0)) 3) 1

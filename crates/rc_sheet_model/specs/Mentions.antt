@@ -3,7 +3,7 @@
 use Rattle.std.specs.Prelude.{ℕ, List, [], ◌∷◌, ◌++◌, length, map, flat_map}
 use Rattle.std.specs.List.{range_with_len, zip}
 use Rattle.rc_model.specs.Deck.{Groups, no_group, group, Branches, no_branch, branch, Entry}
-use Rattle.rc_sheet_model.specs.Sheet.{Loc, Num, CardExpr, card_var, top_card, bottom_card, max_card, min_card, CollExpr, group_var, cards_in, filtered, union_of, CollExprs, no_coll, coll, IntExpr, literal, number, size_of, sum_of, worth_of, add, subtract, multiply, Test, eq_int, eq_card, eq_attr, eq_who, ne, less, less_eq, more, more_eq, has_value, and_of, or_of, not_of, all_of, any_of, Tests, no_test, test, Domain, each_player, each_card, each_group, Effect, move, move_all, remember, forget, shuffle, set_to, increase, decrease, when, repeat, for_each, next_is, turn_round, Effects, no_effect, effect, Alt, do_alt, if_alt, any_alt, SheetItem, do_item, stage, choice, SheetItems, no_item, item, DeckLine, Sheet}
+use Rattle.rc_sheet_model.specs.Sheet.{Loc, Num, CardExpr, card_var, top_card, bottom_card, max_card, min_card, CollExpr, group_var, cards_in, filtered, union_of, known_in, CollExprs, no_coll, coll, IntExpr, literal, number, size_of, sum_of, worth_of, add, subtract, multiply, Test, eq_int, eq_card, eq_attr, eq_who, ne, less, less_eq, more, more_eq, has_value, and_of, or_of, not_of, all_of, any_of, Tests, no_test, test, Domain, each_player, each_card, each_group, Effect, move, move_all, remember, forget, shuffle, set_to, increase, decrease, when, repeat, for_each, next_is, turn_round, peek, Effects, no_effect, effect, Alt, do_alt, if_alt, any_alt, SheetItem, do_item, stage, choice, SheetItems, no_item, item, DeckLine, Sheet}
 
 -- what is mentioned, by its number
 pub data Mention : Type 0 where
@@ -56,6 +56,7 @@ abbrev mutual
   in_coll (cards_in loc) = in_loc loc
   in_coll (filtered cards bound t) = in_coll cards ++ var_name bound ∷ in_test t
   in_coll (union_of parts) = in_colls parts
+  in_coll (known_in loc) = in_loc loc
 
   pub in_colls : CollExprs → List Mention
   in_colls no_coll = []
@@ -112,6 +113,7 @@ abbrev mutual
   in_effect (for_each domain bound effects) = in_domain domain ++ var_name bound ∷ in_effects effects
   in_effect (next_is who) = []
   in_effect turn_round = []
+  in_effect (peek cards who) = in_coll cards
 
   pub in_effects : Effects → List Mention
   in_effects no_effect = []

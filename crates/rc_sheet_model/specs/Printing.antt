@@ -6,7 +6,7 @@ use Rattle.std.specs.Fmt.{signed_decimal}
 use Rattle.rc_model.specs.Tree.{Tree, word, list, printed}
 pub use Rattle.rc_model.specs.Tree.{packed}
 use Rattle.rc_model.specs.Deck.{Groups, no_group, group, Branches, no_branch, branch, Entry}
-use Rattle.rc_sheet_model.specs.Sheet.{Teams, Best, highest, lowest, Class, game_class, player_class, team_class, End, top, bottom, LocName, Who, game, current_player, current_team, team_of_current, team_of_var, who_var, Loc, Num, CardExpr, card_var, top_card, bottom_card, max_card, min_card, CollExpr, group_var, cards_in, filtered, union_of, CollExprs, no_coll, coll, IntExpr, literal, number, size_of, sum_of, worth_of, add, subtract, multiply, Test, eq_int, eq_card, eq_attr, eq_who, ne, less, less_eq, more, more_eq, has_value, and_of, or_of, not_of, all_of, any_of, Tests, no_test, test, Domain, each_player, each_card, each_group, Effect, move, move_all, remember, forget, shuffle, set_to, increase, decrease, when, repeat, for_each, next_is, turn_round, Effects, no_effect, effect, Alt, do_alt, if_alt, any_alt, SheetItem, do_item, stage, choice, SheetItems, no_item, item, DeckLine, Sheet}
+use Rattle.rc_sheet_model.specs.Sheet.{Teams, Best, highest, lowest, Class, game_class, player_class, team_class, End, top, bottom, LocName, Who, game, current_player, current_team, team_of_current, team_of_var, who_var, Loc, Num, CardExpr, card_var, top_card, bottom_card, max_card, min_card, CollExpr, group_var, cards_in, filtered, union_of, known_in, CollExprs, no_coll, coll, IntExpr, literal, number, size_of, sum_of, worth_of, add, subtract, multiply, Test, eq_int, eq_card, eq_attr, eq_who, ne, less, less_eq, more, more_eq, has_value, and_of, or_of, not_of, all_of, any_of, Tests, no_test, test, Domain, each_player, each_card, each_group, Effect, move, move_all, remember, forget, shuffle, set_to, increase, decrease, when, repeat, for_each, next_is, turn_round, peek, Effects, no_effect, effect, Alt, do_alt, if_alt, any_alt, SheetItem, do_item, stage, choice, SheetItems, no_item, item, DeckLine, Sheet}
 use Rattle.rc_sheet_model.specs.Naming.{Naming, kind_word, sheet_naming}
 use Rattle.rc_sheet_model.specs.StandsSetup.{numbered}
 
@@ -87,6 +87,7 @@ abbrev mutual
       row (keyword "filter" ∷ coll_form naming bound cards ∷ named naming.names.vars var
       ∷ test_form naming (binding naming bound var) t ∷ [])
   coll_form naming bound (union_of parts) = row (keyword "union" ∷ coll_forms naming bound parts)
+  coll_form naming bound (known_in loc) = one "known" (loc_form naming bound loc)
 
   pub coll_forms : Naming → Bound → CollExprs → List Tree
   coll_forms naming bound no_coll = []
@@ -169,6 +170,7 @@ abbrev mutual
       ∷ effect_forms naming (binding naming bound var) effects)
   effect_form naming bound (next_is who) = two "cycle" (keyword "next") (who_form bound who)
   effect_form naming bound turn_round = one "cycle" (keyword "reverse")
+  effect_form naming bound (peek cards who) = two "peek" (coll_form naming bound cards) (who_form bound who)
 
   pub effect_forms : Naming → Bound → Effects → List Tree
   effect_forms naming bound no_effect = []

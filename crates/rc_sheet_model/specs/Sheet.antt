@@ -85,6 +85,7 @@ mutual
     cards_in : (loc : Loc) → CollExpr
     filtered : (cards : CollExpr) (bound : ℕ) (test : Test) → CollExpr
     union_of : (parts : CollExprs) → CollExpr
+    known_in : (loc : Loc) → CollExpr
 
   -- a list of them
   pub data CollExprs : Type 0 where
@@ -144,6 +145,7 @@ mutual
     for_each : (domain : Domain) (bound : ℕ) (effects : Effects) → Effect
     next_is : (who : Who) → Effect
     turn_round : Effect
+    peek : (cards : CollExpr) (who : Who) → Effect
 
   -- a list of effects
   pub data Effects : Type 0 where

@@ -1,11 +1,11 @@
 -- What a menu may depend on. A location that stands in a guard or a domain of a choice is of a kind that everybody sees, or
--- is the mover's own or that of the mover's team; but `size` may ask for the length of any location. Effects, the ends of
--- stages and the score may read anything.
+-- is the mover's own or that of the mover's team; but `size` may ask for the length of any location, and `known` for what the mover
+-- knows of it. Effects, the ends of stages and the score may read anything.
 use Rattle.std.specs.Prelude.{◌≡◌, ℕ, ◌≤◌, Bool, true, false, not, List, [], ◌∷◌, ◌++◌, map, flat_map, filter, slice_get, Option, Some, None, All}
 use Rattle.std.specs.List.{Contains}
-use Rattle.rc_sheet_model.specs.Sheet.{LocKind, vloc, iloc, hloc, mem, LocName, Who, current_player, team_of_current, Loc, CardExpr, card_var, top_card, bottom_card, max_card, min_card, CollExpr, group_var, cards_in, filtered, union_of, CollExprs, no_coll, coll, IntExpr, literal, number, size_of, sum_of, worth_of, add, subtract, multiply, Test, eq_int, eq_card, eq_attr, eq_who, ne, less, less_eq, more, more_eq, has_value, and_of, or_of, not_of, all_of, any_of, Tests, no_test, test, Domain, each_player, each_card, each_group, Alt, do_alt, if_alt, any_alt, SheetItem, do_item, stage, choice, SheetItems, no_item, item, Sheet}
+use Rattle.rc_sheet_model.specs.Sheet.{LocKind, vloc, iloc, hloc, mem, LocName, Who, current_player, team_of_current, Loc, CardExpr, card_var, top_card, bottom_card, max_card, min_card, CollExpr, group_var, cards_in, filtered, union_of, known_in, CollExprs, no_coll, coll, IntExpr, literal, number, size_of, sum_of, worth_of, add, subtract, multiply, Test, eq_int, eq_card, eq_attr, eq_who, ne, less, less_eq, more, more_eq, has_value, and_of, or_of, not_of, all_of, any_of, Tests, no_test, test, Domain, each_player, each_card, each_group, Alt, do_alt, if_alt, any_alt, SheetItem, do_item, stage, choice, SheetItems, no_item, item, Sheet}
 
--- The locations that stand in an expression, however deep, but for one that is itself the argument of `size`.
+-- The locations that stand in an expression, however deep, but for one that is itself the argument of `size` or of `known`.
 abbrev mutual
   pub locs_in_card : CardExpr → List Loc
   locs_in_card (card_var var) = []
@@ -19,6 +19,7 @@ abbrev mutual
   locs_in_coll (cards_in loc) = loc ∷ []
   locs_in_coll (filtered cards bound t) = locs_in_coll cards ++ locs_in_test t
   locs_in_coll (union_of parts) = locs_in_colls parts
+  locs_in_coll (known_in loc) = []
 
   pub locs_in_colls : CollExprs → List Loc
   locs_in_colls no_coll = []

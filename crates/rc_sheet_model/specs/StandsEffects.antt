@@ -1,6 +1,6 @@
 -- Which forms stand for effects, in a scope.
 use Rattle.rc_model.specs.Tree.{Tree, Trees}
-use Rattle.rc_sheet_model.specs.Sheet.{End as Place, top, bottom, Loc, Effect, move, move_all, remember, forget, shuffle, set_to, increase, decrease, when, repeat, for_each, next_is, turn_round, Effects, no_effect, effect}
+use Rattle.rc_sheet_model.specs.Sheet.{End as Place, top, bottom, Loc, Effect, move, move_all, remember, forget, shuffle, set_to, increase, decrease, when, repeat, for_each, next_is, turn_round, peek, Effects, no_effect, effect}
 use Rattle.rc_sheet_model.specs.Rows.{◌▸◌, End, Some, Row, Atom}
 use Rattle.rc_sheet_model.specs.Naming.{Naming, Scope, bind, sort_of, Binder}
 use Rattle.rc_sheet_model.specs.StandsExpressions.{StandsOwner, StandsLoc, StandsNum, Two, StandsCard, StandsColl, StandsInt, StandsTest, StandsRange}
@@ -32,6 +32,7 @@ abbrev mutual
       ▸ Some (StandEffects naming (bind naming scope bound (sort_of domain)) effects))
   StandsEffect naming scope (next_is who) = Row (Atom "cycle" ▸ Atom "next" ▸ StandsOwner scope who ▸ End)
   StandsEffect naming scope turn_round = Row (Atom "cycle" ▸ Atom "reverse" ▸ End)
+  StandsEffect naming scope (peek cards who) = Two "peek" (StandsColl naming scope cards) (StandsOwner scope who)
 
   pub StandEffects : Naming → Scope → Effects → Trees → Type 0
   StandEffects naming scope no_effect = End

@@ -3,7 +3,7 @@ use Prim.Native.String.{String}
 use Rattle.std.specs.Prelude.{◌≡◌}
 use Rattle.std.specs.Prelude.{Some as Present}
 use Rattle.rc_model.specs.Tree.{Tree, Trees, start_of}
-use Rattle.rc_sheet_model.specs.Sheet.{player_sort, card_sort, group_sort, Who, game, current_player, current_team, team_of_current, team_of_var, who_var, Loc, Num, CardExpr, card_var, top_card, bottom_card, max_card, min_card, CollExpr, group_var, cards_in, filtered, union_of, CollExprs, no_coll, coll, IntExpr, literal, number, size_of, sum_of, worth_of, add, subtract, multiply, Test, eq_int, eq_card, eq_attr, eq_who, ne, less, less_eq, more, more_eq, has_value, and_of, or_of, not_of, all_of, any_of, Tests, no_test, test, Domain, each_player, each_card, each_group}
+use Rattle.rc_sheet_model.specs.Sheet.{player_sort, card_sort, group_sort, Who, game, current_player, current_team, team_of_current, team_of_var, who_var, Loc, Num, CardExpr, card_var, top_card, bottom_card, max_card, min_card, CollExpr, group_var, cards_in, filtered, union_of, known_in, CollExprs, no_coll, coll, IntExpr, literal, number, size_of, sum_of, worth_of, add, subtract, multiply, Test, eq_int, eq_card, eq_attr, eq_who, ne, less, less_eq, more, more_eq, has_value, and_of, or_of, not_of, all_of, any_of, Tests, no_test, test, Domain, each_player, each_card, each_group}
 use Rattle.rc_sheet_model.specs.Rows.{◌▸◌, End, AtLeast, Some, Row, Atom}
 use Rattle.rc_sheet_model.specs.Naming.{Naming, Scope, bind, sort_of, class_of, Named, Binder, InScope, Literal, KindOf, loc_class, num_class}
 
@@ -61,6 +61,7 @@ abbrev mutual
       Row (Atom "filter" ▸ StandsColl naming scope cards ▸ Binder naming bound
       ▸ StandsTest naming (bind naming scope bound card_sort) t ▸ End)
   StandsColl naming scope (union_of parts) = Row (Atom "union" ▸ AtLeast 2 (StandColls naming scope parts))
+  StandsColl naming scope (known_in loc) = Row (Atom "known" ▸ StandsLoc naming scope loc ▸ End)
 
   pub StandColls : Naming → Scope → CollExprs → Trees → Type 0
   StandColls naming scope no_coll = End

@@ -5,7 +5,7 @@ use Rattle.std.specs.List.{list_any, list_all}
 use Rattle.rc_model.specs.Token.{is_part}
 use Rattle.rc_model.specs.Tree.{Tree, IsOpenAtMost}
 use Rattle.rc_model.specs.Deck.{Groups, no_group, group, Branches, no_branch, branch, Entry, face_count}
-use Rattle.rc_sheet_model.specs.Sheet.{Teams, Class, game_class, player_class, team_class, Sort, player_sort, card_sort, group_sort, LocKind, vloc, iloc, hloc, mem, Who, game, current_player, current_team, team_of_current, team_of_var, who_var, Loc, Num, CardExpr, card_var, top_card, bottom_card, max_card, min_card, CollExpr, group_var, cards_in, filtered, union_of, CollExprs, no_coll, coll, IntExpr, literal, number, size_of, sum_of, worth_of, add, subtract, multiply, Test, eq_int, eq_card, eq_attr, eq_who, ne, less, less_eq, more, more_eq, has_value, and_of, or_of, not_of, all_of, any_of, Tests, no_test, test, Domain, each_player, each_card, each_group, Effect, move, move_all, remember, forget, shuffle, set_to, increase, decrease, when, repeat, for_each, next_is, turn_round, Effects, no_effect, effect, Alt, do_alt, if_alt, any_alt, SheetItem, do_item, stage, choice, SheetItems, no_item, item, DeckLine, Sheet}
+use Rattle.rc_sheet_model.specs.Sheet.{Teams, Class, game_class, player_class, team_class, Sort, player_sort, card_sort, group_sort, LocKind, vloc, iloc, hloc, mem, Who, game, current_player, current_team, team_of_current, team_of_var, who_var, Loc, Num, CardExpr, card_var, top_card, bottom_card, max_card, min_card, CollExpr, group_var, cards_in, filtered, union_of, known_in, CollExprs, no_coll, coll, IntExpr, literal, number, size_of, sum_of, worth_of, add, subtract, multiply, Test, eq_int, eq_card, eq_attr, eq_who, ne, less, less_eq, more, more_eq, has_value, and_of, or_of, not_of, all_of, any_of, Tests, no_test, test, Domain, each_player, each_card, each_group, Effect, move, move_all, remember, forget, shuffle, set_to, increase, decrease, when, repeat, for_each, next_is, turn_round, peek, Effects, no_effect, effect, Alt, do_alt, if_alt, any_alt, SheetItem, do_item, stage, choice, SheetItems, no_item, item, DeckLine, Sheet}
 use Rattle.rc_sheet_model.specs.Lists.{coll_list, test_list, effect_list, item_list}
 use Rattle.rc_model.specs.Words.{is_variable}
 use Rattle.rc_sheet_model.specs.Naming.{Scope, bind, self_scope, sort_of, class_of, loc_class, num_class, sheet_naming}
@@ -141,6 +141,7 @@ module _ (sheet : Sheet) where
     IsColl around (filtered cards bound t) =
         IsColl around cards × IsBinder around bound × IsTest (behind around bound card_sort) t
     IsColl around (union_of parts) = (2 ≤ length (coll_list parts)) × AreColls around parts
+    IsColl around (known_in loc) = IsInStage around player_class × IsLoc around loc
 
     pub AreColls : Around → CollExprs → Type 0
     AreColls around no_coll = ⊤
@@ -211,6 +212,7 @@ module _ (sheet : Sheet) where
         × (1 ≤ length (effect_list effects)) × AreEffects (behind around bound (sort_of domain)) effects
     IsEffect around (next_is who) = IsOwner around who × IsInStage around (class_of who)
     IsEffect around turn_round = (around.player_stage || around.team_stage) ≡ true
+    IsEffect around (peek cards who) = IsColl around cards × IsOwner around who
 
     pub AreEffects : Around → Effects → Type 0
     AreEffects around no_effect = ⊤

@@ -102,6 +102,12 @@ push_effect-returns-in-Next t c =
     printed_as _ _ c.push_next.result _ _ c.push_next.ensures
     (ap (λ x. effect_form (naming_seen sheet) (bound_seen sheet c.args.bound.now) (effect_seen x)) c.in-Next.is)
 
+pub push_effect-returns-in-Peek : goal.push_effect-returns-in-Peek
+push_effect-returns-in-Peek t c =
+    let sheet = c.args.sheet.now in
+    printed_as _ _ c.push_peeked.result _ _ c.push_peeked.ensures
+    (ap (λ x. effect_form (naming_seen sheet) (bound_seen sheet c.args.bound.now) (effect_seen x)) c.in-Peek.is)
+
 pub push_guarded-returns : goal.push_guarded-returns
 push_guarded-returns t c =
     let sheet = c.args.sheet.now in

@@ -14,6 +14,12 @@ push_coll-returns-in-Union t c =
     printed_as _ _ c.push_union.result _ _ c.push_union.ensures
     (union_form (naming_seen sheet) (bound_seen sheet c.args.bound.now) c.args.cards.now c.in-Union.parts c.in-Union.is)
 
+pub push_coll-returns-in-Known : goal.push_coll-returns-in-Known
+push_coll-returns-in-Known t c =
+    let sheet = c.args.sheet.now in
+    printed_as _ _ c.push_known.result _ _ c.push_known.ensures
+    (ap (λ x. coll_form (naming_seen sheet) (bound_seen sheet c.args.bound.now) (coll_seen x)) c.in-Known.is)
+
 pub push_test-returns-in-And : goal.push_test-returns-in-And
 push_test-returns-in-And t c =
     let sheet = c.args.sheet.now in
