@@ -4,13 +4,14 @@ use Rattle.std.specs.Prelude.{filter, filter_map, All, int_lt}
 use Rattle.std.specs.List.{AllByRecursion, range_with_len, best_of as first_best}
 use Rattle.std.proofs.lemmas.List.Elements.{recursion_from_All, All-from_recursion}
 use Rattle.rc_model.specs.Numbers.{below}
-use Rattle.rc_sheet_model.specs.Sheet.{CardExpr, card_var, top_card, bottom_card, max_card, min_card, CollExpr, group_var, cards_in, filtered, union_of, CollExprs, no_coll, coll, Domain, each_player, each_card, each_group, Alt, do_alt, if_alt, any_alt}
+use Rattle.rc_sheet_model.specs.Sheet.{CardExpr, card_var, top_card, bottom_card, max_card, min_card, CollExpr, group_var, cards_in, filtered, union_of, known_in, CollExprs, no_coll, coll, Domain, each_player, each_card, each_group, Alt, do_alt, if_alt, any_alt}
 use Rattle.rc_sheet_model.specs.WellFormed.{is_mem}
 use Rattle.rc_play_model.specs.Ends.{last_of, first_of}
 use Rattle.rc_play_model.specs.Shape.{Place, Shape, holds_references}
-use Rattle.rc_play_model.specs.Table.{Table, list_at}
-use Rattle.rc_play_model.specs.Value.{Scene, Bind, player_bound, card_bound, group_bound, both, nat_same, card_of, group_of, firsts, beats, best_of, int_more, cards_there, loc_place, worth, attr_of, card_value, coll_value, colls_value, test_value, members}
-use Rattle.rc_play_model.specs.Scene.{CardValue, Vars, value_in}
+use Rattle.rc_play_model.specs.Sees.{sees}
+use Rattle.rc_play_model.specs.Table.{Table, list_at, is_marked}
+use Rattle.rc_play_model.specs.Value.{Scene, Bind, player_bound, card_bound, group_bound, both, nat_same, card_of, group_of, firsts, beats, best_of, int_more, cards_there, known_there, loc_place, worth, attr_of, card_value, coll_value, colls_value, test_value, members}
+use Rattle.rc_play_model.specs.Scene.{CardValue, Vars, value_in, seen_of, ids_seen}
 use Rattle.rc_play_model.specs.Bound.{IsCardOf, IsBindOf}
 use Rattle.rc_play_model.specs.Menu.{bindings_of}
 
@@ -112,20 +113,32 @@ module _ (shape : Shape) where
     read_kind true mem = ((place, is, mem), card)
     read_kind false mem = card
 
-  pub read_cards : (table : Table) → All (All IsCard) table.lists → (n : ℕ) →
-      AreCards (map (value_in (holds_references (slice_get shape.places n)) n) (list_at table n))
-  read_cards table ids n =
-      map_each IsCard (IsCardOf shape) (value_in (holds_references (slice_get shape.places n)) n) (λ id card. read_card (slice_get shape.places n) n refl id card)
-      (list_at table n)
-      (get_each (AllByRecursion IsCard) [] tt table.lists n (lists_each table.lists (recursion_from_All (All IsCard) table.lists ids))) where
-        lists_each : (lists : List (List ℕ)) → AllByRecursion (All IsCard) lists → AllByRecursion (AllByRecursion IsCard) lists
-        lists_each [] all = tt
-        lists_each (ids ∷ lists) all = (recursion_from_All IsCard ids all.0, lists_each lists all.1)
+  lists_each : (lists : List (List ℕ)) → AllByRecursion (All IsCard) lists → AllByRecursion (AllByRecursion IsCard) lists
+  lists_each [] all = tt
+  lists_each (ids ∷ lists) all = (recursion_from_All IsCard ids all.0, lists_each lists all.1)
 
-  module _ (scene : Scene CardValue) (there : (n : ℕ) → AreCards (scene.cards_at n)) (players : shape.players ≡ scene.known.sheet.players) where
+  -- what is seen of it
+  seen_each : (sees_it : Bool) (marks : List (List ℕ)) (seat : ℕ) (ids : List ℕ) → AllByRecursion IsCard ids → AllByRecursion IsCard (seen_of sees_it marks seat ids)
+  seen_each true marks seat ids all = all
+  seen_each false marks seat ids all = filter_each IsCard (is_marked marks seat) ids all
+
+  pub read_cards : (table : Table) → All (All IsCard) table.lists → (seat n : ℕ) →
+      AreCards (map (value_in (holds_references (slice_get shape.places n)) n) (list_at table n))
+      × AreCards (map (value_in (holds_references (slice_get shape.places n)) n) (ids_seen shape table seat n))
+  read_cards table ids seat n =
+      let each = get_each (AllByRecursion IsCard) [] tt table.lists n (lists_each table.lists (recursion_from_All (All IsCard) table.lists ids)) in
+      let read = map_each IsCard (IsCardOf shape) (value_in (holds_references (slice_get shape.places n)) n) (λ id card. read_card (slice_get shape.places n) n refl id card) in
+      (read (list_at table n) each, read (ids_seen shape table seat n) (seen_each (sees shape seat n) table.marks seat (list_at table n) each))
+
+  module _ (scene : Scene CardValue) (there : (n : ℕ) → AreCards (scene.cards_at n) × AreCards (scene.known_at n))
+      (players : shape.players ≡ scene.known.sheet.players) where
     there_cards : (o : Option ℕ) → AreCards (cards_there scene o)
     there_cards None = tt
-    there_cards (Some n) = there n
+    there_cards (Some n) = (there n).0
+
+    known_cards : (o : Option ℕ) → AreCards (known_there scene o)
+    known_cards None = tt
+    known_cards (Some n) = (there n).1
 
     mutual
       pub card_cards : (vars : Vars) → AreBinds vars → (e : CardExpr) → MayBeCard (card_value scene vars e)
@@ -143,6 +156,8 @@ module _ (shape : Shape) where
       coll_cards vars v (filtered cards bound t) =
           filter_each (IsCardOf shape) (λ c. test_value scene (vars ++ card_bound c ∷ []) t) (coll_value scene vars cards) (coll_cards vars v cards)
       coll_cards vars v (union_of parts) = take_each (IsCardOf shape) 512 (colls_value scene vars parts) (colls_cards vars v parts)
+      coll_cards vars v (known_in loc) =
+          take_each (IsCardOf shape) 512 (known_there scene (loc_place scene.known vars loc)) (known_cards (loc_place scene.known vars loc))
 
       colls_cards : (vars : Vars) → AreBinds vars → (e : CollExprs) → AreCards (colls_value scene vars e)
       colls_cards vars v no_coll = tt

@@ -4,18 +4,20 @@ use Rattle.std.specs.Prelude.{fold, option_map}
 use Rattle.std.specs.List.Sorted.{IsPermutation}
 use Rattle.rc_model.specs.Numbers.{below}
 use Rattle.rc_model.specs.Clamp.{clamped}
-use Rattle.rc_sheet_model.specs.Sheet.{LocName, Loc, End, top, bottom, Effect, move, move_all, remember, forget, shuffle, set_to, increase, decrease, when, repeat, for_each, next_is, turn_round, Effects, no_effect, effect}
+use Rattle.rc_sheet_model.specs.Sheet.{LocName, Loc, End, top, bottom, Effect, move, move_all, remember, forget, shuffle, set_to, increase, decrease, when, repeat, for_each, next_is, turn_round, peek, Effects, no_effect, effect}
 use Rattle.rc_sheet_model.specs.Naming.{class_of, sort_of}
 use Rattle.rc_sheet_model.specs.WellFormed.{Around, is_mem, holds_references, in_repeat, behind, IsEffect, AreEffects}
+use Rattle.rc_play_model.specs.Owners.{mover}
 use Rattle.rc_play_model.specs.Shape.{Shape, Place, shape_of}
 use Rattle.rc_play_model.specs.Table.{Table, IsSound, list_at, number_at}
 use Rattle.rc_play_model.specs.Value.{Bind, who_value, loc_place, num_place, card_value, coll_value, int_value, test_value, members}
 use Rattle.rc_play_model.specs.Scene.{CardValue, held, noted, id_of, Vars}
 use Rattle.rc_play_model.specs.Bound.{HoldsCards, HoldsReferences, IsCardOf, IsBindOf}
 use Rattle.rc_play_model.specs.About.{About}
-use Rattle.rc_play_model.specs.Effects.{Dealing, Point, scene_now, if_some, move_card, note, forget_card, times, again, change, shuffled, does_one, does}
+use Rattle.rc_play_model.specs.Effects.{Dealing, Point, scene_now, if_some, move_card, note, forget_card, times, again, change, shuffled, is_named, show_card, does_one, does}
 use Rattle.rc_play_model.proofs.Bounds.{clamped_within}
 use Rattle.rc_play_model.proofs.Places.{place_stands}
+use Rattle.rc_play_model.proofs.ShownLemmas.{shown_sound}
 use Rattle.rc_play_model.proofs.SoundLemmas.{put_top_sound, put_bottom_sound, remember_top_sound, remember_bottom_sound, forget_sound, number_sound, reorder_sound}
 use Rattle.rc_play_model.proofs.CardLemmas.{AreCards, AreBinds, MayBeCard, read_cards, card_cards, coll_cards, member_binds, with_bind}
 
@@ -31,6 +33,17 @@ module _ (shape : Shape) where
   all_put_sound end loc holds [] all table sound = sound
   all_put_sound end loc holds (card ∷ cards) all table sound =
       all_put_sound end loc holds cards all.1 (move_card shape end loc table card) (put_sound end loc holds table sound card all.0)
+
+  -- cards that are shown
+  show_sound : (named : ℕ → Bool) (table : Table) → IsSound shape table → (card : CardValue) → IsCardOf shape card → IsSound shape (show_card shape named table card)
+  show_sound named table sound (held id) is = shown_sound shape table named id sound is
+  show_sound named table sound (noted from id) is = sound
+
+  all_shown_sound : (named : ℕ → Bool) (cards : List CardValue) → AreCards shape cards → (table : Table) → IsSound shape table →
+      IsSound shape (fold (show_card shape named) table cards)
+  all_shown_sound named [] all table sound = sound
+  all_shown_sound named (card ∷ cards) all table sound =
+      all_shown_sound named cards all.1 (show_card shape named table card) (show_sound named table sound card all.0)
 
   card_id : (card : CardValue) → IsCardOf shape card → id_of card < length shape.faces
   card_id (held id) is = is
@@ -107,8 +120,8 @@ module _ {S : Type 0} (about : About) (dealing : Dealing S) (fits : about.shape 
   same_players : about.shape.players ≡ about.sheet.players
   same_players = ap (λ (s : Shape). s.players) fits
 
-  pub there : (now : Point S) → IsSoundAt now → (n : ℕ) → AreCards about.shape ((scene_now about now).cards_at n)
-  there now sound n = read_cards about.shape now.table sound.ids n
+  pub there : (now : Point S) → IsSoundAt now → (n : ℕ) → AreCards about.shape ((scene_now about now).cards_at n) × AreCards about.shape ((scene_now about now).known_at n)
+  there now sound n = read_cards about.shape now.table sound.ids (mover about.sheet now.frames) n
 
   card_there : (vars : Vars) → AreBinds about.shape vars → (e : _) (now : Point S) → IsSoundAt now → MayBeCard about.shape (card_value (scene_now about now) vars e)
   card_there vars v e now sound = card_cards about.shape (scene_now about now) (there now sound) same_players vars v e
@@ -149,6 +162,9 @@ module _ {S : Type 0} (about : About) (dealing : Dealing S) (fits : about.shape 
         (members (scene_now about now) vars domain) (member_binds about.shape (scene_now about now) (there now sound) same_players vars v domain) now sound
     one_sound around vars v (next_is who) is now sound = sound
     one_sound around vars v turn_round is now sound = sound
+    one_sound around vars v (peek cards who) is now sound =
+        all_shown_sound about.shape (is_named about.shape (class_of who) (who_value (scene_now about now).known vars who)) (coll_value (scene_now about now) vars cards)
+        (coll_cards about.shape (scene_now about now) (there now sound) same_players vars v cards) now.table sound
 
     pub all_sound : (around : Around) (vars : Vars) → AreBinds about.shape vars → (es : Effects) → AreEffects about.sheet around es → (now : Point S) → IsSoundAt now →
         IsSoundAt (does about dealing vars es now)

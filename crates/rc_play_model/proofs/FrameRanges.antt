@@ -3,7 +3,7 @@ use Rattle.std.proofs.Common.{◌≡◌, ℕ, zero, suc, ◌+◌, ◌-◌, ◌<�
 use Rattle.std.specs.Prelude.{fold, unwrap_or}
 use Rattle.std.specs.List.{AllByRecursion, AllZip, list_any}
 use Rattle.rc_model.specs.Numbers.{below}
-use Rattle.rc_sheet_model.specs.Sheet.{Class, Effect, move, move_all, remember, forget, shuffle, set_to, increase, decrease, when, repeat, for_each, next_is, turn_round, Effects, no_effect, effect, Domain, each_player, each_card, each_group, Alt, do_alt, if_alt, any_alt, SheetItem, do_item, stage, choice, SheetItems, no_item, item}
+use Rattle.rc_sheet_model.specs.Sheet.{Class, Effect, move, move_all, remember, forget, shuffle, set_to, increase, decrease, when, repeat, for_each, next_is, turn_round, peek, Effects, no_effect, effect, Domain, each_player, each_card, each_group, Alt, do_alt, if_alt, any_alt, SheetItem, do_item, stage, choice, SheetItems, no_item, item}
 use Rattle.rc_sheet_model.specs.Naming.{class_of}
 use Rattle.rc_sheet_model.specs.Lists.{item_list}
 use Rattle.rc_sheet_model.specs.WellFormed.{owner_count, IsWellFormed}
@@ -184,6 +184,7 @@ module _ (about : About) (fits : about.shape ≡ shape_of about.sheet) (formed :
           stages now.frames stand are
       one_fit vars v turn_round now are =
           changed_frames (λ frame. true) turned_back (λ s frame stands of is. turned_frame s frame of) stages now.frames stand are
+      one_fit vars v (peek cards who) now are = are
 
       pub all_fit : (vars : Vars) → ArePlayerBinds about.sheet formed vars → (es : Effects) (now : Point S) → Fit now → Fit (does about dealing vars es now)
       all_fit vars v no_effect now are = are

@@ -1,5 +1,5 @@
 -- The opening table is sound: each card stands in its home, and homes hold cards.
-use Rattle.std.proofs.Common.{◌≡◌, ℕ, zero, suc, ◌+◌, ◌-◌, ◌<◌, ◌≤◌, ◌==◌, Bool, true, false, cond, List, [], ◌∷◌, length, map, slice_get, slice_index, replicate, sum_by, zip, pos, Option, Some, None, refl, sym, ap, ◌∙◌, subst, arith, true≢false}
+use Rattle.std.proofs.Common.{◌≡◌, ℕ, zero, suc, ◌+◌, ◌-◌, ◌<◌, ◌≤◌, ◌==◌, Bool, true, false, cond, List, [], ◌∷◌, length, get_or, map, slice_get, slice_index, replicate, sum_by, zip, pos, Option, Some, None, refl, sym, ap, ◌∙◌, subst, arith, true≢false}
 use Rattle.std.specs.Prelude.{All, filter, flat_map, count_by, option_map}
 use Rattle.std.specs.List.{AllByRecursion, range_with_len}
 use Rattle.std.proofs.lemmas.Bool.Decides.{Decides-eqb}
@@ -16,10 +16,11 @@ use Rattle.rc_deck.specs.Product.{faces_of_groups}
 use Rattle.rc_sheet_model.specs.Sheet.{Class, game_class, LocName, DeckLine, Sheet}
 use Rattle.rc_sheet_model.specs.WellFormed.{is_mem, owner_count, IsDeck, IsWellFormed}
 use Rattle.rc_play_model.specs.Shape.{Place, Shape, homes_of, first_loc, shape_of}
-use Rattle.rc_play_model.specs.Table.{times_in, references_in, IsSound, at_home, opening}
+use Rattle.rc_play_model.specs.Table.{times_in, references_in, IsSound, AreSeats, at_home, opening}
 use Rattle.rc_play_model.specs.Bound.{HoldsCards, HasHomes}
 use Rattle.rc_play_model.proofs.CardLemmas.{append_each, filter_each, numbers_below}
 use Rattle.rc_play_model.proofs.Counting.{passing-is, kept, left_out, once_below}
+use Rattle.rc_play_model.proofs.MarkLemmas.{no_seats, none_marked, none_hides}
 use Rattle.rc_play_model.proofs.Places.{place_within, place_stands}
 
 differs : (a b : ℕ) (c : Bool) → (a == b) ≡ c → (a ≡ b → ⊥) → (a == b) ≡ false
@@ -156,6 +157,11 @@ module _ (shape : Shape) (homes : HasHomes shape) where
             (weaken (λ at. references_in at ≡ 0) (λ at. references_in at ≤ most_in_mem) (λ at e. omega (arith, e)) (zip shape.places (map (at_home shape) (below count))) none);
         together = let e = sum_none references_in (zip shape.places (map (at_home shape) (below count))) none in omega (arith, e);
         clamped = All-replicate IsWithinClamp shape.numbers (pos 0) (omega (arith, ints), omega (arith, ints));
+        marked = length-replicate (length shape.faces) [];
+        seats = All-replicate (AreSeats shape.players) (length shape.faces) [] (no_seats shape.players);
+        hidden = λ k d less free j e less'.
+            let at = get_or (zip shape.places (map (at_home shape) (below count))) k d in
+            none_hides shape (replicate (length shape.faces) []) at.0 (get_or at.1 j e) (none_marked (length shape.faces) (get_or at.1 j e));
       }
 
 -- the cards of a well formed sheet begin in locations of cards

@@ -1,14 +1,14 @@
 -- Statements of laws: of menus, views and alike states.
-use Rattle.std.specs.Prelude.{◌≡◌, ◌↔◌, ℕ, ◌≤◌, List, length}
+use Rattle.std.specs.Prelude.{◌≡◌, ◌↔◌, ℕ, ◌≤◌, List, length, map, Option}
 use Rattle.rc_model.specs.Limits.{most_items}
 use Rattle.rc_sheet_model.specs.Sheet.{Alt, Sheet}
 use Rattle.rc_sheet_model.specs.Sight.{IsInSight}
 use Rattle.rc_play_model.specs.Control.{Control}
 use Rattle.rc_play_model.specs.Owners.{mover}
-use Rattle.rc_play_model.specs.Shape.{Shape, shape_of}
-use Rattle.rc_play_model.specs.Value.{Scene}
+use Rattle.rc_play_model.specs.Shape.{Shape, face_number, shape_of}
+use Rattle.rc_play_model.specs.Value.{Scene, known_there}
 use Rattle.rc_play_model.specs.Table.{Table}
-use Rattle.rc_play_model.specs.Scene.{CardValue, scene_of}
+use Rattle.rc_play_model.specs.Scene.{CardValue, id_of, scene_of}
 use Rattle.rc_play_model.specs.Menu.{paths_of, menu_of}
 use Rattle.rc_play_model.specs.Offers.{AreOffers}
 use Rattle.rc_play_model.specs.View.{view_of, view_scene}
@@ -40,6 +40,21 @@ AlikeEqualMenus =
     (sheet : Sheet) (shape : Shape) (table table' : Table) (control control' : Control) (site : ℕ) → shape ≡ shape_of sheet → IsInSight sheet →
     IsAlike shape (mover sheet control.frames) table table' control control' →
     menu_of (scene_of sheet shape table control.frames) site ≡ menu_of (scene_of sheet shape table' control'.frames) site
+
+-- what the mover knows of a location is what its view tells
+abbrev pub KnownOfView : Type 0
+KnownOfView =
+    (sheet : Sheet) (shape : Shape) (table : Table) (control : Control) (place : Option ℕ) → shape ≡ shape_of sheet →
+    known_there (view_scene sheet shape (view_of shape (mover sheet control.frames) table control)) place
+    ≡ map (λ c. face_number shape (id_of c)) (known_there (scene_of sheet shape table control.frames) place)
+
+-- where states are alike to the mover, it knows as many cards of each location, with equal faces at equal places
+abbrev pub AlikeEqualKnown : Type 0
+AlikeEqualKnown =
+    (sheet : Sheet) (shape : Shape) (table table' : Table) (control control' : Control) (place : Option ℕ) → shape ≡ shape_of sheet →
+    IsAlike shape (mover sheet control.frames) table table' control control' →
+    map (λ c. face_number shape (id_of c)) (known_there (scene_of sheet shape table control.frames) place)
+    ≡ map (λ c. face_number shape (id_of c)) (known_there (scene_of sheet shape table' control'.frames) place)
 
 -- what a menu lists of an alternative is what it offers
 abbrev pub ListsOffers : Type 0

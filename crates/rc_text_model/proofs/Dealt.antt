@@ -2,7 +2,7 @@
 use Rattle.std.proofs.Common.{◌≡◌, ℕ, zero, suc, ◌+◌, ◌≤◌, ◌<◌, nat_le, Bool, true, false, if◌then◌else◌, List, [], ◌∷◌, ◌++◌, length, get_or, Option, Some, None, refl, sym, subst, arith, mod-lt}
 use Rattle.std.specs.Prelude.{fold}
 use Rattle.rc_model.specs.Transcript.{done, limit}
-use Rattle.rc_sheet_model.specs.Sheet.{Effect, move, move_all, remember, forget, shuffle, set_to, increase, decrease, when, repeat, for_each, next_is, turn_round, Effects, no_effect, effect, Alt, do_item, stage, choice}
+use Rattle.rc_sheet_model.specs.Sheet.{Effect, move, move_all, remember, forget, shuffle, set_to, increase, decrease, when, repeat, for_each, next_is, turn_round, peek, Effects, no_effect, effect, Alt, do_item, stage, choice}
 use Rattle.rc_play_model.specs.Control.{Control}
 use Rattle.rc_play_model.specs.Table.{Table, list_at}
 use Rattle.rc_play_model.specs.Value.{Bind, loc_place, int_value, test_value, members}
@@ -60,6 +60,7 @@ module _ {S : Type 0} (about : About) (dealing : Dealing S) (Holds : S → Type 
         (λ mid m is'. all_hold (vars ++ m ∷ []) effects mid is') (members (scene_now about now) vars domain) now is
     one_holds vars (next_is who) now is = is
     one_holds vars turn_round now is = is
+    one_holds vars (peek cards who) now is = is
 
     all_hold : (vars : Vars) (es : Effects) (now : Point S) → HoldsThere now → HoldsThere (does about dealing vars es now)
     all_hold vars no_effect now is = is

@@ -1,5 +1,5 @@
 //! Laws of tables. No function here does anything: a crate above gets a law by calling its function.
-ghost use Rattle.rc_play_model.specs.TableLaws.{SumWithList, PutKeepsCards, PutKeepsSound, RememberKeepsSound, ForgetKeepsSound, NumberKeepsSound, ReorderKeepsSound};
+ghost use Rattle.rc_play_model.specs.TableLaws.{SumWithList, PutKeepsCards, PutKeepsSound, RememberKeepsSound, ForgetKeepsSound, NumberKeepsSound, ReorderKeepsSound, MarksKeepSound, ClearedKeepsSound, MarkedAreUnseen};
 ghost use Rattle.rc_play_model.specs.TableLaws.{OrdersPermuteLists};
 
 /// Where a card is put somewhere else, each card stands as often as before.
@@ -15,6 +15,9 @@ pub fn edits_keep_tables_sound()
     ensures forgotten { ForgetKeepsSound }
     ensures number { NumberKeepsSound }
     ensures reordered { ReorderKeepsSound }
+    ensures marked { MarksKeepSound }
+    ensures cleared { ClearedKeepsSound }
+    ensures unseen { MarkedAreUnseen }
 {}
 
 /// A list in an order of its places is a permutation of it.

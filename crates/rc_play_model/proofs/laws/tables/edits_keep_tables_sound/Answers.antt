@@ -2,7 +2,8 @@ use Rattle.std.proofs.Common.{get_or}
 use Rattle.rc_sheet_model.specs.Sheet.{hloc, game_class}
 use Rattle.rc_play_model.specs.Shape.{Place}
 use Rattle.std.proofs.lemmas.Option.{slice_get-get_or}
-use Rattle.rc_play_model.proofs.SoundLemmas.{put_top_sound, put_bottom_sound, remember_top_sound, remember_bottom_sound, forget_sound, number_sound, reorder_sound}
+use Rattle.rc_play_model.proofs.SoundLemmas.{put_top_sound, put_bottom_sound, remember_top_sound, remember_bottom_sound, forget_sound, number_sound, reorder_sound, cleared_sound}
+use Rattle.rc_play_model.proofs.ShownLemmas.{marks-sound, marked-unseen}
 use Rattle.rc_play_model.proofs.laws.tables.edits_keep_tables_sound.Goals as goal
 
 pub returns-clause-put : goal.returns-clause-put
@@ -23,3 +24,12 @@ pub returns-clause-reordered : goal.returns-clause-reordered
 returns-clause-reordered c = λ shape table loc order sound within permutes.
     let any : Place = record { kind = hloc; class = game_class; owner = 0 } in
     reorder_sound shape table loc order (get_or shape.places loc any) sound (slice_get-get_or shape.places loc any within) permutes
+
+pub returns-clause-marked : goal.returns-clause-marked
+returns-clause-marked c = λ shape table id seats sound card are unseen. marks-sound shape table id sound card seats are unseen
+
+pub returns-clause-cleared : goal.returns-clause-cleared
+returns-clause-cleared c = λ shape table ids sound. cleared_sound shape table ids sound
+
+pub returns-clause-unseen : goal.returns-clause-unseen
+returns-clause-unseen c = λ shape table id sound card. marked-unseen shape table id sound card
