@@ -2,3 +2,4 @@ pub mod UndoLemmas
 pub mod PastLemmas
 pub mod KeepsLemmas
 pub mod PiledLemmas
+pub mod OrderLemmas

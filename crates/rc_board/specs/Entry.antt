@@ -1,13 +1,14 @@
 -- Entries of a log as edits.
 use Rattle.std.specs.Prelude.{List, map, reverse}
-use Rattle.rc_board.specs.Undo.{Edit, moved, changed, ordered, noted, forgotten}
+use Rattle.rc_board.specs.Undo.{Edit, moved, changed, ordered, marked, noted, forgotten}
 use Rattle.rc_board.specs.declared.entry.LogEntry.{LogEntry}
-use Rattle.rc_board.specs.declared.entry.LogEntry.TheVariants.{Moved, Changed, Ordered, Noted, Forgotten}
+use Rattle.rc_board.specs.declared.entry.LogEntry.TheVariants.{Moved, Changed, Ordered, Marked, Noted, Forgotten}
 
 abbrev pub entry_seen : LogEntry → Edit
-entry_seen (Moved from place to at) = moved from place to at
+entry_seen (Moved from place to at marks) = moved from place to at marks
 entry_seen (Changed num value) = changed num value
-entry_seen (Ordered loc list) = ordered loc list.items
+entry_seen (Ordered loc list marks) = ordered loc list.items marks.items
+entry_seen (Marked id seats) = marked id seats
 entry_seen (Noted loc at) = noted loc at
 entry_seen (Forgotten id loc place) = forgotten id loc place
 

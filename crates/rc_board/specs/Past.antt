@@ -1,9 +1,10 @@
 -- What a board keeps of what was before.
-use Rattle.std.specs.Prelude.{◌≡◌, Bool, true, false, List, [], ◌∷◌, Option, Some, None}
+use Rattle.std.specs.Prelude.{◌≡◌, ℕ, ◌<◌, length, map, slice_index, Bool, true, false, List, [], ◌∷◌, Option, Some, None}
 use Rattle.rc_play_model.specs.Shape.{Shape}
-use Rattle.rc_play_model.specs.Table.{Table}
+use Rattle.rc_play_model.specs.Table.{Table, marks_of}
+use Rattle.rc_table.specs.Marks.{seats_in}
 use Rattle.rc_table.specs.Laid.{Laid}
-use Rattle.rc_board.specs.Undo.{Edit, before_of, CanUndo, Kept}
+use Rattle.rc_board.specs.Undo.{Edit, ordered, before_of, CanUndo, Kept}
 
 -- nothing, edits that can be taken back, the last one first, or the table to which the board goes home
 pub data Past : Type 0 where
@@ -16,6 +17,18 @@ abbrev pub noted_in : Edit → Past → Past
 noted_in e none_kept = none_kept
 noted_in e (edits_kept edits) = edits_kept (e ∷ edits)
 noted_in e (home_kept base) = home_kept base
+
+-- bytes of the marks of these cards: none where none of them is marked
+abbrev pub AreMarks : List (List ℕ) → (ids bytes : List ℕ) → Type 0
+AreMarks marks ids [] = (k : ℕ) → k < length ids → marks_of marks (slice_index ids k) ≡ []
+AreMarks marks ids (byte ∷ bytes) = map seats_in (byte ∷ bytes) ≡ map (marks_of marks) ids
+
+-- after an order more, of cards with these marks
+abbrev pub OrderNoted : List (List ℕ) → (loc : ℕ) (list : List ℕ) → (old new : Past) → Type 0
+OrderNoted marks loc list none_kept new = new ≡ none_kept
+OrderNoted marks loc list (edits_kept edits) new =
+    (bytes : List ℕ) × AreMarks marks list bytes × (new ≡ edits_kept (ordered loc list bytes ∷ edits))
+OrderNoted marks loc list (home_kept base) new = new ≡ home_kept base
 
 -- at another home
 abbrev pub moved_to : Laid → Past → Past

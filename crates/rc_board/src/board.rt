@@ -1,10 +1,12 @@
 //! A table whose edits can be taken back, or which goes home.
-ghost use Rattle.std.specs.Prelude.{◌≡◌, ◌<◌, ◌≤◌, true, false, List, [], ◌∷◌, length, slice_index, None, IsSome, IfOk, OnOk, OnErr, IsOk};
+ghost use Rattle.std.specs.Prelude.{◌≡◌, ◌<◌, ◌≤◌, true, false, List, [], ◌∷◌, length, slice_index, All, None, IsSome, IfOk, OnOk, OnErr, IsOk};
 ghost use Rattle.std.specs.List.Sorted.{IsPermutation};
 ghost use Rattle.rc_model.specs.Numbers.{below};
 ghost use Rattle.rc_model.specs.Clamp.{IsWithinClamp};
 ghost use Rattle.rc_play_model.specs.Bound.{HoldsCards, HoldsReferences};
-ghost use Rattle.rc_play_model.specs.Table.{Table as PureTable, list_at, place_of, without, put_top, put_bottom, remember_top, remember_bottom, forget_in, set_number, reorder};
+ghost use Rattle.rc_play_model.specs.Table.{Table as PureTable, list_at, place_of, without, put_top, put_bottom, remember_top, remember_bottom, forget_in, set_number, set_marks, loc_of, reorder};
+ghost use Rattle.rc_play_model.specs.Sees.{sees};
+ghost use Rattle.rc_table.specs.Marks.{seats_in};
 ghost use Rattle.rc_table.specs.Laid.{relaid};
 ghost use Rattle.rc_table.specs.Restored.{taken_at};
 ghost use Rattle.rc_board.specs.Entry.{entry_seen};
@@ -130,6 +132,7 @@ impl Board {
             place,
             to: loc,
             at,
+            marks: self.table.marks(id),
         };
         match self.past.note(entry) {
             Ok(()) => {}
@@ -157,6 +160,7 @@ impl Board {
             place,
             to: loc,
             at: 0,
+            marks: self.table.marks(id),
         };
         match self.past.note(entry) {
             Ok(()) => {}
@@ -323,11 +327,36 @@ impl Board {
     {
         // what a table keeps
         let _sound = self.table.shape();
-        match self.past.note_order(self.alloc, loc, self.table.list(loc)) {
+        match self.past.note_order(self.alloc, loc, &self.table) {
             Ok(()) => {}
             Err(Memory) => return Err(Memory),
         }
         self.table.reorder(loc, order);
+        Ok(())
+    }
+
+    /// Marks a card for these seats and no others.
+    #[tactic(auto, using(crate::proofs::KeepsLemmas::keeps_all))]
+    pub fn set_marks(&mut self, id: u16, seats: u8) -> Result<(), Memory>
+        requires card { id < length self.old.laid.shape.faces }
+        requires players { All (λ seat. seat < self.old.laid.shape.players) (seats_in seats) }
+        requires unseen { All (λ seat. sees self.old.laid.shape seat (loc_of self.old.laid.shape self.old.laid.table id) ≡ false) (seats_in seats) }
+        ensures leads { OnOk result (self.new ≡ edited self.old (set_marks id (seats_in seats) self.old.laid.table)) }
+        ensures keeps { Keeps self.old self.new }
+        ensures quiet { self.old.notes ≡ false → IsOk result }
+        ensures lacking { OnErr result (self.new ≡ self.old) }
+    {
+        // what a table keeps
+        let _sound = self.table.shape();
+        let entry = LogEntry::Marked {
+            id,
+            seats: self.table.marks(id),
+        };
+        match self.past.note(entry) {
+            Ok(()) => {}
+            Err(Memory) => return Err(Memory),
+        }
+        self.table.set_marks(id, seats);
         Ok(())
     }
 

@@ -1,9 +1,11 @@
 //! What a board keeps of what was before.
-ghost use Rattle.std.specs.Prelude.{◌≡◌, ◌∷◌, [], length, false, MatchOption, IfOk, OnOk, OnErr, IsOk};
+ghost use Rattle.std.specs.Prelude.{◌≡◌, ℕ, ◌<◌, false, List, ◌∷◌, [], length, map, slice_index, All, MatchOption, IfOk, OnOk, OnErr, IsOk};
+ghost use Rattle.rc_play_model.specs.Table.{list_at, marks_of};
+ghost use Rattle.rc_table.specs.Marks.{seats_in};
 ghost use Rattle.rc_table.specs.Laid.{relaid};
 ghost use Rattle.rc_board.specs.Undo.{ordered};
 ghost use Rattle.rc_board.specs.Entry.{entry_seen, log_seen};
-ghost use Rattle.rc_board.specs.Past.{home_kept, edits_of, notes_of, home_table, noted_in, moved_to, IsPast, HasShape, TookLast};
+ghost use Rattle.rc_board.specs.Past.{home_kept, edits_of, notes_of, home_table, noted_in, moved_to, IsPast, HasShape, TookLast, AreMarks, OrderNoted};
 ghost use Rattle.rc_board.specs.PastSeen.{past_seen};
 
 use crate::entry::LogEntry;
@@ -80,14 +82,14 @@ impl Past {
 
     /// Notes that the list of a location, which was this one, is put into another order.
     #[inline(always)]
-    pub fn note_order(&mut self, alloc: Global, loc: u16, list: &[u16]) -> Result<(), Memory>
-        ensures noted { OnOk result (past_seen self.new ≡ noted_in (ordered loc list.now) (past_seen self.old)) }
+    pub fn note_order(&mut self, alloc: Global, loc: u16, table: &Table) -> Result<(), Memory>
+        ensures noted { OnOk result (OrderNoted table.now.table.marks loc (list_at table.now.table loc) (past_seen self.old) (past_seen self.new)) }
         ensures lacking { OnErr result (past_seen self.new ≡ past_seen self.old) }
         ensures quiet { notes_of (past_seen self.old) ≡ false → IsOk result }
     {
         match self {
             Past::Nothing => Ok(()),
-            Past::Edits(log) => log_order(alloc, log, loc, list),
+            Past::Edits(log) => log_order(alloc, log, loc, table),
             Past::Home(_) => Ok(()),
         }
     }
@@ -142,14 +144,54 @@ fn log_entry(log: &mut Vec<LogEntry>, entry: LogEntry) -> Result<(), Memory>
 }
 
 // Puts the list of a location behind the others.
-fn log_order(alloc: Global, log: &mut Vec<LogEntry>, loc: u16, list: &[u16]) -> Result<(), Memory>
-    ensures noted { OnOk result (log_seen log.new.items ≡ ordered loc list.now ∷ log_seen log.old.items) }
+fn log_order(alloc: Global, log: &mut Vec<LogEntry>, loc: u16, table: &Table) -> Result<(), Memory>
+    ensures noted { OnOk result ((bytes : List ℕ) × AreMarks table.now.table.marks (list_at table.now.table loc) bytes
+        × (log_seen log.new.items ≡ ordered loc (list_at table.now.table loc) bytes ∷ log_seen log.old.items)) }
     ensures lacking { OnErr result (log.new.items ≡ log.old.items) }
 {
-    match Vec::from_slice(alloc, list) {
-        Ok(list) => log_entry(log, LogEntry::Ordered { loc, list }),
+    // what a table keeps
+    let _sound = table.shape();
+    let marks = marks_in(alloc, table, table.list(loc))?;
+    match Vec::from_slice(alloc, table.list(loc)) {
+        Ok(list) => log_entry(log, LogEntry::Ordered { loc, list, marks }),
         Err(_) => Err(Memory),
     }
+}
+
+// The marks of these cards, or nothing where none of them is marked.
+fn marks_in(alloc: Global, table: &Table, ids: &[u16]) -> Result<Vec<u8>, Memory>
+    requires { All (λ id. id < length table.now.shape.faces) ids.now }
+    ensures { IfOk result (λ marks. AreMarks table.now.table.marks ids.now marks.items) }
+{
+    if some_marked(table, ids) {
+        return marks_of(alloc, table, ids);
+    }
+    Ok(Vec::new(alloc))
+}
+
+// Whether some of these cards is marked.
+fn some_marked(table: &Table, ids: &[u16]) -> bool
+    requires { All (λ id. id < length table.now.shape.faces) ids.now }
+    ensures { result ≡ false → (k : ℕ) → k < length ids.now → marks_of table.now.table.marks (slice_index ids.now k) ≡ [] }
+{
+    for at in 0..ids.len() {
+        if table.marks(ids[at]) != 0 {
+            return true;
+        }
+    }
+    false
+}
+
+// The marks of all of these cards.
+fn marks_of(alloc: Global, table: &Table, ids: &[u16]) -> Result<Vec<u8>, Memory>
+    requires { All (λ id. id < length table.now.shape.faces) ids.now }
+    ensures { IfOk result (λ marks. map seats_in marks.items ≡ map (marks_of table.now.table.marks) ids.now) }
+{
+    let mut marks = Vec::new(alloc);
+    for at in 0..ids.len() {
+        marks.push(table.marks(ids[at]))?;
+    }
+    Ok(marks)
 }
 
 // Takes the last entry, if there is one.

@@ -6,9 +6,9 @@ pub mod Mems
 pub mod FaceNumbers
 pub mod PutBack
 pub mod RowLemmas
-pub mod OnePlace
 pub mod WhereaboutLemmas
 pub mod WhereaboutEdits
 pub mod TopLemmas
 pub mod Others
 pub mod CopiedLists
+pub mod MarkBytes

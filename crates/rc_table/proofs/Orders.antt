@@ -9,7 +9,7 @@ use Rattle.std.proofs.lemmas.List.Elements.{All-from_recursion}
 use Rattle.std.proofs.lemmas.List.FromFn.{length-range_with_len}
 use Rattle.std.proofs.lemmas.List.Sorted.{All-permutation, length_permutation}
 use Rattle.rc_model.specs.Numbers.{below}
-use Rattle.rc_play_model.specs.Table.{Table, list_at, with_list, taken, reorder}
+use Rattle.rc_play_model.specs.Table.{Table, list_at, with_list, taken, reorder, cleared}
 use Rattle.rc_table.specs.Restored.{relisted}
 use Rattle.rc_play_model.proofs.CardLemmas.{numbers_below}
 
@@ -28,10 +28,15 @@ taken_more list order room at within within' before =
     ∙ ap (λ items. items ++ get_or list (get_or order at 0) 0 ∷ []) before
     ∙ sym (ap (λ places. taken places list) (take_more order at 0 within) ∙ map-append (slice_index list) (take at order) (get_or order at 0 ∷ []))
 
--- a list in another order is one as long in its place
+-- the table without the marks of these cards
+abbrev pub unmarked : List ℕ → Table → Table
+unmarked ids table = record { lists = table.lists; numbers = table.numbers; marks = cleared ids table.marks }
+
+-- a list in another order, unmarked, is one as long in its place
 pub relisted_is : (table : Table) (loc : ℕ) (order list : List ℕ) → IsPermutation (below (length (list_at table loc))) order →
-    list ≡ taken order (list_at table loc) → relisted loc list table ≡ reorder loc order table
+    list ≡ taken order (list_at table loc) → relisted loc list (unmarked (list_at table loc) table) ≡ reorder loc order table
 relisted_is table loc order list permutes is =
     let long = ap length is ∙ length-map order (slice_index (list_at table loc)) ∙ order_long (length (list_at table loc)) order permutes in
-    cond-true (length list == length (list_at table loc)) (with_list table loc list) table ((Decides-eqb (length list) (length (list_at table loc))).1 long)
-    ∙ ap (with_list table loc) is
+    let quiet = unmarked (list_at table loc) table in
+    cond-true (length list == length (list_at table loc)) (with_list quiet loc list) quiet ((Decides-eqb (length list) (length (list_at table loc))).1 long)
+    ∙ ap (with_list quiet loc) is

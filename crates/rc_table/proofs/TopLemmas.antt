@@ -5,8 +5,9 @@ use Rattle.std.proofs.lemmas.List.{get_or-set_same}
 use Rattle.std.proofs.Math.Seq.{drop-append_seam}
 use Rattle.std.proofs.lemmas.Option.{slice_get_within}
 use Rattle.rc_play_model.specs.Shape.{Shape}
-use Rattle.rc_play_model.specs.Table.{Table, IsSound, list_at, place_of, without, onto, put_top}
+use Rattle.rc_play_model.specs.Table.{Table, IsSound, list_at, place_of, set_marks, without, onto, put_top}
 use Rattle.rc_play_model.specs.Bound.{HoldsCards}
+use Rattle.rc_play_model.proofs.SoundLemmas.{cleared_sound}
 use Rattle.rc_table.specs.Shape.{IsShape}
 use Rattle.rc_table.specs.Laid.{rooms}
 use Rattle.rc_table.specs.Restored.{taken_at}
@@ -25,11 +26,18 @@ top_noted shape lists loc place id stand holds last =
 
 module _ (shape : Shape) (table : Table) (limits : IsShape shape) (sound : IsSound shape table) (id : ℕ) (card : id < length shape.faces) (loc : ℕ)
     (holds : HoldsCards shape loc) (from place : ℕ) (is : (from, place) ≡ place_of shape table id) (after : IsSound shape (put_top shape id loc table)) where
-  abbrev out : Table
-  out = taken_at from place table
+  -- the table without the card's marks
+  abbrev quiet : Table
+  quiet = set_marks id [] table
 
-  out_is : out ≡ without shape id table
-  out_is = ap (λ (at : ℕ × ℕ). taken_at at.0 at.1 table) is
+  quiet_sound : IsSound shape quiet
+  quiet_sound = cleared_sound shape table (id ∷ []) sound
+
+  abbrev out : Table
+  out = taken_at from place quiet
+
+  out_is : out ≡ without shape id quiet
+  out_is = ap (λ (at : ℕ × ℕ). taken_at at.0 at.1 quiet) is
 
   pub from_within : (from < length table.lists) × (place < length (list_at table from))
   from_within =
@@ -79,10 +87,10 @@ module _ (shape : Shape) (table : Table) (limits : IsShape shape) (sound : IsSou
         stand' ≡ noted_in shape put.all loc top (noted_in shape put.all from place stand) → stand' ≡ whereabouts shape (put_top shape id loc table)
     put_noted stand stand' stand_is noted_is =
         let most = length (list_at table loc) in
-        let same = put_top_is shape table sound id card (from, place) loc most is (omega arith) in
+        let same = put_top_is shape quiet quiet_sound id card (from, place) loc most is (omega arith) in
         let less = no_longer table.lists from place loc from_within.1 in
         let long = ap (λ lists. length (get_or lists loc [])) taken_all in
-        moved_noted shape table sound from place loc most top put.all stand stand' (subst (IsSound shape) (sym same) after) from_within.1 to_within
+        moved_noted shape quiet quiet_sound from place loc most top put.all stand stand' (subst (IsSound shape) (sym same) after) from_within.1 to_within
         (let least : top ≡ min most (length (list_at out loc)) = omega (arith, top_is, long, less) in least)
         (put_lists ∙ ap (λ (table : Table). table.lists) (sym same)) stand_is noted_is
         ∙ ap (whereabouts shape) same

@@ -12,7 +12,7 @@ use Rattle.rc_play_model.specs.Table.{Table, IsSound, list_at, place_of}
 use Rattle.rc_play_model.specs.Bound.{HoldsCards, HoldsReferences}
 use Rattle.rc_play_model.proofs.FoundLemmas.{found, index_found}
 use Rattle.rc_table.specs.Whereabouts.{whereabouts, noted, noted_in}
-use Rattle.rc_table.proofs.OnePlace.{is_card, one_place}
+use Rattle.rc_play_model.proofs.OnePlace.{is_card, one_place}
 
 -- where nothing stands
 abbrev pub nowhere : ℕ × ℕ

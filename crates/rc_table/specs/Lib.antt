@@ -1,4 +1,5 @@
 pub mod Places
+pub mod Marks
 pub mod Shape
 pub mod Rows
 pub mod RowsSeen

@@ -18,10 +18,10 @@ abbrev pub noted_in : Shape → List (List ℕ) → ℕ → ℕ → List (ℕ ×
 noted_in shape lists loc from stand =
     if holds_references (slice_get shape.places loc) then stand else noted loc from (drop from (slice_index_or lists loc [])) stand
 
--- a table of these lists, whose numbers don't matter
+-- a table of these lists, whose numbers and marks don't matter
 abbrev pub laid_out : List (List ℕ) → Table
-laid_out lists = record { lists = lists; numbers = [] }
+laid_out lists = record { lists = lists; numbers = []; marks = [] }
 
 -- the lists of a sound table
 abbrev pub AreSound : Shape → List (List ℕ) → Type 0
-AreSound shape lists = (numbers : List ℤ) × IsSound shape (record { lists = lists; numbers = numbers })
+AreSound shape lists = (numbers : List ℤ) × (marks : List (List ℕ)) × IsSound shape (record { lists = lists; numbers = numbers; marks = marks })

@@ -1,10 +1,12 @@
 //! What changes a table. None of it takes memory.
-ghost use Rattle.std.specs.Prelude.{◌≡◌, ◌<◌, ◌≤◌, true, length, take};
+ghost use Rattle.std.specs.Prelude.{◌≡◌, ◌<◌, ◌≤◌, true, length, take, false, All};
 ghost use Rattle.std.specs.List.Sorted.{IsPermutation};
 ghost use Rattle.rc_model.specs.Clamp.{IsWithinClamp};
 ghost use Rattle.rc_model.specs.Numbers.{below};
 ghost use Rattle.rc_play_model.specs.Bound.{HoldsCards, HoldsReferences};
-ghost use Rattle.rc_play_model.specs.Table.{list_at, put_top, put_bottom, remember_top, remember_bottom, has_room, forget_in, place_of, set_number, taken, reorder};
+ghost use Rattle.rc_play_model.specs.Table.{list_at, put_top, put_bottom, remember_top, remember_bottom, has_room, forget_in, place_of, loc_of, set_marks, set_number, taken, reorder};
+ghost use Rattle.rc_play_model.specs.Sees.{sees};
+ghost use Rattle.rc_table.specs.Marks.{seats_in};
 ghost use Rattle.rc_table.specs.Laid.{relaid};
 
 use crate::table::Table;
@@ -13,7 +15,7 @@ use rc_names::limits::MOST_IN_LIST;
 use rc_play_model::edits_keep_tables_sound;
 
 impl Table {
-    /// Takes a card out of its place and puts it on top of a location of cards.
+    /// Takes a card out of its place and puts it on top of a location of cards. It loses its marks.
     pub fn put_top(&mut self, id: u16, loc: u16)
         requires card { id < length self.old.shape.faces }
         requires loc { HoldsCards self.old.shape loc }
@@ -46,9 +48,10 @@ impl Table {
             top,
             id,
         );
+        self.marks.clear(id);
     }
 
-    /// Takes a card out of its place and puts it at the bottom of a location of cards.
+    /// Takes a card out of its place and puts it at the bottom of a location of cards. It loses its marks.
     pub fn put_bottom(&mut self, id: u16, loc: u16)
         requires card { id < length self.old.shape.faces }
         requires loc { HoldsCards self.old.shape loc }
@@ -58,6 +61,7 @@ impl Table {
         // what is known of a sound table
         let _shape = self.shape();
         let (from, place) = self.place_of(id);
+        self.marks.clear(id);
         self.move_between(from, place, loc, 0);
     }
 
@@ -130,6 +134,17 @@ impl Table {
         }
     }
 
+    /// Marks a card for these seats, bit s for seat s, and for no other.
+    pub fn set_marks(&mut self, id: u16, seats: u8)
+        requires card { id < length self.old.shape.faces }
+        requires players { All (λ seat. seat < self.old.shape.players) (seats_in seats) }
+        requires unseen { All (λ seat. sees self.old.shape seat (loc_of self.old.shape self.old.table id) ≡ false) (seats_in seats) }
+        ensures { self.new ≡ relaid self.old (set_marks id (seats_in seats) self.old.table) }
+    {
+        edits_keep_tables_sound();
+        self.marks.set(id, seats);
+    }
+
     /// Sets a number. Nothing changes where there is no such number.
     pub fn set_number(&mut self, num: u16, value: i64)
         requires clamped { IsWithinClamp value }
@@ -141,7 +156,7 @@ impl Table {
         }
     }
 
-    /// Puts the list of a location, of whatever kind, into another order.
+    /// Puts the list of a location, of whatever kind, into another order. None of its cards is marked then.
     pub fn reorder(&mut self, loc: u16, order: &[u16])
         requires loc { loc < length self.old.shape.places }
         requires order { IsPermutation (below (length (list_at self.old.table loc))) order.now }
@@ -152,6 +167,7 @@ impl Table {
         let _shape = self.shape();
         let mut list = [0; MOST_IN_LIST];
         let count = reordered(self.list(loc), order, &mut list);
+        self.marks.clear_all(self.lists.list(loc));
         self.relist(loc, &list[..count]);
     }
 }

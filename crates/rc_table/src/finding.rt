@@ -2,7 +2,8 @@
 ghost use Rattle.std.specs.Prelude.{◌≡◌, ◌<◌, nat_lt, if◌then◌else◌, length, slice_get, reverse, remove, Some, MatchOption};
 ghost use Rattle.rc_model.specs.Limits.{most_in_mem, most_references};
 ghost use Rattle.rc_play_model.specs.Shape.{holds_references};
-ghost use Rattle.rc_play_model.specs.Table.{list_at, place_of, references, has_room, without_face, forget_in};
+ghost use Rattle.rc_play_model.specs.Table.{list_at, marks_of, is_marked, place_of, references, has_room, without_face, forget_in};
+ghost use Rattle.rc_table.specs.Marks.{seats_in};
 ghost use Rattle.rc_table.specs.Restored.{taken_at};
 
 use crate::faces::have_same_face;
@@ -33,6 +34,23 @@ impl Table {
         ensures stands { slice_get (list_at self.now.table result.0) result.1 ≡ Some id }
     {
         self.whereabouts[id as usize]
+    }
+
+    /// A card's marks, bit s for seat s.
+    pub fn marks(&self, id: u16) -> u8
+        requires { id < length self.now.shape.faces }
+        ensures { seats_in result ≡ marks_of self.now.table.marks id }
+    {
+        self.marks.of(id)
+    }
+
+    /// Whether a card is marked for a seat.
+    pub fn is_marked(&self, id: u16, seat: u8) -> bool
+        requires card { id < length self.now.shape.faces }
+        requires seat { seat < 8 }
+        ensures { result ≡ is_marked self.now.table.marks seat id }
+    {
+        self.marks.has(id, seat)
     }
 
     // How many references a location holds.

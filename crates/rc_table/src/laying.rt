@@ -2,6 +2,7 @@
 ghost use Rattle.std.specs.Prelude.{◌≡◌, length, map};
 ghost use Rattle.rc_play_model.specs.Table.{IsSound};
 ghost use Rattle.rc_table.specs.Laid.{relaid};
+ghost use Rattle.rc_table.specs.Marks.{seats_in};
 ghost use Rattle.rc_table.specs.Refilled.{CanRefill, refilled, DifferAtMostIn};
 
 use crate::table::Table;
@@ -16,16 +17,18 @@ impl Table {
         self.lists.copy_from(&other.lists);
         self.whereabouts.copy_from_slice(&other.whereabouts);
         self.numbers.copy_from_slice(&other.numbers);
+        self.marks.copy_from(&other.marks);
     }
 
-    /// Becomes the table of these lists and numbers, in the same shape. That table must be sound.
-    pub fn lay(&mut self, lists: &[Vec<u16>], numbers: &[i64])
-        requires { IsSound self.old.shape (record { lists = map (λ list. list.items) lists.now; numbers = numbers.now }) }
-        ensures { self.new ≡ relaid self.old (record { lists = map (λ list. list.items) lists.now; numbers = numbers.now }) }
+    /// Becomes the table of these lists, numbers and marks, in the same shape. That table must be sound.
+    pub fn lay(&mut self, lists: &[Vec<u16>], numbers: &[i64], marks: &[u8])
+        requires { IsSound self.old.shape (record { lists = map (λ list. list.items) lists.now; numbers = numbers.now; marks = map seats_in marks.now }) }
+        ensures { self.new ≡ relaid self.old (record { lists = map (λ list. list.items) lists.now; numbers = numbers.now; marks = map seats_in marks.now }) }
     {
         self.lists.lay(lists);
         note_all(&mut self.whereabouts, &self.shape, &self.lists);
         self.numbers.copy_from_slice(numbers);
+        self.marks.lay(marks);
     }
 
     /// Writes ids over what these locations hold, one location after another, each with as many of them as it has. The ids are

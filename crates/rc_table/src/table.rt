@@ -7,6 +7,7 @@ ghost use Rattle.rc_play_model.specs.Table.{IsSound, list_at, number_at, at_home
 ghost use Rattle.rc_play_model.specs.Bound.{HasHomes};
 ghost use Rattle.rc_table.specs.Laid.{rooms};
 
+use crate::marks::Marks;
 use crate::rows::Rows;
 use crate::shape::Shape;
 use crate::whereabouts::at_home;
@@ -16,7 +17,7 @@ use std::alloc::Global;
 use std::marker::Model;
 use std::sync::Arc;
 
-/// Where the cards of a match are: the list of each location from bottom to top, and the numbers. Each table is sound, and
+/// Where the cards of a match are: the list of each location from bottom to top, the numbers, and for which seats each card is marked. Each table is sound, and
 /// knows the shape that it is laid for.
 #[derive(Drop)]
 pub struct Table {
@@ -26,6 +27,7 @@ pub struct Table {
     // each card's location, and its place there
     pub(crate) whereabouts: Vec<(u16, u16)>,
     pub(crate) numbers: Vec<i64>,
+    pub(crate) marks: Marks,
 }
 
 impl Model for Table {
@@ -33,13 +35,13 @@ impl Model for Table {
 
     ghost Value = { Laid };
 
-    ghost view = { λ t. record { shape = t.shape.value; table = record { lists = t.lists.all; numbers = t.numbers.items } } };
+    ghost view = { λ t. record { shape = t.shape.value; table = record { lists = t.lists.all; numbers = t.numbers.items; marks = t.marks } } };
 
-    ghost invariant = { λ t. IsLaid (record { shape = t.shape.value; table = record { lists = t.lists.all; numbers = t.numbers.items } }) t.lists.room t.whereabouts.items };
+    ghost invariant = { λ t. IsLaid (record { shape = t.shape.value; table = record { lists = t.lists.all; numbers = t.numbers.items; marks = t.marks } }) t.lists.room t.whereabouts.items };
 }
 
 impl Table {
-    /// The table of the start: each card in its first location, no reference, and all numbers 0. It takes all memory that
+    /// The table of the start: each card in its first location, no reference, all numbers 0, and no mark. It takes all memory that
     /// later edits need.
     pub fn new(alloc: Global, shape: &Arc<Shape>) -> Result<Table, Memory>
         ensures { IfOk result (λ table. table ≡ record { shape = shape.now.value; table = opening shape.now.value }) }
@@ -51,11 +53,13 @@ impl Table {
         let lists = homes(alloc, &shape)?;
         let whereabouts = at_home(alloc, &shape, &lists)?;
         let numbers = vec![in alloc; 0; shape.numbers() as usize]?;
+        let marks = Marks::new(alloc, shape.cards() as usize)?;
         Ok(Table {
             shape,
             lists,
             whereabouts,
             numbers,
+            marks,
         })
     }
 
@@ -68,6 +72,7 @@ impl Table {
             lists: self.lists.copy(alloc)?,
             whereabouts: Vec::from_slice(alloc, &self.whereabouts)?,
             numbers: Vec::from_slice(alloc, &self.numbers)?,
+            marks: self.marks.copy(alloc)?,
         })
     }
 

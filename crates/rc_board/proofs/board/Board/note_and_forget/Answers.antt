@@ -18,7 +18,7 @@ kept c =
     noted_edit (forgotten c.id_at-old.result c.args.loc c.in-Some.place) (past_seen c.self.inside.past) (past_seen c.note.new.self) now
     c.take_reference.new.self (taken_at c.args.loc c.in-Some.place now.table) c.in-Ok.ensures.noted c.take_reference.ensures
     (forgotten_back now.shape now.table c.id_at-old.result c.args.loc c.in-Some.place c.shape-sound.ensures.sound holds c.in-Some.ensures.0 c.id_at-old.ensures)
-    holds c.shape-sound.ensures.sound c.self.invariant
+    (holds, tt) c.shape-sound.ensures.sound c.self.invariant
 
 pub invariant_of-self-2 : goal.invariant_of-self-2
 invariant_of-self-2 c = (kept c).0

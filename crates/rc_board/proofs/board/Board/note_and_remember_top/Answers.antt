@@ -19,7 +19,7 @@ kept c =
     (remember_top now.shape c.args.id c.args.loc now.table) c.in-Ok.ensures.noted c.note_top.ensures
     (remembered_top_back now.shape now.table c.args.id c.args.loc c.count_of-at.result c.shape-sound.ensures.sound holds (sym c.has_room.ensures ∙ c.if-not-has_room.false)
     c.count_of-at.ensures)
-    holds c.shape-sound.ensures.sound c.self.invariant
+    (holds, tt) c.shape-sound.ensures.sound c.self.invariant
 
 pub invariant_of-self-2 : goal.invariant_of-self-2
 invariant_of-self-2 c = (kept c).0

@@ -18,7 +18,7 @@ kept c =
     noted_edit (noted c.args.loc 0) (past_seen c.self.inside.past) (past_seen c.note.new.self) now c.note_bottom.new.self
     (remember_bottom now.shape c.args.id c.args.loc now.table) c.in-Ok.ensures.noted c.note_bottom.ensures
     (remembered_bottom_back now.shape now.table c.args.id c.args.loc c.shape-sound.ensures.sound holds (sym c.has_room.ensures ∙ c.if-not-has_room.false))
-    holds c.shape-sound.ensures.sound c.self.invariant
+    (holds, tt) c.shape-sound.ensures.sound c.self.invariant
 
 pub invariant_of-self-2 : goal.invariant_of-self-2
 invariant_of-self-2 c = (kept c).0

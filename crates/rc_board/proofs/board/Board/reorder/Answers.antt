@@ -1,13 +1,13 @@
-use Rattle.std.proofs.Common.{◌<◌, length, sym, ap, ◌∙◌, subst, arith}
+use Rattle.std.proofs.Common.{◌<◌, length, sym, ap, ◌∙◌, subst}
 use Rattle.std.specs.List.Sorted.{IsPermutation}
 use Rattle.rc_model.specs.Numbers.{below}
 use Rattle.rc_play_model.specs.Table.{list_at, reorder}
 use Rattle.rc_table.proofs.Orders.{order_long}
-use Rattle.rc_board.specs.Undo.{Kept, ordered, edited}
-use Rattle.rc_board.specs.Past.{noted_in, kept_of}
+use Rattle.rc_board.specs.Undo.{Kept, edited}
+use Rattle.rc_board.specs.Past.{kept_of}
 use Rattle.rc_board.specs.PastSeen.{past_seen}
-use Rattle.rc_board.proofs.UndoLemmas.{list_back}
-use Rattle.rc_board.proofs.PastLemmas.{AreNoted, noted_edit}
+use Rattle.rc_board.proofs.OrderLemmas.{order_comes_back}
+use Rattle.rc_board.proofs.PastLemmas.{AreNoted, order_noted}
 use Rattle.rc_board.proofs.KeepsLemmas.{keeps_edit}
 use Rattle.rc_board.proofs.board.Board.reorder.Goals as goal
 
@@ -20,11 +20,11 @@ kept c =
     let order = c.args.order.now in
     let within = subst (λ (k : Kept). loc < length k.laid.shape.places) (sym c.self.view_is) c.requires.loc in
     let permutes = subst (λ (k : Kept). IsPermutation (below (length (list_at k.laid.table loc))) order) (sym c.self.view_is) c.requires.order in
-    let same = c.shape-sound.ensures.sound.locations in
-    noted_edit (ordered loc (list_at now.table loc)) (past_seen c.self.inside.past) (past_seen c.note_order.new.self) now c.reorder.new.self
-    (reorder loc order now.table) (c.in-Ok.ensures.noted ∙ ap (λ list. noted_in (ordered loc list) (past_seen c.self.inside.past)) c.list.ensures.is) c.reorder.ensures
-    (list_back now.table loc order (omega (arith, within, same)) (order_long _ order permutes))
-    within c.shape-sound.ensures.sound c.self.invariant
+    let sound = c.shape-sound.ensures.sound in
+    order_noted (past_seen c.self.inside.past) (past_seen c.note_order.new.self) now c.reorder.new.self (reorder loc order now.table) loc (list_at now.table loc)
+    c.in-Ok.ensures.noted c.reorder.ensures
+    (λ bytes are. order_comes_back now.shape now.table loc order bytes sound within (order_long _ order permutes) are)
+    within sound c.self.invariant
 
 pub invariant_of-self-2 : goal.invariant_of-self-2
 invariant_of-self-2 c = (kept c).0

@@ -16,7 +16,7 @@ take_out-requires-clause-list c =
     let id = c.args.id in
     let loc = c.args.loc in
     let shape = c.self.inside.shape.value in
-    let table : Table = record { lists = c.self.inside.lists.all; numbers = c.self.inside.numbers.items } in
+    let table : Table = record { lists = c.self.inside.lists.all; numbers = c.self.inside.numbers.items; marks = c.self.inside.marks } in
     let card = subst (λ (laid : Laid). id < length laid.shape.faces) (sym c.self.view_is) c.requires.card in
     let holds = subst (λ (laid : Laid). HoldsCards laid.shape loc) (sym c.self.view_is) c.requires.loc in
     let here = subst (λ (laid : Laid). (c.args.from, c.args.place) ≡ place_of laid.shape laid.table id) (sym c.self.view_is) c.requires.place in
@@ -29,7 +29,7 @@ take_out-requires-clause-place c =
     let id = c.args.id in
     let loc = c.args.loc in
     let shape = c.self.inside.shape.value in
-    let table : Table = record { lists = c.self.inside.lists.all; numbers = c.self.inside.numbers.items } in
+    let table : Table = record { lists = c.self.inside.lists.all; numbers = c.self.inside.numbers.items; marks = c.self.inside.marks } in
     let card = subst (λ (laid : Laid). id < length laid.shape.faces) (sym c.self.view_is) c.requires.card in
     let holds = subst (λ (laid : Laid). HoldsCards laid.shape loc) (sym c.self.view_is) c.requires.loc in
     let here = subst (λ (laid : Laid). (c.args.from, c.args.place) ≡ place_of laid.shape laid.table id) (sym c.self.view_is) c.requires.place in
@@ -42,7 +42,7 @@ put_on-top-requires-clause-list c =
     let id = c.args.id in
     let loc = c.args.loc in
     let shape = c.self.inside.shape.value in
-    let table : Table = record { lists = c.self.inside.lists.all; numbers = c.self.inside.numbers.items } in
+    let table : Table = record { lists = c.self.inside.lists.all; numbers = c.self.inside.numbers.items; marks = c.self.inside.marks } in
     let card = subst (λ (laid : Laid). id < length laid.shape.faces) (sym c.self.view_is) c.requires.card in
     let holds = subst (λ (laid : Laid). HoldsCards laid.shape loc) (sym c.self.view_is) c.requires.loc in
     let here = subst (λ (laid : Laid). (c.args.from, c.args.place) ≡ place_of laid.shape laid.table id) (sym c.self.view_is) c.requires.place in
@@ -56,7 +56,7 @@ put_on-top-requires-clause-room c =
     let id = c.args.id in
     let loc = c.args.loc in
     let shape = c.self.inside.shape.value in
-    let table : Table = record { lists = c.self.inside.lists.all; numbers = c.self.inside.numbers.items } in
+    let table : Table = record { lists = c.self.inside.lists.all; numbers = c.self.inside.numbers.items; marks = c.self.inside.marks } in
     let card = subst (λ (laid : Laid). id < length laid.shape.faces) (sym c.self.view_is) c.requires.card in
     let holds = subst (λ (laid : Laid). HoldsCards laid.shape loc) (sym c.self.view_is) c.requires.loc in
     let here = subst (λ (laid : Laid). (c.args.from, c.args.place) ≡ place_of laid.shape laid.table id) (sym c.self.view_is) c.requires.place in
@@ -72,7 +72,7 @@ note_top-requires-clause-ids c =
     let id = c.args.id in
     let loc = c.args.loc in
     let shape = c.self.inside.shape.value in
-    let table : Table = record { lists = c.self.inside.lists.all; numbers = c.self.inside.numbers.items } in
+    let table : Table = record { lists = c.self.inside.lists.all; numbers = c.self.inside.numbers.items; marks = c.self.inside.marks } in
     let card = subst (λ (laid : Laid). id < length laid.shape.faces) (sym c.self.view_is) c.requires.card in
     let holds = subst (λ (laid : Laid). HoldsCards laid.shape loc) (sym c.self.view_is) c.requires.loc in
     let here = subst (λ (laid : Laid). (c.args.from, c.args.place) ≡ place_of laid.shape laid.table id) (sym c.self.view_is) c.requires.place in
@@ -88,7 +88,7 @@ note_top-requires-clause-few c =
     let id = c.args.id in
     let loc = c.args.loc in
     let shape = c.self.inside.shape.value in
-    let table : Table = record { lists = c.self.inside.lists.all; numbers = c.self.inside.numbers.items } in
+    let table : Table = record { lists = c.self.inside.lists.all; numbers = c.self.inside.numbers.items; marks = c.self.inside.marks } in
     let card = subst (λ (laid : Laid). id < length laid.shape.faces) (sym c.self.view_is) c.requires.card in
     let holds = subst (λ (laid : Laid). HoldsCards laid.shape loc) (sym c.self.view_is) c.requires.loc in
     let here = subst (λ (laid : Laid). (c.args.from, c.args.place) ≡ place_of laid.shape laid.table id) (sym c.self.view_is) c.requires.place in
@@ -104,7 +104,7 @@ note_top-requires-clause-id c =
     let id = c.args.id in
     let loc = c.args.loc in
     let shape = c.self.inside.shape.value in
-    let table : Table = record { lists = c.self.inside.lists.all; numbers = c.self.inside.numbers.items } in
+    let table : Table = record { lists = c.self.inside.lists.all; numbers = c.self.inside.numbers.items; marks = c.self.inside.marks } in
     let card = subst (λ (laid : Laid). id < length laid.shape.faces) (sym c.self.view_is) c.requires.card in
     let holds = subst (λ (laid : Laid). HoldsCards laid.shape loc) (sym c.self.view_is) c.requires.loc in
     let here = subst (λ (laid : Laid). (c.args.from, c.args.place) ≡ place_of laid.shape laid.table id) (sym c.self.view_is) c.requires.place in
@@ -118,7 +118,7 @@ note_top-requires-clause-place c =
     let id = c.args.id in
     let loc = c.args.loc in
     let shape = c.self.inside.shape.value in
-    let table : Table = record { lists = c.self.inside.lists.all; numbers = c.self.inside.numbers.items } in
+    let table : Table = record { lists = c.self.inside.lists.all; numbers = c.self.inside.numbers.items; marks = c.self.inside.marks } in
     let card = subst (λ (laid : Laid). id < length laid.shape.faces) (sym c.self.view_is) c.requires.card in
     let holds = subst (λ (laid : Laid). HoldsCards laid.shape loc) (sym c.self.view_is) c.requires.loc in
     let here = subst (λ (laid : Laid). (c.args.from, c.args.place) ≡ place_of laid.shape laid.table id) (sym c.self.view_is) c.requires.place in
@@ -134,7 +134,7 @@ note_top-requires-clause-last c =
     let id = c.args.id in
     let loc = c.args.loc in
     let shape = c.self.inside.shape.value in
-    let table : Table = record { lists = c.self.inside.lists.all; numbers = c.self.inside.numbers.items } in
+    let table : Table = record { lists = c.self.inside.lists.all; numbers = c.self.inside.numbers.items; marks = c.self.inside.marks } in
     let card = subst (λ (laid : Laid). id < length laid.shape.faces) (sym c.self.view_is) c.requires.card in
     let holds = subst (λ (laid : Laid). HoldsCards laid.shape loc) (sym c.self.view_is) c.requires.loc in
     let here = subst (λ (laid : Laid). (c.args.from, c.args.place) ≡ place_of laid.shape laid.table id) (sym c.self.view_is) c.requires.place in
@@ -147,7 +147,7 @@ invariant_of-self c =
     let id = c.args.id in
     let loc = c.args.loc in
     let shape = c.self.inside.shape.value in
-    let table : Table = record { lists = c.self.inside.lists.all; numbers = c.self.inside.numbers.items } in
+    let table : Table = record { lists = c.self.inside.lists.all; numbers = c.self.inside.numbers.items; marks = c.self.inside.marks } in
     let card = subst (λ (laid : Laid). id < length laid.shape.faces) (sym c.self.view_is) c.requires.card in
     let holds = subst (λ (laid : Laid). HoldsCards laid.shape loc) (sym c.self.view_is) c.requires.loc in
     let here = subst (λ (laid : Laid). (c.args.from, c.args.place) ≡ place_of laid.shape laid.table id) (sym c.self.view_is) c.requires.place in
@@ -164,7 +164,7 @@ invariant_of-self c =
     ∙ length-noted_in shape all c.args.from c.args.place stand.items in
     let noted = refilled stand.len stand.items c.note_top.new.stand stand.ok.0 long
     ∙ put_noted shape table c.self.invariant.limits sound id card loc holds c.args.from c.args.place here after c.self.inside.lists.room c.put_on-top.result c.take_out.new.self c.put_on-top.new.self c.take_out.ensures c.put_on-top.ensures.lists c.put_on-top.ensures.place stand.items c.note_top.new.stand c.self.invariant.noted is in
-    rw lists
+    rw (lists, c.clear.ensures)
     (record {
       limits = c.self.invariant.limits;
       sound = after;

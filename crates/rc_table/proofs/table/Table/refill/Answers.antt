@@ -9,7 +9,7 @@ use Rattle.rc_table.proofs.table.Table.refill.Goals as goal
 
 pub note_all-requires-clause-each : goal.note_all-requires-clause-each
 note_all-requires-clause-each c =
-    let table : Table = record { lists = c.self.inside.lists.all; numbers = c.self.inside.numbers.items } in
+    let table : Table = record { lists = c.self.inside.lists.all; numbers = c.self.inside.numbers.items; marks = c.self.inside.marks } in
     ap length (c.deref_mut.ensures.value ∙ c.self.invariant.noted) ∙ noted_all c.self.inside.shape.value table
     ∙ ap (λ (shape : Shape). length shape.faces) (sym c.deref.ensures)
 

@@ -10,7 +10,7 @@ use Rattle.rc_table.proofs.table.Table.relist.Goals as goal
 pub note_cards-requires-clause-ids : goal.note_cards-requires-clause-ids
 note_cards-requires-clause-ids c =
     let shape = c.self.inside.shape.value in
-    let table : Table = record { lists = c.self.inside.lists.all; numbers = c.self.inside.numbers.items } in
+    let table : Table = record { lists = c.self.inside.lists.all; numbers = c.self.inside.numbers.items; marks = c.self.inside.marks } in
     let loc = c.args.loc in
     let list = c.args.list.now in
     let here = ap length c.list.ensures in
@@ -23,7 +23,7 @@ note_cards-requires-clause-ids c =
 pub note_cards-requires-clause-few : goal.note_cards-requires-clause-few
 note_cards-requires-clause-few c =
     let shape = c.self.inside.shape.value in
-    let table : Table = record { lists = c.self.inside.lists.all; numbers = c.self.inside.numbers.items } in
+    let table : Table = record { lists = c.self.inside.lists.all; numbers = c.self.inside.numbers.items; marks = c.self.inside.marks } in
     let loc = c.args.loc in
     let list = c.args.list.now in
     let here = ap length c.list.ensures in
@@ -36,7 +36,7 @@ note_cards-requires-clause-few c =
 pub invariant_of-self : goal.invariant_of-self
 invariant_of-self c =
     let shape = c.self.inside.shape.value in
-    let table : Table = record { lists = c.self.inside.lists.all; numbers = c.self.inside.numbers.items } in
+    let table : Table = record { lists = c.self.inside.lists.all; numbers = c.self.inside.numbers.items; marks = c.self.inside.marks } in
     let loc = c.args.loc in
     let list = c.args.list.now in
     let here = ap length c.list.ensures in
