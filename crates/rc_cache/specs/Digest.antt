@@ -1,14 +1,20 @@
 -- The hash of an ask. Any function of the ask would do; equal asks then have equal hashes. This one leaves out the site, the open stages
 -- and the counts of decisions: where two views of one seat differ, their tables or turn counts almost always do.
-use Rattle.std.specs.Prelude.{ℕ, List, ◌++◌, flat_map, fold}
+use Rattle.std.specs.Prelude.{ℕ, ◌+◌, List, [], ◌∷◌, ◌++◌, length, flat_map, fold, Option, Some, None}
 use Rattle.std.specs.Hash as fed
 use Rattle.std.specs.Hash.FoldHasher as folding
-use Rattle.rc_play_model.specs.View.{Sight, with_faces, with_length, View}
+use Rattle.rc_play_model.specs.View.{Sight, with_faces, partly, View}
 use Rattle.rc_play_model.specs.Tally.{Ask}
+
+-- each place that is known, from one place on, and what is known of it
+abbrev pub known_fed : ℕ → List (Option ℕ) → List (List ℕ)
+known_fed at [] = []
+known_fed at (Some number ∷ os) = fed.usize at ++ (fed.u16 number ++ known_fed (at + 1) os)
+known_fed at (None ∷ os) = known_fed (at + 1) os
 
 abbrev pub sight_fed : Sight → List (List ℕ)
 sight_fed (with_faces numbers) = fed.slice fed.u16 numbers
-sight_fed (with_length length) = fed.u16 length
+sight_fed (partly os) = fed.usize (length os) ++ known_fed 0 os
 
 abbrev pub view_fed : View → List (List ℕ)
 view_fed view =

@@ -6,7 +6,7 @@ use Rattle.std.specs.Option.{option_eq}
 use Rattle.std.specs.Ordering.{int_eq}
 use lib.Pointwise.{pointwise}
 use Rattle.rc_play_model.specs.Control.{Frame, Control}
-use Rattle.rc_play_model.specs.View.{Sight, with_faces, with_length, View}
+use Rattle.rc_play_model.specs.View.{Sight, with_faces, partly, View}
 use Rattle.rc_play_model.specs.Tally.{Ask}
 use Rattle.rc_redraw.specs.Asking.{Key}
 
@@ -19,9 +19,9 @@ same_control c d =
 
 abbrev pub same_sight : Sight → Sight → Bool
 same_sight (with_faces fs) (with_faces gs) = pointwise nat_eq fs gs
-same_sight (with_faces fs) (with_length n) = false
-same_sight (with_length n) (with_faces gs) = false
-same_sight (with_length n) (with_length m) = n == m
+same_sight (with_faces fs) (partly os) = false
+same_sight (partly os) (with_faces gs) = false
+same_sight (partly os) (partly ps) = pointwise (option_eq nat_eq) os ps
 
 abbrev pub same_view : View → View → Bool
 same_view v w =

@@ -68,7 +68,7 @@ fn same_sight(first: &Sight, second: &Sight) -> bool
 {
     match (first, second) {
         (Sight::Faces(numbers), Sight::Faces(others)) => numbers == others,
-        (Sight::Length(length), Sight::Length(other)) => length == other,
+        (Sight::Partly(numbers), Sight::Partly(others)) => numbers == others,
         _ => false,
     }
 }

@@ -5,21 +5,21 @@ use Rattle.std.proofs.Math.ListN.{get_or-map}
 use Rattle.rc_sheet_model.specs.WellFormed.{is_mem}
 use Rattle.rc_play_model.specs.Shape.{Place, Shape, holds_references}
 use Rattle.rc_play_model.specs.View.{Sight as PureSight, View as PureView, sights_of}
-use Rattle.rc_play_model.specs.Redraw.{mems_of, faces_at, hidden_at, ids_at, seen_faces, hidden_count, filled}
+use Rattle.rc_play_model.specs.Redraw.{mems_of, faces_at, hidden_at, ids_at, seen_faces, hidden_count, filled, peeked_at, peeked}
 use Rattle.rc_play_model.specs.RedrawLaws.{IsViewOfSound}
 use Rattle.rc_view.specs.Seen.{sight_seen}
-use Rattle.rc_redraw.specs.Hiding.{hiding_from}
+use Rattle.rc_redraw.specs.Hiding.{hiding_from, pattern_of, patterns}
 use Rattle.rc_view.specs.declared.sight.Sight.{Sight}
 
 -- what is seen has a part for each location
-sights_count : (shape : Shape) (seat : ℕ) (places : List Place) (lists : List (List ℕ)) → length (sights_of shape seat places lists) ≡ length lists
-sights_count shape seat places [] = refl
-sights_count shape seat [] (ids ∷ lists) = ap suc (sights_count shape seat [] lists)
-sights_count shape seat (place ∷ places) (ids ∷ lists) = ap suc (sights_count shape seat places lists)
+sights_count : (shape : Shape) (marks : List (List ℕ)) (seat : ℕ) (places : List Place) (lists : List (List ℕ)) → length (sights_of shape marks seat places lists) ≡ length lists
+sights_count shape marks seat places [] = refl
+sights_count shape marks seat [] (ids ∷ lists) = ap suc (sights_count shape marks seat [] lists)
+sights_count shape marks seat (place ∷ places) (ids ∷ lists) = ap suc (sights_count shape marks seat places lists)
 
 pub each_seen : (shape : Shape) (view : PureView) → IsViewOfSound shape view → length view.sights ≡ length shape.places
 each_seen shape view of =
-    ap (λ v. length v.sights) of.2 ∙ sights_count shape view.seat shape.places of.0.lists ∙ of.1.locations
+    ap (λ v. length v.sights) of.2 ∙ sights_count shape of.0.marks view.seat shape.places of.0.lists ∙ of.1.locations
 
 mem_at : (places : List Place) (i : ℕ) → i < length places → get_or (mems_of places) i false ≡ holds_references (slice_get places i)
 mem_at [] i less = absurd (omega (arith, less))
@@ -67,3 +67,17 @@ module _ (places : List Place) (sights : List Sight) (i : ℕ) (lengths : length
 
   pub hidden-more : hidden_count (drop i (mems_of places)) (drop i (map sight_seen sights)) ≡ hidden_at m (sight_seen s) + hidden_count rest-mems rest-sights
   hidden-more = ap₂ hidden_count mems-are sights-are
+
+  pub patterns-more : (seen : List ℕ) (a : ℕ) →
+      patterns (drop i (mems_of places)) (drop i (map sight_seen sights)) (drop a seen)
+      ≡ pattern_of m (sight_seen s) (drop a seen) ++ patterns rest-mems rest-sights (drop (a + length (faces_at m (sight_seen s))) seen)
+  patterns-more seen a =
+      ap₂ (λ ms ss. patterns ms ss (drop a seen)) mems-are sights-are
+      ∙ ap (λ x. pattern_of m (sight_seen s) (drop a seen) ++ patterns rest-mems rest-sights x) (drop-drop (length (faces_at m (sight_seen s))) a seen)
+
+  pub peeked-more : (seen : List ℕ) (a : ℕ) →
+      peeked (drop i (mems_of places)) (drop i (map sight_seen sights)) (drop a seen)
+      ≡ peeked_at m (sight_seen s) (drop a seen) ++ peeked rest-mems rest-sights (drop (a + length (faces_at m (sight_seen s))) seen)
+  peeked-more seen a =
+      ap₂ (λ ms ss. peeked ms ss (drop a seen)) mems-are sights-are
+      ∙ ap (λ x. peeked_at m (sight_seen s) (drop a seen) ++ peeked rest-mems rest-sights x) (drop-drop (length (faces_at m (sight_seen s))) a seen)

@@ -7,3 +7,4 @@ pub mod Need
 pub mod Redraws
 pub mod Reply
 pub mod Taken
+pub mod Marked

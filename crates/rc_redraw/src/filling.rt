@@ -1,21 +1,22 @@
 //! What each location of a redrawn table holds.
-ghost use Rattle.std.specs.Prelude.{◌≡◌, ◌≤◌, length, map, IfOk};
+ghost use Rattle.std.specs.Prelude.{◌≡◌, ◌≤◌, ◌++◌, length, map, IfOk, OnOk};
 ghost use Rattle.rc_play_model.specs.Redraw.{mems_of, faces_at, hidden_at, ids_at, seen_faces, hidden_count, filled as filled_by};
-ghost use Rattle.rc_redraw.specs.Hiding.{hiding_from};
+ghost use Rattle.rc_redraw.specs.Hiding.{hiding_from, pattern_of, patterns as patterns_of};
 ghost use Rattle.rc_view.specs.Seen.{sight_seen};
 
-use crate::seen::faces_shown;
+use crate::places::{count_unknown, mix, push_pattern};
+use crate::seen::known_places;
 use rc_deck::Memory;
 use rc_table::Shape;
 use rc_view::Sight;
 use std::alloc::Global;
 
-// How many unseen card places a location has.
+// How many card places of a location aren't known.
 fn hidden_places(mem: bool, sight: &Sight) -> usize
     ensures { result ≡ hidden_at mem (sight_seen sight.now) }
 {
     match sight {
-        Sight::Length(length) if !mem => *length as usize,
+        Sight::Partly(numbers) if !mem => count_unknown(numbers),
         _ => 0,
     }
 }
@@ -35,13 +36,13 @@ fn list_for(
     let ids = match sight {
         Sight::Faces(numbers) if mem => numbers.as_slice(),
         Sight::Faces(numbers) => &seen[..numbers.len()],
-        Sight::Length(_) if mem => &[],
-        Sight::Length(length) => &hidden[..*length as usize],
+        Sight::Partly(_) if mem => &[],
+        Sight::Partly(numbers) => return mix(alloc, numbers, seen, hidden),
     };
     Ok(Vec::from_slice(alloc, ids)?)
 }
 
-/// What the locations hold, with these ids for the seen card places in order and these for the unseen ones in order.
+/// What the locations hold, with these ids for the known places in order and these for the others in order.
 pub(crate) fn filled(
     alloc: Global,
     shape: &Shape,
@@ -69,13 +70,13 @@ pub(crate) fn filled(
             &hidden[hidden_from..],
         )?;
         lists.push(list)?;
-        seen_from += faces_shown(mem, sight).len();
+        seen_from += known_places(mem, sight);
         hidden_from += hidden_places(mem, sight);
     }
     Ok(lists)
 }
 
-/// The locations that have unseen card places.
+/// The locations that have card places which aren't known.
 pub(crate) fn hiding(alloc: Global, shape: &Shape, sights: &[Sight]) -> Result<Vec<u16>, Memory>
     requires { length sights.now ≡ length shape.now.places }
     ensures { IfOk result (λ locs. locs.items ≡ hiding_from 0 (mems_of shape.now.places) (map sight_seen sights.now)) }
@@ -88,4 +89,48 @@ pub(crate) fn hiding(alloc: Global, shape: &Shape, sights: &[Sight]) -> Result<V
         }
     }
     Ok(locs)
+}
+
+// Adds what is known of the places of a location, if it hides cards.
+fn push_places(
+    mem: bool,
+    sight: &Sight,
+    seen: &[u16],
+    pattern: &mut Vec<Option<u16>>,
+) -> Result<(), Memory>
+    requires { length (faces_at mem (sight_seen sight.now)) ≤ length seen.now }
+    ensures { OnOk result (pattern.new.items ≡ pattern.old.items ++ pattern_of mem (sight_seen sight.now) seen.now) }
+{
+    match sight {
+        Sight::Partly(numbers) if !mem => {
+            if count_unknown(numbers) > 0 {
+                push_pattern(numbers, seen, pattern)
+            } else {
+                Ok(())
+            }
+        }
+        _ => Ok(()),
+    }
+}
+
+/// What is known of the places of these locations, one location behind the other: the ids that known places take.
+pub(crate) fn patterns(
+    alloc: Global,
+    shape: &Shape,
+    sights: &[Sight],
+    seen: &[u16],
+) -> Result<Vec<Option<u16>>, Memory>
+    requires each { length sights.now ≡ length shape.now.places }
+    requires seen { length (seen_faces (mems_of shape.now.places) (map sight_seen sights.now)) ≡ length seen.now }
+    ensures { IfOk result (λ pattern. pattern.items ≡ patterns_of (mems_of shape.now.places) (map sight_seen sights.now) seen.now) }
+{
+    let mut pattern = Vec::with_capacity(alloc, shape.cards() as usize)?;
+    let mut from = 0;
+    for loc in 0..shape.locations() {
+        let mem = shape.holds_references(loc);
+        let sight = &sights[loc as usize];
+        push_places(mem, sight, &seen[from..], &mut pattern)?;
+        from += known_places(mem, sight);
+    }
+    Ok(pattern)
 }

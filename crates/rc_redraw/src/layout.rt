@@ -18,6 +18,7 @@ use std::alloc::Global;
 #[derive(Drop)]
 pub(crate) struct Layout {
     pub(crate) lists: Vec<Vec<u16>>,
+    pub(crate) seen: Vec<u16>,
     pub(crate) unused: Vec<u16>,
 }
 
@@ -32,6 +33,8 @@ pub(crate) fn layout_of(alloc: Global, shape: &Shape, sights: &[Sight]) -> Resul
         (seen_ids shape.now [] (seen_faces (mems_of shape.now.places) (map sight_seen sights.now))) layout.unused.items) }
     ensures unused { IfOk result (λ layout. layout.unused.items
         ≡ unused shape.now (seen_ids shape.now [] (seen_faces (mems_of shape.now.places) (map sight_seen sights.now)))) }
+    ensures seen { IfOk result (λ layout. layout.seen.items
+        ≡ seen_ids shape.now [] (seen_faces (mems_of shape.now.places) (map sight_seen sights.now))) }
     ensures few { IfOk result (λ layout. length layout.unused.items ≤ most_cards) }
 {
     seen_places_take_the_smallest();
@@ -39,5 +42,9 @@ pub(crate) fn layout_of(alloc: Global, shape: &Shape, sights: &[Sight]) -> Resul
     let taken = taken_for(alloc, shape, &faces)?;
     let unused = left_by(alloc, shape, &taken)?;
     let lists = filled(alloc, shape, sights, &taken.ids, &unused)?;
-    Ok(Layout { lists, unused })
+    Ok(Layout {
+        lists,
+        seen: taken.ids,
+        unused,
+    })
 }

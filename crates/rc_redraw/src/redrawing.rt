@@ -9,8 +9,10 @@ ghost use Rattle.rc_play_model.specs.View.{view_of};
 ghost use Rattle.rc_redraw.specs.Redraws.{redealt};
 ghost use Rattle.rc_view.specs.Seen.{view_seen};
 
-use crate::filling::hiding;
+use crate::filling::{hiding, patterns};
 use crate::layout::{Layout, layout_of};
+use crate::marks::marks_known;
+use crate::places::blend;
 use rc_deck::Memory;
 use rc_draw::shuffle_by;
 use rc_play_model::{
@@ -31,7 +33,11 @@ pub struct Redraws<'v> {
     table: Table,
     // the locations that hide cards
     hidden: Vec<u16>,
-    // their ids in ascending order
+    // the ids at their places that are known
+    pattern: Vec<Option<u16>>,
+    // and all that they hold, where some are known
+    content: Vec<u16>,
+    // the other ids in ascending order
     unused: Vec<u16>,
     // and in that of the table
     order: Vec<u16>,
@@ -52,7 +58,7 @@ impl<'v> Model for Redraws<'v> {
     ghost view = { λ r. record { shape = r.table.shape; view = view_seen r.view.now; table = r.table.table } };
 
     ghost invariant = { λ r. Keeps (record { shape = r.table.shape; view = view_seen r.view.now; table = r.table.table })
-        r.hidden.items r.unused.items r.order.items };
+        r.hidden.items r.pattern.items r.content.items r.unused.items r.order.items };
 }
 
 impl<'v> Redraws<'v> {
@@ -63,23 +69,35 @@ impl<'v> Redraws<'v> {
         ensures view { IfOk result (λ redraws. redraws.view ≡ view_seen view.now) }
     {
         seen_places_take_the_smallest();
-        let Layout { lists, unused } = layout_of(alloc, shape, &view.sights)?;
+        let Layout {
+            lists,
+            seen,
+            unused,
+        } = layout_of(alloc, shape, &view.sights)?;
+        // what a shape keeps
+        let _players = shape.players();
+        let marks = marks_known(alloc, shape, &view.sights, &seen, view.seat)?;
         let mut table = Table::new(alloc, shape)?;
-        table.lay(&lists, &view.numbers);
+        table.lay(&lists, &view.numbers, &marks);
         let hidden = hiding(alloc, shape, &view.sights)?;
+        let pattern = patterns(alloc, shape, &view.sights, &seen)?;
+        let content = vec![in alloc; 0; pattern.len()]?;
         let order = Vec::from_slice(alloc, &unused)?;
         Ok(Redraws {
             view,
             table,
             hidden,
+            pattern,
+            content,
             unused,
             order,
         })
     }
 
-    /// Deals the table of a key. In location order and from bottom to top, each seen card place has the smallest id of its face that
-    /// is left. The other ids, put into the order of the key, fill the unseen card places. References are the smallest ids of their
-    /// faces, and numbers are those of the view. The table is sound, and what the seat sees of it is the view.
+    /// Deals the table of a key. In location order and from bottom to top, each known place has the smallest id of its face that
+    /// is left. The other ids, put into the order of the key, fill the other card places. References are the smallest ids of their
+    /// faces, numbers are those of the view, and the cards that are known without being shown are marked for its seat. The table is
+    /// sound, and what the seat sees of it is the view.
     pub fn deal(&mut self, key: &[u8; 32])
         ensures is { self.new ≡ redealt key.now self.old }
         ensures sound { IsSound self.new.shape self.new.table }
@@ -89,7 +107,8 @@ impl<'v> Redraws<'v> {
         redrawn_tables_keep_the_view();
         seen_places_take_the_smallest();
         shuffle(&mut self.order, &self.unused, key);
-        self.table.refill(&self.hidden, &self.order);
+        blend(&mut self.content, &self.pattern, &self.order);
+        self.table.refill(&self.hidden, &self.content);
     }
 
     /// The table of the last key, or before the first one a table that looks like the view.

@@ -1,10 +1,11 @@
-//! The ids that seen card places take.
-ghost use Rattle.std.specs.Prelude.{◌≡◌, [], length, map, IfOk};
+//! The ids that known places take.
+ghost use Rattle.std.specs.Prelude.{◌≡◌, ◌++◌, [], length, map, IfOk, OnOk};
 ghost use Rattle.rc_play_model.specs.Redraw.{mems_of, faces_at, seen_faces, seen_ids};
 ghost use Rattle.rc_play_model.specs.Smallest.{AreEnough};
 ghost use Rattle.rc_redraw.specs.Taken.{Marks};
 ghost use Rattle.rc_view.specs.Seen.{sight_seen};
 
+use crate::places::{count_known, push_known};
 use rc_deck::Memory;
 use rc_play_model::seen_places_take_the_smallest;
 use rc_table::{Shape, face_number};
@@ -18,17 +19,32 @@ pub(crate) struct Taken {
     pub(crate) marks: Vec<bool>,
 }
 
-/// The faces at the seen card places of a location. One for references has none.
-pub(crate) fn faces_shown(mem: bool, sight: &Sight) -> &[u16]
-    ensures { result.now ≡ faces_at mem (sight_seen sight.now) }
+/// How many known places a location has. One for references has none.
+pub(crate) fn known_places(mem: bool, sight: &Sight) -> usize
+    ensures { result ≡ length (faces_at mem (sight_seen sight.now)) }
 {
     match sight {
-        Sight::Faces(numbers) if !mem => numbers,
-        _ => &[],
+        Sight::Faces(numbers) if !mem => numbers.len(),
+        Sight::Partly(numbers) if !mem => count_known(numbers),
+        _ => 0,
     }
 }
 
-/// The faces at the seen card places, in location order and from bottom to top.
+// Adds the faces at the known places of a location.
+fn push_faces(mem: bool, sight: &Sight, faces: &mut Vec<u16>) -> Result<(), Memory>
+    ensures { OnOk result (faces.new.items ≡ faces.old.items ++ faces_at mem (sight_seen sight.now)) }
+{
+    match sight {
+        Sight::Faces(numbers) if !mem => {
+            faces.extend_from_slice(numbers)?;
+            Ok(())
+        }
+        Sight::Partly(numbers) if !mem => push_known(numbers, faces),
+        _ => Ok(()),
+    }
+}
+
+/// The faces at the known places, in location order and from bottom to top.
 pub(crate) fn faces_seen(alloc: Global, shape: &Shape, sights: &[Sight]) -> Result<Vec<u16>, Memory>
     requires { length sights.now ≡ length shape.now.places }
     ensures { IfOk result (λ faces. faces.items ≡ seen_faces (mems_of shape.now.places) (map sight_seen sights.now)) }
@@ -37,7 +53,7 @@ pub(crate) fn faces_seen(alloc: Global, shape: &Shape, sights: &[Sight]) -> Resu
     let mut faces = Vec::with_capacity(alloc, shape.cards() as usize)?;
     for loc in 0..shape.locations() {
         let mem = shape.holds_references(loc);
-        faces.extend_from_slice(faces_shown(mem, &sights[loc as usize]))?;
+        push_faces(mem, &sights[loc as usize], &mut faces)?;
     }
     Ok(faces)
 }

@@ -1,5 +1,5 @@
 -- The bytes of views tell them apart.
-use Rattle.std.proofs.Common.{◌≡◌, ℕ, ◌<◌, ◌≤◌, ◌^◌, Bool, true, false, List, [], ◌∷◌, ◌++◌, length, drop, get_or, Option, Some, ℤ, w16, w32, refl, sym, ap, ap₂, ◌∙◌, subst, arith}
+use Rattle.std.proofs.Common.{All, None, ◌≡◌, ℕ, ◌+◌, ◌<◌, ◌≤◌, ◌^◌, Bool, true, false, List, [], ◌∷◌, ◌++◌, length, drop, get_or, Option, Some, ℤ, w16, w32, refl, sym, ap, ap₂, ◌∙◌, subst, arith}
 use Rattle.std.specs.Prelude.{flat_map}
 use Rattle.std.specs.Int.{to_le_bytes}
 use Rattle.std.specs.List.{AllByRecursion}
@@ -9,8 +9,8 @@ use Rattle.rc_model.specs.Clamp.{IsWithinClamp}
 use Rattle.rc_play_model.specs.Control.{Control, Frame}
 use Rattle.rc_play_model.specs.Shape.{Place, Shape}
 use Rattle.rc_play_model.specs.Sees.{sees_place}
-use Rattle.rc_play_model.specs.View.{Sight, with_faces, with_length, View}
-use Rattle.rc_view.specs.Key.{number_key, frame_key, control_key, sight_key, key_of}
+use Rattle.rc_play_model.specs.View.{Sight, with_faces, partly, View}
+use Rattle.rc_view.specs.Key.{number_key, frame_key, control_key, known_places, place_key, sight_key, key_of}
 use Rattle.rc_view.specs.Laws.{HasFrameKey, HasControlKey, IsSightIn, AreSightsIn, IsViewIn, KeysTellViews}
 use Rattle.rc_view.proofs.Telling.{Tells, two_tell, four_tell, numbers_tell, lists_tell, none_told, direction_told}
 
@@ -56,16 +56,85 @@ faces_tell xs ys few few' all all' r s e =
     let long = two_tell (length xs) (length ys) (omega (arith, few)) (omega (arith, few')) (flat_map (to_le_bytes w16) xs ++ r) (flat_map (to_le_bytes w16) ys ++ s) e in
     lists_tell (to_le_bytes w16) (λ n. n < 2 ^ 16) two_tell xs ys long.0 all all' r s long.1
 
+-- known places
+places_tell : (a b : ℕ × ℕ) → (a.0 < 2 ^ 16) × (a.1 < 2 ^ 16) → (b.0 < 2 ^ 16) × (b.1 < 2 ^ 16) → Tells place_key a b
+places_tell a b is is' r s e =
+    let first = two_tell a.0 b.0 is.0 is'.0 (to_le_bytes w16 a.1 ++ r) (to_le_bytes w16 b.1 ++ s)
+    (sym (append_assoc (to_le_bytes w16 a.0) (to_le_bytes w16 a.1) r) ∙ e ∙ append_assoc (to_le_bytes w16 b.0) (to_le_bytes w16 b.1) s) in
+    let second = two_tell a.1 b.1 is.1 is'.1 r s first.1 in
+    (ap₂ (λ x y. (x, y)) first.0 second.0, second.1)
+
+places-within : (at end : ℕ) (os : List (Option ℕ)) → at + length os ≤ end → AllByRecursion (λ known. (at ≤ known.0) × (known.0 < end)) (known_places at os)
+places-within at end [] le = tt
+places-within at end (Some f ∷ os) le = ((omega arith, omega (arith, le)), later at end (known_places (at + 1) os) (places-within (at + 1) end os (omega (arith, le)))) where
+  later : (at end : ℕ) (xs : List (ℕ × ℕ)) → AllByRecursion (λ known. (at + 1 ≤ known.0) × (known.0 < end)) xs → AllByRecursion (λ known. (at ≤ known.0) × (known.0 < end)) xs
+  later at end [] all = tt
+  later at end (x ∷ xs) all = let l = all.0.0 in ((omega (arith, l), all.0.1), later at end xs all.1)
+places-within at end (None ∷ os) le = later at end (known_places (at + 1) os) (places-within (at + 1) end os (omega (arith, le))) where
+  later : (at end : ℕ) (xs : List (ℕ × ℕ)) → AllByRecursion (λ known. (at + 1 ≤ known.0) × (known.0 < end)) xs → AllByRecursion (λ known. (at ≤ known.0) × (known.0 < end)) xs
+  later at end [] all = tt
+  later at end (x ∷ xs) all = let l = all.0.0 in ((omega (arith, l), all.0.1), later at end xs all.1)
+
+-- a list whose first place isn't known doesn't begin with it
+not-first : (at end f : ℕ) (rest xs : List (ℕ × ℕ)) → AllByRecursion (λ known. (at + 1 ≤ known.0) × (known.0 < end)) xs → (at, f) ∷ rest ≡ xs → ⊥
+not-first at end f rest [] all e = let h : (at, f) ∷ rest ≡ [] = e in absurd (cc)
+not-first at end f rest (x ∷ xs) all e =
+    let first : at ≡ x.0 = ap (λ ys. (get_or {A = ℕ × ℕ} ys 0 (0, 0)).0) e in
+    let l = all.0.0 in omega (arith, first, l)
+
+places_told : (at : ℕ) (os os' : List (Option ℕ)) → length os ≡ length os' → known_places at os ≡ known_places at os' → os ≡ os'
+places_told at [] [] len e = refl
+places_told at [] (o' ∷ os') len e = absurd (omega (arith, len))
+places_told at (o ∷ os) [] len e = absurd (omega (arith, len))
+places_told at (Some f ∷ os) (Some f' ∷ os') len e =
+    let first : f ≡ f' = ap (λ ys. (get_or {A = ℕ × ℕ} ys 0 (0, 0)).1) e in
+    ap₂ ◌∷◌ (ap Some first) (places_told (at + 1) os os' (omega (arith, len)) (ap (drop 1) e))
+places_told at (Some f ∷ os) (None ∷ os') len e =
+    absurd (not-first at (at + 1 + length os') f (known_places (at + 1) os) (known_places (at + 1) os') (places-within (at + 1) (at + 1 + length os') os' (omega arith)) e)
+places_told at (None ∷ os) (Some f' ∷ os') len e =
+    absurd (not-first at (at + 1 + length os) f' (known_places (at + 1) os') (known_places (at + 1) os) (places-within (at + 1) (at + 1 + length os) os (omega arith)) (sym e))
+places_told at (None ∷ os) (None ∷ os') len e = ap (λ rest. None ∷ rest) (places_told (at + 1) os os' (omega (arith, len)) e)
+
+places-fit : (os : List (Option ℕ)) → length os ≤ 512 → AllByRecursion (λ known. known.1 < 2 ^ 16) (known_places 0 os) →
+    AllByRecursion (λ known. (known.0 < 2 ^ 16) × (known.1 < 2 ^ 16)) (known_places 0 os)
+places-fit os few all = both (known_places 0 os) (places-within 0 512 os (omega (arith, few))) all where
+  both : (xs : List (ℕ × ℕ)) → AllByRecursion (λ known. (0 ≤ known.0) × (known.0 < 512)) xs → AllByRecursion (λ known. known.1 < 2 ^ 16) xs →
+      AllByRecursion (λ known. (known.0 < 2 ^ 16) × (known.1 < 2 ^ 16)) xs
+  both [] all all' = tt
+  both (x ∷ xs) all all' = let l = all.0.1 in ((omega (arith, l), all'.0), both xs all.1 all'.1)
+
+pub places-few : (at : ℕ) (os : List (Option ℕ)) → length (known_places at os) ≤ length os
+places-few at [] = omega arith
+places-few at (Some f ∷ os) = let h = places-few (at + 1) os in omega (arith, h)
+places-few at (None ∷ os) = let h = places-few (at + 1) os in omega (arith, h)
+
+known_tell : (os os' : List (Option ℕ)) → length os ≤ 512 → length os' ≤ 512 → All (λ known. known.1 < 2 ^ 16) (known_places 0 os) →
+    All (λ known. known.1 < 2 ^ 16) (known_places 0 os') → (r s : List ℕ) → sight_key (partly os) ++ r ≡ sight_key (partly os') ++ s → (os ≡ os') × (r ≡ s)
+known_tell os os' few few' all all' r s e =
+    let places = known_places 0 os in
+    let places' = known_places 0 os' in
+    let count : List (ℕ × ℕ) → List ℕ = λ ps. to_le_bytes w16 (length ps) ++ flat_map place_key ps in
+    let long = two_tell (length os) (length os') (omega (arith, few)) (omega (arith, few')) (count places ++ r) (count places' ++ s)
+    (sym (append_assoc (to_le_bytes w16 (length os)) (count places) r) ∙ e ∙ append_assoc (to_le_bytes w16 (length os')) (count places') s) in
+    let fewer = places-few 0 os in
+    let fewer' = places-few 0 os' in
+    let many = two_tell (length places) (length places') (omega (arith, few, fewer)) (omega (arith, few', fewer')) (flat_map place_key places ++ r) (flat_map place_key places' ++ s)
+    (sym (append_assoc (to_le_bytes w16 (length places)) (flat_map place_key places) r) ∙ long.1
+    ∙ append_assoc (to_le_bytes w16 (length places')) (flat_map place_key places') s) in
+    let known = lists_tell place_key (λ known. (known.0 < 2 ^ 16) × (known.1 < 2 ^ 16)) places_tell places places' many.0
+    (places-fit os few (recursion_from_All (λ known. known.1 < 2 ^ 16) places all)) (places-fit os' few' (recursion_from_All (λ known. known.1 < 2 ^ 16) places' all')) r s many.1 in
+    (places_told 0 os os' long.0 known.0, known.1)
+
 sight_tells : (seen : Bool) (a b : Sight) → IsSightIn seen a → IsSightIn seen b → Tells sight_key a b
 sight_tells true (with_faces xs) (with_faces ys) is is' r s e =
     let h = faces_tell xs ys is.0 is'.0 (recursion_from_All (λ n. n < 2 ^ 16) xs is.1) (recursion_from_All (λ n. n < 2 ^ 16) ys is'.1) r s e in
     (ap with_faces h.0, h.1)
-sight_tells true (with_faces xs) (with_length n) is is' r s e = absurd is'
-sight_tells true (with_length m) b is is' r s e = absurd is
+sight_tells true (with_faces xs) (partly os) is is' r s e = absurd is'
+sight_tells true (partly os) b is is' r s e = absurd is
 sight_tells false (with_faces xs) b is is' r s e = absurd is
-sight_tells false (with_length m) (with_faces ys) is is' r s e = absurd is'
-sight_tells false (with_length m) (with_length n) is is' r s e =
-    let h = two_tell m n (omega (arith, is)) (omega (arith, is')) r s e in (ap with_length h.0, h.1)
+sight_tells false (partly os) (with_faces ys) is is' r s e = absurd is'
+sight_tells false (partly os) (partly os') is is' r s e =
+    let h = known_tell os os' is.0 is'.0 is.1 is'.1 r s e in (ap partly h.0, h.1)
 
 module _ (shape : Shape) (seat : ℕ) where
   sights_tell : (places : List Place) (xs ys : List Sight) → AreSightsIn shape seat places xs → AreSightsIn shape seat places ys → Tells (flat_map sight_key) xs ys

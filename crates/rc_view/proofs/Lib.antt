@@ -4,3 +4,4 @@ pub mod Telling
 pub mod KeyLemmas
 pub mod InShape
 pub mod Fitting
+pub mod ShortKeys

@@ -1,11 +1,11 @@
 -- The bytes by which a view is known. Numbers have their lowest bytes first. There are as many counts of decisions, numbers and
 -- locations as the shape says, so none of these is preceded by how many there are.
-use Rattle.std.specs.Prelude.{ℕ, Bool, true, false, List, [], ◌∷◌, ◌++◌, length, flat_map, Option, Some, None, ℤ, ◌≤◌, All}
+use Rattle.std.specs.Prelude.{ℕ, ◌+◌, Bool, true, false, List, [], ◌∷◌, ◌++◌, length, flat_map, Option, Some, None, ℤ, ◌≤◌, All}
 use Rattle.std.specs.Int.{w16, w32, to_le_bytes, cast_unsigned}
 use Rattle.rc_model.specs.Clamp.{IsWithinClamp}
 use Rattle.rc_model.specs.Limits.{most_in_list}
 use Rattle.rc_play_model.specs.Control.{Control, Frame}
-use Rattle.rc_play_model.specs.View.{Sight, with_faces, with_length, View}
+use Rattle.rc_play_model.specs.View.{Sight, with_faces, partly, View}
 
 -- 255 stands for none
 abbrev pub or_none : Option ℕ → ℕ
@@ -28,17 +28,28 @@ control_key control =
 abbrev pub number_key : ℤ → List ℕ
 number_key number = to_le_bytes w32 (cast_unsigned w32 number)
 
+-- the known places from one on, each with the number of its face
+abbrev pub known_places : ℕ → List (Option ℕ) → List (ℕ × ℕ)
+known_places at [] = []
+known_places at (Some f ∷ os) = (at, f) ∷ known_places (at + 1) os
+known_places at (None ∷ os) = known_places (at + 1) os
+
+abbrev pub place_key : ℕ × ℕ → List ℕ
+place_key known = to_le_bytes w16 known.0 ++ to_le_bytes w16 known.1
+
+-- how many places there are; the faces where all of them are seen, and otherwise how many are known, and these
 abbrev pub sight_key : Sight → List ℕ
 sight_key (with_faces numbers) = to_le_bytes w16 (length numbers) ++ flat_map (to_le_bytes w16) numbers
-sight_key (with_length length) = to_le_bytes w16 length
+sight_key (partly os) =
+    to_le_bytes w16 (length os) ++ (to_le_bytes w16 (length (known_places 0 os)) ++ flat_map place_key (known_places 0 os))
 
 abbrev pub key_of : View → List ℕ
 key_of view = view.seat ∷ control_key view.control ++ (flat_map number_key view.numbers ++ flat_map sight_key view.sights)
 
--- a list of faces is no longer than a location can be
+-- what is seen of a location is no longer than it can be
 abbrev pub IsShort : Sight → Type 0
 IsShort (with_faces numbers) = length numbers ≤ most_in_list
-IsShort (with_length length) = length ≤ most_in_list
+IsShort (partly os) = length os ≤ most_in_list
 
 -- what the bytes have room for: numbers within the clamp, and lists no longer than a location's
 pub record HasKey (view : View) : Type 0 where

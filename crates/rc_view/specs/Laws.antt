@@ -1,15 +1,17 @@
--- Statements of laws: which views a shape has, and that their bytes tell them apart.
+-- Statements of laws: which views a shape has, that their bytes tell them apart, and that these are few.
 use Rattle.std.specs.Prelude.{◌≡◌, ◌↔◌, ℕ, ◌<◌, ◌≤◌, ◌^◌, Bool, true, false, List, [], ◌∷◌, length, All, IfSome, Some}
 use Rattle.rc_model.specs.Clamp.{IsWithinClamp}
-use Rattle.rc_model.specs.Limits.{most_in_list}
+use Rattle.rc_model.specs.Limits.{most_in_list, most_open}
 use Rattle.rc_sheet_model.specs.WellFormed.{IsWellFormed}
 use Rattle.rc_play_model.specs.About.{About}
 use Rattle.rc_play_model.specs.Fits.{FitsSite}
 use Rattle.rc_play_model.specs.Control.{Control, Frame}
 use Rattle.rc_play_model.specs.Shape.{Place, Shape}
 use Rattle.rc_play_model.specs.Sees.{sees_place}
-use Rattle.rc_play_model.specs.View.{Sight, with_faces, with_length, View}
-use Rattle.rc_view.specs.Key.{key_of}
+use Rattle.rc_play_model.specs.Table.{Table, IsSound}
+use Rattle.rc_play_model.specs.View.{Sight, with_faces, partly, View, view_of}
+use Rattle.rc_table.specs.Shape.{IsShape}
+use Rattle.rc_view.specs.Key.{key_of, known_places}
 
 -- a frame that its bytes have room for; no named member is 255, which stands for none
 pub record HasFrameKey (frame : Frame) : Type 0 where
@@ -23,12 +25,12 @@ pub record HasControlKey (control : Control) : Type 0 where
   pub made : All (λ n. n < 2 ^ 32) control.made
   pub frames : All HasFrameKey control.frames
 
--- faces where they are seen, and else how many cards there are
+-- faces where they are seen, and else those that are known
 abbrev pub IsSightIn : Bool → Sight → Type 0
 IsSightIn true (with_faces numbers) = (length numbers ≤ most_in_list) × All (λ n. n < 2 ^ 16) numbers
-IsSightIn true (with_length length) = ⊥
+IsSightIn true (partly os) = ⊥
 IsSightIn false (with_faces numbers) = ⊥
-IsSightIn false (with_length length) = length ≤ most_in_list
+IsSightIn false (partly os) = (length os ≤ most_in_list) × All (λ known. known.1 < 2 ^ 16) (known_places 0 os)
 
 -- one for each location
 abbrev pub AreSightsIn : Shape → ℕ → List Place → List Sight → Type 0
@@ -51,6 +53,14 @@ pub record IsViewIn (shape : Shape) (view : View) : Type 0 where
 abbrev pub KeysTellViews : Type 0
 KeysTellViews =
     (shape : Shape) (view view' : View) → IsViewIn shape view → IsViewIn shape view' → (key_of view ≡ key_of view') ↔ (view ≡ view')
+
+-- What a seat sees of a sound table takes fewer than 8,000 bytes, where no more stages are open than a sheet may have inside one
+-- another and there is one count of decisions for each player.
+abbrev pub KeysAreShort : Type 0
+KeysAreShort =
+    (shape : Shape) (seat : ℕ) (table : Table) (control : Control) → IsShape shape → IsSound shape table →
+    length control.frames ≤ most_open → length control.made ≡ shape.players →
+    length (key_of (view_of shape seat table control)) < 8000
 
 -- a control that fits a choice site of a well formed sheet has room in the bytes, and one count of decisions for each player
 abbrev pub FittingControlsHaveKeys : Type 0

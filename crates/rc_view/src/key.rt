@@ -5,10 +5,10 @@ ghost use Rattle.rc_model.specs.Clamp.{IsWithinClamp};
 ghost use Rattle.rc_model.specs.Limits.{most_in_list};
 ghost use Rattle.rc_rules.specs.Control.{control_seen, frame_seen};
 ghost use Rattle.rc_view.specs.Seen.{sight_seen, view_seen};
-ghost use Rattle.rc_view.specs.Key.{HasKey, IsShort, control_key, frame_key, key_of, number_key, or_none, sight_key};
-ghost use Rattle.rc_view.specs.Laws.{KeysTellViews};
+ghost use Rattle.rc_view.specs.Key.{HasKey, IsShort, control_key, frame_key, key_of, known_places, number_key, or_none, place_key, sight_key};
+ghost use Rattle.rc_view.specs.Laws.{KeysAreShort, KeysTellViews};
 
-use crate::laws::keys_tell_views;
+use crate::laws::{keys_are_short, keys_tell_views};
 use crate::sight::Sight;
 use crate::view::View;
 use rc_deck::Memory;
@@ -20,13 +20,15 @@ const NONE: u8 = 255;
 
 /// The bytes by which a view is known. Numbers have their lowest bytes first. Two views of one shape have equal bytes exactly
 /// where they are equal. Its numbers are within -1,000,000,000 .. 1,000,000,000, and each location has at most 512 cards, as in
-/// every view of a table. Memory may run out.
+/// every view of a table. The bytes of a view of a match are fewer than 8,000. Memory may run out.
 pub fn key_bytes(alloc: Global, view: &View) -> Result<Vec<u8>, Memory>
     requires { HasKey (view_seen view.now) }
     ensures is { IfOk result (λ bytes. bytes.items ≡ key_of (view_seen view.now)) }
     ensures tells { KeysTellViews }
+    ensures short { KeysAreShort }
 {
     keys_tell_views();
+    keys_are_short();
     let mut bytes = Vec::new(alloc);
     bytes.push(view.seat)?;
     push_control(&view.control, &mut bytes)?;
@@ -110,17 +112,14 @@ fn push_sights(sights: &[Sight], bytes: &mut Vec<u8>) -> Result<(), Memory>
     Ok(())
 }
 
-// Adds how many cards a location has, and the numbers of their faces where they are seen.
+// Adds how many cards a location has, and the numbers of their faces where they are seen or known.
 fn push_sight(sight: &Sight, bytes: &mut Vec<u8>) -> Result<(), Memory>
     requires { IsShort (sight_seen sight.now) }
     ensures { OnOk result (bytes.new.items ≡ bytes.old.items ++ sight_key (sight_seen sight.now)) }
 {
     match sight {
         Sight::Faces(numbers) => push_faces(numbers, bytes),
-        Sight::Length(length) => {
-            bytes.extend_from_slice(&length.to_le_bytes())?;
-            Ok(())
-        }
+        Sight::Partly(numbers) => push_known(numbers, bytes),
     }
 }
 
@@ -134,5 +133,53 @@ fn push_faces(numbers: &[u16], bytes: &mut Vec<u8>) -> Result<(), Memory>
     for number in numbers {
         bytes.extend_from_slice(&number.to_le_bytes())?;
     }
+    Ok(())
+}
+
+// Adds how many places there are, how many of them are known, and these with their faces' numbers.
+fn push_known(numbers: &[Option<u16>], bytes: &mut Vec<u8>) -> Result<(), Memory>
+    requires { length numbers.now ≤ most_in_list }
+    ensures { OnOk result (bytes.new.items ≡ bytes.old.items
+        ++ (to_le_bytes w16 (length numbers.now)
+        ++ (to_le_bytes w16 (length (known_places 0 numbers.now)) ++ flat_map place_key (known_places 0 numbers.now)))) }
+{
+    bytes.extend_from_slice(&(numbers.len() as u16).to_le_bytes())?;
+    bytes.extend_from_slice(&known_count(numbers).to_le_bytes())?;
+    push_places(numbers, bytes)
+}
+
+// How many places are known.
+fn known_count(numbers: &[Option<u16>]) -> u16
+    requires { length numbers.now ≤ most_in_list }
+    ensures { result ≡ length (known_places 0 numbers.now) }
+{
+    let mut count = 0;
+    for at in 0..numbers.len() {
+        if let Some(_number) = numbers[at] {
+            count += 1;
+        }
+    }
+    count
+}
+
+// Adds the known places, each with the number of its face.
+fn push_places(numbers: &[Option<u16>], bytes: &mut Vec<u8>) -> Result<(), Memory>
+    requires { length numbers.now ≤ most_in_list }
+    ensures { OnOk result (bytes.new.items ≡ bytes.old.items ++ flat_map place_key (known_places 0 numbers.now)) }
+{
+    for at in 0..numbers.len() {
+        if let Some(number) = numbers[at] {
+            push_place(at as u16, number, bytes)?;
+        }
+    }
+    Ok(())
+}
+
+// Adds a place and the number of its face.
+fn push_place(place: u16, number: u16, bytes: &mut Vec<u8>) -> Result<(), Memory>
+    ensures { OnOk result (bytes.new.items ≡ bytes.old.items ++ place_key (place, number)) }
+{
+    bytes.extend_from_slice(&place.to_le_bytes())?;
+    bytes.extend_from_slice(&number.to_le_bytes())?;
     Ok(())
 }

@@ -7,6 +7,6 @@ mod sight;
 mod view;
 
 pub use key::key_bytes;
-pub use laws::{fitting_controls_have_keys, keys_tell_views};
+pub use laws::{fitting_controls_have_keys, keys_are_short, keys_tell_views};
 pub use sight::Sight;
 pub use view::{View, view_of};

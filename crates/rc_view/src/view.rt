@@ -15,7 +15,7 @@ use rc_table::{Shape, Table};
 use std::alloc::Global;
 
 /// What a seat sees of a match: where the match stands beside its table, all numbers, and of each location the faces or else
-/// how many cards there are.
+/// those that are marked for it.
 #[derive(Debug)]
 pub struct View {
     pub seat: u8,

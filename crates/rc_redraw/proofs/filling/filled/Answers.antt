@@ -38,6 +38,17 @@ overflow_add-hidden_from c =
     let h : c.loop-loc.hidden_from + c.hidden_places-hidden_from.result ≤ length c.args.hidden.now = omega (arith, more, sum, hidden) in
     search (rules, h)
 
+pub overflow_add-seen_from : goal.overflow_add-seen_from
+overflow_add-seen_from c =
+    let test = c.loop-loc-test.true in
+    let last = c.locations-loc-end.ensures in
+    let more = seen-more c.args.shape.now.places c.args.sights.now c.loop-loc.loc c.requires.each (omega (arith, test, last)) _ c.index-sights-loc.result
+    c.holds_references-mem.ensures c.index-sights-loc.is in
+    let sum = c.loop-loc.invariant.1 in
+    let seen = c.known_places-seen_from.ensures in
+    let h : c.loop-loc.seen_from + c.known_places-seen_from.result ≤ length c.args.seen.now = omega (arith, more, sum, seen) in
+    search (rules, h)
+
 pub loop-loc-preserved : goal.loop-loc-preserved
 loop-loc-preserved c =
     let test = c.loop-loc-test.true in
@@ -59,7 +70,7 @@ loop-loc-preserved c =
     let k = hidden_at m (sight_seen s) in
     let here = ids_at m (sight_seen s) (drop a c.args.seen.now) (drop b c.args.hidden.now) in
     let rest = filled mems' sights' (drop (a + n) c.args.seen.now) (drop (b + k) c.args.hidden.now) in
-    let seen : length c.faces_shown.result.now ≡ n = ap length c.faces_shown.ensures in
+    let seen : c.known_places-seen_from.result ≡ n = c.known_places-seen_from.ensures in
     let hidden : c.hidden_places-hidden_from.result ≡ k = c.hidden_places-hidden_from.ensures in
     let seen-rest = seen-more places c.args.sights.now i each less m s m-is s-is in
     let hidden-rest = hidden-more places c.args.sights.now i each less m s m-is s-is in

@@ -16,5 +16,5 @@ loop-loc-preserved c =
     let here = faces_at c.holds_references-mem.result (sight_seen c.index-sights-loc.result) in
     let more = faces-more places sights loc c.requires (omega (arith, test, last)) c.holds_references-mem.result c.index-sights-loc.result
     c.holds_references-mem.ensures c.index-sights-loc.is in
-    ap (λ xs. xs ++ rest) (c.in_ok-extend_from_slice.ensures.items ∙ ap (λ ys. old ++ ys) c.faces_shown.ensures)
+    ap (λ xs. xs ++ rest) c.in_ok-push_faces.ensures
     ∙ append_assoc old here rest ∙ ap (λ xs. old ++ xs) (sym more) ∙ c.loop-loc.invariant

@@ -9,10 +9,10 @@ pub loop-loc-preserved : goal.loop-loc-preserved
 loop-loc-preserved c =
     let shape = c.args.shape.now in
     let table = c.args.table.now.table in
-    let sound = subst (λ s. IsSound s table) c.requires c.shape-shape.ensures.sound in
+    let sound = subst (λ s. IsSound s table) c.requires.laid c.shape-shape.ensures.sound in
     let same = sound.locations in
     let within = c.loop-loc-test.true in
     ap (map sight_seen) c.in_ok-push.ensures.items
     ∙ map-append sight_seen c.loop-loc.sights.items (c.in_ok-sight_of.field-0 ∷ [])
     ∙ ap₂ (λ before last. before ++ last ∷ []) c.loop-loc.invariant c.in_ok-sight_of.ensures
-    ∙ sym (sights_next shape c.args.seat shape.places table.lists c.loop-loc.loc (omega (arith, same, within, c.locations-count.ensures)) same)
+    ∙ sym (sights_next shape table.marks c.args.seat shape.places table.lists c.loop-loc.loc (omega (arith, same, within, c.locations-count.ensures)) same)

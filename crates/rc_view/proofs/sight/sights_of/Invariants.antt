@@ -5,4 +5,4 @@ use Rattle.rc_view.proofs.sight.sights_of.Given as goal
 
 abbrev pub invariant-loop-loc : goal.invariant-loop-loc
 invariant-loop-loc l =
-    map sight_seen l.sights.items ≡ sights_of_lists l.shape l.seat l.shape.places (take l.loc l.table.table.lists)
+    map sight_seen l.sights.items ≡ sights_of_lists l.shape l.table.table.marks l.seat l.shape.places (take l.loc l.table.table.lists)

@@ -1,13 +1,18 @@
-use Rattle.std.proofs.Common.{◌≡◌, ℕ, List, [], ◌∙◌, sym, ap, ap₂, subst, length, map}
+use Rattle.std.proofs.Common.{◌<◌, arith, All, ◌≡◌, ℕ, List, [], ◌∙◌, sym, ap, ap₂, subst, length, map}
 use Rattle.std.proofs.lemmas.List.{length-map}
-use Rattle.rc_play_model.specs.Redraw.{mems_of, seen_faces, seen_ids, unused, hidden_count, filled}
+use Rattle.rc_play_model.specs.Redraw.{mems_of, seen_faces, seen_ids, seen_of, unused, hidden_count, filled, peeked, marks_for, marks_seen, redrawn}
 use Rattle.rc_play_model.specs.Smallest.{AreEnough}
 use Rattle.rc_play_model.specs.Shape.{Shape}
 use Rattle.rc_play_model.specs.Table.{IsSound}
 use Rattle.rc_table.specs.Laid.{Laid}
 use Rattle.rc_view.specs.Seen.{sight_seen, view_seen}
 use Rattle.rc_view.specs.declared.sight.Sight.{Sight}
+use Rattle.rc_table.specs.Marks.{seats_in}
+use Rattle.rc_redraw.specs.Hiding.{hiding_from, patterns}
 use Rattle.rc_redraw.proofs.Anew.{ascending_sound}
+use Rattle.rc_play_model.proofs.Counting.{same, passing-is}
+use Rattle.rc_play_model.proofs.Ids.{seen_ids-within}
+use Rattle.rc_redraw.proofs.Laying.{knowing-player}
 use Rattle.rc_redraw.proofs.FillSteps.{each_seen}
 use Rattle.rc_redraw.proofs.redrawing.Redraws.new.Goals as goal
 
@@ -30,20 +35,127 @@ layout_of-requires-clause-rest c =
     subst (λ (s : Shape). hidden_count (mems_of s.places) (map sight_seen c.deref-2.result.now) ≡ length (unused s (seen_ids s [] (seen_faces (mems_of s.places) (map sight_seen c.deref-2.result.now))))) (sym c.deref.ensures)
     (subst (λ x. hidden_count (mems_of shape.places) (map sight_seen x) ≡ length (unused shape (seen_ids shape [] (seen_faces (mems_of shape.places) (map sight_seen x))))) (sym c.deref-2.ensures.value) rest)
 
+pub marks_known-requires-clause-each : goal.marks_known-requires-clause-each
+marks_known-requires-clause-each c =
+    ap length c.deref-5.ensures.value ∙ sym (length-map c.args.view.now.sights.items sight_seen)
+    ∙ each_seen c.args.shape.now.value (view_seen c.args.view.now) c.requires ∙ ap (λ (s : Shape). length s.places) (sym c.deref-4.ensures)
+
+pub marks_known-requires-clause-seen : goal.marks_known-requires-clause-seen
+marks_known-requires-clause-seen c =
+    let shape = c.args.shape.now.value in
+    let view = view_seen c.args.view.now in
+    let ids : Shape → List Sight → List ℕ = λ s x. seen_ids s [] (seen_faces (mems_of s.places) (map sight_seen x)) in
+    let seen : c.deref-6.result.now ≡ seen_of shape view =
+    c.deref-6.ensures.value ∙ c.in_ok-lists.ensures.seen ∙ ap₂ ids c.deref.ensures c.deref-2.ensures.value in
+    let smallest = (c.seen_places_take_the_smallest.ensures.smallest shape view c.requires).0.0 in
+    ap₂ (λ (s : Shape) x. length (seen_faces (mems_of s.places) (map sight_seen x))) c.deref-4.ensures c.deref-5.ensures.value
+    ∙ sym smallest ∙ sym (ap length seen)
+
+pub marks_known-requires-clause-ids : goal.marks_known-requires-clause-ids
+marks_known-requires-clause-ids c =
+    let shape = c.args.shape.now.value in
+    let view = view_seen c.args.view.now in
+    let ids : Shape → List Sight → List ℕ = λ s x. seen_ids s [] (seen_faces (mems_of s.places) (map sight_seen x)) in
+    let seen : c.deref-6.result.now ≡ seen_of shape view =
+    c.deref-6.ensures.value ∙ c.in_ok-lists.ensures.seen ∙ ap₂ ids c.deref.ensures c.deref-2.ensures.value in
+    let few = c.seen_places_take_the_smallest.ensures.few shape view c.requires in
+    let faces = seen_faces (mems_of shape.places) view.sights in
+    let all : All (λ id. id < length shape.faces) (seen_of shape view) = seen_ids-within shape [] faces (λ f. let h = few f in let e = passing-is (same f) faces in omega (arith, h, e)) in
+    subst (All (λ id. id < length c.deref-4.result.now.faces)) (sym seen)
+    (subst (λ (s : Shape). All (λ id. id < length s.faces) (seen_of shape view)) (sym c.deref-4.ensures) all)
+
+pub marks_known-requires-clause-seat : goal.marks_known-requires-clause-seat
+marks_known-requires-clause-seat c = λ some.
+    let shape = c.args.shape.now.value in
+    let view = view_seen c.args.view.now in
+    let ids : Shape → List Sight → List ℕ = λ s x. seen_ids s [] (seen_faces (mems_of s.places) (map sight_seen x)) in
+    let seen : c.deref-6.result.now ≡ seen_of shape view =
+    c.deref-6.ensures.value ∙ c.in_ok-lists.ensures.seen ∙ ap₂ ids c.deref.ensures c.deref-2.ensures.value in
+    let now = c.deref-6.result.now in
+    let same = ap length (ap₂ (λ (s : Shape) x. peeked (mems_of s.places) (map sight_seen x) now) c.deref-4.ensures c.deref-5.ensures.value) in
+    let player = knowing-player shape view c.requires now (omega (arith, some, same)) in
+    let most = c.players-players.ensures.limits.players in
+    let all = ap (λ (s : Shape). s.players) c.deref-3.ensures in
+    omega (arith, player, most, all)
+
 pub lay-requires : goal.lay-requires
 lay-requires c =
     let shape = c.args.shape.now.value in
     let view = view_seen c.args.view.now in
     let ids : Shape → List Sight → List ℕ = λ s x. seen_ids s [] (seen_faces (mems_of s.places) (map sight_seen x)) in
-    let lists = ap (map (λ list. list.items)) c.deref-3.ensures.value ∙ c.in_ok-lists.ensures.lists
+    let seen : c.deref-6.result.now ≡ seen_of shape view =
+    c.deref-6.ensures.value ∙ c.in_ok-lists.ensures.seen ∙ ap₂ ids c.deref.ensures c.deref-2.ensures.value in
+    let lists = ap (map (λ list. list.items)) c.deref-7.ensures.value ∙ c.in_ok-lists.ensures.lists
     ∙ ap (filled (mems_of c.deref.result.now.places) (map sight_seen c.deref-2.result.now) (ids c.deref.result.now c.deref-2.result.now)) c.in_ok-lists.ensures.unused
     ∙ ap₂ (λ (s : Shape) x. filled (mems_of s.places) (map sight_seen x) (ids s x) (unused s (ids s x))) c.deref.ensures c.deref-2.ensures.value in
-    let table = ap₂ (λ lists numbers. record { lists = lists; numbers = numbers }) lists c.deref-4.ensures.value in
-    subst (λ s. IsSound s (record { lists = map (λ list. list.items) c.deref-3.result.now; numbers = c.deref-4.result.now }))
+    let marks : map seats_in c.deref-9.result.now ≡ marks_seen shape view = ap (map seats_in) c.deref-9.ensures.value ∙ c.in_ok-marks.ensures
+    ∙ ap₂ (λ (s : Shape) x. marks_for (length s.faces) view.seat (peeked (mems_of s.places) (map sight_seen x) c.deref-6.result.now)) c.deref-4.ensures c.deref-5.ensures.value
+    ∙ ap (λ x. marks_for (length shape.faces) view.seat (peeked (mems_of shape.places) view.sights x)) seen in
+    let table = ap₂ (λ lists numbers. record { lists = lists; numbers = numbers; marks = map seats_in c.deref-9.result.now }) lists c.deref-8.ensures.value
+    ∙ ap (λ marks. record { lists = filled (mems_of shape.places) view.sights (seen_of shape view) (unused shape (seen_of shape view)); numbers = view.numbers; marks = marks }) marks in
+    subst (λ s. IsSound s (record { lists = map (λ list. list.items) c.deref-7.result.now; numbers = c.deref-8.result.now; marks = map seats_in c.deref-9.result.now }))
     (sym (ap (λ (laid : Laid). laid.shape) c.in_ok-table.ensures))
     (subst (IsSound shape) (sym table) (ascending_sound shape view c.requires))
 
 pub hiding-requires : goal.hiding-requires
 hiding-requires c =
-    ap length c.deref-6.ensures.value ∙ sym (length-map c.args.view.now.sights.items sight_seen)
-    ∙ each_seen c.args.shape.now.value (view_seen c.args.view.now) c.requires ∙ ap (λ (s : Shape). length s.places) (sym c.deref-5.ensures)
+    ap length c.deref-11.ensures.value ∙ sym (length-map c.args.view.now.sights.items sight_seen)
+    ∙ each_seen c.args.shape.now.value (view_seen c.args.view.now) c.requires ∙ ap (λ (s : Shape). length s.places) (sym c.deref-10.ensures)
+
+pub patterns-requires-clause-each : goal.patterns-requires-clause-each
+patterns-requires-clause-each c =
+    ap length c.deref-13.ensures.value ∙ sym (length-map c.args.view.now.sights.items sight_seen)
+    ∙ each_seen c.args.shape.now.value (view_seen c.args.view.now) c.requires ∙ ap (λ (s : Shape). length s.places) (sym c.deref-12.ensures)
+
+pub patterns-requires-clause-seen : goal.patterns-requires-clause-seen
+patterns-requires-clause-seen c =
+    let shape = c.args.shape.now.value in
+    let view = view_seen c.args.view.now in
+    let ids : Shape → List Sight → List ℕ = λ s x. seen_ids s [] (seen_faces (mems_of s.places) (map sight_seen x)) in
+    let seen : c.deref-14.result.now ≡ seen_of shape view =
+    c.deref-14.ensures.value ∙ c.in_ok-lists.ensures.seen ∙ ap₂ ids c.deref.ensures c.deref-2.ensures.value in
+    let smallest = (c.seen_places_take_the_smallest.ensures.smallest shape view c.requires).0.0 in
+    ap₂ (λ (s : Shape) x. length (seen_faces (mems_of s.places) (map sight_seen x))) c.deref-12.ensures c.deref-13.ensures.value
+    ∙ sym smallest ∙ sym (ap length seen)
+
+pub invariant_of-result : goal.invariant_of-result
+invariant_of-result c =
+    let shape = c.args.shape.now.value in
+    let view = view_seen c.args.view.now in
+    let ids : Shape → List Sight → List ℕ = λ s x. seen_ids s [] (seen_faces (mems_of s.places) (map sight_seen x)) in
+    let seen : c.deref-6.result.now ≡ seen_of shape view =
+    c.deref-6.ensures.value ∙ c.in_ok-lists.ensures.seen ∙ ap₂ ids c.deref.ensures c.deref-2.ensures.value in
+    let long : length c.in_ok-content.content.items ≡ length c.in_ok-pattern.pattern.items =
+    let room = c.in_ok-content.content.ok.0 in
+    let made = c.in_ok-content.ensures.len in
+    let asked = c.len.ensures in
+    let held = c.in_ok-pattern.pattern.ok.0 in
+    omega (arith, room, made, asked, held) in
+    let lists = ap (map (λ list. list.items)) c.deref-7.ensures.value ∙ c.in_ok-lists.ensures.lists
+    ∙ ap (filled (mems_of c.deref.result.now.places) (map sight_seen c.deref-2.result.now) (ids c.deref.result.now c.deref-2.result.now)) c.in_ok-lists.ensures.unused
+    ∙ ap₂ (λ (s : Shape) x. filled (mems_of s.places) (map sight_seen x) (ids s x) (unused s (ids s x))) c.deref.ensures c.deref-2.ensures.value in
+    let marks : map seats_in c.deref-9.result.now ≡ marks_seen shape view = ap (map seats_in) c.deref-9.ensures.value ∙ c.in_ok-marks.ensures
+    ∙ ap₂ (λ (s : Shape) x. marks_for (length s.faces) view.seat (peeked (mems_of s.places) (map sight_seen x) c.deref-6.result.now)) c.deref-4.ensures c.deref-5.ensures.value
+    ∙ ap (λ x. marks_for (length shape.faces) view.seat (peeked (mems_of shape.places) view.sights x)) seen in
+    let table = ap₂ (λ lists numbers. record { lists = lists; numbers = numbers; marks = map seats_in c.deref-9.result.now }) lists c.deref-8.ensures.value
+    ∙ ap (λ marks. record { lists = filled (mems_of shape.places) view.sights (seen_of shape view) (unused shape (seen_of shape view)); numbers = view.numbers; marks = marks }) marks in
+    let seen' : c.deref-14.result.now ≡ seen_of shape view =
+    c.deref-14.ensures.value ∙ c.in_ok-lists.ensures.seen ∙ ap₂ ids c.deref.ensures c.deref-2.ensures.value in
+    let unused_is : c.in_ok-lists.field-0.unused.items ≡ unused shape (seen_of shape view) =
+    c.in_ok-lists.ensures.unused ∙ ap₂ (λ (s : Shape) x. unused s (ids s x)) c.deref.ensures c.deref-2.ensures.value in
+    let order_is : c.in_ok-order.order.items ≡ c.in_ok-lists.field-0.unused.items = c.in_ok-order.ensures.items ∙ c.deref-15.ensures.value in
+    let is : c.lay.new.self ≡ record { shape = shape; table = redrawn shape view (unused shape (seen_of shape view)) } =
+    c.lay.ensures ∙ ap₂ (λ s t. record { shape = s; table = t }) (ap (λ (laid : Laid). laid.shape) c.in_ok-table.ensures) table in
+    rw is
+    (record {
+      of = c.requires;
+      hiding = c.in_ok-hidden.ensures ∙ ap₂ (λ (s : Shape) x. hiding_from 0 (mems_of s.places) (map sight_seen x)) c.deref-10.ensures c.deref-11.ensures.value;
+      known = c.in_ok-pattern.ensures
+          ∙ ap₂ (λ (s : Shape) x. patterns (mems_of s.places) (map sight_seen x) c.deref-14.result.now) c.deref-12.ensures c.deref-13.ensures.value
+          ∙ ap (patterns (mems_of shape.places) view.sights) seen';
+      long = long;
+      rest = unused_is;
+      few = c.in_ok-lists.ensures.few;
+      each = ap length order_is;
+      is = ap (redrawn shape view) (sym (order_is ∙ unused_is));
+    })

@@ -1,0 +1,129 @@
+//! Places of a location that a view knows, and the others.
+ghost use Rattle.std.specs.Prelude.{◌≡◌, ◌≤◌, ◌++◌, length, OnOk, IfOk};
+ghost use Rattle.rc_play_model.specs.Redraw.{known_faces, unknown, mixed};
+ghost use Rattle.rc_redraw.specs.Hiding.{pattern_at, blended, blanks};
+
+use rc_deck::Memory;
+use std::alloc::Global;
+
+/// How many places are known.
+pub(crate) fn count_known(numbers: &[Option<u16>]) -> usize
+    ensures { result ≡ length (known_faces numbers.now) }
+{
+    let mut count = 0;
+    for at in 0..numbers.len() {
+        if let Some(_number) = numbers[at] {
+            count += 1;
+        }
+    }
+    count
+}
+
+/// How many are not.
+pub(crate) fn count_unknown(numbers: &[Option<u16>]) -> usize
+    ensures { result ≡ unknown numbers.now }
+{
+    let mut count = 0;
+    for at in 0..numbers.len() {
+        if numbers[at].is_none() {
+            count += 1;
+        }
+    }
+    count
+}
+
+/// Adds the faces at the known places.
+pub(crate) fn push_known(numbers: &[Option<u16>], faces: &mut Vec<u16>) -> Result<(), Memory>
+    ensures { OnOk result (faces.new.items ≡ faces.old.items ++ known_faces numbers.now) }
+{
+    for at in 0..numbers.len() {
+        if let Some(number) = numbers[at] {
+            faces.push(number)?;
+        }
+    }
+    Ok(())
+}
+
+/// What the places hold: the known ones the first of `seen`, and the others the first of `hidden`.
+#[tactic(auto, using(crate::proofs::NoneKnown::all_unknown, crate::proofs::NoneKnown::all_hidden))]
+pub(crate) fn mix(
+    alloc: Global,
+    numbers: &[Option<u16>],
+    seen: &[u16],
+    hidden: &[u16],
+) -> Result<Vec<u16>, Memory>
+    requires seen { length (known_faces numbers.now) ≤ length seen.now }
+    requires hidden { unknown numbers.now ≤ length hidden.now }
+    ensures { IfOk result (λ list. list.items ≡ mixed numbers.now seen.now hidden.now) }
+{
+    if count_known(numbers) == 0 {
+        return Ok(Vec::from_slice(alloc, &hidden[..numbers.len()])?);
+    }
+    let mut list = Vec::with_capacity(alloc, numbers.len())?;
+    let mut known = 0;
+    let mut other = 0;
+    for at in 0..numbers.len() {
+        if let Some(_number) = numbers[at] {
+            list.push(seen[known])?;
+            known += 1;
+        } else {
+            list.push(hidden[other])?;
+            other += 1;
+        }
+    }
+    Ok(list)
+}
+
+/// Adds the first of `seen` for the known places, and nothing for the others.
+pub(crate) fn push_pattern(
+    numbers: &[Option<u16>],
+    seen: &[u16],
+    pattern: &mut Vec<Option<u16>>,
+) -> Result<(), Memory>
+    requires { length (known_faces numbers.now) ≤ length seen.now }
+    ensures { OnOk result (pattern.new.items ≡ pattern.old.items ++ pattern_at numbers.now seen.now) }
+{
+    let mut known = 0;
+    for at in 0..numbers.len() {
+        if let Some(_number) = numbers[at] {
+            pattern.push(Some(seen[known]))?;
+            known += 1;
+        } else {
+            pattern.push(None)?;
+        }
+    }
+    Ok(())
+}
+
+/// Writes what a pattern becomes with these ids in its other places. Where no place is known it becomes the ids.
+#[tactic(auto, using(crate::proofs::Blends::all_blank))]
+pub(crate) fn blend(content: &mut [u16], pattern: &[Option<u16>], hidden: &[u16])
+    requires each { length content.old ≡ length pattern.now }
+    requires exact { blanks pattern.now ≡ length hidden.now }
+    ensures is { content.new ≡ blended pattern.now hidden.now }
+    ensures each { length content.new ≡ length content.old }
+{
+    if hidden.len() == pattern.len() {
+        content.copy_from_slice(hidden);
+    } else {
+        blend_known(content, pattern, hidden);
+    }
+}
+
+// The same, place by place.
+fn blend_known(content: &mut [u16], pattern: &[Option<u16>], hidden: &[u16])
+    requires each { length content.old ≡ length pattern.now }
+    requires enough { blanks pattern.now ≤ length hidden.now }
+    ensures is { content.new ≡ blended pattern.now hidden.now }
+    ensures each { length content.new ≡ length content.old }
+{
+    let mut other = 0;
+    for at in 0..pattern.len() {
+        if let Some(id) = pattern[at] {
+            content[at] = id;
+        } else {
+            content[at] = hidden[other];
+            other += 1;
+        }
+    }
+}
