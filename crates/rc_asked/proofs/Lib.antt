@@ -1,3 +1,4 @@
 pub mod FlatLemmas
 pub mod GuardLemmas
 pub mod PartLemmas
+pub mod FixedLemmas

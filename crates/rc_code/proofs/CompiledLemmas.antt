@@ -2,7 +2,7 @@
 use Rattle.std.proofs.Common.{◌≡◌, ℕ, ◌+◌, List, [], ◌∷◌, ◌++◌, length, drop, slice_get, Some, refl, sym, ap, ap₂, ◌∙◌, subst, append_assoc, append-nil, length-append, arith}
 use Rattle.std.specs.List.{AllZip, range_with_len}
 use Rattle.std.proofs.lemmas.List.{take_at, drop_at}
-use Rattle.rc_sheet_model.specs.Sheet.{Effect, move, move_all, remember, forget, shuffle, set_to, increase, decrease, when, repeat, for_each, next_is, turn_round, Effects, no_effect, effect, Alt, do_alt, if_alt, any_alt, SheetItem, do_item, stage, choice, SheetItems, no_item, item, Sheet}
+use Rattle.rc_sheet_model.specs.Sheet.{Effect, move, move_all, remember, forget, shuffle, set_to, increase, decrease, when, repeat, for_each, next_is, turn_round, peek, Effects, no_effect, effect, Alt, do_alt, if_alt, any_alt, SheetItem, do_item, stage, choice, SheetItems, no_item, item, Sheet}
 use Rattle.rc_model.specs.Numbers.{below}
 use Rattle.rc_sheet_model.specs.Mentions.{sites_in, sites_in_item}
 use Rattle.rc_play_model.specs.Menu.{effects_of}
@@ -29,6 +29,7 @@ mutual
   effect_stands (for_each domain bound effects) = (effects_code effects, refl, effects_stand effects)
   effect_stands (next_is who) = refl
   effect_stands turn_round = refl
+  effect_stands (peek cards who) = refl
 
   pub effects_stand : (effects : Effects) → EffectsStand effects (effects_code effects)
   effects_stand no_effect = refl
@@ -166,6 +167,7 @@ mutual
       ∙ ap (λ es. effect (for_each domain bound es) (effects_in rest)) (ap effects_in (sym (append-nil inside)) ∙ says_before effects inside [] is.2 ∙ joined-none effects)
   says_one (next_is who) code rest is = ap (λ c. effects_in (c ++ rest)) is
   says_one turn_round code rest is = ap (λ c. effects_in (c ++ rest)) is
+  says_one (peek cards who) code rest is = ap (λ c. effects_in (c ++ rest)) is
 
   says_before : (es : Effects) (code rest : List Instruction) → EffectsStand es code → effects_in (code ++ rest) ≡ joined es (effects_in rest)
   says_before no_effect code rest is = ap (λ c. effects_in (c ++ rest)) is

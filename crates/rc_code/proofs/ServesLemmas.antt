@@ -2,7 +2,7 @@
 use Rattle.std.proofs.Common.{◌≡◌, ℕ, zero, suc, ◌+◌, ◌≤◌, ◌==◌, List, [], ◌∷◌, ◌++◌, length, take, drop, slice_get, Some, inl, refl, sym, ap, ◌∙◌, subst, append_assoc, append-nil, length-append, arith}
 use Rattle.std.proofs.lemmas.List.{take_at, drop_at}
 use Rattle.std.proofs.lemmas.Bool.{eq-eqb, cond-true}
-use Rattle.rc_sheet_model.specs.Sheet.{Class, game_class, player_class, team_class, Test, Effect, move, move_all, remember, forget, shuffle, set_to, increase, decrease, when, repeat, for_each, next_is, turn_round, Effects, no_effect, effect, Alt, do_alt, if_alt, any_alt, SheetItem, do_item, stage, choice, SheetItems, no_item, item, Sheet}
+use Rattle.rc_sheet_model.specs.Sheet.{Class, game_class, player_class, team_class, Test, Effect, move, move_all, remember, forget, shuffle, set_to, increase, decrease, when, repeat, for_each, next_is, turn_round, peek, Effects, no_effect, effect, Alt, do_alt, if_alt, any_alt, SheetItem, do_item, stage, choice, SheetItems, no_item, item, Sheet}
 use Rattle.rc_sheet_model.specs.Lists.{item_list}
 use Rattle.rc_sheet_model.specs.WellFormed.{Around, outside, in_stage, AreEffects, IsItem, AreItems, IsWellFormed}
 use Rattle.rc_play_model.specs.Menu.{alts_at, alt_in, effects_of}
@@ -107,6 +107,7 @@ module _ (sheet : Sheet) where
     effect_fits (for_each domain bound effects) code rest is = subst (λ c. AllFit c rest) (sym is.1) (tt, effects_fit effects is.0 rest is.2)
     effect_fits (next_is who) code rest is = subst (λ c. AllFit c rest) (sym is) (tt, tt)
     effect_fits turn_round code rest is = subst (λ c. AllFit c rest) (sym is) (tt, tt)
+    effect_fits (peek cards who) code rest is = subst (λ c. AllFit c rest) (sym is) (tt, tt)
 
     effects_fit : (effects : Effects) (code rest : List Instruction) → EffectsStand effects code → AllFit code rest
     effects_fit no_effect code rest is = subst (λ c. AllFit c rest) (sym is) tt

@@ -1,6 +1,6 @@
 -- The code that is made of a tree.
 use Rattle.std.specs.Prelude.{ℕ, ◌+◌, List, [], ◌∷◌, ◌++◌, length}
-use Rattle.rc_sheet_model.specs.Sheet.{Effect, move, move_all, remember, forget, shuffle, set_to, increase, decrease, when, repeat, for_each, next_is, turn_round, Effects, no_effect, effect, Alt, SheetItem, do_item, stage, choice, SheetItems, no_item, item}
+use Rattle.rc_sheet_model.specs.Sheet.{Effect, move, move_all, remember, forget, shuffle, set_to, increase, decrease, when, repeat, for_each, next_is, turn_round, peek, Effects, no_effect, effect, Alt, SheetItem, do_item, stage, choice, SheetItems, no_item, item}
 use Rattle.rc_play_model.specs.Menu.{effects_of}
 use Rattle.rc_code.specs.Instruction.{Block, Instruction, simple, if_true, so_often, one_by_one, do_all, begin_stage, offer, end_body, SitePlace}
 
@@ -19,6 +19,7 @@ abbrev mutual
   effect_code (for_each domain bound effects) = one_by_one domain bound (length (effects_code effects)) ∷ effects_code effects
   effect_code (next_is who) = simple (next_is who) ∷ []
   effect_code turn_round = simple turn_round ∷ []
+  effect_code (peek cards who) = simple (peek cards who) ∷ []
 
   pub effects_code : Effects → List Instruction
   effects_code no_effect = []

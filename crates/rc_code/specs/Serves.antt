@@ -1,6 +1,6 @@
 -- Code that serves a sheet, and the places of choices in it: what a machine that runs on code needs.
 use Rattle.std.specs.Prelude.{◌≡◌, ℕ, ◌+◌, ◌≤◌, false, List, [], ◌∷◌, length, take, drop, slice_get, Some}
-use Rattle.rc_sheet_model.specs.Sheet.{Class, Test, Effect, move, move_all, remember, forget, shuffle, set_to, increase, decrease, when, repeat, for_each, next_is, turn_round, Alt, Sheet}
+use Rattle.rc_sheet_model.specs.Sheet.{Class, Test, Effect, move, move_all, remember, forget, shuffle, set_to, increase, decrease, when, repeat, for_each, next_is, turn_round, peek, Alt, Sheet}
 use Rattle.rc_sheet_model.specs.WellFormed.{Around, IsTest, AreEffects, AreAlts}
 use Rattle.rc_play_model.specs.Menu.{alts_at, alt_in, effects_of}
 use Rattle.rc_play_model.specs.Decision.{left_at}
@@ -32,6 +32,7 @@ HoldsNone (repeat count effects) = ⊥
 HoldsNone (for_each domain bound effects) = ⊥
 HoldsNone (next_is who) = Unit {0}
 HoldsNone turn_round = Unit {0}
+HoldsNone (peek cards who) = Unit {0}
 
 -- an instruction that is an effect is one that holds no others
 abbrev pub IsSimple : Instruction → Type 0

@@ -1,6 +1,6 @@
 -- Which code stands for which sheet.
 use Rattle.std.specs.Prelude.{◌≡◌, ℕ, ◌+◌, List, [], ◌∷◌, ◌++◌, length, slice_get, Some}
-use Rattle.rc_sheet_model.specs.Sheet.{Effect, move, move_all, remember, forget, shuffle, set_to, increase, decrease, when, repeat, for_each, next_is, turn_round, Effects, no_effect, effect, Alt, do_alt, if_alt, any_alt, SheetItem, do_item, stage, choice, SheetItems, no_item, item, Sheet}
+use Rattle.rc_sheet_model.specs.Sheet.{Effect, move, move_all, remember, forget, shuffle, set_to, increase, decrease, when, repeat, for_each, next_is, turn_round, peek, Effects, no_effect, effect, Alt, do_alt, if_alt, any_alt, SheetItem, do_item, stage, choice, SheetItems, no_item, item, Sheet}
 use Rattle.rc_sheet_model.specs.Mentions.{sites_in}
 use Rattle.rc_code.specs.Instruction.{Block, Instruction, simple, if_true, so_often, one_by_one, do_all, begin_stage, offer, end_body, SitePlace, Code}
 
@@ -24,6 +24,7 @@ abbrev mutual
       (inside : List Instruction) × (code ≡ one_by_one domain bound (length inside) ∷ inside) × EffectsStand effects inside
   EffectStands (next_is who) code = code ≡ simple (next_is who) ∷ []
   EffectStands turn_round code = code ≡ simple turn_round ∷ []
+  EffectStands (peek cards who) code = code ≡ simple (peek cards who) ∷ []
 
   pub EffectsStand : Effects → List Instruction → Type 0
   EffectsStand no_effect code = code ≡ []

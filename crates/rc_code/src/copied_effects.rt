@@ -41,6 +41,7 @@ pub(crate) fn copy_effect(alloc: Global, effect: &Effect) -> Result<Effect, Memo
         }
         Effect::Next(who) => Ok(Effect::Next(*who)),
         Effect::Reverse => Ok(Effect::Reverse),
+        Effect::Peek(cards, who) => Ok(Effect::Peek(copy_coll(alloc, cards)?, *who)),
     }
 }
 

@@ -42,6 +42,7 @@ pub(crate) fn copy_coll(alloc: Global, cards: &CollExpr) -> Result<CollExpr, Mem
             Ok(CollExpr::Filter(cards, *bound, test))
         }
         CollExpr::Union(parts) => Ok(CollExpr::union_of(copy_colls(alloc, parts)?)),
+        CollExpr::Known(loc) => Ok(CollExpr::Known(*loc)),
     }
 }
 

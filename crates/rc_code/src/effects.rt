@@ -71,6 +71,7 @@ fn push_effect(alloc: Global, effect: &Effect, list: &mut Vec<Instruction>) -> R
         Effect::Dec(_, _) => push_simple(alloc, effect, list),
         Effect::Next(_) => push_simple(alloc, effect, list),
         Effect::Reverse => push_simple(alloc, effect, list),
+        Effect::Peek(_, _) => push_simple(alloc, effect, list),
     }
 }
 

@@ -1,4 +1,5 @@
 pub mod EffectSteps
+pub mod ShownLemmas
 pub mod ListLemmas
 pub mod ShuffleLemmas
 pub mod NumberLemmas

@@ -6,6 +6,7 @@ mod everyone;
 mod items;
 mod moving;
 mod numbers;
+mod peeking;
 mod references;
 mod scopes;
 mod shuffling;

@@ -11,6 +11,7 @@ ghost use Rattle.rc_rules.specs.Dealer.{HasShuffled};
 
 use crate::moving::{move_all, move_one};
 use crate::numbers::{change_number, set_number};
+use crate::peeking::peek;
 use crate::references::{forget, remember};
 use crate::shuffling::shuffle;
 use rc_ast::Effect;
@@ -57,6 +58,7 @@ pub fn do_simple<D: Dealer>(
             name_next(context, *who, board.table(), frames);
             Ok(())
         }
+        Effect::Peek(cards, who) => peek(context, cards, *who, board, &*frames),
         Effect::Reverse => {
             turn_round(context, board.table(), frames);
             Ok(())

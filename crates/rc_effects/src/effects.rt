@@ -15,6 +15,7 @@ ghost use Rattle.rc_state.specs.Context.{scene_in, Stands};
 
 use crate::moving::{move_all, move_one};
 use crate::numbers::change_number;
+use crate::peeking::peek;
 use crate::references::{forget, remember};
 use crate::shuffling::shuffle;
 use rc_ast::{CollExpr, Domain, Effect, IntExpr, Test};
@@ -87,6 +88,7 @@ fn do_effect<D: Dealer>(
         }
         Effect::Next(who) => name_next(context, *who, &*table, frames),
         Effect::Reverse => turn_round(context, &*table, frames),
+        Effect::Peek(cards, who) => peek(context, cards, *who, table, &*frames),
     }
 }
 

@@ -7,6 +7,7 @@ mod effects;
 mod items;
 mod moving;
 mod numbers;
+mod peeking;
 mod references;
 mod shuffling;
 

@@ -6,7 +6,7 @@ use base.Stored.{Gv, gnil, gnum, gcons}
 use denote.Struct.Codes.{itself}
 use lib.IntN.{ℤ, pos, negsuc}
 use Rattle.rc_model.specs.Deck.{Groups, no_group, group, Branches, no_branch, branch}
-use Rattle.rc_sheet_model.specs.Sheet.{Class, game_class, player_class, team_class, End, top, bottom, Who, game, current_player, current_team, team_of_current, team_of_var, who_var, Loc, Num, CardExpr, card_var, top_card, bottom_card, max_card, min_card, CollExpr, group_var, cards_in, filtered, union_of, CollExprs, no_coll, coll, IntExpr, literal, number, size_of, sum_of, worth_of, add, subtract, multiply, Test, eq_int, eq_card, eq_attr, eq_who, ne, less, less_eq, more, more_eq, has_value, and_of, or_of, not_of, all_of, any_of, Tests, no_test, test, Domain, each_player, each_card, each_group, Effect, move, move_all, remember, forget, shuffle, set_to, increase, decrease, when, repeat, for_each, next_is, turn_round, Effects, no_effect, effect, Alt, do_alt, if_alt, any_alt, SheetItem, do_item, stage, choice, SheetItems, no_item, item}
+use Rattle.rc_sheet_model.specs.Sheet.{Class, game_class, player_class, team_class, End, top, bottom, Who, game, current_player, current_team, team_of_current, team_of_var, who_var, Loc, Num, CardExpr, card_var, top_card, bottom_card, max_card, min_card, CollExpr, group_var, cards_in, filtered, union_of, known_in, CollExprs, no_coll, coll, IntExpr, literal, number, size_of, sum_of, worth_of, add, subtract, multiply, Test, eq_int, eq_card, eq_attr, eq_who, ne, less, less_eq, more, more_eq, has_value, and_of, or_of, not_of, all_of, any_of, Tests, no_test, test, Domain, each_player, each_card, each_group, Effect, move, move_all, remember, forget, shuffle, set_to, increase, decrease, when, repeat, for_each, next_is, turn_round, peek, Effects, no_effect, effect, Alt, do_alt, if_alt, any_alt, SheetItem, do_item, stage, choice, SheetItems, no_item, item}
 
 -- the cases of a type, counted
 pattern abbrev nought : Gv
@@ -158,6 +158,7 @@ abbrev mutual
   of_coll (cards_in loc) = gcons one (of_loc loc)
   of_coll (filtered cards bound inner) = gcons two (gcons (of_coll cards) (gcons (gnum bound) (of_test inner)))
   of_coll (union_of parts) = gcons three (of_colls parts)
+  of_coll (known_in loc) = gcons four (of_loc loc)
 
   of_colls : CollExprs → Gv
   of_colls no_coll = gcons nought gnil
@@ -213,6 +214,7 @@ abbrev mutual
   to_coll (gcons one loc) = cards_in (to_loc loc)
   to_coll (gcons two (gcons cards (gcons (gnum bound) inner))) = filtered (to_coll cards) bound (to_test inner)
   to_coll (gcons three parts) = union_of (to_colls parts)
+  to_coll (gcons four loc) = known_in (to_loc loc)
   to_coll code = group_var 0
 
   to_colls : Gv → CollExprs
@@ -273,6 +275,7 @@ mutual
   same_coll (cards_in loc) = λ i. cards_in (same_loc loc i)
   same_coll (filtered cards bound inner) = λ i. filtered (same_coll cards i) bound (same_test inner i)
   same_coll (union_of parts) = λ i. union_of (same_colls parts i)
+  same_coll (known_in loc) = λ i. known_in (same_loc loc i)
 
   same_colls : (tree : CollExprs) → to_colls (of_colls tree) ≡ tree
   same_colls no_coll = refl
@@ -331,6 +334,7 @@ abbrev mutual
   of_effect (for_each domain bound effects) = gcons ten (gcons (of_domain domain) (gcons (gnum bound) (of_effects effects)))
   of_effect (next_is who) = gcons eleven (of_who who)
   of_effect turn_round = gcons twelve gnil
+  of_effect (peek cards who) = gcons thirteen (gcons (of_coll cards) (of_who who))
 
   of_effects : Effects → Gv
   of_effects no_effect = gcons nought gnil
@@ -351,6 +355,7 @@ abbrev mutual
   to_effect (gcons ten (gcons domain (gcons (gnum bound) effects))) = for_each (to_domain domain) bound (to_effects effects)
   to_effect (gcons eleven who) = next_is (to_who who)
   to_effect (gcons twelve gnil) = turn_round
+  to_effect (gcons thirteen (gcons cards who)) = peek (to_coll cards) (to_who who)
   to_effect code = turn_round
 
   to_effects : Gv → Effects
@@ -373,6 +378,7 @@ mutual
   same_effect (for_each domain bound effects) = λ i. for_each (same_domain domain i) bound (same_effects effects i)
   same_effect (next_is who) = λ i. next_is (same_who who i)
   same_effect turn_round = refl
+  same_effect (peek cards who) = λ i. peek (same_coll cards i) (same_who who i)
 
   same_effects : (tree : Effects) → to_effects (of_effects tree) ≡ tree
   same_effects no_effect = refl

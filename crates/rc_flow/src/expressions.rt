@@ -32,6 +32,7 @@ fn in_coll(names: &[LocName], cards: &CollExpr, found: Option<u32>) -> Option<u3
         CollExpr::Loc(loc) => in_loc(names, loc, found),
         CollExpr::Filter(cards, _, test) => in_test(names, test, in_coll(names, cards, found)),
         CollExpr::Union(parts) => in_colls(names, parts, found),
+        CollExpr::Known(_) => found,
     }
 }
 

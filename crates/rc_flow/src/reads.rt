@@ -57,6 +57,7 @@ fn gathered_read(expr: &CollExpr, place: usize) -> bool
         CollExpr::Loc(loc) => owner_reads(loc.who, place),
         CollExpr::Filter(cards, _, test) => cards_read(cards, place) || test_reads(test, place),
         CollExpr::Union(parts) => some_part_reads(parts, place),
+        CollExpr::Known(loc) => owner_reads(loc.who, place),
     }
 }
 

@@ -9,7 +9,7 @@ use Rattle.rc_stand.specs.declared.marks.Mark.{Mark}
 
 -- the table after so many edits, of tables of which the last one stands first
 abbrev pub rewound : List Table → ℕ → Table
-rewound [] n = record { lists = []; numbers = [] }
+rewound [] n = record { lists = []; numbers = []; marks = [] }
 rewound (table ∷ before) n = if length before == n then table else rewound before n
 
 -- where a match stood that was marked

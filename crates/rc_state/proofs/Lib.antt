@@ -7,3 +7,4 @@ pub mod FrameEnds
 pub mod CurrentLemmas
 pub mod OwnerLemmas
 pub mod ScoreLemmas
+pub mod ShownLemmas

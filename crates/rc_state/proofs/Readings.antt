@@ -7,6 +7,7 @@ use Rattle.rc_sheet_model.specs.Sheet.{LocName, Loc, CardExpr, CollExpr}
 use Rattle.rc_sheet_model.specs.Naming.{class_of}
 use Rattle.rc_sheet_model.specs.WellFormed.{is_mem, holds_references}
 use Rattle.rc_play_model.specs.Control.{Frame}
+use Rattle.rc_play_model.specs.Owners.{mover}
 use Rattle.rc_play_model.specs.Shape.{Shape, shape_of}
 use Rattle.rc_play_model.specs.Table.{Table, IsSound}
 use Rattle.rc_play_model.specs.Value.{who_value, loc_place, card_value, coll_value}
@@ -31,8 +32,8 @@ seen_cards shape (card ∷ cards) all = (all.0, seen_cards shape cards all.1)
 
 module _ (about : About) (fits : about.shape ≡ shape_of about.sheet) (laid : Laid) (same : laid.shape ≡ about.shape) (sound : IsSound laid.shape laid.table)
     (frames : List Frame) (vars : Vars) (bound : All (IsBindOf about.shape) vars) where
-  there : (n : ℕ) → AreCards about.shape ((scene_at about laid.table frames).cards_at n)
-  there n = read_cards about.shape laid.table (subst (λ shape. IsSound shape laid.table) same sound).ids n
+  there : (n : ℕ) → AreCards about.shape ((scene_at about laid.table frames).cards_at n) × AreCards about.shape ((scene_at about laid.table frames).known_at n)
+  there n = read_cards about.shape laid.table (subst (λ shape. IsSound shape laid.table) same sound).ids (mover about.sheet frames) n
 
   same_players : about.shape.players ≡ about.sheet.players
   same_players = ap (λ (s : Shape). s.players) fits

@@ -4,3 +4,4 @@ pub mod Under
 pub mod Context
 pub mod Leads
 pub mod Bindings
+pub mod Shown

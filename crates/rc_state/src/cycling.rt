@@ -70,8 +70,8 @@ fn turn_innermost(frames: &mut [Frame])
     }
 }
 
-// Whose the stages of an owner are.
-fn class_of(who: Who) -> Class
+/// Whose the stages of an owner are.
+pub fn class_of(who: Who) -> Class
     ensures { result ≡ class_in (who_seen who) }
 {
     match who {

@@ -3,7 +3,7 @@ use Rattle.std.proofs.Common.{◌≡◌, ℕ, ◌+◌, ◌≤◌, ◌==◌, Bool
 use Rattle.std.specs.List.{AllByRecursion}
 use Rattle.std.specs.Prelude.{All}
 use Rattle.std.proofs.lemmas.List.Elements.{All-from_recursion}
-use Rattle.rc_sheet_model.specs.Sheet.{player_class, team_class, game_class, CardExpr, card_var, top_card, bottom_card, max_card, min_card, CollExpr, group_var, cards_in, filtered, union_of, CollExprs, no_coll, coll, IntExpr, literal, number, size_of, sum_of, worth_of, add, subtract, multiply, Test, eq_int, eq_card, eq_attr, eq_who, ne, less, less_eq, more, more_eq, has_value, and_of, or_of, not_of, all_of, any_of, Tests, no_test, test, Domain, each_player, each_card, each_group, Alt, do_alt, if_alt, any_alt, SheetItem, do_item, stage, choice, SheetItems, no_item, item, Sheet}
+use Rattle.rc_sheet_model.specs.Sheet.{player_class, team_class, game_class, CardExpr, card_var, top_card, bottom_card, max_card, min_card, CollExpr, group_var, cards_in, filtered, union_of, known_in, CollExprs, no_coll, coll, IntExpr, literal, number, size_of, sum_of, worth_of, add, subtract, multiply, Test, eq_int, eq_card, eq_attr, eq_who, ne, less, less_eq, more, more_eq, has_value, and_of, or_of, not_of, all_of, any_of, Tests, no_test, test, Domain, each_player, each_card, each_group, Alt, do_alt, if_alt, any_alt, SheetItem, do_item, stage, choice, SheetItems, no_item, item, Sheet}
 use Rattle.rc_sheet_model.specs.Naming.{sort_of}
 use Rattle.rc_sheet_model.specs.Sheet.{card_sort}
 use Rattle.rc_sheet_model.specs.WellFormed.{Around, outside, in_stage, behind, IsCard, IsColl, AreColls, IsInt, IsTest, AreTests, IsRange, IsDomain, IsAlt, AreAlts, IsItem, AreItems, IsWellFormed}
@@ -28,6 +28,7 @@ module _ (sheet : Sheet) where
         let k = test_few (behind sheet around bound card_sort) t (omega (arith, is.1.2)) is.2 in
         omega (arith, h, k)
     coll_few around (union_of parts) le is = colls_few around parts le is.1
+    coll_few around (known_in loc) le is = omega (arith, le)
 
     colls_few : (around : Around) (es : CollExprs) → around.binders ≤ 4 → AreColls sheet around es → around.binders + colls_depth es ≤ 4
     colls_few around no_coll le are = omega (arith, le)

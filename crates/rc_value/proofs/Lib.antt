@@ -11,3 +11,4 @@ pub mod HoldingLemmas
 pub mod ComparingLemmas
 pub mod CurrentLemmas
 pub mod AtomLemmas
+pub mod KnownLemmas

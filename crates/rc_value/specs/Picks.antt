@@ -1,6 +1,6 @@
 -- Collections that are gathered, and what is taken of a collection.
 use Rattle.std.specs.Prelude.{Bool, true, false, List, int_lt, Option}
-use Rattle.rc_sheet_model.specs.Sheet.{CollExpr, group_var, cards_in, filtered, union_of}
+use Rattle.rc_sheet_model.specs.Sheet.{CollExpr, group_var, cards_in, filtered, union_of, known_in}
 use Rattle.rc_play_model.specs.Value.{Scene, best_of, int_more, worth}
 use Rattle.rc_play_model.specs.Ends.{first_of, last_of}
 use Rattle.rc_play_model.specs.Scene.{CardValue}
@@ -13,6 +13,7 @@ is_gathered (group_var var) = false
 is_gathered (cards_in loc) = false
 is_gathered (filtered cards bound t) = true
 is_gathered (union_of parts) = true
+is_gathered (known_in loc) = true
 
 abbrev pub picked_of : Scene CardValue → Which → List CardValue → Option CardValue
 picked_of scene Top cards = last_of cards

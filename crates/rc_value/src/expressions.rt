@@ -18,6 +18,7 @@ use crate::arithmetic::{clamped_difference, clamped_product, clamped_sum};
 use crate::cards::id_or_none;
 use crate::collection::Collection;
 use crate::hand::{bare, number_at_hand, test_at_hand, value_at_hand};
+use crate::known::fill_known;
 use crate::leaves::{are_same, attr_of_id, cards_of, number_of, worth_of_id};
 use crate::loops::{Which, append, card_at, fill, keep, pick_from, sum};
 use crate::places::who_of;
@@ -48,6 +49,7 @@ pub fn coll_of(scene: &Scene, scope: &Bindings, expr: &CollExpr, out: &mut Cards
             pass(scene, scope, test, out);
         }
         CollExpr::Union(parts) => join(scene, scope, parts, out),
+        CollExpr::Known(loc) => fill_known(scene, scope, loc, out),
     }
 }
 
@@ -308,6 +310,7 @@ fn count_of(scene: &Scene, scope: &Bindings, expr: &CollExpr) -> usize
         CollExpr::Loc(loc) => ids_of(scene, scope, loc).len(),
         CollExpr::Filter(_, _, _) => count_filtered(scene, scope, expr),
         CollExpr::Union(parts) => count_parts(scene, scope, parts),
+        CollExpr::Known(_) => count_built(scene, scope, expr),
     }
 }
 

@@ -26,6 +26,7 @@ pub fn bare<'a>(scene: &'a Scene, scope: &'a Bindings, expr: &CollExpr) -> Optio
         CollExpr::Loc(loc) => Some(cards_of(scene, scope, loc)),
         CollExpr::Filter(_, _, _) => None,
         CollExpr::Union(_) => None,
+        CollExpr::Known(_) => None,
     }
 }
 

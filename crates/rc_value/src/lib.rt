@@ -11,6 +11,7 @@ mod current;
 mod expressions;
 mod groups;
 mod hand;
+mod known;
 mod leaves;
 mod loops;
 mod places;

@@ -55,6 +55,12 @@ returns-in-MoveAll-clause-does g c =
     led c.args.context.now (g.D.Dealer.dealing c.args.dealer.now) (g.D.Dealer.state c.args.dealer.now) c.args.effect.now _ c.args.board.now.laid
     c.move_all.new.board.laid c.args.frames.now.items c.args.frames.now.items c.in-MoveAll.is leads)
 
+pub returns-in-Peek-clause-does : goal.returns-in-Peek-clause-does
+returns-in-Peek-clause-does g c =
+    on_ok _ _ c.peek.result c.peek.ensures.leads (λ leads.
+    led c.args.context.now (g.D.Dealer.dealing c.args.dealer.now) (g.D.Dealer.state c.args.dealer.now) c.args.effect.now _ c.args.board.now.laid
+    c.peek.new.board.laid c.args.frames.now.items c.args.frames.now.items c.in-Peek.is leads)
+
 pub returns-in-Remember-clause-does : goal.returns-in-Remember-clause-does
 returns-in-Remember-clause-does g c =
     on_ok _ _ c.remember.result c.remember.ensures.leads (λ leads.

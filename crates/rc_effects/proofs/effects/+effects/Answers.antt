@@ -20,6 +20,11 @@ do_effect-returns-in-MoveAll-clause-does g t c =
     led c.args.context.now (g.D.Dealer.dealing c.args.dealer.now) (g.D.Dealer.state c.args.dealer.now) c.args.effect.now _ c.args.table.now c.move_all.new.table
     c.args.frames.now.items c.args.frames.now.items c.in-MoveAll.is c.move_all.ensures.leads
 
+pub do_effect-returns-in-Peek-clause-does : goal.do_effect-returns-in-Peek-clause-does
+do_effect-returns-in-Peek-clause-does g t c =
+    led c.args.context.now (g.D.Dealer.dealing c.args.dealer.now) (g.D.Dealer.state c.args.dealer.now) c.args.effect.now _ c.args.table.now c.peek.new.table
+    c.args.frames.now.items c.args.frames.now.items c.in-Peek.is c.peek.ensures.leads
+
 pub do_effect-returns-in-Remember-clause-does : goal.do_effect-returns-in-Remember-clause-does
 do_effect-returns-in-Remember-clause-does g t c =
     led c.args.context.now (g.D.Dealer.dealing c.args.dealer.now) (g.D.Dealer.state c.args.dealer.now) c.args.effect.now _ c.args.table.now c.remember.new.table
