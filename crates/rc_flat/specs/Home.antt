@@ -24,7 +24,7 @@ pub record Homing : Type 0 where
 -- where a match stands at home
 abbrev pub config_at_home : About → List Instruction → Option Table → Stand → Config
 config_at_home about code home stand =
-    config_of (flat_from about code stand.place (unwrap_or home (record { lists = []; numbers = [] })) (control_seen stand.control))
+    config_of (flat_from about code stand.place (unwrap_or home (record { lists = []; numbers = []; marks = [] })) (control_seen stand.control))
 
 -- with each table for the decision of this control a match goes on at the place, at the control's site
 abbrev pub IsAtSite : About → List Instruction → Path → Control → Type 0

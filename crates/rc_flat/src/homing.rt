@@ -8,6 +8,7 @@ ghost use Rattle.rc_rules.specs.Dealer.{HasShuffled};
 ghost use Rattle.rc_rules.specs.Machine.{CanDecide, StandsAtDecision, StandsWhereItStops, menu_here};
 ghost use Rattle.rc_code.specs.Seen.{code_seen};
 ghost use Rattle.rc_code.specs.Stands.{StandsFor};
+ghost use Rattle.rc_board.specs.Undo.{home_at};
 
 use crate::machine::FlatMachine;
 use rc_board::Board;
@@ -63,12 +64,27 @@ impl HomeMachine {
         ensures at { IfOk result (λ m. m.config ≡ at_site about table.table (control_seen control)) }
         ensures fresh { IfOk result (λ m. m.spent ≡ false) }
     {
+        let code = Arc::try_clone(code)?;
+        let board = Board::at_home(alloc, table)?;
+        Ok(HomeMachine::at_home(code, about, board, control))
+    }
+
+    /// The same in code of one's own, on a board that is at home. It takes no memory, and a machine is large, so that it is made where it
+    /// is to stay.
+    pub fn at_home(code: Arc<Code>, about: About, board: Board, control: Control) -> HomeMachine
+        requires stands { StandsFor about.sheet (code_seen code.value) }
+        requires laid { board.laid.shape ≡ about.shape }
+        requires home { board ≡ home_at board.laid }
+        requires decides { CanDecide about board.laid.table (control_seen control) }
+        ensures about { result.about ≡ about }
+        ensures home { result.home ≡ at_site about board.laid.table (control_seen control) }
+        ensures at { result.config ≡ at_site about board.laid.table (control_seen control) }
+        ensures fresh { result.spent ≡ false }
+    {
         sites_are_placed();
         // what an about keeps
         let _sheet = about.sheet();
-        let place = place_of(code, site_of(&control));
-        let code = Arc::try_clone(code)?;
-        let board = Board::at_home(alloc, table)?;
+        let place = place_of(&code, site_of(&control));
         let mut stand = Stand {
             control: control.copy(),
             place: place.copy(),
@@ -76,7 +92,7 @@ impl HomeMachine {
         };
         let machine = FlatMachine::at_place(code, about, board, control, place);
         machine.write_menu(&mut stand.menu);
-        Ok(HomeMachine { machine, stand })
+        HomeMachine { machine, stand }
     }
 
     /// Goes home. A machine that was spent is whole again. It takes no memory.
