@@ -143,6 +143,7 @@ quiet rule.Repeat is = record { front = refl; more = λ last. refl; same = λ kn
 quiet rule.Each is = record { front = refl; more = λ last. refl; same = λ known parts. refl; role = λ role index is. front_role (front_roles rule.Each) index refl }
 quiet rule.Next is = record { front = refl; more = λ last. tt; same = λ known parts. refl; role = λ role index is. front_role (front_roles rule.Next) index refl }
 quiet rule.Reverse is = record { front = refl; more = λ last. tt; same = λ known parts. refl; role = λ role index is. front_role (front_roles rule.Reverse) index refl }
+quiet rule.Peek is = record { front = refl; more = λ last. tt; same = λ known parts. refl; role = λ role index is. front_role (front_roles rule.Peek) index refl }
 quiet rule.TopOf is = record { front = refl; more = λ last. tt; same = λ known parts. refl; role = λ role index is. is }
 quiet rule.BottomOf is = record { front = refl; more = λ last. tt; same = λ known parts. refl; role = λ role index is. is }
 quiet rule.Location is = record { front = refl; more = λ last. tt; same = λ known parts. refl; role = λ role index is. front_role (front_roles rule.Location) index refl }
@@ -156,6 +157,7 @@ quiet rule.MaxCard is = record { front = refl; more = λ last. tt; same = λ kno
 quiet rule.MinCard is = record { front = refl; more = λ last. tt; same = λ known parts. refl; role = λ role index is. front_role (front_roles rule.MinCard) index refl }
 quiet rule.Filter is = record { front = refl; more = λ last. tt; same = λ known parts. refl; role = λ role index is. front_role (front_roles rule.Filter) index refl }
 quiet rule.Union is = record { front = refl; more = λ last. refl; same = λ known parts. refl; role = λ role index is. front_role (front_roles rule.Union) index refl }
+quiet rule.Known is = record { front = refl; more = λ last. tt; same = λ known parts. refl; role = λ role index is. front_role (front_roles rule.Known) index refl }
 quiet rule.Partition is = record { front = refl; more = λ last. tt; same = λ known parts. refl; role = λ role index is. front_role (front_roles rule.Partition) index refl }
 quiet rule.Size is = record { front = refl; more = λ last. tt; same = λ known parts. refl; role = λ role index is. front_role (front_roles rule.Size) index refl }
 quiet rule.Sum is = record { front = refl; more = λ last. tt; same = λ known parts. refl; role = λ role index is. front_role (front_roles rule.Sum) index refl }

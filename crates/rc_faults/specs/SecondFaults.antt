@@ -103,6 +103,7 @@ is_unknown all earlier (form at rule.CurrentTeam parts from) = not at.around.tea
 is_unknown all earlier (form at rule.Choice parts from) = not at.around.player_stage
 is_unknown all earlier (form at rule.Next parts from) = not (is_in_stage at.around (class_at (part_at 2 parts)))
 is_unknown all earlier (form at rule.Reverse parts from) = not (at.around.player_stage || at.around.team_stage)
+is_unknown all earlier (form at rule.Known parts from) = not at.around.player_stage
 is_unknown all earlier (form at rule parts from) = false
 
 -- WRONG KIND

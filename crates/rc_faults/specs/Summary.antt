@@ -229,6 +229,7 @@ is_unknown_form whole seen at rule.CurrentTeam parts = not at.around.team_stage
 is_unknown_form whole seen at rule.Choice parts = not at.around.player_stage
 is_unknown_form whole seen at rule.Next parts = not (is_in_stage at.around (class_at (part_at 2 parts)))
 is_unknown_form whole seen at rule.Reverse parts = not (at.around.player_stage || at.around.team_stage)
+is_unknown_form whole seen at rule.Known parts = not at.around.player_stage
 is_unknown_form whole seen at rule parts = false
 
 abbrev pub is_not_known : Whole → Summary → Part → Bool

@@ -131,7 +131,7 @@ fn is_unknown_form<'a>(
 {
     match rule {
         Rule::CreateTeams => !seen.has_teams() && misses_player(whole.players(), parts),
-        Rule::CurrentPlayer | Rule::Choice => !around.player_stage(),
+        Rule::CurrentPlayer | Rule::Choice | Rule::Known => !around.player_stage(),
         Rule::CurrentTeam => !around.team_stage(),
         Rule::Next => !is_in_stage(around, class_at(part_at(2, parts))),
         Rule::Reverse => !around.player_stage() && !around.team_stage(),

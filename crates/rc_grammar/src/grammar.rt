@@ -154,6 +154,8 @@ pub enum Rule {
     Next,
     /// `(cycle reverse)`
     Reverse,
+    /// `(peek COLL OWNER)`
+    Peek,
     /// `(top LOC)`
     TopOf,
     /// `(bottom LOC)`
@@ -180,6 +182,8 @@ pub enum Rule {
     Filter,
     /// `(union COLL COLL+)`
     Union,
+    /// `(known LOC)`
+    Known,
     /// `(partition COLL ATTR)`
     Partition,
     /// `(size COLL)`
@@ -256,7 +260,13 @@ impl Symbol {
             Symbol::Item => &[Rule::Do, Rule::PlayerStage, Rule::TeamStage, Rule::Choice],
             Symbol::End => &[Rule::End],
             Symbol::Alternative => &[Rule::Do, Rule::If, Rule::AnyOf],
-            Symbol::Domain => &[Rule::Location, Rule::Filter, Rule::Union, Rule::Partition],
+            Symbol::Domain => &[
+                Rule::Location,
+                Rule::Filter,
+                Rule::Union,
+                Rule::Known,
+                Rule::Partition,
+            ],
             Symbol::Effect => &[
                 Rule::Move,
                 Rule::MoveAll,
@@ -271,6 +281,7 @@ impl Symbol {
                 Rule::Each,
                 Rule::Next,
                 Rule::Reverse,
+                Rule::Peek,
             ],
             Symbol::Spot => &[Rule::TopOf, Rule::BottomOf],
             Symbol::Location => &[Rule::Location],
@@ -284,8 +295,8 @@ impl Symbol {
                 Rule::MaxCard,
                 Rule::MinCard,
             ],
-            Symbol::Collection => &[Rule::Location, Rule::Filter, Rule::Union],
-            Symbol::Members => &[Rule::Location, Rule::Filter, Rule::Union],
+            Symbol::Collection => &[Rule::Location, Rule::Filter, Rule::Union, Rule::Known],
+            Symbol::Members => &[Rule::Location, Rule::Filter, Rule::Union, Rule::Known],
             Symbol::Integer => &[
                 Rule::Counter,
                 Rule::Size,
@@ -415,6 +426,11 @@ impl Rule {
                 Symbol::Owner,
             ],
             Rule::Reverse => &[Symbol::Word(Keyword::Cycle), Symbol::Word(Keyword::Reverse)],
+            Rule::Peek => &[
+                Symbol::Word(Keyword::Peek),
+                Symbol::Collection,
+                Symbol::Owner,
+            ],
             Rule::TopOf => &[Symbol::Word(Keyword::Top), Symbol::Location],
             Rule::BottomOf => &[Symbol::Word(Keyword::Bottom), Symbol::Location],
             Rule::Location => &[Symbol::Holder, Symbol::Kind, Symbol::Name],
@@ -450,6 +466,7 @@ impl Rule {
                 Symbol::Test,
             ],
             Rule::Union => &[Symbol::Word(Keyword::Union), Symbol::Collection],
+            Rule::Known => &[Symbol::Word(Keyword::Known), Symbol::Location],
             Rule::Partition => &[
                 Symbol::Word(Keyword::Partition),
                 Symbol::Collection,

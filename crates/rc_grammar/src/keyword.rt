@@ -65,6 +65,8 @@ pub enum Keyword {
     Or,
     Not,
     Attr,
+    Peek,
+    Known,
 }
 
 impl Keyword {
@@ -134,6 +136,8 @@ impl Keyword {
             Keyword::Or => b"or",
             Keyword::Not => b"not",
             Keyword::Attr => b"attr",
+            Keyword::Peek => b"peek",
+            Keyword::Known => b"known",
         }
     }
 }

@@ -4,13 +4,13 @@ use Rattle.std.specs.Prelude.{option_map}
 use Rattle.rc_model.specs.Tree.{nil, cons}
 use Rattle.rc_form.specs.Form.{tree_of, trees_of, packed}
 use Rattle.rc_form.specs.declared.form.Form.{Form}
-use Rattle.rc_sheet_model.specs.Sheet.{Domain, when, repeat, for_each, move, move_all, remember, forget, shuffle, set_to, increase, decrease}
+use Rattle.rc_sheet_model.specs.Sheet.{Domain, when, repeat, for_each, move, move_all, remember, forget, shuffle, peek, set_to, increase, decrease}
 use Rattle.rc_sheet_model.specs.Naming.{Naming, Scope, bind, sort_of}
 use Rattle.rc_grammar.specs.Faults.{fits}
 use Rattle.rc_grammar.specs.declared.grammar.Symbol.TheVariants as symbol
 use Rattle.rc_grammar.specs.declared.grammar.Rule.{Rule}
 use Rattle.rc_grammar.specs.declared.grammar.Rule.TheVariants as rules
-use Rattle.rc_reading.specs.ReadNames.{both, rule_at, binder_at, loc_at, num_at}
+use Rattle.rc_reading.specs.ReadNames.{both, rule_at, binder_at, owner_at, loc_at, num_at}
 use Rattle.rc_reading.specs.ReadExpressions.{card_at, coll_at, int_at, test_at, range_at}
 use Rattle.rc_reading.specs.ReadEffects.{effect_rule, effect_of_list, effects_at, number_rule, plain_rule, spot_at}
 use Rattle.rc_reading.proofs.Lists.{two_parts, three_parts}
@@ -122,6 +122,17 @@ shuffle_said naming scope parts rule loc sized is loc_is =
     let exact : length parts ≡ 2 = grind arith in
     ap (λ rule. plain_rule naming scope rule (packed (trees_of parts))) is
     ∙ ap (plain_rule naming scope rules.Shuffle) (two_parts parts loc (omega (arith, exact)) (omega (arith, exact)) loc_is)
+
+pub peek_said : (naming : Naming) (scope : Scope) (parts : List Form) (rule : Rule) (cards owner : Form)
+    → IsTrue (fits (length parts) rule) → rule ≡ rules.Peek → cards ≡ get_or parts 1 cards → owner ≡ get_or parts 2 owner
+    → plain_rule naming scope rule (packed (trees_of parts))
+    ≡ option_map (λ p. peek p.0 p.1) (both (coll_at naming scope (tree_of cards)) (owner_at scope (tree_of owner)))
+peek_said naming scope parts rule cards owner sized is cards_is owner_is =
+    let fit = fits_known (length parts) rule rules.Peek sized is in
+    let exact : length parts ≡ 3 = grind arith in
+    ap (λ rule. plain_rule naming scope rule (packed (trees_of parts))) is
+    ∙ ap (plain_rule naming scope rules.Peek)
+    (three_parts parts cards owner (omega (arith, exact)) (omega (arith, exact)) cards_is owner_is)
 
 pub set_said : (naming : Naming) (scope : Scope) (parts : List Form) (rule : Rule) (num value : Form)
     → IsTrue (fits (length parts) rule) → rule ≡ rules.Set → num ≡ get_or parts 1 num → value ≡ get_or parts 2 value

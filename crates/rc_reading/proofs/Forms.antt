@@ -85,6 +85,10 @@ coll_forms naming scope from rule.Filter (cons head (cons cards (cons variable (
 coll_forms naming scope from rule.Filter (cons head (cons cards (cons variable (cons t (cons part parts))))) = refl
 coll_forms naming scope from rule.Union nil = refl
 coll_forms naming scope from rule.Union (cons head parts) = refl
+coll_forms naming scope from rule.Known nil = refl
+coll_forms naming scope from rule.Known (cons head nil) = refl
+coll_forms naming scope from rule.Known (cons head (cons loc nil)) = refl
+coll_forms naming scope from rule.Known (cons head (cons loc (cons part parts))) = refl
 coll_forms naming scope from rule parts = refl
 
 -- a number's list

@@ -1,7 +1,7 @@
 -- What forms of effects and of alternatives say, in a scope.
 use Rattle.std.specs.Prelude.{ℕ, List, [], ◌∷◌, Option, Some, None, option_map}
 use Rattle.rc_model.specs.Tree.{Tree, word, list, Trees, nil, cons}
-use Rattle.rc_sheet_model.specs.Sheet.{End, top, bottom, Loc, Domain, each_card, each_group, Effect, move, move_all, remember, forget, shuffle, set_to, increase, decrease, when, repeat, for_each, next_is, turn_round, Effects, no_effect, effect, Alt, do_alt, if_alt, any_alt}
+use Rattle.rc_sheet_model.specs.Sheet.{End, top, bottom, Loc, Domain, each_card, each_group, Effect, move, move_all, remember, forget, shuffle, set_to, increase, decrease, when, repeat, for_each, next_is, turn_round, peek, Effects, no_effect, effect, Alt, do_alt, if_alt, any_alt}
 use Rattle.rc_sheet_model.specs.Naming.{Naming, Scope, bind, sort_of}
 use Rattle.rc_reading.specs.ReadNames.{◌>>=◌, both, rule_at, name_at, binder_at, owner_at, loc_at, num_at}
 use Rattle.rc_reading.specs.ReadExpressions.{card_at, coll_at, coll_rule, int_at, test_at, range_at}
@@ -41,6 +41,8 @@ plain_rule naming scope rule.Remember (cons head (cons card (cons spot nil))) =
     option_map (λ p. remember p.0 p.1.0 p.1.1) (both (card_at naming scope card) (spot_at naming scope spot))
 plain_rule naming scope rule.Forget (cons head (cons card nil)) = option_map forget (card_at naming scope card)
 plain_rule naming scope rule.Shuffle (cons head (cons loc nil)) = option_map shuffle (loc_at naming scope loc)
+plain_rule naming scope rule.Peek (cons head (cons cards (cons owner nil))) =
+    option_map (λ p. peek p.0 p.1) (both (coll_at naming scope cards) (owner_at scope owner))
 plain_rule naming scope rule parts = number_rule naming scope rule parts
 
 abbrev mutual

@@ -2,11 +2,11 @@
 use Rattle.std.specs.Prelude.{ℕ, if◌then◌else◌, List, slice_get, Option, Some, None, option_map}
 use Rattle.rc_model.specs.Literal.{integer}
 use Rattle.rc_model.specs.Tree.{Tree, word, list, Trees, nil, cons}
-use Rattle.rc_sheet_model.specs.Sheet.{Sort, player_sort, card_sort, group_sort, Who, who_var, CardExpr, card_var, top_card, bottom_card, max_card, min_card, CollExpr, group_var, cards_in, filtered, union_of, CollExprs, no_coll, coll, IntExpr, literal, number, size_of, sum_of, worth_of, add, subtract, multiply, Test, eq_int, eq_card, eq_attr, eq_who, ne, less, less_eq, more, more_eq, has_value, and_of, or_of, not_of, all_of, any_of, Tests, no_test, test, Domain, each_player, each_card}
+use Rattle.rc_sheet_model.specs.Sheet.{Sort, player_sort, card_sort, group_sort, Who, who_var, CardExpr, card_var, top_card, bottom_card, max_card, min_card, CollExpr, group_var, cards_in, filtered, union_of, known_in, CollExprs, no_coll, coll, IntExpr, literal, number, size_of, sum_of, worth_of, add, subtract, multiply, Test, eq_int, eq_card, eq_attr, eq_who, ne, less, less_eq, more, more_eq, has_value, and_of, or_of, not_of, all_of, any_of, Tests, no_test, test, Domain, each_player, each_card}
 use Rattle.rc_sheet_model.specs.Naming.{Naming, Variable, Scope, bind, sort_of, class_of}
 use Rattle.rc_sheet_model.specs.Sheet.{same_class}
 use Rattle.rc_grammar.specs.Faults.{is_variable, is_form_word}
-use Rattle.rc_reading.specs.ReadNames.{◌>>=◌, both, rule_at, name_at, binder_at, place_in, variable_in, owner_rule, loc_parts, num_parts, map_at}
+use Rattle.rc_reading.specs.ReadNames.{◌>>=◌, both, rule_at, name_at, binder_at, place_in, variable_in, owner_rule, loc_at, loc_parts, num_parts, map_at}
 use Rattle.rc_grammar.specs.declared.keyword.Keyword.TheVariants as keyword
 use Rattle.rc_grammar.specs.declared.grammar.Symbol.TheVariants as symbol
 use Rattle.rc_grammar.specs.declared.grammar.Rule.{Rule}
@@ -87,6 +87,7 @@ abbrev mutual
       binder_at naming.names.vars scope variable >>= λ bound.
       option_map (λ t. filtered cards bound t) (test_at naming (bind naming scope bound card_sort) t)
   coll_rule naming scope from rule.Union (cons head parts) = option_map union_of (colls_at naming scope parts)
+  coll_rule naming scope from rule.Known (cons head (cons loc nil)) = option_map known_in (loc_at naming scope loc)
   coll_rule naming scope from rule parts = None
 
   pub colls_at : Naming → Scope → Trees → Option CollExprs

@@ -2,9 +2,9 @@
 -- readings of expressions and tests again, cut as the readers are. The two are one (`rc_sheet/proofs/Forms.antt`).
 use Rattle.std.specs.Prelude.{ℕ, if◌then◌else◌, Option, Some, None, option_map}
 use Rattle.rc_model.specs.Tree.{Tree, Trees, nil, cons}
-use Rattle.rc_sheet_model.specs.Sheet.{Sort, player_sort, card_sort, CardExpr, top_card, bottom_card, max_card, min_card, CollExpr, cards_in, filtered, union_of, CollExprs, IntExpr, number, size_of, sum_of, worth_of, add, subtract, multiply, Test, ne, less, less_eq, more, more_eq, has_value, and_of, or_of, not_of, all_of, any_of, Tests, Domain}
+use Rattle.rc_sheet_model.specs.Sheet.{Sort, player_sort, card_sort, Loc, CardExpr, top_card, bottom_card, max_card, min_card, CollExpr, cards_in, filtered, union_of, known_in, CollExprs, IntExpr, number, size_of, sum_of, worth_of, add, subtract, multiply, Test, ne, less, less_eq, more, more_eq, has_value, and_of, or_of, not_of, all_of, any_of, Tests, Domain}
 use Rattle.rc_sheet_model.specs.Naming.{Naming, Scope, bind}
-use Rattle.rc_reading.specs.ReadNames.{◌>>=◌, both, name_at, binder_at, owner_rule, loc_parts, num_parts, map_at}
+use Rattle.rc_reading.specs.ReadNames.{◌>>=◌, both, name_at, binder_at, owner_rule, loc_at, loc_parts, num_parts, map_at}
 use Rattle.rc_reading.specs.ReadExpressions.{Side, side_by, equal_test, card_at, coll_at, colls_at, int_at, side_at, test_at, tests_at, range_at}
 use Rattle.rc_grammar.specs.Faults.{is_form_word}
 use Rattle.rc_grammar.specs.declared.keyword.Keyword.TheVariants as keyword
@@ -31,6 +31,11 @@ abbrev pub card_and_attr : Naming → Scope → Trees → Option (CardExpr × �
 card_and_attr naming scope (cons head (cons card (cons attr nil))) =
     both (card_at naming scope card) (name_at naming.names.attrs attr)
 card_and_attr naming scope parts = None
+
+-- a location behind a head
+abbrev pub one_loc : Naming → Scope → Trees → Option Loc
+one_loc naming scope (cons head (cons loc nil)) = loc_at naming scope loc
+one_loc naming scope parts = None
 
 -- two numbers behind a head
 abbrev pub two_ints : Naming → Scope → Trees → Option (IntExpr × IntExpr)
@@ -101,6 +106,7 @@ abbrev pub coll_form : Naming → Scope → ℕ → Rule → Trees → Option Co
 coll_form naming scope from rule.Location parts = option_map cards_in (loc_parts naming scope from parts)
 coll_form naming scope from rule.Filter parts = filter_parts naming scope parts
 coll_form naming scope from rule.Union parts = option_map union_of (colls_behind naming scope parts)
+coll_form naming scope from rule.Known parts = option_map known_in (one_loc naming scope parts)
 coll_form naming scope from rule parts = None
 
 abbrev pub int_form : Naming → Scope → Rule → Trees → Option IntExpr

@@ -3,11 +3,11 @@ ghost use Rattle.std.specs.Prelude.{◌≡◌, IsTrue, IfOk, Option, length, opt
 ghost use Rattle.rc_form.specs.Form.{tree_of, trees_of, packed};
 ghost use Rattle.rc_sheet_model.specs.Sheet.{when, repeat, for_each, Effects};
 ghost use Rattle.rc_sheet_model.specs.Naming as model;
-ghost use Rattle.rc_ast.specs.Names.{loc_seen, num_seen};
+ghost use Rattle.rc_ast.specs.Names.{who_seen, loc_seen, num_seen};
 ghost use Rattle.rc_ast.specs.Expressions.{card_seen, coll_seen, int_seen, domain_seen};
 ghost use Rattle.rc_ast.specs.Effects.{end_seen, effect_seen, effects_seen};
 ghost use Rattle.rc_grammar.specs.Faults.{fits};
-ghost use Rattle.rc_reading.specs.ReadNames.{both, binder_at, num_at};
+ghost use Rattle.rc_reading.specs.ReadNames.{both, binder_at, owner_at, num_at};
 ghost use Rattle.rc_reading.specs.ReadExpressions.{card_at, coll_at, int_at, test_at, range_at};
 ghost use Rattle.rc_reading.specs.ReadEffects as reading;
 ghost use Rattle.rc_reading.specs.Gives.{Gives};
@@ -15,14 +15,14 @@ ghost use Rattle.rc_reading.specs.Gives.{Gives};
 use crate::expressions::sort_of;
 use crate::fail::Unread;
 use crate::made::{
-    both_read, decrease_read, forget_read, increase_read, move_all_read, move_read, remember_read,
-    set_read, shuffle_read,
+    both_read, decrease_read, forget_read, increase_read, move_all_read, move_read, peek_read,
+    remember_read, set_read, shuffle_read,
 };
 use crate::names::rule_at;
 use crate::owners::owner_at;
 use crate::reader::Reader;
 use crate::scope::Scope;
-use rc_ast::{CardExpr, CollExpr, Domain, Effect, End, IntExpr, Loc, Num};
+use rc_ast::{CardExpr, CollExpr, Domain, Effect, End, IntExpr, Loc, Num, Who};
 use rc_form::Form;
 use rc_grammar::{Rule, Symbol};
 use std::alloc::Global;
@@ -137,6 +137,22 @@ impl Reader {
         both_read(cards, spot)
     }
 
+    /// A list of cards, and an owner.
+    fn cards_and_owner(
+        &self,
+        alloc: Global,
+        scope: &Scope,
+        cards: &Form,
+        owner: &Form,
+    ) -> Result<(CollExpr, Who), Unread>
+        ensures { Gives (λ two. (coll_seen two.0, who_seen two.1)) result
+            (both (coll_at self.now scope.now (tree_of cards.now)) (owner_at scope.now (tree_of owner.now))) }
+    {
+        let cards = self.collection(alloc, scope, cards);
+        let owner = owner_at(scope, owner);
+        both_read(cards, owner)
+    }
+
     /// The effect that a list of this form says, which has no effects in it.
     fn plain_effect(
         &self,
@@ -158,6 +174,7 @@ impl Reader {
             }
             Rule::Forget => forget_read(self.card(alloc, scope, &parts[1])),
             Rule::Shuffle => shuffle_read(self.location(scope, &parts[1])),
+            Rule::Peek => peek_read(self.cards_and_owner(alloc, scope, &parts[1], &parts[2])),
             _ => self.number_effect(alloc, scope, rule, parts),
         }
     }

@@ -184,6 +184,10 @@ impl Reader {
                 let cards = self.collections(alloc, scope, parts)?;
                 Ok(CollExpr::union_of(cards))
             }
+            Rule::Known => {
+                let loc = self.one_location(scope, parts)?;
+                Ok(CollExpr::Known(loc))
+            }
             _ => Err(Unread::Meaningless),
         }
     }

@@ -4,6 +4,7 @@ ghost use Rattle.rc_form.specs.Form.{tree_of, trees_of, packed};
 ghost use Rattle.rc_ast.specs.Names.{who_seen, loc_seen, num_seen};
 ghost use Rattle.rc_sheet_model.specs.Naming as model;
 ghost use Rattle.rc_reading.specs.ReadNames as reading;
+ghost use Rattle.rc_reading.specs.ReadParts as behind;
 ghost use Rattle.rc_reading.specs.Gives.{Gives};
 
 use crate::fail::Unread;
@@ -28,6 +29,17 @@ impl Reader {
                 _ => Err(Unread::Meaningless),
             },
         }
+    }
+
+    /// The location behind a head.
+    pub(crate) fn one_location(&self, scope: &Scope, parts: &[Form]) -> Result<Loc, Unread>
+        requires { length parts.now ≡ 2 }
+        ensures { Gives loc_seen result (behind.one_loc self.now scope.now (packed (trees_of parts.now))) }
+    {
+        let [_, loc] = parts else {
+            return Err(Unread::Meaningless);
+        };
+        self.location(scope, loc)
     }
 
     /// The location of a list of these parts, which begins here.

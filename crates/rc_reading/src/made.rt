@@ -3,15 +3,15 @@
 //! Each takes what was read, or why nothing was, and hands on why nothing is made. So the readers that call one another have no exit
 //! at which they drop what they read.
 ghost use Rattle.std.specs.Prelude.{Option, ℕ, option_map};
-ghost use Rattle.rc_sheet_model.specs.Sheet.{filtered, has_value, move, move_all, remember, forget, shuffle, set_to, increase, decrease};
-ghost use Rattle.rc_sheet_model.specs.Sheet.{CardExpr as PureCard, CollExpr as PureColl, IntExpr as PureInt, Test as PureTest, End as PureEnd, Loc as PureLoc, Num as PureNum};
-ghost use Rattle.rc_ast.specs.Names.{loc_seen, num_seen};
+ghost use Rattle.rc_sheet_model.specs.Sheet.{filtered, has_value, move, move_all, remember, forget, shuffle, peek, set_to, increase, decrease};
+ghost use Rattle.rc_sheet_model.specs.Sheet.{CardExpr as PureCard, CollExpr as PureColl, IntExpr as PureInt, Test as PureTest, End as PureEnd, Who as PureWho, Loc as PureLoc, Num as PureNum};
+ghost use Rattle.rc_ast.specs.Names.{who_seen, loc_seen, num_seen};
 ghost use Rattle.rc_ast.specs.Expressions.{card_seen, coll_seen, int_seen, test_seen};
 ghost use Rattle.rc_ast.specs.Effects.{end_seen, effect_seen};
 ghost use Rattle.rc_reading.specs.Gives.{Gives, IsBoxed, AreBoth};
 
 use crate::fail::Unread;
-use rc_ast::{CardExpr, CollExpr, Effect, End, IntExpr, Loc, Num, Test};
+use rc_ast::{CardExpr, CollExpr, Effect, End, IntExpr, Loc, Num, Test, Who};
 use std::alloc::Global;
 
 /// What was read, in a box.
@@ -117,6 +117,17 @@ pub fn shuffle_read(read: Result<Loc, Unread>) -> Result<Effect, Unread>
 {
     match read {
         Ok(loc) => Ok(Effect::Shuffle(loc)),
+        Err(why) => Err(why),
+    }
+}
+
+/// That the cards are shown to the owner, where they were read.
+pub fn peek_read(read: Result<(CollExpr, Who), Unread>) -> Result<Effect, Unread>
+    ensures { (said : Option (PureColl × PureWho)) → Gives (λ two. (coll_seen two.0, who_seen two.1)) read said
+        → Gives effect_seen result (option_map (λ p. peek p.0 p.1) said) }
+{
+    match read {
+        Ok((cards, owner)) => Ok(Effect::Peek(cards, owner)),
         Err(why) => Err(why),
     }
 }

@@ -151,6 +151,7 @@ module _ (tree : Tree) (shaped : faults symbol.Sheet tree ≡ []) (sound : secon
       (other.1, loc_known (mention_of parts) (k.locations (mention_of parts) (inl refl)))
   rule_fine at rule.Counter parts from before k = num_known (mention_of parts) (k.numbers (mention_of parts) (inl refl))
   rule_fine at rule.CurrentPlayer parts from before k = not-false at.around.player_stage k.known
+  rule_fine at rule.Known parts from before k = not-false at.around.player_stage k.known
   rule_fine at rule.CurrentTeam parts from before k = not-false at.around.team_stage k.known
   rule_fine at rule.Choice parts from before k = not-false at.around.player_stage k.known
   rule_fine at rule.Next parts from before k = not-false (is_in_stage at.around (class_at (part_at 2 parts))) k.known

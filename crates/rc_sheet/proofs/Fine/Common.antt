@@ -77,6 +77,7 @@ IsFineRule naming at rule.Location parts = (is_misplaced at.role (mention_of par
     (mention_of parts)
 IsFineRule naming at rule.Counter parts = IsNumMention naming (mention_of parts)
 IsFineRule naming at rule.CurrentPlayer parts = at.around.player_stage ≡ true
+IsFineRule naming at rule.Known parts = at.around.player_stage ≡ true
 IsFineRule naming at rule.CurrentTeam parts = at.around.team_stage ≡ true
 IsFineRule naming at rule.Choice parts = at.around.player_stage ≡ true
 IsFineRule naming at rule.Next parts = is_in_stage at.around (class_at (part_at 2 parts)) ≡ true

@@ -1,7 +1,7 @@
 -- What a form's fine parts say is found and well formed: spots, effects, domains and alternatives.
 use Rattle.std.proofs.Common.{◌≡◌, ℕ, suc, ◌≤◌, ◌||◌, true, cond, List, [], ◌∷◌, length, Some, option_map, refl, sym, subst, ap, ◌∙◌, arith, lt-ltb, leb-false}
 use Rattle.rc_model.specs.Tree.{Tree, word, list, Trees, nil, cons}
-use Rattle.rc_sheet_model.specs.Sheet.{Class, game_class, player_class, team_class, Sort, card_sort, group_sort, End, top, bottom, Loc, Domain, each_player, each_card, each_group, move, move_all, remember, forget, shuffle, set_to, increase, decrease, when, repeat, next_is, turn_round, Effects, no_effect, effect, do_alt, if_alt, Sheet}
+use Rattle.rc_sheet_model.specs.Sheet.{Class, game_class, player_class, team_class, Sort, card_sort, group_sort, End, top, bottom, Loc, Domain, each_player, each_card, each_group, move, move_all, remember, forget, shuffle, set_to, increase, decrease, when, repeat, next_is, turn_round, peek, Effects, no_effect, effect, do_alt, if_alt, Sheet}
 use Rattle.rc_sheet_model.specs.Lists.{effect_list}
 use Rattle.rc_model.specs.Limits.{most_repeats}
 use Rattle.rc_sheet_model.specs.Naming.{sort_of, sheet_naming}
@@ -22,7 +22,7 @@ use Rattle.rc_sheet.proofs.Finds.{Finds, finds, implies, makes, follows, finds_b
 use Rattle.rc_sheet.proofs.GoodParts.{◌▹◌, Each, by_parts, each_by_parts}
 use Rattle.rc_sheet.proofs.GoodForms.{from_one, from_two, from_three, plain_part, Says, with_two, with_three, with_four, behind_one, behind_two, behind_three, list_says, rest_good}
 use Rattle.rc_sheet.proofs.Fine.Names.{passes_test, Gives, Good, IsPlaced, loc_finds, num_finds, owner_finds, attr_finds, binder_finds, behind_binder}
-use Rattle.rc_sheet.proofs.Fine.Expressions.{Reads, reads, words_read, lists_read, range_word_finds, location_says, filter_says, union_says}
+use Rattle.rc_sheet.proofs.Fine.Expressions.{Reads, reads, words_read, lists_read, range_word_finds, location_says, filter_says, union_says, known_says}
 
 -- a stage of an owner's class is around
 stage_around : (around : Around) (class : Class) → is_in_stage around class ≡ true → IsInStage around class
@@ -170,6 +170,13 @@ module _ (sheet : Sheet) (given : Given) (gives : Gives sheet given) where
   reverse_says : (at : Standing) (parts : Trees) → SaysEffect at rule.Reverse parts
   reverse_says at parts = record { says = λ each form. finds turn_round form.fine.fits }
 
+  -- `(peek COLL OWNER)`
+  peek_says : (at : Standing) (parts : Trees) → SaysEffect at rule.Peek parts
+  peek_says at parts =
+      with_three given (sheet_naming sheet) Acts (λ n. refl)
+      (λ head cards owner each form. joins _ _ peek ((reads sheet given gives cards).coll _ refl form.good.1.0)
+      (owner_finds sheet given _ owner refl form.good.1.1.0) (λ c who is owns. (is, owns.0)))
+
   -- `(if BOOL EFFECT+)`
   if_says : (at : Standing) (parts : Trees) → SaysEffect at rule.If parts
   if_says at parts =
@@ -218,7 +225,7 @@ module _ (sheet : Sheet) (given : Given) (gives : Gives sheet given) where
             here each good
             (move_says at parts ▹ move_all_says at parts ▹ remember_says at parts ▹ forget_says at parts
             ▹ shuffle_says at parts ▹ set_says at parts ▹ increase_says at parts ▹ decrease_says at parts ▹ if_says at parts
-            ▹ repeat_says at parts ▹ all_says at parts ▹ next_says at parts ▹ reverse_says at parts ▹ tt);
+            ▹ repeat_says at parts ▹ all_says at parts ▹ next_says at parts ▹ reverse_says at parts ▹ peek_says at parts ▹ tt);
       })
     where
       refused : (bytes : List ℕ) (from : ℕ) → atom_faults symbol.Effect bytes from ≡ [] → ⊥
@@ -286,6 +293,7 @@ module _ (sheet : Sheet) (given : Given) (gives : Gives sheet given) where
       (cards_say at from rule.Location parts here refl refl (location_says sheet given at from parts)
       ▹ cards_say at from rule.Filter parts here refl refl (filter_says sheet given at from parts)
       ▹ cards_say at from rule.Union parts here refl refl (union_says sheet given at from parts)
+      ▹ cards_say at from rule.Known parts here refl refl (known_says sheet given at from parts)
       ▹ partition_says at from parts here
       ▹ tt)
 

@@ -6,7 +6,7 @@ use Rattle.std.proofs.lemmas.Bool.{and_parts, not-false, true≢false}
 use Rattle.std.proofs.lemmas.Int.{ints}
 use Rattle.rc_model.specs.Literal.{integer}
 use Rattle.rc_model.specs.Tree.{Tree, word, list, Trees, nil, cons}
-use Rattle.rc_sheet_model.specs.Sheet.{Class, game_class, player_class, team_class, Sort, player_sort, card_sort, group_sort, Who, game, who_var, CardExpr, card_var, top_card, bottom_card, max_card, min_card, group_var, cards_in, union_of, no_coll, coll, IntExpr, literal, number, size_of, sum_of, worth_of, add, subtract, multiply, Test, eq_int, eq_card, eq_attr, eq_who, ne, less, less_eq, more, more_eq, and_of, or_of, not_of, no_test, test, Domain, each_player, each_card, Sheet}
+use Rattle.rc_sheet_model.specs.Sheet.{Class, game_class, player_class, team_class, Sort, player_sort, card_sort, group_sort, Who, game, who_var, CardExpr, card_var, top_card, bottom_card, max_card, min_card, group_var, cards_in, union_of, known_in, no_coll, coll, IntExpr, literal, number, size_of, sum_of, worth_of, add, subtract, multiply, Test, eq_int, eq_card, eq_attr, eq_who, ne, less, less_eq, more, more_eq, and_of, or_of, not_of, no_test, test, Domain, each_player, each_card, Sheet}
 use Rattle.rc_sheet_model.specs.Lists.{coll_list, test_list}
 use Rattle.rc_model.specs.Clamp.{IsWithinClamp, largest_number}
 use Rattle.rc_sheet_model.specs.Naming.{Scope, sort_of, class_of, sheet_naming}
@@ -31,7 +31,7 @@ use Rattle.rc_sheet.proofs.Fine.Common.{Given}
 use Rattle.rc_sheet.proofs.Finds.{Finds, finds, finds_if, implies, makes, follows, follows_this, finds_both, joins, where_true, whether}
 use Rattle.rc_sheet.proofs.GoodParts.{◌▹◌, Each, by_parts, good_form}
 use Rattle.rc_sheet.proofs.GoodForms.{from_one, plain_part, Says, with_two, with_three, with_four, behind_one, behind_two, list_says_by, list_says, rest_good}
-use Rattle.rc_sheet.proofs.Fine.Names.{passes_test, no_keyword, Gives, Good, GoodForm, IsBound, bound_variable, has_its_sort, variable_finds, word_is_variable, IsOwnerOf, current_player_finds, current_team_finds, team_of_finds, attr_finds, value_finds, map_finds, binder_finds, behind_binder, loc_parts_finds, num_parts_finds}
+use Rattle.rc_sheet.proofs.Fine.Names.{passes_test, no_keyword, Gives, Good, GoodForm, IsBound, bound_variable, has_its_sort, variable_finds, word_is_variable, IsOwnerOf, current_player_finds, current_team_finds, team_of_finds, attr_finds, value_finds, map_finds, binder_finds, behind_binder, loc_finds, loc_parts_finds, num_parts_finds}
 use Rattle.rc_sheet.proofs.ReadOff.Names.{class_same}
 
 -- a number that is written, within its range
@@ -46,16 +46,18 @@ integer_finds bytes is = by (integer bytes) is
         let most = both.1 in
         finds z (omega (arith, ints, least), omega (arith, ints, most))
 
--- the first of three forms that a head may begin is no fourth
-card_form : (h f u p : Bool) (found : Rule)
-    → cond (h && true) (Some rule.Location) (cond (f && true) (Some rule.Filter) (cond (u && true) (Some rule.Union) None))
+-- the first of four forms that a head may begin is no fifth
+card_form : (h f u k p : Bool) (found : Rule)
+    → cond (h && true) (Some rule.Location) (cond (f && true) (Some rule.Filter) (cond (u && true) (Some rule.Union)
+    (cond (k && true) (Some rule.Known) None)))
     ≡ Some found
-    → sort_by_form (cond (h && true) (Some rule.Location) (cond (f && true) (Some rule.Filter)
-    (cond (u && true) (Some rule.Union) (cond (p && true) (Some rule.Partition) None)))) ≡ card_sort
-card_form true f u p found is = refl
-card_form false true u p found is = refl
-card_form false false true p found is = refl
-card_form false false false p found is = absurd cc
+    → sort_by_form (cond (h && true) (Some rule.Location) (cond (f && true) (Some rule.Filter) (cond (u && true) (Some rule.Union)
+    (cond (k && true) (Some rule.Known) (cond (p && true) (Some rule.Partition) None))))) ≡ card_sort
+card_form true f u k p found is = refl
+card_form false true u k p found is = refl
+card_form false false true k p found is = refl
+card_form false false false true p found is = refl
+card_form false false false false p found is = absurd cc
 
 -- a list that is one of cards is none of groups
 pub no_groups : (parts : Trees) (found : Rule) → rule_of symbol.Collection parts ≡ Some found
@@ -65,9 +67,10 @@ no_groups (cons head parts) found is =
     let h = may_begin symbol.Holder head in
     let f = may_begin (symbol.Word keyword.Filter) head in
     let u = may_begin (symbol.Word keyword.Union) head in
+    let k = may_begin (symbol.Word keyword.Known) head in
     let p = may_begin (symbol.Word keyword.Partition) head in
-    let is' : plain_rule symbol.Collection head ≡ Some found = rw (and-false h, and-false f, and-false u) at is in
-    rw (and-false h, and-false f, and-false u, and-false p) (card_form h f u p found is')
+    let is' : plain_rule symbol.Collection head ≡ Some found = rw (and-false h, and-false f, and-false u, and-false k) at is in
+    rw (and-false h, and-false f, and-false u, and-false k, and-false p) (card_form h f u k p found is')
 
 -- the sort of a side, and of an owner of this class
 abbrev pub side_of_class : Class → SideSort
@@ -230,6 +233,12 @@ module _ (sheet : Sheet) (given : Given) where
       makes _ union_of (colls_find _ (cons first rest) refl each.1 alike)
       (λ cs are. let long = are.1 in (omega (arith, some, long), are.0)))
 
+  -- `(known LOC)`
+  pub known_says : (at : Standing) (from : ℕ) (parts : Trees) → SaysColl at from rule.Known parts
+  known_says at from parts =
+      with_two given (sheet_naming sheet) Reads (λ n. refl)
+      (λ head loc each form. makes _ known_in (loc_finds sheet given _ loc refl form.good.1.0) (λ l is. (form.fine.fits, is.0)))
+
   -- a list of cards
   coll_word_finds : (at : Standing) (bytes : List ℕ) (from to : ℕ) → is_variable bytes ≡ true
       → sorts_at at.place ≡ group_sort ∷ [] → Good sheet given at (word bytes from to)
@@ -245,7 +254,7 @@ module _ (sheet : Sheet) (given : Given) where
   coll_list_finds at parts from to same each good =
       list_says_by given (sheet_naming sheet) Reads (coll_rule (sheet_naming sheet) at.around.scope from) symbol.Collection at parts
       from to same each good
-      (location_says at from parts ▹ filter_says at from parts ▹ union_says at from parts ▹ tt)
+      (location_says at from parts ▹ filter_says at from parts ▹ union_says at from parts ▹ known_says at from parts ▹ tt)
 
   -- what a variable runs over, but in an alternative
   pub range_word_finds : (at : Standing) (bytes : List ℕ) (from to : ℕ)

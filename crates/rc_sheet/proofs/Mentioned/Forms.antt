@@ -1,8 +1,8 @@
 -- What expressions, tests, effects, alternatives and items mention are the words that their forms mention, in order.
 use Prim.Native.String.{String}
-use Rattle.std.proofs.Common.{◌≡◌, ℕ, false, true, List, [], ◌∷◌, ◌++◌, codes, flat_map, refl, sym, subst, ◌∙◌, append_assoc}
+use Rattle.std.proofs.Common.{◌≡◌, ℕ, false, true, List, [], ◌∷◌, ◌++◌, codes, flat_map, refl, sym, subst, ◌∙◌, append_assoc, append-nil}
 use Rattle.rc_model.specs.Tree.{Tree, word, Trees}
-use Rattle.rc_sheet_model.specs.Sheet.{Names, card_sort, group_sort, Class, game_class, player_class, team_class, Who, top, bottom, Loc, CardExpr, card_var, top_card, bottom_card, max_card, min_card, CollExpr, group_var, cards_in, filtered, union_of, CollExprs, no_coll, coll, IntExpr, literal, number, size_of, sum_of, worth_of, add, subtract, multiply, Test, eq_int, eq_card, eq_attr, eq_who, ne, less, less_eq, more, more_eq, has_value, and_of, or_of, not_of, all_of, any_of, Tests, no_test, test, Domain, each_player, each_card, each_group, Effect, move, move_all, remember, forget, shuffle, set_to, increase, decrease, when, repeat, for_each, next_is, turn_round, Effects, no_effect, effect, Alt, do_alt, if_alt, any_alt, SheetItem, do_item, stage, choice, SheetItems, no_item, item}
+use Rattle.rc_sheet_model.specs.Sheet.{Names, card_sort, group_sort, Class, game_class, player_class, team_class, Who, top, bottom, Loc, CardExpr, card_var, top_card, bottom_card, max_card, min_card, CollExpr, group_var, cards_in, filtered, union_of, known_in, CollExprs, no_coll, coll, IntExpr, literal, number, size_of, sum_of, worth_of, add, subtract, multiply, Test, eq_int, eq_card, eq_attr, eq_who, ne, less, less_eq, more, more_eq, has_value, and_of, or_of, not_of, all_of, any_of, Tests, no_test, test, Domain, each_player, each_card, each_group, Effect, move, move_all, remember, forget, shuffle, set_to, increase, decrease, when, repeat, for_each, next_is, turn_round, peek, Effects, no_effect, effect, Alt, do_alt, if_alt, any_alt, SheetItem, do_item, stage, choice, SheetItems, no_item, item}
 use Rattle.rc_sheet_model.specs.Sheet.{End as Spot}
 use Rattle.rc_sheet_model.specs.Mentions.{Mention, attr_name, in_loc, in_card, in_coll, in_colls, in_int, in_test, in_tests, in_domain, in_effect, in_effects, in_alt, in_item, in_items}
 use Rattle.rc_sheet_model.specs.Rows.{◌▸◌, End, AtLeast, Row, Atom}
@@ -86,6 +86,7 @@ mutual
       binder_speaks naming bound "filter" refl (coll_speaks naming scope cards)
       (last_speaks (test_speaks naming (bind naming scope bound card_sort) t))
   coll_speaks naming scope (union_of parts) = parts_speak "union" 2 refl refl (colls_speak naming scope parts)
+  coll_speaks naming scope (known_in loc) = one_speaks "known" refl (loc_speaks naming scope loc)
 
   pub colls_speak : {kind : Kind} (naming : Naming) (scope : Scope) (parts : CollExprs)
       → SpeakFirst kind naming.names (StandColls naming scope parts) (in_colls parts)
@@ -189,6 +190,9 @@ mutual
   effect_speaks naming scope (next_is who) =
       word_speaks_first "cycle" "next" refl refl (last_speaks (owner_speaks scope who))
   effect_speaks naming scope turn_round = word_speaks_first "cycle" "reverse" refl refl end_speaks
+  effect_speaks {kind} naming scope (peek cards who) =
+      subst (Speaks kind naming.names _) (append-nil (in_coll cards))
+      (two_speak "peek" refl (coll_speaks naming scope cards) (owner_speaks scope who))
 
   pub effects_speak : {kind : Kind} (naming : Naming) (scope : Scope) (effects : Effects)
       → SpeakFirst kind naming.names (StandEffects naming scope effects) (in_effects effects)

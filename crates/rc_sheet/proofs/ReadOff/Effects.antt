@@ -1,7 +1,7 @@
 -- What is read stands for its form: spots, effects, domains and alternatives.
 use Rattle.std.proofs.Common.{ℕ, [], ◌∷◌, arith}
 use Rattle.rc_model.specs.Tree.{Tree, word, list, Trees, nil, cons}
-use Rattle.rc_sheet_model.specs.Sheet.{top, bottom, Domain, each_player, each_card, each_group, move, move_all, remember, forget, shuffle, set_to, increase, decrease, when, repeat, next_is, turn_round, no_effect, effect, do_alt, if_alt}
+use Rattle.rc_sheet_model.specs.Sheet.{top, bottom, Domain, each_player, each_card, each_group, move, move_all, remember, forget, shuffle, set_to, increase, decrease, when, repeat, next_is, turn_round, peek, no_effect, effect, do_alt, if_alt}
 use Rattle.rc_sheet_model.specs.Naming.{Naming, Scope, bind, sort_of}
 use Rattle.rc_sheet_model.specs.StandsExpressions.{StandsDomain, StandsRange}
 use Rattle.rc_sheet_model.specs.StandsEffects.{StandsSpot, StandsEffect, StandEffects}
@@ -68,6 +68,8 @@ plain_rule_means naming scope from to rule.Forget (cons head (cons card nil)) to
     mapped (card_at naming scope card) forget (card_means naming scope card) (λ c stands. (told.0, (stands, tt)))
 plain_rule_means naming scope from to rule.Shuffle (cons head (cons loc nil)) told =
     mapped (loc_at naming scope loc) shuffle (loc_means naming scope loc) (λ l stands. (told.0, (stands, tt)))
+plain_rule_means naming scope from to rule.Peek (cons head (cons cards (cons owner nil))) told =
+    paired _ _ peek (coll_means naming scope cards) (owner_means scope owner) (λ p q one other. (told.0, (one, (other, tt))))
 plain_rule_means naming scope from to rule parts told = number_rule_means naming scope from to rule parts told
 
 mutual

@@ -3,7 +3,7 @@ use Prim.Native.String.{String}
 use Rattle.std.proofs.Common.{◌≡◌, ℕ, refl, sym, subst, ap, ap₂, ◌∙◌}
 use Rattle.rc_model.specs.Tree.{Tree, Trees, start_of}
 use Rattle.rc_form.specs.SameForm.{SameForm}
-use Rattle.rc_sheet_model.specs.Sheet.{Sort, card_sort, Who, game, current_player, current_team, team_of_current, team_of_var, who_var, Loc, Num, CardExpr, card_var, top_card, bottom_card, max_card, min_card, CollExpr, group_var, cards_in, filtered, union_of, CollExprs, no_coll, coll, IntExpr, literal, number, size_of, sum_of, worth_of, add, subtract, multiply, Test, eq_int, eq_card, eq_attr, eq_who, ne, less, less_eq, more, more_eq, has_value, and_of, or_of, not_of, all_of, any_of, Tests, no_test, test, Domain, each_player, each_card, each_group}
+use Rattle.rc_sheet_model.specs.Sheet.{Sort, card_sort, Who, game, current_player, current_team, team_of_current, team_of_var, who_var, Loc, Num, CardExpr, card_var, top_card, bottom_card, max_card, min_card, CollExpr, group_var, cards_in, filtered, union_of, known_in, CollExprs, no_coll, coll, IntExpr, literal, number, size_of, sum_of, worth_of, add, subtract, multiply, Test, eq_int, eq_card, eq_attr, eq_who, ne, less, less_eq, more, more_eq, has_value, and_of, or_of, not_of, all_of, any_of, Tests, no_test, test, Domain, each_player, each_card, each_group}
 use Rattle.rc_sheet_model.specs.Rows.{◌▸◌, End, Row, Atom}
 use Rattle.rc_sheet_model.specs.Naming.{Naming, Scope, bind, sort_of, Named, Binder, KindOf}
 use Rattle.rc_sheet_model.specs.StandsExpressions.{StandsOwner, StandsHolder, StandsLoc, StandsNum, Two, TwoOwners, StandsCard, StandsColl, StandColls, StandsInt, StandsTest, StandTests, StandsRange, StandsDomain}
@@ -132,6 +132,7 @@ module _ (naming : Naming) where
         (λ both same. ap₂ (λ c t. filtered c var t) same.0 same.1)
     coll_moves scope (union_of parts) =
         made union_of (row_moves (behind_kept word_keeps (least_moves 2 (colls_move scope parts)))) (λ a same. ap union_of same)
+    coll_moves scope (known_in loc) = made known_in (one_moves "known" (loc_moves scope loc)) (λ a same. ap known_in same)
 
     colls_move : (scope : Scope) (parts : CollExprs)
         → AllMove (StandColls naming scope (colls_unplaced parts)) (StandColls naming scope) (λ again. colls_unplaced again ≡ colls_unplaced parts)

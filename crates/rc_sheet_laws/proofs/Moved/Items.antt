@@ -1,14 +1,14 @@
 -- Effects, alternatives and items, where their forms are moved.
 use Rattle.std.proofs.Common.{◌≡◌, List, [], ◌∷◌, map, refl, ap, ap₂}
 use Rattle.rc_model.specs.Tree.{Trees}
-use Rattle.rc_sheet_model.specs.Sheet.{End as Place, top, bottom, Loc, Effect, move, move_all, remember, forget, shuffle, set_to, increase, decrease, when, repeat, for_each, next_is, turn_round, Effects, no_effect, effect, Alt, do_alt, if_alt, any_alt, Class, game_class, player_class, team_class, SheetItem, do_item, stage, choice, SheetItems, no_item, item}
+use Rattle.rc_sheet_model.specs.Sheet.{End as Place, top, bottom, Loc, Effect, move, move_all, remember, forget, shuffle, set_to, increase, decrease, when, repeat, for_each, next_is, turn_round, peek, Effects, no_effect, effect, Alt, do_alt, if_alt, any_alt, Class, game_class, player_class, team_class, SheetItem, do_item, stage, choice, SheetItems, no_item, item}
 use Rattle.rc_sheet_model.specs.Rows.{◌▸◌, End, Some}
 use Rattle.rc_sheet_model.specs.Naming.{Naming, Scope, bind, sort_of}
 use Rattle.rc_sheet_model.specs.StandsExpressions.{StandsRange, StandsDomain}
 use Rattle.rc_sheet_model.specs.StandsEffects.{StandsSpot, StandsEffect, StandEffects}
 use Rattle.rc_sheet_model.specs.StandsItems.{StandsAlt, StandAlts, StandsClass, StandsItem, StandItems}
 use Rattle.rc_print.specs.Unplaced.{loc_unplaced, domain_unplaced, effect_unplaced, effects_unplaced, alt_unplaced, item_unplaced, items_unplaced}
-use Rattle.rc_sheet_laws.proofs.Moved.Common.{Keeps, Moves, AllMove, word_keeps, row_keeps, part_keeps, end_keeps, still, made, all_made, kept, row_moves, behind_kept, before_kept, least_moves, one_moves, part_moves, two_move}
+use Rattle.rc_sheet_laws.proofs.Moved.Common.{Keeps, Moves, AllMove, word_keeps, row_keeps, part_keeps, end_keeps, still, made, all_made, kept, row_moves, behind_kept, before_kept, least_moves, headed, one_moves, part_moves, two_move}
 use Rattle.rc_sheet_laws.proofs.Moved.Expressions.{owner_keeps, loc_moves, num_keeps, ranged_moves, card_moves, coll_moves, int_moves, test_moves, range_moves, domain_moves}
 
 class_keeps : (class : Class) → Keeps (StandsClass class)
@@ -73,6 +73,10 @@ module _ (naming : Naming) where
         still (next_is who) refl
         (row_keeps (part_keeps word_keeps (part_keeps word_keeps (part_keeps (owner_keeps scope who) end_keeps))))
     effect_moves scope turn_round = still turn_round refl (row_keeps (part_keeps word_keeps (part_keeps word_keeps end_keeps)))
+    effect_moves scope (peek cards who) =
+        made (λ a. peek a who)
+        (headed "peek" (coll_moves naming scope cards) (part_keeps (owner_keeps scope who) end_keeps))
+        (λ a same. ap (λ c. peek c who) same)
 
     effects_move : (scope : Scope) (effects : Effects)
         → AllMove (StandEffects naming scope (effects_unplaced effects)) (StandEffects naming scope)

@@ -1,8 +1,8 @@
 -- What is read off a form for which a sheet's part stands is that part: spots, effects, domains and alternatives.
-use Rattle.std.proofs.Common.{◌≡◌, ℕ, List, [], ◌∷◌, ◌++◌, Option, Some, option_map, refl}
+use Rattle.std.proofs.Common.{◌≡◌, ℕ, List, [], ◌∷◌, ◌++◌, Option, Some, option_map, refl, subst, append-nil}
 use Rattle.std.specs.Prelude.{codes}
 use Rattle.rc_model.specs.Tree.{Tree, word, list, Trees, nil, cons}
-use Rattle.rc_sheet_model.specs.Sheet.{End, top, bottom, Loc, CardExpr, card_var, top_card, bottom_card, max_card, min_card, CollExpr, group_var, cards_in, filtered, union_of, Domain, each_player, each_card, each_group, Effect, move, move_all, remember, forget, shuffle, set_to, increase, decrease, when, repeat, for_each, next_is, turn_round, Effects, no_effect, effect, Alt, do_alt, if_alt, any_alt, Sheet}
+use Rattle.rc_sheet_model.specs.Sheet.{End, top, bottom, Loc, CardExpr, card_var, top_card, bottom_card, max_card, min_card, CollExpr, group_var, cards_in, filtered, union_of, known_in, Domain, each_player, each_card, each_group, Effect, move, move_all, remember, forget, shuffle, set_to, increase, decrease, when, repeat, for_each, next_is, turn_round, peek, Effects, no_effect, effect, Alt, do_alt, if_alt, any_alt, Sheet}
 use Rattle.rc_sheet_model.specs.Mentions.{Mention, attr_name, loc_name, num_name, in_card, in_coll, in_colls, in_int, in_test, in_domain, in_effect, in_effects, in_alt}
 use Rattle.rc_sheet_model.specs.Rows.{◌▸◌, AtLeast}
 use Rattle.rc_sheet_model.specs.Rows.{End as Last}
@@ -14,7 +14,7 @@ use Rattle.rc_sheet_model.specs.StandsItems.{StandsAlt}
 use Rattle.rc_sheet_model.specs.WellFormed.{Around, behind, in_repeat, IsDomain, IsEffect, AreEffects, IsAlt}
 use Rattle.rc_grammar.specs.Faults.{count}
 use Rattle.rc_reading.specs.ReadNames.{both, rule_at, owner_at}
-use Rattle.rc_reading.specs.ReadExpressions.{coll_rule}
+use Rattle.rc_reading.specs.ReadExpressions.{coll_at, coll_rule}
 use Rattle.rc_reading.specs.ReadEffects.{spot_at, effect_at, effect_rule, effects_at, domain_at, domain_rule, alt_at, alt_rule}
 use Rattle.rc_sheet.proofs.Means.{something}
 use Rattle.rc_sheet_laws.proofs.One.Rows.{behind_word, row_one, row_two, row_three, row_word, row_word_part, row_part, row_words, two_parts, first_part, three_parts}
@@ -179,6 +179,14 @@ module _ (sheet : Sheet) (told : Naming) (differ : Differ sheet.names) where
     one_effect around turn_round tree alone stands is =
         row_word "cycle" "reverse" (EffectIs around turn_round) tree stands
         (λ f t f' t' from to. something turn_round (refl, tt))
+    one_effect around (peek cards who) tree alone stands is =
+        row_two "peek" (StandsColl (sheet_naming sheet) around.scope cards) (StandsOwner around.scope who)
+        (EffectIs around (peek cards who)) tree stands
+        (λ f t from to c o here there. subst (λ ms. Only sheet told (peek cards who) ms
+        (option_map (λ p. peek p.0 p.1) (both (coll_at (along sheet told) around.scope c) (owner_at around.scope o))))
+        (append-nil (in_coll cards))
+        (only_pair sheet told peek cards who (in_coll cards) [] _ _ (one_coll sheet told differ around cards c alone here is.0)
+        (only_quiet sheet told who (owner_at around.scope o) (one_owner around.scope who o alone there))))
 
     pub one_effects : (around : Around) (all : Effects) (trees : Trees) → Apart around.scope
         → StandEffects (sheet_naming sheet) around.scope all trees → AreEffects sheet around all → EffectsAre around all trees
@@ -226,6 +234,12 @@ module _ (sheet : Sheet) (told : Naming) (differ : Differ sheet.names) where
       (λ rule. domain_rule (along sheet told) around.scope from rule (cons (word (codes "union") f t) ps))
       (union_of all) (each_card (union_of all)) (in_colls all)
       (λ one. only_map sheet told each_card (union_of all) (in_colls all) _ one) one)
+      one
+  cards_domain around (known_in loc) parts from to stands one =
+      row_one "known" _
+      (λ tree. CollIs sheet told differ around (known_in loc) tree → DomainIs around (each_card (known_in loc)) tree)
+      (list parts from to) stands
+      (λ f t from to l here one. only_map sheet told each_card (known_in loc) (loc_name loc.name ∷ []) _ one)
       one
 
   -- DOMAIN

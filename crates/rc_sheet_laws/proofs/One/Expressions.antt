@@ -6,7 +6,7 @@ use Rattle.std.proofs.lemmas.Bool.{cond-true, cond-false}
 use Rattle.rc_model.specs.Literal.{integer, is_digit}
 use Rattle.std.specs.List.{list_all}
 use Rattle.rc_model.specs.Tree.{Tree, word, list, Trees, nil, cons}
-use Rattle.rc_sheet_model.specs.Sheet.{Sort, player_sort, card_sort, group_sort, Who, who_var, CardExpr, card_var, top_card, bottom_card, max_card, min_card, CollExpr, group_var, cards_in, filtered, union_of, CollExprs, no_coll, coll, IntExpr, literal, number, size_of, sum_of, worth_of, add, subtract, multiply, Test, eq_int, eq_card, eq_attr, eq_who, ne, less, less_eq, more, more_eq, has_value, and_of, or_of, not_of, all_of, any_of, Tests, no_test, test, Domain, each_player, each_card, each_group, Sheet}
+use Rattle.rc_sheet_model.specs.Sheet.{Sort, player_sort, card_sort, group_sort, Who, who_var, CardExpr, card_var, top_card, bottom_card, max_card, min_card, CollExpr, group_var, cards_in, filtered, union_of, known_in, CollExprs, no_coll, coll, IntExpr, literal, number, size_of, sum_of, worth_of, add, subtract, multiply, Test, eq_int, eq_card, eq_attr, eq_who, ne, less, less_eq, more, more_eq, has_value, and_of, or_of, not_of, all_of, any_of, Tests, no_test, test, Domain, each_player, each_card, each_group, Sheet}
 use Rattle.rc_sheet_model.specs.Mentions.{Mention, attr_name, value_name, map_name, loc_name, num_name, var_name, in_card, in_coll, in_colls, in_int, in_test, in_tests, in_domain}
 use Rattle.rc_sheet_model.specs.Rows.{◌▸◌, End, AtLeast, Row, Atom}
 use Rattle.rc_sheet_model.specs.Rows.{Some as Full}
@@ -21,7 +21,7 @@ use Rattle.rc_sheet.proofs.Means.{Means, something, either}
 use Rattle.rc_sheet.proofs.Means.{behind as read_behind}
 use Rattle.rc_sheet.proofs.ReadOff.Names.{place_means, class_same}
 use Rattle.rc_sheet_laws.proofs.One.Rows.{behind_word, row_one, row_two, row_three, three_parts}
-use Rattle.rc_sheet_laws.proofs.One.Names.{Differ, Apart, more_apart, variable_word, one_variable, one_player_var, owner_forms, loc_rule_in_cards, num_rule_in_numbers, num_rule_in_sides, along, Only, only_quiet, only_map, only_both, only_pair, only_then, only_made, only_sized, only_said, by_rule, one_attr, one_value, one_binder, one_map, one_loc_parts, one_num_parts}
+use Rattle.rc_sheet_laws.proofs.One.Names.{Differ, Apart, more_apart, variable_word, one_variable, one_player_var, owner_forms, loc_rule_in_cards, num_rule_in_numbers, num_rule_in_sides, along, Only, only_quiet, only_map, only_both, only_pair, only_then, only_made, only_sized, only_said, by_rule, one_attr, one_value, one_binder, one_map, one_loc, one_loc_parts, one_num_parts}
 use Rattle.rc_grammar.specs.declared.keyword.Keyword.TheVariants as keyword
 use Rattle.rc_grammar.specs.declared.grammar.Symbol.TheVariants as symbol
 use Rattle.rc_grammar.specs.declared.grammar.Rule.TheVariants as rule
@@ -80,6 +80,7 @@ no_player naming scope (group_var var) (word bytes from to) stands =
 no_player naming scope (cards_in loc) (word bytes from to) stands = absurd stands.0
 no_player naming scope (filtered cards bound t) (word bytes from to) stands = absurd stands
 no_player naming scope (union_of parts) (word bytes from to) stands = absurd stands
+no_player naming scope (known_in loc) (word bytes from to) stands = absurd stands
 
 -- two mentions, each behind others
 attrs_said : (xs ys : List Mention) (m n : Mention)
@@ -279,6 +280,10 @@ module _ (sheet : Sheet) (told : Naming) (differ : Differ sheet.names) where
         (λ rule. coll_rule (along sheet told) around.scope from rule (cons (word (codes "union") f t) ps))
         (union_of parts) (in_colls parts)
         (only_map sheet told union_of parts (in_colls parts) _ (one_colls around parts ps alone here.1 is.1)))
+    one_coll around (known_in loc) tree alone stands is =
+        row_one "known" (StandsLoc (sheet_naming sheet) around.scope loc) (CollIs around (known_in loc)) tree stands
+        (λ f t from to l here. only_map sheet told known_in loc (loc_name loc.name ∷ []) _
+        (one_loc sheet told around.scope loc l differ alone here))
 
     pub one_colls : (around : Around) (all : CollExprs) (trees : Trees) → Apart around.scope
         → StandColls (sheet_naming sheet) around.scope all trees → AreColls sheet around all → CollsAre around all trees

@@ -2,7 +2,7 @@
 use Rattle.std.proofs.Common.{◌≡◌, [], refl}
 use Rattle.std.specs.Prelude.{codes}
 use Rattle.rc_model.specs.Tree.{Tree, word, list, Trees, nil, cons}
-use Rattle.rc_sheet_model.specs.Sheet.{End, top, bottom, Loc, Effect, move, move_all, remember, forget, shuffle, set_to, increase, decrease, when, repeat, for_each, next_is, turn_round, Effects, no_effect, effect, Alt, do_alt, if_alt, any_alt, Sheet}
+use Rattle.rc_sheet_model.specs.Sheet.{End, top, bottom, Loc, Effect, move, move_all, remember, forget, shuffle, set_to, increase, decrease, when, repeat, for_each, next_is, turn_round, peek, Effects, no_effect, effect, Alt, do_alt, if_alt, any_alt, Sheet}
 use Rattle.rc_sheet_model.specs.Rows.{◌▸◌}
 use Rattle.rc_sheet_model.specs.Rows.{End as Last}
 use Rattle.rc_sheet_model.specs.Rows.{Some as Full}
@@ -145,6 +145,11 @@ module _ (sheet : Sheet) where
         row_shaped symbol.Effect rule.Reverse
         (cons (word (codes "cycle") f t) (cons (word (codes "reverse") f' t') nil)) from to refl refl
         (refl, (refl, tt)))
+    shaped_effect around (peek cards who) tree stands is =
+        row_two "peek" (StandsColl (sheet_naming sheet) around.scope cards) (StandsOwner around.scope who) EffectShaped tree stands
+        (λ f t from to c o here there.
+        row_shaped symbol.Effect rule.Peek (cons (word (codes "peek") f t) (cons c (cons o nil))) from to refl refl
+        (refl, ((shaped_coll sheet around cards c here is.0).0, ((owner_shaped around.scope who o there).0, tt))))
 
     pub shaped_effects : (around : Around) (all : Effects) (trees : Trees)
         → StandEffects (sheet_naming sheet) around.scope all trees → AreEffects sheet around all → AllShaped symbol.Effect trees

@@ -3,11 +3,11 @@ use Prim.Native.String.{String}
 use Rattle.std.proofs.Common.{◌≡◌, ℕ, true, [], ◌∷◌, Some, None, refl, sym, subst}
 use Rattle.std.specs.Prelude.{codes}
 use Rattle.rc_model.specs.Tree.{Tree, word, list, Trees, nil, cons}
-use Rattle.rc_sheet_model.specs.Sheet.{card_sort, group_sort, Who, CardExpr, card_var, top_card, bottom_card, max_card, min_card, CollExpr, group_var, cards_in, filtered, union_of, CollExprs, no_coll, coll, IntExpr, literal, number, size_of, sum_of, worth_of, add, subtract, multiply, Test, eq_int, eq_card, eq_attr, eq_who, ne, less, less_eq, more, more_eq, has_value, and_of, or_of, not_of, all_of, any_of, Tests, no_test, test, Domain, each_player, each_card, each_group, Sheet}
+use Rattle.rc_sheet_model.specs.Sheet.{card_sort, group_sort, Who, CardExpr, card_var, top_card, bottom_card, max_card, min_card, CollExpr, group_var, cards_in, filtered, union_of, known_in, CollExprs, no_coll, coll, IntExpr, literal, number, size_of, sum_of, worth_of, add, subtract, multiply, Test, eq_int, eq_card, eq_attr, eq_who, ne, less, less_eq, more, more_eq, has_value, and_of, or_of, not_of, all_of, any_of, Tests, no_test, test, Domain, each_player, each_card, each_group, Sheet}
 use Rattle.rc_sheet_model.specs.Rows.{◌▸◌, End, AtLeast, Row, Atom}
 use Rattle.rc_sheet_model.specs.Rows.{Some as Full}
 use Rattle.rc_sheet_model.specs.Naming.{bind, sort_of, Named, Binder, sheet_naming}
-use Rattle.rc_sheet_model.specs.StandsExpressions.{StandsOwner, StandsCard, StandsColl, StandColls, StandsInt, StandsTest, StandTests, StandsRange, StandsDomain}
+use Rattle.rc_sheet_model.specs.StandsExpressions.{StandsOwner, StandsLoc, StandsCard, StandsColl, StandColls, StandsInt, StandsTest, StandTests, StandsRange, StandsDomain}
 use Rattle.rc_sheet_model.specs.WellFormed.{Around, behind, IsCard, IsColl, AreColls, IsInt, IsTest, AreTests, IsRange, IsDomain}
 use Rattle.rc_grammar.specs.Grammar.{front_of, more_of}
 use Rattle.rc_grammar.specs.Faults.{faults}
@@ -152,6 +152,16 @@ module _ (sheet : Sheet) where
           form_shaped symbol.Collection rule.Union parts from to refl fit refl all,
           form_shaped symbol.Members rule.Union parts from to refl fit refl all,
           form_shaped symbol.Domain rule.Union parts from to refl fit refl all,
+        ))
+    shaped_coll around (known_in loc) tree stands is =
+        row_one "known" (StandsLoc (sheet_naming sheet) around.scope loc) CardsShaped tree stands
+        (λ f t from to l here.
+        let parts = cons (word (codes "known") f t) (cons l nil) in
+        let all : AreShaped (front_of rule.Known) None parts =
+        (refl, ((loc_shaped (sheet_naming sheet) around.scope loc l here).0, tt)) in (
+          row_shaped symbol.Collection rule.Known parts from to refl refl all,
+          row_shaped symbol.Members rule.Known parts from to refl refl all,
+          row_shaped symbol.Domain rule.Known parts from to refl refl all,
         ))
 
     pub shaped_colls : (around : Around) (all : CollExprs) (trees : Trees)

@@ -5,7 +5,7 @@ use Rattle.std.specs.Prelude.{codes}
 use Rattle.std.proofs.lemmas.Option.{same_Some}
 use Rattle.std.proofs.lemmas.Bool.{lt-leb}
 use Rattle.rc_model.specs.Tree.{Tree, word, list, Trees, nil, cons}
-use Rattle.rc_sheet_model.specs.Sheet.{Class, game_class, player_class, team_class, Sort, LocKind, vloc, iloc, hloc, mem, LocName, End, top, bottom, Loc, Num, IntExpr, Domain, each_player, each_card, each_group, Effect, move, move_all, remember, forget, shuffle, set_to, increase, decrease, when, repeat, for_each, next_is, turn_round, Effects, no_effect, effect, Alt, do_alt, if_alt, any_alt, Sheet}
+use Rattle.rc_sheet_model.specs.Sheet.{Class, game_class, player_class, team_class, Sort, LocKind, vloc, iloc, hloc, mem, LocName, End, top, bottom, Loc, Num, IntExpr, Domain, each_player, each_card, each_group, Effect, move, move_all, remember, forget, shuffle, set_to, increase, decrease, when, repeat, for_each, next_is, turn_round, peek, Effects, no_effect, effect, Alt, do_alt, if_alt, any_alt, Sheet}
 use Rattle.rc_sheet_model.specs.Rows.{◌▸◌, Row, Atom}
 use Rattle.rc_sheet_model.specs.Rows.{End as Last}
 use Rattle.rc_sheet_model.specs.Rows.{Some as Full}
@@ -328,6 +328,13 @@ module _ (sheet : Sheet) (all : List Part) (given : AreGiven sheet all) where
         (cons (word (codes "cycle") f t) (cons (word (codes "reverse") f' t') nil)) from to refl
         (λ p r b a from plain. record { once = refl; known = ap not is; kind_fits = plain.other; shallow = refl; said = tt })
         (λ p r b a. (fixed sheet all _ _ _ _ _ _, (fixed sheet all _ _ _ _ _ _, tt))))
+    effect_sound around (peek cards who) tree alone stands is =
+        row_two "peek" (StandsColl (sheet_naming sheet) around.scope cards) (StandsOwner around.scope who)
+        (EffectSound around) tree stands
+        (λ f t from to c o here there. two_sound sheet all given "peek" rule.Peek _ symbol.Collection symbol.Owner
+        (refl, λ at parts. (refl, (refl, (refl, tt)))) symbol.Effect around f t from to c o refl
+        (coll_sound sheet all given around cards c alone here is.0).0
+        (owner_sound sheet all symbol.Owner around who o owner_place alone there is.1))
 
     pub effects_sound : (around : Around) (effects : Effects) (trees : Trees) → Apart around.scope
         → StandEffects (sheet_naming sheet) around.scope effects trees → AreEffects sheet around effects

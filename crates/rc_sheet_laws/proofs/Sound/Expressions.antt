@@ -1,13 +1,13 @@
 -- Cards, lists of cards, numbers and tests that stand for a well formed sheet's have no fault by themselves.
 use Prim.Native.String.{String}
-use Rattle.std.proofs.Common.{◌≡◌, ℕ, zero, suc, true, List, [], ◌∷◌, ◌++◌, Some, refl, sym, subst, ap, ◌∙◌}
+use Rattle.std.proofs.Common.{◌≡◌, ℕ, zero, suc, true, not, List, [], ◌∷◌, ◌++◌, Some, refl, sym, subst, ap, ◌∙◌}
 use Rattle.std.specs.Prelude.{codes}
 use Rattle.rc_model.specs.Tree.{Tree, word, list, Trees, nil, cons}
-use Rattle.rc_sheet_model.specs.Sheet.{card_sort, group_sort, Who, CardExpr, card_var, top_card, bottom_card, max_card, min_card, CollExpr, group_var, cards_in, filtered, union_of, CollExprs, no_coll, coll, IntExpr, literal, number, size_of, sum_of, worth_of, add, subtract, multiply, Test, eq_int, eq_card, eq_attr, eq_who, ne, less, less_eq, more, more_eq, has_value, and_of, or_of, not_of, all_of, any_of, Tests, no_test, test, Domain, each_player, each_card, each_group, Sheet}
+use Rattle.rc_sheet_model.specs.Sheet.{card_sort, group_sort, Who, CardExpr, card_var, top_card, bottom_card, max_card, min_card, CollExpr, group_var, cards_in, filtered, union_of, known_in, CollExprs, no_coll, coll, IntExpr, literal, number, size_of, sum_of, worth_of, add, subtract, multiply, Test, eq_int, eq_card, eq_attr, eq_who, ne, less, less_eq, more, more_eq, has_value, and_of, or_of, not_of, all_of, any_of, Tests, no_test, test, Domain, each_player, each_card, each_group, Sheet}
 use Rattle.rc_sheet_model.specs.Rows.{◌▸◌, End, AtLeast, Row, Atom}
 use Rattle.rc_sheet_model.specs.Rows.{Some as Full}
 use Rattle.rc_sheet_model.specs.Naming.{bind, sort_of, class_of, Named, Binder, sheet_naming}
-use Rattle.rc_sheet_model.specs.StandsExpressions.{StandsOwner, StandsHolder, StandsCard, StandsColl, StandColls, StandsInt, StandsTest, StandTests, StandsRange}
+use Rattle.rc_sheet_model.specs.StandsExpressions.{StandsOwner, StandsHolder, StandsLoc, StandsCard, StandsColl, StandColls, StandsInt, StandsTest, StandTests, StandsRange}
 use Rattle.rc_sheet_model.specs.WellFormed.{Around, IsAttr, IsMap, IsBinder, behind, IsOwner, IsCard, IsColl, AreColls, IsInt, IsTest, AreTests, IsRange}
 use Rattle.rc_grammar.specs.Faults.{rule_of}
 use Rattle.rc_grammar.specs.declared.keyword.Keyword.{Keyword}
@@ -23,10 +23,10 @@ use Rattle.rc_faults.specs.SecondParts.{Standing, Part, standing_in, is_binder, 
 use Rattle.rc_faults.specs.SecondFaults.{side_of, side_of_form}
 use Rattle.rc_sheet.proofs.GoodParts.{Each}
 use Rattle.rc_sheet_laws.proofs.One.Rows.{behind_word, row_one, row_two, row_three, three_parts}
-use Rattle.rc_sheet_laws.proofs.One.Names.{Apart, loc_rule_in_cards, loc_rule_in_domain, loc_rule_in_members, num_rule_in_numbers, num_rule_in_sides, rule_told}
-use Rattle.rc_sheet_laws.proofs.Sound.Parts.{standing, StandAt, IsRow, head_seat, plain_seat, Sound, constant_atom, plain_word, AreGiven}
-use Rattle.rc_sheet_laws.proofs.Sound.Names.{side_place, var_sound, owner_sound, plain_loc, num_sound}
-use Rattle.rc_sheet_laws.proofs.Sound.Rows.{cards_sort, range_sort, var_side, literal_constant, side_of_class, owner_side, bound_word, Binds, binds_so, behind_apart, CollSound, SideSound, CardSound, IntSound, TestSound, one_sound, two_sound, using_sound, sides_sound, many_sound, binder_sound, value_of_sound, is_sound, literal_side, player_sound}
+use Rattle.rc_sheet_laws.proofs.One.Names.{Apart, loc_rule_alone, loc_rule_in_cards, loc_rule_in_domain, loc_rule_in_members, num_rule_in_numbers, num_rule_in_sides, rule_told}
+use Rattle.rc_sheet_laws.proofs.Sound.Parts.{standing, StandAt, IsRow, head_seat, plain_seat, Sound, constant_atom, plain_word, sound_list, AreGiven}
+use Rattle.rc_sheet_laws.proofs.Sound.Names.{side_place, fixed, var_sound, owner_sound, plain_loc, num_sound}
+use Rattle.rc_sheet_laws.proofs.Sound.Rows.{cards_sort, range_sort, then, var_side, literal_constant, side_of_class, owner_side, bound_word, Binds, binds_so, behind_apart, CollSound, SideSound, CardSound, IntSound, TestSound, one_sound, two_sound, using_sound, sides_sound, many_sound, binder_sound, value_of_sound, is_sound, literal_side, player_sound}
 
 -- A sheet, and all parts of a form, which give what the sheet's setup gives.
 module _ (sheet : Sheet) (all : List Part) (given : AreGiven sheet all) where
@@ -186,6 +186,15 @@ module _ (sheet : Sheet) (all : List Part) (given : AreGiven sheet all) where
       stand at parts zero = refl
       stand at parts (suc n) = refl
 
+  known_at : (around : Around) (f t from to : ℕ) (l : Tree) → around.player_stage ≡ true
+      → Sound sheet all symbol.Location around l → (q : Symbol)
+      → rule_of q (cons (word (codes "known") f t) (cons l nil)) ≡ Some rule.Known
+      → Sound sheet all q around (list (cons (word (codes "known") f t) (cons l nil)) from to)
+  known_at around f t from to l staged sound q told =
+      sound_list sheet all q rule.Known around (cons (word (codes "known") f t) (cons l nil)) from to told
+      (λ p r b a from plain. record { once = refl; known = ap not staged; kind_fits = plain.other; shallow = refl; said = tt })
+      (λ p r b a. (fixed sheet all _ _ _ _ _ _, then sheet all given symbol.Location around _ _ l _ sound tt))
+
   mutual
     -- CARD
     pub card_sound : (around : Around) (a : CardExpr) (tree : Tree) → Apart around.scope
@@ -248,6 +257,12 @@ module _ (sheet : Sheet) (all : List Part) (given : AreGiven sheet all) where
         behind_word "union" (AtLeast 2 (StandColls (sheet_naming sheet) around.scope parts)) (CollSound sheet all given around)
         tree stands
         (λ f t from to ps here. let at = union_at around f t from to ps (colls_sound around parts ps alone here.1 is.1) in
+        (at symbol.Collection refl, at symbol.Domain refl, at symbol.Members refl))
+    coll_sound around (known_in loc) tree alone stands is =
+        row_one "known" (StandsLoc (sheet_naming sheet) around.scope loc) (CollSound sheet all given around) tree stands
+        (λ f t from to l here.
+        let inner = plain_loc sheet all symbol.Location around loc l loc_rule_alone alone here is.1.0 in
+        let at = known_at around f t from to l is.0 inner in
         (at symbol.Collection refl, at symbol.Domain refl, at symbol.Members refl))
 
     pub colls_sound : (around : Around) (parts : CollExprs) (trees : Trees) → Apart around.scope

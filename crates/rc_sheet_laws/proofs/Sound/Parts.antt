@@ -32,6 +32,7 @@ abbrev pub is_easy : Rule → Bool
 is_easy rule.CreateTeams = false
 is_easy rule.Group = false
 is_easy rule.CurrentPlayer = false
+is_easy rule.Known = false
 is_easy rule.CurrentTeam = false
 is_easy rule.Choice = false
 is_easy rule.Next = false
@@ -205,6 +206,7 @@ module _ (sheet : Sheet) (all : List Part) where
   easy_sound rule.CreateTeams is around parts p role b a from plain = absurd cc
   easy_sound rule.Group is around parts p role b a from plain = absurd cc
   easy_sound rule.CurrentPlayer is around parts p role b a from plain = absurd cc
+  easy_sound rule.Known is around parts p role b a from plain = absurd cc
   easy_sound rule.CurrentTeam is around parts p role b a from plain = absurd cc
   easy_sound rule.Choice is around parts p role b a from plain = absurd cc
   easy_sound rule.Next is around parts p role b a from plain = absurd cc

@@ -8,7 +8,7 @@ use Rattle.std.proofs.lemmas.Bool.{cond-true, cond-false, or_parts, lt-leb}
 use Rattle.std.proofs.lemmas.Slice.Eq.{bytes_eq-Decides}
 use Rattle.rc_model.specs.Literal.{integer}
 use Rattle.rc_model.specs.Tree.{Tree, word, list, Trees, nil, cons}
-use Rattle.rc_sheet_model.specs.Sheet.{Class, game_class, player_class, team_class, Sort, player_sort, card_sort, group_sort, Who, CollExpr, group_var, cards_in, filtered, union_of, Domain, each_player, each_card, each_group, Sheet}
+use Rattle.rc_sheet_model.specs.Sheet.{Class, game_class, player_class, team_class, Sort, player_sort, card_sort, group_sort, Who, CollExpr, group_var, cards_in, filtered, union_of, known_in, Domain, each_player, each_card, each_group, Sheet}
 use Rattle.rc_model.specs.Limits.{most_variables}
 use Rattle.rc_sheet_model.specs.Rows.{Atom}
 use Rattle.rc_sheet_model.specs.Naming.{Naming, Scope, sort_of, class_of, Named, Binder, InScope, KindOf}
@@ -27,7 +27,7 @@ use Rattle.rc_faults.specs.declared.role.SideSort.TheVariants.{Number as number_
 use Rattle.rc_faults.specs.SecondParts.{Standing, Part, parts_at, standing_in, is_binder, part_at, word_in, sort_over}
 use Rattle.rc_faults.specs.SecondFaults.{side_of, side_of_sort, side_of_variable, differ, same_side, variable_in}
 use Rattle.rc_sheet.proofs.GoodParts.{Each}
-use Rattle.rc_sheet_laws.proofs.One.Rows.{behind_word, row_two, row_three, three_parts}
+use Rattle.rc_sheet_laws.proofs.One.Rows.{behind_word, row_one, row_two, row_three, three_parts}
 use Rattle.rc_sheet_laws.proofs.One.Names.{Apart, variable_word, held, owner_forms, more_apart}
 use Rattle.rc_sheet_laws.proofs.One.Expressions.{variable_unread}
 use Rattle.rc_sheet_laws.proofs.Sound.Parts.{standing, StandAt, IsRow, head_seat, plain_seat, all_join, AllSound, Sound, sound_alone, plain_atom, constant_atom, plain_word, FormSound, sound_list, easy_sound, told_then, rest_sound, AreGiven}
@@ -51,6 +51,8 @@ cards_sort naming scope (filtered cards bound t) tree stands =
     row_three "filter" _ _ _ (λ tree. sort_over tree ≡ card_sort) tree stands (λ f g from to c v x here binds there. refl)
 cards_sort naming scope (union_of parts) tree stands =
     behind_word "union" _ (λ tree. sort_over tree ≡ card_sort) tree stands (λ f t from to ps here. refl)
+cards_sort naming scope (known_in loc) tree stands =
+    row_one "known" _ (λ tree. sort_over tree ≡ card_sort) tree stands (λ f t from to l here. refl)
 
 pub domain_sort : (naming : Naming) (scope : Scope) (domain : Domain) (tree : Tree) → StandsDomain naming scope domain tree
     → sort_over tree ≡ sort_of domain

@@ -1,8 +1,8 @@
 -- The form that is printed for a part of a sheet does not depend on its offsets.
 use Rattle.std.proofs.Common.{◌≡◌, List, [], ◌∷◌, ◌++◌, map, codes, refl, ap, ap₂}
-use Rattle.rc_sheet_model.specs.Sheet.{Loc, CardExpr, card_var, top_card, bottom_card, max_card, min_card, CollExpr, group_var, cards_in, filtered, union_of, CollExprs, no_coll, coll, IntExpr, literal, number, size_of, sum_of, worth_of, add, subtract, multiply, Test, eq_int, eq_card, eq_attr, eq_who, ne, less, less_eq, more, more_eq, has_value, and_of, or_of, not_of, all_of, any_of, Tests, no_test, test, Domain, each_player, each_card, each_group, End, top, bottom, Effect, move, move_all, remember, forget, shuffle, set_to, increase, decrease, when, repeat, for_each, next_is, turn_round, Effects, no_effect, effect, Alt, do_alt, if_alt, any_alt, SheetItem, do_item, stage, choice, SheetItems, no_item, item, Sheet}
+use Rattle.rc_sheet_model.specs.Sheet.{Loc, CardExpr, card_var, top_card, bottom_card, max_card, min_card, CollExpr, group_var, cards_in, filtered, union_of, known_in, CollExprs, no_coll, coll, IntExpr, literal, number, size_of, sum_of, worth_of, add, subtract, multiply, Test, eq_int, eq_card, eq_attr, eq_who, ne, less, less_eq, more, more_eq, has_value, and_of, or_of, not_of, all_of, any_of, Tests, no_test, test, Domain, each_player, each_card, each_group, End, top, bottom, Effect, move, move_all, remember, forget, shuffle, set_to, increase, decrease, when, repeat, for_each, next_is, turn_round, peek, Effects, no_effect, effect, Alt, do_alt, if_alt, any_alt, SheetItem, do_item, stage, choice, SheetItems, no_item, item, Sheet}
 use Rattle.rc_sheet_model.specs.Naming.{Naming, sheet_naming}
-use Rattle.rc_sheet_model.specs.Printing.{Bound, keyword, named, row, one, two, with_map, attr_form, num_form, spot_form, class_form, binding, card_form, coll_form, coll_forms, int_form, test_form, sides, test_forms, domain_form, effect_form, effect_forms, alt_form, item_form, item_forms, setup_forms, best_form, sheet_form}
+use Rattle.rc_sheet_model.specs.Printing.{Bound, keyword, named, row, one, two, with_map, attr_form, who_form, num_form, spot_form, class_form, binding, card_form, coll_form, coll_forms, int_form, test_form, sides, test_forms, domain_form, effect_form, effect_forms, alt_form, item_form, item_forms, setup_forms, best_form, sheet_form}
 use Rattle.rc_print.specs.Unplaced.{loc_unplaced, card_unplaced, coll_unplaced, colls_unplaced, int_unplaced, test_unplaced, tests_unplaced, domain_unplaced, effect_unplaced, effects_unplaced, alt_unplaced, item_unplaced, items_unplaced, unplaced}
 
 module _ (naming : Naming) where
@@ -21,6 +21,7 @@ module _ (naming : Naming) where
         ap₂ (λ c u. row (keyword "filter" ∷ c ∷ named naming.names.vars var ∷ u ∷ [])) (coll_alike bound cards)
         (test_alike (binding naming bound var) t)
     coll_alike bound (union_of parts) = ap (λ l. row (keyword "union" ∷ l)) (colls_alike bound parts)
+    coll_alike bound (known_in loc) = refl
 
     colls_alike : (bound : Bound) (parts : CollExprs)
         → coll_forms naming bound (colls_unplaced parts) ≡ coll_forms naming bound parts
@@ -116,6 +117,7 @@ module _ (naming : Naming) where
         (effects_alike (binding naming bound var) effects)
     effect_alike bound (next_is who) = refl
     effect_alike bound turn_round = refl
+    effect_alike bound (peek cards who) = ap (λ c. two "peek" c (who_form bound who)) (coll_alike bound cards)
 
     effects_alike : (bound : Bound) (effects : Effects)
         → effect_forms naming bound (effects_unplaced effects) ≡ effect_forms naming bound effects

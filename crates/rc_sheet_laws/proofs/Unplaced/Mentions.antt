@@ -1,6 +1,6 @@
 -- What a part of a sheet mentions, its numbers and how many parts it has do not depend on its offsets.
 use Rattle.std.proofs.Common.{◌≡◌, suc, List, [], ◌∷◌, ◌++◌, length, map, flat_map, refl, ap, ap₂}
-use Rattle.rc_sheet_model.specs.Sheet.{CardExpr, card_var, top_card, bottom_card, max_card, min_card, CollExpr, group_var, cards_in, filtered, union_of, CollExprs, no_coll, coll, IntExpr, literal, number, size_of, sum_of, worth_of, add, subtract, multiply, Test, eq_int, eq_card, eq_attr, eq_who, ne, less, less_eq, more, more_eq, has_value, and_of, or_of, not_of, all_of, any_of, Tests, no_test, test, Domain, each_player, each_card, each_group, Effect, move, move_all, remember, forget, shuffle, set_to, increase, decrease, when, repeat, for_each, next_is, turn_round, Effects, no_effect, effect, Alt, do_alt, if_alt, any_alt, SheetItem, do_item, stage, choice, SheetItems, no_item, item}
+use Rattle.rc_sheet_model.specs.Sheet.{CardExpr, card_var, top_card, bottom_card, max_card, min_card, CollExpr, group_var, cards_in, filtered, union_of, known_in, CollExprs, no_coll, coll, IntExpr, literal, number, size_of, sum_of, worth_of, add, subtract, multiply, Test, eq_int, eq_card, eq_attr, eq_who, ne, less, less_eq, more, more_eq, has_value, and_of, or_of, not_of, all_of, any_of, Tests, no_test, test, Domain, each_player, each_card, each_group, Effect, move, move_all, remember, forget, shuffle, set_to, increase, decrease, when, repeat, for_each, next_is, turn_round, peek, Effects, no_effect, effect, Alt, do_alt, if_alt, any_alt, SheetItem, do_item, stage, choice, SheetItems, no_item, item}
 use Rattle.rc_sheet_model.specs.Lists.{coll_list, test_list, effect_list, item_list}
 use Rattle.rc_sheet_model.specs.Mentions.{attr_name, var_name, in_num, in_card, in_coll, in_colls, in_int, in_test, in_tests, in_domain, in_effect, in_effects, in_alt, in_item, in_items, stages_in_item, stages_in, sites_in_item, sites_in}
 use Rattle.rc_print.specs.Unplaced.{card_unplaced, coll_unplaced, colls_unplaced, int_unplaced, test_unplaced, tests_unplaced, domain_unplaced, effect_unplaced, effects_unplaced, alt_unplaced, item_unplaced, items_unplaced}
@@ -22,6 +22,7 @@ mutual
   coll_mentions (cards_in loc) = refl
   coll_mentions (filtered cards var t) = both (coll_mentions cards) (ap (λ l. var_name var ∷ l) (test_mentions t))
   coll_mentions (union_of parts) = colls_mentions parts
+  coll_mentions (known_in loc) = refl
 
   colls_mentions : (parts : CollExprs) → in_colls (colls_unplaced parts) ≡ in_colls parts
   colls_mentions no_coll = refl
@@ -80,6 +81,7 @@ mutual
       both (domain_mentions domain) (ap (λ l. var_name var ∷ l) (effects_mentions effects))
   effect_mentions (next_is who) = refl
   effect_mentions turn_round = refl
+  effect_mentions (peek cards who) = coll_mentions cards
 
   effects_mentions : (effects : Effects) → in_effects (effects_unplaced effects) ≡ in_effects effects
   effects_mentions no_effect = refl

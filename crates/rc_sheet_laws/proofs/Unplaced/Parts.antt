@@ -1,6 +1,6 @@
 -- Whether a part of a sheet is well formed does not depend on its offsets, nor on those of the other parts.
 use Rattle.std.proofs.Common.{◌≡◌, ℕ, ◌≤◌, true, List, [], ◌∷◌, map, refl, ap, ◌∙◌}
-use Rattle.rc_sheet_model.specs.Sheet.{card_sort, game_class, player_class, team_class, CardExpr, card_var, top_card, bottom_card, max_card, min_card, CollExpr, group_var, cards_in, filtered, union_of, CollExprs, no_coll, coll, IntExpr, literal, number, size_of, sum_of, worth_of, add, subtract, multiply, Test, eq_int, eq_card, eq_attr, eq_who, ne, less, less_eq, more, more_eq, has_value, and_of, or_of, not_of, all_of, any_of, Tests, no_test, test, Domain, each_player, each_card, each_group, Effect, move, move_all, remember, forget, shuffle, set_to, increase, decrease, when, repeat, for_each, next_is, turn_round, Effects, no_effect, effect, Alt, do_alt, if_alt, any_alt, SheetItem, do_item, stage, choice, SheetItems, no_item, item, Sheet}
+use Rattle.rc_sheet_model.specs.Sheet.{card_sort, game_class, player_class, team_class, CardExpr, card_var, top_card, bottom_card, max_card, min_card, CollExpr, group_var, cards_in, filtered, union_of, known_in, CollExprs, no_coll, coll, IntExpr, literal, number, size_of, sum_of, worth_of, add, subtract, multiply, Test, eq_int, eq_card, eq_attr, eq_who, ne, less, less_eq, more, more_eq, has_value, and_of, or_of, not_of, all_of, any_of, Tests, no_test, test, Domain, each_player, each_card, each_group, Effect, move, move_all, remember, forget, shuffle, set_to, increase, decrease, when, repeat, for_each, next_is, turn_round, peek, Effects, no_effect, effect, Alt, do_alt, if_alt, any_alt, SheetItem, do_item, stage, choice, SheetItems, no_item, item, Sheet}
 use Rattle.rc_sheet_model.specs.Naming.{sort_of}
 use Rattle.rc_sheet_model.specs.WellFormed.{Around, in_stage, in_repeat, is_equality, behind, IsCard, IsColl, AreColls, IsInt, IsTest, AreTests, IsRange, IsDomain, IsEffect, AreEffects, IsAlt, AreAlts, IsItem, AreItems}
 use Rattle.rc_print.specs.Unplaced.{card_unplaced, coll_unplaced, colls_unplaced, int_unplaced, test_unplaced, tests_unplaced, domain_unplaced, effect_unplaced, effects_unplaced, alt_unplaced, item_unplaced, items_unplaced}
@@ -58,6 +58,7 @@ module _ (sheet : Sheet) (others : SheetItems) (score : IntExpr) where
     coll_is around (filtered cards var t) =
         three (coll_is around cards) refl (test_is (behind sheet around var card_sort) t)
     coll_is around (union_of parts) = both (least 2 (colls_count parts)) (colls_are around parts)
+    coll_is around (known_in loc) = refl
 
     colls_are : (around : Around) (parts : CollExprs) → AreColls other around (colls_unplaced parts) ≡ AreColls sheet around parts
     colls_are around no_coll = refl
@@ -129,6 +130,7 @@ module _ (sheet : Sheet) (others : SheetItems) (score : IntExpr) where
         ∙ effects_are (behind sheet around var (sort_of domain)) effects)
     effect_is around (next_is who) = refl
     effect_is around turn_round = refl
+    effect_is around (peek cards who) = both (coll_is around cards) refl
 
     effects_are : (around : Around) (effects : Effects)
         → AreEffects other around (effects_unplaced effects) ≡ AreEffects sheet around effects

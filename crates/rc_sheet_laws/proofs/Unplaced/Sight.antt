@@ -1,7 +1,7 @@
 -- Which locations a choice may read does not depend on offsets.
 use Rattle.std.proofs.Common.{◌≡◌, Bool, true, false, not, cond, List, [], ◌∷◌, ◌++◌, map, flat_map, filter, refl, sym, ap, ap₂, ◌∙◌}
 use Rattle.std.proofs.lemmas.List.{map-append}
-use Rattle.rc_sheet_model.specs.Sheet.{LocName, Loc, CardExpr, card_var, top_card, bottom_card, max_card, min_card, CollExpr, group_var, cards_in, filtered, union_of, CollExprs, no_coll, coll, IntExpr, literal, number, size_of, sum_of, worth_of, add, subtract, multiply, Test, eq_int, eq_card, eq_attr, eq_who, ne, less, less_eq, more, more_eq, has_value, and_of, or_of, not_of, all_of, any_of, Tests, no_test, test, Domain, each_player, each_card, each_group, Alt, do_alt, if_alt, any_alt, SheetItem, do_item, stage, choice, SheetItems, no_item, item, Sheet}
+use Rattle.rc_sheet_model.specs.Sheet.{LocName, Loc, CardExpr, card_var, top_card, bottom_card, max_card, min_card, CollExpr, group_var, cards_in, filtered, union_of, known_in, CollExprs, no_coll, coll, IntExpr, literal, number, size_of, sum_of, worth_of, add, subtract, multiply, Test, eq_int, eq_card, eq_attr, eq_who, ne, less, less_eq, more, more_eq, has_value, and_of, or_of, not_of, all_of, any_of, Tests, no_test, test, Domain, each_player, each_card, each_group, Alt, do_alt, if_alt, any_alt, SheetItem, do_item, stage, choice, SheetItems, no_item, item, Sheet}
 use Rattle.rc_sheet_model.specs.Sight.{locs_in_card, locs_in_coll, locs_in_colls, locs_in_int, locs_in_test, locs_in_tests, locs_in_domain, locs_in_alt, locs_in_item, locs_in_items, is_in_sight, IsInSight}
 use Rattle.rc_print.specs.Unplaced.{loc_unplaced, card_unplaced, coll_unplaced, colls_unplaced, int_unplaced, test_unplaced, tests_unplaced, domain_unplaced, alt_unplaced, item_unplaced, items_unplaced}
 use Rattle.rc_sheet_laws.proofs.Moved.Sheet.{with_body}
@@ -24,6 +24,7 @@ mutual
   coll_locs (cards_in loc) = refl
   coll_locs (filtered cards var t) = both (locs_in_coll cards) (locs_in_test t) (coll_locs cards) (test_locs t)
   coll_locs (union_of parts) = colls_locs parts
+  coll_locs (known_in loc) = refl
 
   colls_locs : (parts : CollExprs) → locs_in_colls (colls_unplaced parts) ≡ map loc_unplaced (locs_in_colls parts)
   colls_locs no_coll = refl
@@ -36,6 +37,7 @@ mutual
   int_locs (size_of (cards_in loc)) = refl
   int_locs (size_of (filtered cards var t)) = both (locs_in_coll cards) (locs_in_test t) (coll_locs cards) (test_locs t)
   int_locs (size_of (union_of parts)) = colls_locs parts
+  int_locs (size_of (known_in loc)) = refl
   int_locs (sum_of cards map) = coll_locs cards
   int_locs (worth_of card map) = card_locs card
   int_locs (add a b) = both (locs_in_int a) (locs_in_int b) (int_locs a) (int_locs b)

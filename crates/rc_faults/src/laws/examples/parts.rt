@@ -108,6 +108,38 @@ pub fn stages_around()
         (items "(stage team (end (= 0 0)) (do (cycle next (current team)) (all player 'P (cycle next (team of 'P)))))") }
 {}
 
+/// What the current player knows of a location is asked in a stage of players, its test and the stages of teams in it included.
+/// It is asked of a location, of whatever kind.
+pub fn known_cards()
+    ensures outside { Refused Unknown (items "(do (move all ^(known (game hloc X)) (top (game vloc Y))))") }
+    ensures team_stage { Refused Unknown (items "(stage team (end (= (size ^(known (game hloc X))) 0)) (do (cycle reverse)))") }
+    ensures behind { Refused Unknown
+        (items "(stage player (end (= 0 0)) (do (cycle reverse))) (do (forget (top ^(known (game mem X)))))") }
+    ensures score { Refused Unknown (score "(size ^(known ('SELF hloc X)))") }
+    ensures before_location { AllFaults (Unknown ∷ WrongKind ∷ [])
+        (items "(do (shuffle (game hloc X)) (forget (top (known (game vloc X)))))") }
+    ensures test_of_stage { Accepted
+        (items "(stage player (end (= (size (known (game hloc X))) 0)) (do (forget (top (known (game mem Y))))))") }
+    ensures team_in_player { Accepted
+        (item "(stage team (end (= (size (known (game hloc X))) 0)) (do (forget (max (known (game iloc Y)) using W))))") }
+    ensures domain { Accepted (alternative "(any (partition (known (game hloc X)) R) 'G (do (move all 'G (top (game vloc Y)))))") }
+    ensures variable { Refused Shape (alternative "(any (partition (game vloc X) R) 'G (do (forget (top (known ^'G)))))") }
+    ensures cards { Refused Shape (effect "(forget (top (known ^(union (game vloc X) (game vloc Y)))))") }
+{}
+
+/// Cards are shown to a player or to a team.
+pub fn peeked_cards()
+    ensures player { Accepted (effect "(all player 'P (peek (known ('P hloc X)) 'P))") }
+    ensures team { Accepted (effect "(peek (union (game hloc X) (game mem Y)) (team of (current player)))") }
+    ensures group { Accepted (alternative "(any (partition (game vloc X) R) 'G (do (peek 'G (current player))))") }
+    ensures unbound { Refused Unknown (effect "(peek (game hloc X) ^'P)") }
+    ensures outside { Refused Unknown (items "(do (peek (game hloc X) ^(current player)))") }
+    ensures to_card { Refused WrongKind (effect "(all (game hloc X) 'C (peek (game hloc X) ^'C))") }
+    ensures of_card { Refused WrongKind (effect "(all (game hloc X) 'C (peek ^'C (current player)))") }
+    ensures to_game { Refused Shape (effect "(peek (game hloc X) ^game)") }
+    ensures to_all { Refused Shape (effect "^(peek (game hloc X))") }
+{}
+
 /// Two sides whose sorts are known are of one sort.
 pub fn sides_of_other_sorts()
     ensures number_and_card { Refused WrongKind (test "(= 0 ^(top (game vloc X)))") }

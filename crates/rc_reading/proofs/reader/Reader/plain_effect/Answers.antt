@@ -1,6 +1,6 @@
 use Rattle.rc_ast.specs.Effects.{effect_seen}
 use Rattle.rc_reading.proofs.Lists.{gives_same}
-use Rattle.rc_reading.proofs.EffectLemmas.{move_said, move_all_said, remember_said, forget_said, shuffle_said}
+use Rattle.rc_reading.proofs.EffectLemmas.{move_said, move_all_said, remember_said, forget_said, shuffle_said, peek_said}
 use Rattle.rc_reading.proofs.reader.Reader.plain_effect.Goals as goal
 
 pub returns-in-Move : goal.returns-in-Move
@@ -32,3 +32,10 @@ returns-in-Shuffle c =
     gives_same effect_seen c.shuffle_read.result _ _
     (shuffle_said c.args.self.now c.args.scope.now c.args.parts.now c.args.rule c.index-parts-1-in-Shuffle.result c.requires c.in-Shuffle.is c.index-parts-1-in-Shuffle.is)
     (c.shuffle_read.ensures _ c.location.ensures)
+
+pub returns-in-Peek : goal.returns-in-Peek
+returns-in-Peek c =
+    gives_same effect_seen c.peek_read.result _ _
+    (peek_said c.args.self.now c.args.scope.now c.args.parts.now c.args.rule c.index-parts-1-in-Peek.result
+    c.index-parts-2-in-Peek.result c.requires c.in-Peek.is c.index-parts-1-in-Peek.is c.index-parts-2-in-Peek.is)
+    (c.peek_read.ensures _ c.cards_and_owner.ensures)
