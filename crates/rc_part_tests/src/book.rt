@@ -57,7 +57,7 @@ enum Seen {
     /// The faces of its cards, from bottom to top.
     Faces(&'static [u16]),
     /// How many cards it has.
-    Hides(u16),
+    Hides(usize),
 }
 
 /// What is seen at a decision of a match: by which seat, at which turn count, behind how many decisions of each seat, and of STOCK, of
@@ -128,7 +128,7 @@ fn sights_of(alloc: Global, locations: [Seen; 5]) -> Result<Vec<Sight>, AllocErr
     for location in locations {
         let sight = match location {
             Seen::Faces(faces) => Sight::Faces(faces.to_vec(alloc)?),
-            Seen::Hides(length) => Sight::Length(length),
+            Seen::Hides(length) => Sight::Partly(vec![in alloc; None; length]?),
         };
         sights.push(sight)?;
     }

@@ -176,9 +176,12 @@ fn expect_full(rt: &(impl AllocGlobal + Abort), table: &Table) {
     expect_same(rt, table.number(0), 1);
 }
 
+/// What a seat doesn't see: three locations of the game, and 31 of each other player.
+const UNSEEN: usize = 3 + 7 * 31;
+
 /// The seat, the site, the turn count, the decisions of 8 seats, how many stages are open, and one stage; 256 numbers; how many cards
-/// or references each of 256 locations has, and the faces of three times 512.
-const KEY: usize = 1 + 1 + 4 + 8 * 4 + 1 + 5 + 256 * 4 + 256 * 2 + 3 * 512 * 2;
+/// or references each of 256 locations has, of those that aren't seen how many are known, and the faces of three times 512.
+const KEY: usize = 1 + 1 + 4 + 8 * 4 + 1 + 5 + 256 * 4 + 256 * 2 + UNSEEN * 2 + 3 * 512 * 2;
 
 /// Fails unless a seat's view is known by so many bytes.
 fn expect_key(

@@ -57,7 +57,7 @@ fn are_same_sights(one: &[Sight], other: &[Sight]) -> bool {
     for pair in one.iter().zip(other) {
         let same = match pair {
             (Sight::Faces(one), Sight::Faces(other)) => one.as_slice() == other.as_slice(),
-            (Sight::Length(one), Sight::Length(other)) => one == other,
+            (Sight::Partly(one), Sight::Partly(other)) => one.as_slice() == other.as_slice(),
             _ => false,
         };
         if !same {
@@ -115,8 +115,11 @@ const KEY_AT_START: &[u8] = &[
     0, // open stages
     0, 0, 0, 0, // DEBT
     5, 0, // cards in STOCK
+    0, 0, // of which it knows none
     0, 0, // in the HAND of seat 0
+    0, 0, // of which it knows none
     0, 0, // of seat 1
+    0, 0, // of which it knows none
     0, 0, // of seat 2
     0, 0, // in OPEN
     0, 0, // in MARK
@@ -141,8 +144,11 @@ const KEY_AT_DECISION: &[u8] = &[
     2, // the member that is named
     213, 254, 255, 255, // DEBT is -299, which is 4,294,966,997 modulo 2^32
     1, 0, // cards in STOCK
+    0, 0, // of which it knows none
     1, 0, // in the HAND of seat 0
+    0, 0, // of which it knows none
     1, 0, // of seat 1
+    0, 0, // of which it knows none
     1, 0, // of seat 2
     1, 0, // the face of its card, by the smallest of the two ids that have it
     1, 0, // cards in OPEN
@@ -151,13 +157,14 @@ const KEY_AT_DECISION: &[u8] = &[
     1, 0, // the face
 ];
 
-/// Fails unless these are the bytes of what the last seat sees of a match.
+/// Fails unless these are the bytes of what a seat sees of a match.
 fn expect_key(
     rt: &(impl AllocGlobal + Abort),
     machine: &PlainMachine,
+    seat: u8,
     expected: &[u8],
 ) -> Result<(), Fail> {
-    let view = seen_by(rt, machine, 2)?;
+    let view = seen_by(rt, machine, seat)?;
     let key = copied_key(rt.alloc(), &view)?;
     expect_same(rt, key.as_slice(), expected);
     Ok(())
@@ -173,7 +180,64 @@ fn go_on_twice(machine: &mut PlainMachine, dealer: &mut MatchDealer) -> Result<(
 #[test]
 fn the_bytes_of_a_view_tell_each_part_in_turn(rt: HostRuntime) -> Result<(), Fail> {
     let mut machine = start_of(rt.alloc(), OPEN_CARD)?;
-    expect_key(&rt, &machine, KEY_AT_START)?;
+    expect_key(&rt, &machine, 2, KEY_AT_START)?;
     go_on_twice(&mut machine, &mut MatchDealer::new(0))?;
-    expect_key(&rt, &machine, KEY_AT_DECISION)
+    expect_key(&rt, &machine, 2, KEY_AT_DECISION)
+}
+
+/// Two seats, of which the one whose turn it is is shown the middle card of three.
+const SHOWN: &[u8] = b"\
+(game
+(setup (create players 2)
+(create deck (game hloc STOCK) (deck (RANK (1 2 3)))))
+(stage player (end (= 0 1))
+(do (peek (filter (game hloc STOCK) 'C (is 'C RANK 2)) (current player)))
+(choice (any (known (game hloc STOCK)) 'C (do (move 'C (top (game vloc OPEN)))))))
+(scoring max 0))";
+
+/// What the seat that was shown the card sees.
+const KEY_OF_SHOWN: &[u8] = &[
+    0, // seat
+    0, // site
+    1, 0, 0, 0, // turn count
+    0, 0, 0, 0, // decisions of seat 0
+    0, 0, 0, 0, // of seat 1
+    1, // open stages
+    0, 0, // the stage
+    0, // its member
+    0, // forward
+    255, // no member is named
+    3, 0, // cards in STOCK
+    1, 0, // of which it knows one
+    1, 0, // its place
+    1, 0, // its face
+    0, 0, // cards in OPEN
+];
+
+/// What the other one sees.
+const KEY_OF_OTHER: &[u8] = &[
+    1, // seat
+    0, // site
+    1, 0, 0, 0, // turn count
+    0, 0, 0, 0, // decisions of seat 0
+    0, 0, 0, 0, // of seat 1
+    1, // open stages
+    0, 0, // the stage
+    0, // its member
+    0, // forward
+    255, // no member is named
+    3, 0, // cards in STOCK
+    0, 0, // of which it knows none
+    0, 0, // cards in OPEN
+];
+
+#[test]
+fn only_the_seat_that_was_shown_a_card_knows_its_place_and_face(
+    rt: HostRuntime,
+) -> Result<(), Fail> {
+    let mut machine = start_of(rt.alloc(), SHOWN)?;
+    go_on(&mut machine, &mut MatchDealer::new(0))?;
+    expect_same(&rt, machine.menu().len(), 1);
+    expect_key(&rt, &machine, 0, KEY_OF_SHOWN)?;
+    expect_key(&rt, &machine, 1, KEY_OF_OTHER)
 }
