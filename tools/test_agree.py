@@ -142,6 +142,10 @@ class Cases(unittest.TestCase):
                 depth += {"(": 1, ")": -1}.get(token.text, 0)
                 self.assertTrue(depth <= DEEPEST and len(token.text) <= LONGEST)
 
+    def test_cards_are_peeked_at_and_known(self) -> None:
+        words = [{token.text for token in tokens(case_of(1, number).sheet)} for number in range(CASES)]
+        self.assertGreater(sum({"peek", "known"} <= its for its in words), CASES / 2)
+
     def test_there_is_a_strategy_for_each_player(self) -> None:
         agreeing = 0
         for number in range(CASES):
@@ -263,6 +267,18 @@ class Read(unittest.TestCase):
 
     def test_an_example(self) -> None:
         self.assertEqual(self.said(self.text, self.printed, 0), [])
+
+    def test_sheets_that_are_refused(self) -> None:
+        def said(note: bytes) -> int:
+            end = End(1, b"", note)
+            comparing = Comparing(Told({("play",): end, ("check",): end}), reads=True)  # type: ignore[arg-type]
+            result = comparing.result(Case(1, 2, b"(game (setup (create players 9)) (do x) (scoring max 0))", b""))
+            self.assertIs(result.kind, Kind.REFUSED)
+            return len(result.disagreements)
+
+        self.assertEqual(said(b"sheet Number 29\n"), 0)
+        self.assertEqual(said(b"sheet Shape 37\n"), 1)
+        self.assertEqual(said(b"sheet BadByte 29\n"), 0)
 
     def test_what_differs(self) -> None:
         self.assertEqual(len(self.said(self.text.replace(b"end done 8", b"end done 9"), self.printed, 0)), 2)

@@ -10,11 +10,12 @@ from agreeing.chance import Chance
 from agreeing.program import End, Program
 from agreeing.reading import Reading, reading_of
 from agreeing.transcripts import count, looks_of, spoiled
+from second.refusing import FAULTS, sheet_fault
 from second.strategies import hits_of
 
 NOTE = re.compile(rb"cache looks (\d+) hits (\d+)\n")
 REFUSED = re.compile(rb"(?:sheet|plan) (\w+) (\d+)\n")
-REFUSALS = (1, 3)
+REFUSED_SHEET, REFUSED_PLAN = REFUSALS = 1, 3
 
 # How many seconds of a processor the first run of a case may take, and the second reading. Other runs have more.
 FIRST_SECONDS = 4
@@ -87,6 +88,9 @@ class Comparing:
             result.disagreements += differing("check", self.program.run(CHECK, case.source()), first)
         if self.other:
             result.disagreements += differing("play of the other program", self.other.run(PLAY, case.source()), first)
+        if self.reads and result.why in FAULTS and first.status == REFUSED_SHEET:
+            result.read = 1
+            result.disagreements += differing("the second reading", refusal(sheet_fault(case.source())), first)
         return result
 
     def accepted(self, it: Played) -> Result:
@@ -152,7 +156,10 @@ class Comparing:
             yield from differing("sheet of the other program", theirs, ours)
 
     def of_reading(self, it: Played, by_room: dict[int, int], reading: Reading) -> Iterator[str]:
-        """The second reading has the same transcript, which is legal, the same printed sheet, and the same hits in each room."""
+        """The second reading accepts the sheet and has the same transcript, which is legal, the same printed sheet, and the same hits in
+        each room."""
+        if reading.fault:
+            yield f"the second reading refuses the sheet for {reading.fault}"
         yield from differing("the second reading", End(0, reading.text, b""), it.end)
         if not reading.is_legal:
             yield "the transcript is illegal by the second reading"
@@ -160,6 +167,11 @@ class Comparing:
         hits = {room: hits_of(reading.asks, room) for room in by_room}
         if hits != by_room or len(reading.asks) != it.looks:
             yield f"by room {by_room} of {it.looks} looks hit, and by the second reading {hits} of {len(reading.asks)}"
+
+
+def refusal(fault: tuple[str, int] | None) -> End:
+    """How a program ends that refuses a sheet for this fault, if there is one."""
+    return End(REFUSED_SHEET, b"", b"sheet %s %d\n" % (fault[0].encode(), fault[1])) if fault else End(0, b"", b"")
 
 
 def options_of(it: Played, what: object = "options") -> Chance:

@@ -2,7 +2,7 @@
 
 from dataclasses import replace
 
-from agreeing.expressions import CURRENT_PLAYER, Expressions, Options
+from agreeing.expressions import CURRENT_PLAYER, MISPLACED, Expressions, Options
 from agreeing.forms import Form
 from agreeing.places import CARD, CARDS_OF_LOOP, GROUP, MOST_REPEATS, PLAYER, Place
 
@@ -31,6 +31,10 @@ class Effects(Expressions):
             (0.8, lambda: ("shuffle", self.with_cards(place))),
             (0.3, lambda: ("forget", self.card(place))),
         ]
+        if owners := [*self.players(place), *self.teams(place)]:
+            options.append((2, lambda: ("peek", self.collection(place), chance.choice(owners))))
+        else:
+            options.append((MISPLACED, lambda: ("peek", self.collection(place), CURRENT_PLAYER)))
         if memories:
             options.append((2.5, lambda: self.remember(self.card(place), memories)))
             options.append((2.5, lambda: ("forget", (chance.choice(("top", "bottom")), chance.weighted(memories)))))
@@ -116,6 +120,7 @@ class Effects(Expressions):
             options.append((5, lambda: ("move", "all", name, self.spot(self.with_cards(place)))))
             options.append((1, lambda: ("inc", self.stored(place), ("size", name))))
             options.append((2, lambda: self.move(place, (chance.choice(("top", "bottom")), name))))
+            options.append((1, lambda: ("peek", name, chance.choice([*self.players(place), *self.teams(place)]))))
         return chance.done(options)
 
     def effect_on_player(self, place: Place, name: str) -> Form:
@@ -127,6 +132,7 @@ class Effects(Expressions):
         if to:
             options.append((5, lambda: ("move", self.card(place), self.spot(chance.weighted(to)))))
             options.append((1, lambda: ("move", "all", chance.weighted(to), self.spot(self.with_cards(place)))))
+        options.append((2, lambda: ("peek", self.collection(place), name)))
         if place.in_players:
             options.append((1.5, lambda: ("cycle", "next", name)))
         return chance.done(options)

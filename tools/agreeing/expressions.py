@@ -1,6 +1,7 @@
 """Owners, locations, cards, collections, amounts and tests by chance."""
 
 from collections.abc import Callable
+from dataclasses import replace
 
 from agreeing.chance import Chance
 from agreeing.forms import Form
@@ -11,6 +12,9 @@ Options = list[tuple[float, Callable[[], Form]]]
 
 ORDERS = ("<", "<=", ">", ">=", "=", "!=")
 CURRENT_PLAYER: Form = ("current", "player")
+
+# The weight of a form where it is refused.
+MISPLACED = 0.02
 
 
 class Expressions:
@@ -77,7 +81,12 @@ class Expressions:
             options.append((1.5, lambda: self.filtered(place)))
         if place.depth > 0:
             options.append((0.8, lambda: self.union(place)))
+        options.append((1.5 if place.in_players else MISPLACED, lambda: self.known(place)))
         return chance.done(options)
+
+    def known(self, place: Place) -> Form:
+        """What the current player knows of a location, which may be any. Outside player stages it is refused."""
+        return "known", self.chance.weighted(self.locations(replace(place, only_seen=False), lambda _: True))
 
     def filtered(self, place: Place) -> Form:
         name = self.chance.choice(place.free_names())

@@ -31,8 +31,17 @@ class Games(Effects):
             if not location.has_deck and self.chance.holds(0.97 if location.name == HAND else 0.5):
                 effects.append(self.deal(stock, location))
                 self.filled.add(location.name)
+        if self.chance.holds(0.5):
+            effects.append(("all", "player", "'P", self.shown(Place().bound("'P", PLAYER))))
         effects += self.effects(Place(), 0, 1)
         return "do", *(effects or [("shuffle", stock)])
+
+    def shown(self, place: Place) -> Form:
+        """Shows a player some cards, or seldom his team, and mostly not all that lie there."""
+        cards = self.with_cards(place)
+        if self.chance.holds(0.7):
+            cards = "filter", cards, "'C", self.has_value(place.bound("'C", CARD))
+        return "peek", cards, self.chance.choice(("'P", "'P", ("team", "of", "'P")))
 
     def stock(self) -> Form:
         return next((GAME, it.kind, it.name) for it in self.world.locations if it.name == STOCK)
@@ -174,6 +183,8 @@ class Games(Effects):
         cards = self.own_hand(place) if chance.holds(0.6) else self.collection(place)
         if (memories := self.memories(place)) and chance.holds(0.12):
             cards = chance.weighted(memories)
+        elif chance.holds(0.25):
+            cards = self.known(place)
         options = ((6.0, (CARD, cards)), (2.0, (PLAYER, "player")), (3.0, (GROUP, ("partition", cards, self.attribute()))))
         return chance.weighted(options)
 

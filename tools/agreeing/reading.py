@@ -6,6 +6,7 @@ from dataclasses import dataclass
 from agreeing.cases import Case
 from second.playing import played
 from second.printing import printed
+from second.refusing import sheet_fault
 from second.running import is_legal
 from second.sources import lists_of
 
@@ -16,8 +17,10 @@ class TooSlow(Exception):
 
 @dataclass(frozen=True)
 class Reading:
-    """The transcript and the printed sheet, what was asked of playouts, and whether the program's transcript is legal."""
+    """The fault of the sheet, the transcript and the printed sheet, what was asked of playouts, and whether the program's transcript is
+    legal."""
 
+    fault: tuple[str, int] | None
     text: bytes
     sheet: bytes
     asks: list[tuple]
@@ -35,7 +38,8 @@ def reading_of(case: Case, text: bytes, seconds: float) -> Reading | None:
     try:
         sheet, plan = lists_of(case.source(), 2)[0]
         own, asks = played(sheet, plan)
-        return Reading(own.encode(), printed(sheet).encode(), asks, is_legal(case.source() + text))
+        fault, legal = sheet_fault(case.sheet), is_legal(case.source() + text)
+        return Reading(fault, own.encode(), printed(sheet).encode(), asks, legal)
     except TooSlow:
         return None
     finally:

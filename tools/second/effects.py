@@ -2,7 +2,7 @@
 
 from second.expressions import Bound, Card, Expressions, Meaning, Noted, Scope, bound_by, number_of
 from second.sources import Form
-from second.worlds import MEM, MOST_CARDS, State, clamped
+from second.worlds import MEM, MOST_CARDS, NOBODY, PLAYER, State, clamped
 
 MOST_REFERENCES = 1024
 MOST_TIMES = 1000
@@ -14,10 +14,10 @@ def add(cards: list[int], card: int, end: str) -> None:
 
 
 def move(state: State, card: Card | None, to: int, end: str) -> None:
-    """Moves a card that isn't a reference."""
+    """Moves a card that isn't a reference. Nobody goes on seeing it by a peek."""
     if isinstance(card, int):
         state.cards[state.where[card]].remove(card)
-        state.where[card] = to
+        state.where[card], state.marks[card] = to, NOBODY
         add(state.cards[to], card, end)
 
 
@@ -40,6 +40,7 @@ class Effects(Expressions):
         one_by_one = {
             "move": self.move, "remember": self.remember, "forget": self.forget, "shuffle": self.shuffle, "set": self.change,
             "inc": self.change, "dec": self.change, "if": self.when, "repeat": self.repeat, "all": self.each, "cycle": self.cycle,
+            "peek": self.peek,
         }  # fmt: skip
         return one_by_one[head](form, scope)
 
@@ -83,8 +84,24 @@ class Effects(Expressions):
         at = self.location(form[1], scope)
 
         def run(state: State, bound: Bound) -> None:
-            state.shuffle(state, state.cards[at(state, bound)])
+            cards = state.cards[at(state, bound)]
+            for card in cards:
+                state.marks[card] = NOBODY
+            state.shuffle(state, cards)
             state.shuffles += 1
+
+        return run
+
+    def peek(self, form: Form, scope: Scope) -> Meaning:
+        cards, owner, is_player = self.collection(form[1], scope), self.owner(form[2], scope), self.class_of(form[2]) == PLAYER
+
+        def run(state: State, bound: Bound) -> None:
+            named = owner(state, bound)
+            seats = [named] if is_player else self.teams[named]
+            for card in cards(state, bound):
+                if isinstance(card, int):
+                    place = self.places[state.where[card]]
+                    state.marks[card] |= {seat for seat in seats if not self.sees(seat, place)}
 
         return run
 

@@ -73,8 +73,22 @@ class Expressions(World):
         if form[0] == "union":
             parts = [self.collection(part, scope) for part in form[1:]]
             return lambda state, bound: [card for part in parts for card in part(state, bound)][:MOST_CARDS]
+        if form[0] == "known":
+            return self.known(form[1], scope)
         place = self.location(form, scope)
         return self.references(place) if form[1] == MEM else lambda state, bound: state.cards[place(state, bound)][:MOST_CARDS]
+
+    def known(self, form: Form, scope: Scope) -> Meaning:
+        """What the current player knows of a location. Of a `mem` everybody knows all."""
+        if form[1] == MEM:
+            return self.collection(form, scope)
+        place = self.location(form, scope)
+
+        def read(state: State, bound: Bound) -> list[Card]:
+            at, seat = place(state, bound), state.innermost(PLAYER).member
+            return [card for card in state.cards[at] if self.knows(state, seat, card, self.places[at])][:MOST_CARDS]
+
+        return read
 
     def references(self, place: Meaning) -> Meaning:
         def read(state: State, bound: Bound) -> list[Card]:

@@ -5,7 +5,7 @@ from itertools import count
 from second.machine import DONE, LIMIT, Decision, Machine
 from second.sources import Form
 from second.words import Key, permute, pick_of
-from second.worlds import MEM, State
+from second.worlds import MEM, NOBODY, State
 
 # Purposes of keys.
 SHUFFLES, RANDOM, REDRAWS, PICKS, PLAYOUT_SHUFFLES = range(1, 6)
@@ -31,10 +31,10 @@ def choose(machine: Machine, state: State, decision: Decision, strategy: Form, s
 
 
 def view_of(machine: Machine, state: State, seat: int) -> tuple:
-    """What a seat sees, and where the match stands."""
+    """What a seat sees, with nothing where it doesn't know a card, and where the match stands."""
     sights = []
     for cards, place in zip(state.cards, machine.places):
-        sights.append(tuple(machine.looks[card] for card in cards) if machine.sees(seat, place) else len(cards))
+        sights.append(tuple(machine.looks[card] if machine.knows(state, seat, card, place) else None for card in cards))
     frames = tuple((frame.owner, frame.member, frame.is_back, frame.named) for frame in state.frames)
     return seat, tuple(state.numbers), tuple(sights), frames, state.turn, tuple(state.made)
 
@@ -64,26 +64,29 @@ def totals_of(machine: Machine, state: State, decision: Decision, ask: tuple[int
 
 
 def redrawn(machine: Machine, state: State, seat: int, key: Key) -> State:
-    """The state with the cards that a seat doesn't see dealt anew, and the seen ones and references told by their looks."""
+    """The state with the cards that a seat doesn't know dealt anew, and the known ones and references told by their looks. The seat
+    goes on knowing what it was shown, and of no other seat it is known what that was shown."""
     drawn = state.copy()
+    drawn.marks = [NOBODY] * len(state.marks)
     left = {look: list(cards) for look, cards in machine.alike.items()}
-    hidden = []
+    places = [(at, place) for at, place in enumerate(machine.places) if place.kind != MEM]
+    known: dict[tuple[int, int], int] = {}
+    for at, place in places:
+        for height, card in enumerate(state.cards[at]):
+            if machine.knows(state, seat, card, place):
+                known[at, height] = left[machine.looks[card]].pop(0)
+    unknown = sorted(card for cards in left.values() for card in cards)
+    permute(key, unknown)
+    dealt = iter(unknown)
+    for at, place in places:
+        for height in range(len(state.cards[at])):
+            card = known[at, height] if (at, height) in known else next(dealt)
+            drawn.cards[at][height], drawn.where[card] = card, at
+            if (at, height) in known and not machine.sees(seat, place):
+                drawn.marks[card] = frozenset({seat})
     for at, place in enumerate(machine.places):
-        looks = [machine.looks[card] for card in state.cards[at]]
         if place.kind == MEM:
-            drawn.cards[at] = looks
-        elif machine.sees(seat, place):
-            drawn.cards[at] = [left[look].pop(0) for look in looks]
-        else:
-            hidden.append(at)
-    unseen = sorted(card for cards in left.values() for card in cards)
-    permute(key, unseen)
-    dealt = iter(unseen)
-    for at in hidden:
-        drawn.cards[at] = [next(dealt) for _ in state.cards[at]]
-    for at, place in enumerate(machine.places):
-        for card in drawn.cards[at] if place.kind != MEM else ():
-            drawn.where[card] = at
+            drawn.cards[at] = [machine.looks[card] for card in state.cards[at]]
     return drawn
 
 

@@ -11,6 +11,7 @@ MOST_CARDS = 512
 
 GAME, PLAYER, TEAM = "game", "player", "team"
 VLOC, HLOC, MEM = "vloc", "hloc", "mem"
+NOBODY: frozenset[int] = frozenset()
 
 # A face is a list of attributes with values, in the order of the groups.
 Face = tuple[tuple[str, str], ...]
@@ -54,11 +55,13 @@ class Place:
 
 @dataclass
 class State:
-    """A match: the cards of each location, where each card lies, stored numbers, open stages, turns, decisions of each seat, what is
-    left to run as a chain, how often a location was shuffled, and what shuffles."""
+    """A match: the cards of each location, where each card lies, the seats that were shown it and don't see it otherwise, stored
+    numbers, open stages, turns, decisions of each seat, what is left to run as a chain, how often a location was shuffled, and what
+    shuffles."""
 
     cards: list[list[int]]
     where: list[int]
+    marks: list[frozenset[int]]
     numbers: list[int]
     made: list[int]
     frames: list[Frame] = field(default_factory=list)
@@ -71,8 +74,8 @@ class State:
         frames = [replace(frame) for frame in self.frames]
         cards = [list(it) for it in self.cards]
         state = copy(self)
-        state.cards, state.where, state.numbers = cards, list(self.where), list(self.numbers)
-        state.made, state.frames = list(self.made), frames
+        state.cards, state.where, state.marks = cards, list(self.where), list(self.marks)
+        state.numbers, state.made, state.frames = list(self.numbers), list(self.made), frames
         return state
 
     def innermost(self, owner: str) -> Frame | None:
@@ -148,7 +151,11 @@ class World:
         cards: list[list[int]] = [[] for _ in self.places]
         for card, home in enumerate(self.homes):
             cards[home].append(card)
-        return State(cards, list(self.homes), [0] * self.numbers, [0] * self.players)
+        return State(cards, list(self.homes), [NOBODY] * len(self.homes), [0] * self.numbers, [0] * self.players)
+
+    def knows(self, state: State, seat: int, card: int, place: Place) -> bool:
+        """Whether a seat sees the place where a card lies, or was shown the card there."""
+        return self.sees(seat, place) or seat in state.marks[card]
 
     def sees(self, seat: int, place: Place) -> bool:
         """Whether a seat sees the faces there."""
