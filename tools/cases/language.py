@@ -43,7 +43,7 @@ def example_cases(row: Row, frames: Frames, cells: dict[str, str], title: str) -
 def frame_of(turn: str, title: str, part: str) -> str:
     """The name of the frame of a part that is refused in a round: the parts that begin as lines of the setup or as items are
     these, and the others what else the table is about."""
-    heads = {"LINE": ("(create", "(put"), "ITEM": ("(do", "(choice")}
+    heads = {"LINE": ("(create", "(put"), "ITEM": ("(do", "(stage", "(choice")}
     kinds = re.findall(r"[A-Z]+|sheet", title)
     meant = [kind for kind in kinds if part.startswith(heads.get(kind, ()))]
     return f"{turn} {(meant + [kind for kind in kinds if kind not in heads])[0]}"
