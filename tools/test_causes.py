@@ -138,6 +138,11 @@ class Sight(Told):
             text = f"(stage player (end (= 0 1)) (choice (any player 'P (any ^{location} 'C (do (forget 'C))))))"
             self.item("Unseen", text, told)
             self.item("Unseen", text, "What a choice offers may not depend on cards that its player doesn't see")
+            self.item("Unseen", text, "`(known LOC)`")
+
+    def test_what_is_known_where_nobody_is_asked(self) -> None:
+        self.item("Unknown", "(do (move all ^(known (game hloc S)) (bottom (game hloc S))))", "What is known is what the current player")
+        self.item("Unknown", "(do (peek (game hloc S) ^(current player)))", "There is no current one here")
 
 
 class NamesLikeWords(Told):

@@ -25,6 +25,7 @@ INDENTED = re.compile(r"^\(game\n  \(setup", re.MULTILINE)
 SHEET = """(game ; a comment (game
 (setup (create players 2)(put points max ((A 7UP -7))))
 (all (filter ('P iloc HAND-7) 'C (!= 1 x'y)) 'D) 12,34
+(peek (known (game hloc PEEK)) 'P)
 """
 PLAN = "(plan (seats (rollout 20 7) (script)) ;7\n(matches (from 1 x1 2)))\n"
 
@@ -35,6 +36,7 @@ SHEET_COLOURS = [
     ("max", "Word"), ("-7", "Number"),
     ("all", "Word"), ("filter", "Word"), ("'P", "Variable"), ("iloc", "Kind"), ("'C", "Variable"), ("!=", "Sign"), ("1", "Number"),
     ("'D", "Variable"), ("12", "Number"), ("34", "Number"),
+    ("peek", "Word"), ("known", "Word"), ("game", "Word"), ("hloc", "Kind"), ("'P", "Variable"),
 ]  # fmt: skip
 PLAN_COLOURS = [
     ("plan", "Word"), ("seats", "Word"), ("rollout", "Strategy"), ("20", "Number"), ("7", "Number"), ("script", "Strategy"),
@@ -81,7 +83,7 @@ def vscode_words(name: str) -> list[str]:
 
 class Words(unittest.TestCase):
     def test_of_sheets(self) -> None:
-        self.assertEqual(len(sheet_words()), 60)
+        self.assertEqual(len(sheet_words()), 62)
         self.assertEqual(vim_words("cardsheet"), sheet_words())
         self.assertEqual(vscode_words("cardsheet"), sheet_words())
 

@@ -362,6 +362,10 @@ class Forms(unittest.TestCase):
     def test_what_belongs_in_a_place(self) -> None:
         for words, place, meant in (
             (["shuffle"], "EFFECT", ["LOC"]),
+            (["peek"], "EFFECT", ["COLL"]),
+            (["peek", "("], "EFFECT", ["OWNER"]),
+            (["known"], "COLL", ["LOC"]),
+            (["known"], "DOMAIN", ["LOC"]),
             (["all"], "EFFECT", ["player", "COLL"]),
             (["all", "player", "'P"], "EFFECT", ["EFFECT"]),
             (["all", "player", "'P"], "BOOL", ["BOOL"]),

@@ -274,12 +274,100 @@ class Stages(Telling):
             with self.subTest(test):
                 self.silent(ended(test, wait))
 
+    def test_each_round_has_another_player_who_knows_something(self) -> None:
+        show = "(do (all player 'P (peek (game hloc STOCK) 'P)))"
+        self.silent(sheet(f"{show} (stage player (end (= (size (known (game hloc STOCK))) 0)) (do (cycle reverse)))"))
+
     def test_stages_inside_change_too(self) -> None:
         inner = f"(stage player (end (= (size (game hloc STOCK)) 0)) {self.TAKE})"
         self.silent(ended("(> (size (game hloc STOCK)) 9)", inner))
 
     def test_nothing_is_told_where_an_item_cant_be_read(self) -> None:
         self.silent(ended("(= (size (game hloc STOCK)) 0)", "(do (draw (game hloc STOCK)))"))
+
+
+class Peeks(Telling):
+    SAID = "Whoever this `peek` names sees all of these cards without it, so that it shows nothing."
+    UNKNOWN = "Nobody sees the cards of `STOCK`, and no `peek` shows them, so that nobody knows one of them."
+
+    def shown(self, effect: str) -> str:
+        return staged(f"(do (all player 'P {effect} (if (= 'P (current player)) (move (top (game vloc PILE)) (top ('P iloc HAND))))))")
+
+    def test_cards_that_are_seen_in_any_case(self) -> None:
+        for cards, owner in (
+            ("(game vloc PILE)", "'P"),
+            ("('P iloc HAND)", "'P"),
+            ("((current player) iloc HAND)", "(current player)"),
+            ("(filter ('P iloc HAND) 'C (is 'C RANK ACE))", "'P"),
+            ("(union (game vloc PILE) ('P iloc HAND))", "'P"),
+            ("(known ('P iloc HAND))", "'P"),
+            ("(known (game hloc STOCK))", "(current player)"),
+        ):
+            with self.subTest(cards):
+                self.check(self.shown(f"^(peek {cards} {owner})"), self.SAID)
+
+    def test_references(self) -> None:
+        see = "(remember (top (game hloc STOCK)) (top (game mem SEEN)))"
+        self.check(self.shown(f"{see} ^(peek (game mem SEEN) 'P)"), self.SAID)
+
+    def test_cards_of_a_team(self) -> None:
+        deal = "(move (top (game hloc STOCK)) (top ((team of 'P) iloc KITTY)))"
+        for owner in ("'P", "(team of 'P)"):
+            with self.subTest(owner):
+                self.check(self.shown(f"{deal} ^(peek ((team of 'P) iloc KITTY) {owner})"), self.SAID)
+        self.silent(self.shown(f"{deal} (peek ((team of 'P) iloc KITTY) (current player))"))
+
+    def test_cards_that_may_be_new(self) -> None:
+        for cards, owner in (
+            ("(game hloc STOCK)", "'P"),
+            ("('P iloc HAND)", "(current player)"),
+            ("('P iloc HAND)", "(team of 'P)"),
+            ("(union (game vloc PILE) (game hloc STOCK))", "'P"),
+            ("(known (game hloc STOCK))", "'P"),
+            ("(known ('P iloc HAND))", "(team of 'P)"),
+        ):
+            with self.subTest(cards):
+                self.silent(self.shown(f"(peek {cards} {owner}) (peek (game hloc STOCK) 'P)"))
+
+    def test_a_group_may_lie_elsewhere_by_then(self) -> None:
+        hide = "(move all 'G (top (game hloc STOCK))) (peek 'G (current player))"
+        self.silent(staged(f"(choice (any (partition ((current player) iloc HAND) SUIT) 'G (do {hide})))"))
+
+    def test_a_location_at_which_nobody_looks(self) -> None:
+        take = "(move 'C (top ((current player) iloc HAND)))"
+        known = f"(choice (any (known (game hloc ^STOCK)) 'C (do {take})) (any (known (game hloc STOCK)) 'C (do {take})))"
+        self.check(staged(known), self.UNKNOWN)
+        self.check(staged(f"(do (all player 'Q (peek ('Q iloc HAND) (current player)))) {known}"), self.UNKNOWN)
+
+    def test_a_location_at_which_somebody_looks(self) -> None:
+        known = "(choice (if (> (size (known (game hloc STOCK))) 0) (cycle reverse)))"
+        for cards in (
+            "(game hloc STOCK)",
+            "(filter (game hloc STOCK) 'C (is 'C RANK ACE))",
+            "(union ((current player) iloc HAND) (game hloc STOCK))",
+            "(known (game hloc STOCK))",
+        ):
+            with self.subTest(cards):
+                self.silent(staged(f"(do (all player 'P (peek {cards} 'P))) {known}"))
+
+    def test_a_group_at_which_somebody_looks_may_lie_anywhere(self) -> None:
+        known = "(if (> (size (known (game hloc STOCK))) 0) (cycle reverse))"
+        hide = "(move all 'G (top (game hloc STOCK))) (peek 'G (current player))"
+        self.silent(staged(f"(choice {known} (any (partition ((current player) iloc HAND) SUIT) 'G (do {hide})))"))
+
+    def test_what_the_player_may_see(self) -> None:
+        for location in ("((current player) iloc HAND)", "('P iloc HAND)", "(game vloc PILE)"):
+            with self.subTest(location):
+                self.silent(staged(f"(choice (any player 'P (if (> (size (known {location})) 0) (cycle next 'P))))"))
+
+    def test_an_empty_location_is_told_as_such(self) -> None:
+        said = "`TALON` is read and never filled, so that it is always empty."
+        self.check(staged("(choice (if (= (size (known (game hloc ^TALON))) 0) (cycle reverse)))"), said)
+
+    def test_nothing_is_told_where_a_list_has_no_form(self) -> None:
+        known = "(choice (if (> (size (known (game hloc STOCK))) 0) (cycle reverse)))"
+        self.silent(staged(f"(do (look (game hloc STOCK) (current player))) {known}"))
+        self.silent(staged("(do (peek (game vloc PILE) (current team player)))"))
 
 
 class Names(unittest.TestCase):

@@ -30,6 +30,7 @@ FORMS = {
         "(remember CARD SPOT)",
         "(forget CARD)",
         "(shuffle LOC)",
+        "(peek COLL OWNER)",
         "(set NUM INT)",
         "(inc NUM INT)",
         "(dec NUM INT)",
@@ -47,7 +48,7 @@ FORMS = {
     "OWNER": ("PLAYER", "(current team)", "(team of PLAYER)"),
     "PLAYER": ("(current player)",),
     "CARD": ("(top COLL)", "(bottom COLL)", "(max COLL using MAP)", "(min COLL using MAP)"),
-    "COLL": ("LOC", "(filter COLL 'V BOOL)", "(union COLL COLL+)"),
+    "COLL": ("LOC", "(filter COLL 'V BOOL)", "(union COLL COLL+)", "(known LOC)"),
     "INT": (
         "NUM",
         "(size COLL)",
@@ -102,7 +103,7 @@ MEANINGS = {
     "OWNER": "`(current team)`, `(team of PLAYER)` or PLAYER",
     "PLAYER": "`(current player)` or a variable such as `'P`",
     "CARD": "a variable such as `'C`, `(top COLL)`, `(bottom COLL)`, `(max COLL using MAP)` or `(min COLL using MAP)`",
-    "COLL": "a variable of a group such as `'G`, LOC, `(filter COLL 'V BOOL)` or `(union COLL COLL+)`",
+    "COLL": "a variable of a group such as `'G`, LOC, `(filter COLL 'V BOOL)`, `(union COLL COLL+)` or `(known LOC)`",
     "INT": (
         "a number, NUM, `(size COLL)`, `(sum COLL using MAP)`, `(points CARD using MAP)`, `(+ INT INT)`, `(- INT INT)` or "
         "`(* INT INT)`"

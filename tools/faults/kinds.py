@@ -34,7 +34,7 @@ SHEET = {
     "Unseen": (
         "What a choice offers may not depend on cards that its player doesn't see: read a `vloc`, a `mem`, or an `iloc` of "
         "`(current player)` or `(team of (current player))`; only how many cards lie there may always be asked, by `(size "
-        "LOC)`."
+        "LOC)`, and what he was shown of them, by `(known LOC)`."
     ),
 }
 
@@ -151,6 +151,7 @@ EXACT = {
         "There is no current one here: this may stand inside a `(stage player ..)` or `(stage team ..)` of its own kind "
         "alone."
     ),
+    ("Unknown", "(known"): "What is known is what the current player of a `(stage player ..)` knows: put it inside one.",
     ("Unknown", "(choice"): "A choice is to stand inside a `(stage player ..)`, whose current player decides.",
     ("Unknown", "(cycle"): (
         "No stage of the owner's kind is around this: put it inside a `(stage player ..)` or a `(stage team ..)`."

@@ -7,7 +7,7 @@ from linting.trees import Node
 from linting.uses import SETTING, SHUFFLE, is_location, is_number, name_of
 
 STAGES = ("(stage player (end BOOL) ITEM+)", "(stage team (end BOOL) ITEM+)")
-CURRENT = ("(current player)", "(current team)")
+CURRENT = ("(current player)", "(current team)", "(known LOC)")
 
 MOVES = ("(move CARD SPOT)", "(move all COLL SPOT)", "(forget CARD)", SHUFFLE)
 REMEMBER = "(remember CARD SPOT)"

@@ -6,6 +6,7 @@ from contextlib import suppress
 from faults.places import place_of
 from linting.finding import Finding
 from linting.on_names import on_locations, on_numbers
+from linting.on_peeks import on_known, on_peeks
 from linting.on_stages import on_stages
 from linting.on_values import on_values
 from linting.on_variables import on_variables
@@ -17,7 +18,7 @@ CLEAN, FOUND, FAILED, READ_FAULT, WRITE_FAULT = 0, 1, 2, 6, 7
 
 OUTPUT, ERROR = 1, 2
 
-KINDS = (on_locations, on_numbers, on_values, on_variables, on_stages)
+KINDS = (on_locations, on_numbers, on_values, on_variables, on_stages, on_peeks, on_known)
 
 
 def findings(sheet: Node) -> list[Finding]:

@@ -9,8 +9,8 @@ syntax iskeyword 33-39,42-43,45-58,60-126
 
 syntax keyword cardsheetWord game setup scoring create players teams deck put points
 syntax keyword cardsheetWord do stage player team end choice if any all
-syntax keyword cardsheetWord move remember forget shuffle set inc dec repeat cycle next reverse top bottom
-syntax keyword cardsheetWord current of max min using filter union partition size sum is and or not attr
+syntax keyword cardsheetWord move remember forget shuffle peek set inc dec repeat cycle next reverse top bottom
+syntax keyword cardsheetWord current of max min using filter union known partition size sum is and or not attr
 syntax keyword cardsheetKind vloc iloc hloc mem sto
 syntax keyword cardsheetSign + - * = != < <= > >=
 
