@@ -28,7 +28,7 @@ pub struct Forms {
 /// Reads up to `want` lists from the front of a text: fewer where the text ends before.
 ///
 /// White space is space, tab, CR, LF and comma; a comment runs from `;` to the next LF. An atom has at most 64 bytes, and
-/// at most 64 lists are open at one place. The text has at most 8,388,608 bytes. Where memory runs out, nothing is said of
+/// at most 64 lists are open at one place. The text has at most 33,554,432 bytes. Where memory runs out, nothing is said of
 /// the text.
 pub fn read_forms(alloc: Global, text: &[u8], want: usize) -> Result<Forms, FormFail>
     requires { length text.now ≤ longest_text }

@@ -17,7 +17,7 @@ use std::alloc::Global;
 /// Why a text tells no game.
 #[derive(Clone, Copy, Debug, PartialEq, Eq)]
 pub enum NoGame {
-    /// It is longer than 8,388,608 bytes, or its forms have a fault.
+    /// It is longer than 33,554,432 bytes, or its forms have a fault.
     Forms,
     /// Its first list is no sheet, or it has none.
     Sheet,

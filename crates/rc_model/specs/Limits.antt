@@ -99,4 +99,4 @@ longest_source = 1048576
 
 -- bytes of a sheet with its plan and the transcript of a house
 abbrev pub longest_text : ℕ
-longest_text = 8388608
+longest_text = 33554432

@@ -79,7 +79,7 @@ pub const MOST_ENTRIES: u64 = 1 << 16;
 pub const LONGEST_SOURCE: usize = 1 << 20;
 
 /// The most bytes of a sheet with its plan and the transcript of a house.
-pub const LONGEST_TEXT: usize = 1 << 23;
+pub const LONGEST_TEXT: usize = 1 << 25;
 
 /// The largest number of a game. The least one is as far below 0.
 pub const LARGEST_NUMBER: i64 = 1_000_000_000;
