@@ -12,6 +12,7 @@ use rc_form::Form;
 
 impl Rule {
     /// The word behind the head, where both are fixed.
+    #[inline(always)]
     fn second_word(self) -> Option<Keyword>
         ensures { result ≡ spec.second_word self }
     {
