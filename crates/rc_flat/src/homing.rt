@@ -8,13 +8,12 @@ ghost use Rattle.rc_rules.specs.Dealer.{HasShuffled};
 ghost use Rattle.rc_rules.specs.Machine.{CanDecide, StandsAtDecision, StandsWhereItStops, menu_here};
 ghost use Rattle.rc_code.specs.Seen.{code_seen};
 ghost use Rattle.rc_code.specs.Stands.{StandsFor};
-ghost use Rattle.rc_board.specs.Undo.{home_at};
 
 use crate::machine::FlatMachine;
 use rc_board::Board;
 use rc_code::{Code, sites_are_placed};
 use rc_deck::Memory;
-use rc_rules::{About, Control, Dealer, Machine, Menu, Scores, Stop};
+use rc_rules::{About, Bounds, Control, Dealer, Items, Machine, Menu, Scores, Stop};
 use rc_stand::{Stand, place_of, site_of};
 use rc_table::Table;
 use std::alloc::Global;
@@ -64,35 +63,21 @@ impl HomeMachine {
         ensures at { IfOk result (λ m. m.config ≡ at_site about table.table (control_seen control)) }
         ensures fresh { IfOk result (λ m. m.spent ≡ false) }
     {
-        let code = Arc::try_clone(code)?;
-        let board = Board::at_home(alloc, table)?;
-        Ok(HomeMachine::at_home(code, about, board, control))
-    }
-
-    /// The same in code of one's own, on a board that is at home. It takes no memory, and a machine is large, so that it is made where it
-    /// is to stay.
-    pub fn at_home(code: Arc<Code>, about: About, board: Board, control: Control) -> HomeMachine
-        requires stands { StandsFor about.sheet (code_seen code.value) }
-        requires laid { board.laid.shape ≡ about.shape }
-        requires home { board ≡ home_at board.laid }
-        requires decides { CanDecide about board.laid.table (control_seen control) }
-        ensures about { result.about ≡ about }
-        ensures home { result.home ≡ at_site about board.laid.table (control_seen control) }
-        ensures at { result.config ≡ at_site about board.laid.table (control_seen control) }
-        ensures fresh { result.spent ≡ false }
-    {
         sites_are_placed();
         // what an about keeps
         let _sheet = about.sheet();
-        let place = place_of(&code, site_of(&control));
+        let place = place_of(code, site_of(&control));
+        let code = Arc::try_clone(code)?;
+        let board = Board::at_home(alloc, table)?;
         let mut stand = Stand {
             control: control.copy(),
             place: place.copy(),
-            menu: Menu::new(),
+            menu: Items::new(alloc)?,
         };
-        let machine = FlatMachine::at_place(code, about, board, control, place);
+        let menu = Items::new(alloc)?;
+        let machine = FlatMachine::at_place(code, about, board, control, place, menu);
         machine.write_menu(&mut stand.menu);
-        HomeMachine { machine, stand }
+        Ok(HomeMachine { machine, stand })
     }
 
     /// Goes home. A machine that was spent is whole again. It takes no memory.
@@ -149,6 +134,10 @@ impl Machine for HomeMachine {
 
     fn menu_size(&self) -> usize {
         self.machine.menu_size()
+    }
+
+    fn bounds(&self, item: u16) -> Bounds {
+        self.machine.bounds(item)
     }
 
     fn apply<D: Dealer>(&mut self, item: u16, dealer: &mut D) -> Result<(), Memory>

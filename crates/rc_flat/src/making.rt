@@ -17,7 +17,7 @@ use rc_board::Board;
 use rc_code::{Code, sites_are_placed, standing_code_serves};
 use rc_deck::Memory;
 use rc_flow::Checked;
-use rc_rules::{About, Control, Menu};
+use rc_rules::{About, Control, Items};
 use rc_stand::{Position, State, place_of, site_of};
 use rc_state::new_control;
 use rc_table::{Shape, Table};
@@ -69,7 +69,8 @@ impl FlatMachine {
     {
         let code = Arc::try_clone(code)?;
         let table = Table::new(alloc, about.shape())?;
-        Ok(FlatMachine::with_opening(code, about, Board::new(alloc, table)))
+        let menu = Items::new(alloc)?;
+        Ok(FlatMachine::with_opening(code, about, Board::new(alloc, table), menu))
     }
 
     /// A match at its start, in matches of this about, which is copied. It notes nothing of its edits, and never goes back. The code
@@ -88,11 +89,12 @@ impl FlatMachine {
         let about = about.copy()?;
         let code = Arc::try_clone(code)?;
         let table = Table::new(alloc, about.shape())?;
-        Ok(FlatMachine::with_opening(code, about, Board::onward(alloc, table)))
+        let menu = Items::new(alloc)?;
+        Ok(FlatMachine::with_opening(code, about, Board::onward(alloc, table), menu))
     }
 
-    // A match at its start, with the opening table on its board.
-    fn with_opening(code: Arc<Code>, about: About, board: Board) -> FlatMachine
+    // A match at its start, with the opening table on its board, and with this room for menus.
+    fn with_opening(code: Arc<Code>, about: About, board: Board, menu: Items) -> FlatMachine
         requires stands { StandsFor about.sheet (code_seen code.value) }
         requires opens { board.laid ≡ record { shape = about.shape; table = opening about.shape } }
         ensures about { result.about ≡ about }
@@ -111,7 +113,7 @@ impl FlatMachine {
                 board,
                 control,
                 place: Position::start(),
-                menu: Menu::new(),
+                menu,
                 // no stage is open
                 current: Current { player: 0, team: 0 },
             },
@@ -166,16 +168,18 @@ impl FlatMachine {
         let place = place_of(code, site_of(&control));
         let code = Arc::try_clone(code)?;
         let board = Board::new(alloc, table);
-        Ok(FlatMachine::at_place(code, about, board, control, place))
+        let menu = Items::new(alloc)?;
+        Ok(FlatMachine::at_place(code, about, board, control, place, menu))
     }
 
-    /// A match at this place of its code, with the table of this board.
+    /// A match at this place of its code, with the table of this board and this room for menus.
     pub(crate) fn at_place(
         code: Arc<Code>,
         about: About,
         board: Board,
         control: Control,
         place: Position,
+        menu: Items,
     ) -> FlatMachine
         requires stands { StandsFor about.sheet (code_seen code.value) }
         requires laid { board.laid.shape ≡ about.shape }
@@ -194,7 +198,7 @@ impl FlatMachine {
             board,
             control,
             place,
-            menu: Menu::new(),
+            menu,
             // any, until it is filled
             current: Current { player: 0, team: 0 },
         };

@@ -46,7 +46,7 @@ pub fn tree_at(alloc: Global, need: &Need, table: &Table) -> Result<PlainMachine
 {
     let about = need.about.copy()?;
     let table = table.copy(alloc)?;
-    Ok(PlainMachine::at_decision(about, table, need.view.control.copy()))
+    PlainMachine::at_decision(alloc, about, table, need.view.control.copy())
 }
 
 /// A flat machine there, which notes its edits.

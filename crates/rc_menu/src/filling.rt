@@ -10,7 +10,7 @@ ghost use Rattle.rc_value.specs.Current.{IsCurrent};
 use crate::menu::{fill_menu, fill_offers};
 use rc_asked::Offer;
 use rc_ast::Alt;
-use rc_rules::{About, Control, Menu};
+use rc_rules::{About, Control, Items, Menu};
 use rc_table::Table;
 use rc_value::{Current, Scene, current_of};
 
@@ -21,7 +21,7 @@ pub fn fill_menu_at(
     control: &Control,
     site: u8,
     alts: &[Alt],
-    menu: &mut Menu,
+    menu: &mut Items,
 )
     requires laid { table.now.shape ≡ about.now.shape }
     requires alts { alts_seen alts.now ≡ alts_at about.now.sheet site }
@@ -39,7 +39,7 @@ pub fn fill_menu_by(
     control: &Control,
     site: u8,
     alts: &[Alt],
-    menu: &mut Menu,
+    menu: &mut Items,
 )
     requires laid { table.now.shape ≡ about.now.shape }
     requires current { IsCurrent about.now.sheet (frames_seen control.now.frames.items) current }
@@ -64,7 +64,7 @@ pub fn fill_offers_by(
     control: &Control,
     site: u8,
     offers: &[Offer],
-    menu: &mut Menu,
+    menu: &mut Items,
 )
     requires laid { table.now.shape ≡ about.now.shape }
     requires current { IsCurrent about.now.sheet (frames_seen control.now.frames.items) current }
@@ -81,8 +81,8 @@ pub fn fill_offers_by(
     fill_offers(&scene, site, offers, menu);
 }
 
-/// The same menu once more.
-pub fn copy_menu(menu: &Menu) -> Menu
+/// The same menu as a value of its own.
+pub fn copy_menu(menu: &Items) -> Menu
     ensures { menu_seen result.items ≡ menu_seen menu.now.items }
 {
     let mut copy = Menu::new();

@@ -1,5 +1,5 @@
 //! What a choice offers.
-ghost use Rattle.std.specs.Prelude.{◌≡◌, ◌+◌, ◌<◌, ◌≤◌, ◌++◌, ◌∷◌, [], length, map, take, if◌then◌else◌, All};
+ghost use Rattle.std.specs.Prelude.{◌≡◌, ◌+◌, ◌<◌, ◌≤◌, ◌++◌, ◌∷◌, [], length, map, take, if◌then◌else◌, All, IfOk};
 ghost use Rattle.rc_model.specs.Numbers.{below};
 ghost use Rattle.rc_model.specs.Limits.{most_items};
 ghost use Rattle.rc_play_model.specs.Value.{card_bound, player_bound, group_bound, coll_value, groups_by};
@@ -17,16 +17,18 @@ ghost use Rattle.rc_menu.specs.Menu.{extended};
 use crate::offering::{offer_every, offer_guarded, offer_in_parts, with_spot};
 use rc_asked::Offer;
 use rc_ast::{Alt, CollExpr, Domain};
+use rc_deck::Memory;
 use rc_play_model::alike_states_have_equal_menus;
-use rc_rules::{Item, Menu, Spots};
+use rc_rules::{Item, Items, Spots};
 use rc_value::{
     Bind, Bindings, Cards, Collection, Scene, Values, cards_of, coll_of, note_values, regroup,
     test_of, value_at,
 };
+use std::alloc::Global;
 
 // Puts an item behind the others, where there is room.
 #[inline(never)]
-fn put(menu: &mut Menu, item: &Item)
+fn put(menu: &mut Items, item: &Item)
     ensures { menu_seen menu.new.items ≡ take most_items (menu_seen menu.old.items ++ extended (item_seen item.now) [] ∷ []) }
 {
     if !menu.is_full() {
@@ -36,7 +38,7 @@ fn put(menu: &mut Menu, item: &Item)
 
 // The same where it passes.
 #[inline(never)]
-fn put_if(menu: &mut Menu, item: &Item, passes: bool)
+fn put_if(menu: &mut Items, item: &Item, passes: bool)
     ensures { menu_seen menu.new.items ≡ take most_items (menu_seen menu.old.items ++ (if passes then extended (item_seen item.now) [] ∷ [] else [])) }
 {
     // what a menu keeps
@@ -48,7 +50,7 @@ fn put_if(menu: &mut Menu, item: &Item, passes: bool)
 
 // The items that an alternative offers behind the positions that are bound so far.
 #[cycle(menu)]
-fn offer(scene: &Scene, scope: &Bindings, alt: &Alt, item: &Item, menu: &mut Menu)
+fn offer(scene: &Scene, scope: &Bindings, alt: &Alt, item: &Item, menu: &mut Items)
     requires fits { length scope.now + alt_depth (alt_seen alt.now) ≤ 5 }
     requires room { length item.now.spots.items + domains_in (alt_seen alt.now) ≤ 4 }
     ensures { menu_seen menu.new.items ≡ take most_items (menu_seen menu.old.items
@@ -75,7 +77,7 @@ fn offer_over(
     inner: &Alt,
     cards: &CollExpr,
     item: &Item,
-    menu: &mut Menu,
+    menu: &mut Items,
 )
     requires domain { length scope.now + coll_depth (coll_seen cards.now) ≤ 5 }
     requires fits { length scope.now + (1 + alt_depth (alt_seen inner.now)) ≤ 5 }
@@ -109,7 +111,7 @@ fn offer_built(
     inner: &Alt,
     cards: &CollExpr,
     item: &Item,
-    menu: &mut Menu,
+    menu: &mut Items,
 )
     requires domain { length scope.now + coll_depth (coll_seen cards.now) ≤ 5 }
     requires fits { length scope.now + (1 + alt_depth (alt_seen inner.now)) ≤ 5 }
@@ -138,7 +140,7 @@ fn offer_cards(
     cards: &Collection,
     inner: &Alt,
     item: &Item,
-    menu: &mut Menu,
+    menu: &mut Items,
 )
     requires fits { length scope.now + (1 + alt_depth (alt_seen inner.now)) ≤ 5 }
     requires room { length item.now.spots.items + (1 + domains_in (alt_seen inner.now)) ≤ 4 }
@@ -162,7 +164,7 @@ fn offer_each(
     cards: &Collection,
     inner: &Alt,
     item: &Item,
-    menu: &mut Menu,
+    menu: &mut Items,
 )
     requires fits { length scope.now + (1 + alt_depth (alt_seen inner.now)) ≤ 5 }
     requires room { length item.now.spots.items + (1 + domains_in (alt_seen inner.now)) ≤ 4 }
@@ -188,7 +190,7 @@ fn offer_each(
 
 #[cycle(menu)]
 #[inline(never)]
-fn offer_players(scene: &Scene, scope: &Bindings, inner: &Alt, item: &Item, menu: &mut Menu)
+fn offer_players(scene: &Scene, scope: &Bindings, inner: &Alt, item: &Item, menu: &mut Items)
     requires fits { length scope.now + (1 + alt_depth (alt_seen inner.now)) ≤ 5 }
     requires room { length item.now.spots.items + (1 + domains_in (alt_seen inner.now)) ≤ 4 }
     ensures { menu_seen menu.new.items ≡ take most_items (menu_seen menu.old.items
@@ -221,7 +223,7 @@ fn offer_parts(
     cards: &CollExpr,
     name: u16,
     item: &Item,
-    menu: &mut Menu,
+    menu: &mut Items,
 )
     requires domain { length scope.now + coll_depth (coll_seen cards.now) ≤ 5 }
     requires fits { length scope.now + (1 + alt_depth (alt_seen inner.now)) ≤ 5 }
@@ -262,7 +264,7 @@ fn offer_group(
     inner: &Alt,
     group: &Cards,
     item: &Item,
-    menu: &mut Menu,
+    menu: &mut Items,
 )
     requires fits { length scope.now + (1 + alt_depth (alt_seen inner.now)) ≤ 5 }
     requires room { length item.now.spots.items + domains_in (alt_seen inner.now) ≤ 4 }
@@ -281,18 +283,22 @@ fn offer_group(
 /// The menu of a choice site with these alternatives: the first 256 items that they offer.
 ///
 /// At states that are alike to the mover the menus are equal.
-pub fn menu_of(scene: &Scene, site: u8, alts: &[Alt]) -> Menu
+///
+/// # Errors
+///
+/// There is no memory for a menu.
+pub fn menu_of(alloc: Global, scene: &Scene, site: u8, alts: &[Alt]) -> Result<Items, Memory>
     requires site { alts_seen alts.now ≡ alts_at (scene_seen scene.now).known.sheet site }
-    ensures is { menu_seen result.items ≡ pure_menu_of (scene_seen scene.now) site }
-    ensures alike { EqualAtAlike scene.now site (menu_seen result.items) }
+    ensures is { IfOk result (λ menu. menu_seen menu.items ≡ pure_menu_of (scene_seen scene.now) site) }
+    ensures alike { IfOk result (λ menu. EqualAtAlike scene.now site (menu_seen menu.items)) }
 {
-    let mut menu = Menu::new();
+    let mut menu = Items::new(alloc)?;
     fill_menu(scene, site, alts, &mut menu);
-    menu
+    Ok(menu)
 }
 
 /// The same, written into a menu, whatever it held before.
-pub fn fill_menu(scene: &Scene, site: u8, alts: &[Alt], menu: &mut Menu)
+pub fn fill_menu(scene: &Scene, site: u8, alts: &[Alt], menu: &mut Items)
     requires site { alts_seen alts.now ≡ alts_at (scene_seen scene.now).known.sheet site }
     ensures is { menu_seen menu.new.items ≡ pure_menu_of (scene_seen scene.now) site }
     ensures alike { EqualAtAlike scene.now site (menu_seen menu.new.items) }
@@ -303,7 +309,7 @@ pub fn fill_menu(scene: &Scene, site: u8, alts: &[Alt], menu: &mut Menu)
 }
 
 // Puts what alternatives offer into an empty menu.
-fn offer_all(scene: &Scene, alts: &[Alt], menu: &mut Menu)
+fn offer_all(scene: &Scene, alts: &[Alt], menu: &mut Items)
     requires few { All (BindsFew 0) (alts_seen alts.now) }
     requires empty { menu.old.items ≡ [] }
     ensures { menu_seen menu.new.items ≡ pure_menu_from (scene_seen scene.now) (alts_seen alts.now) }
@@ -315,7 +321,7 @@ fn offer_all(scene: &Scene, alts: &[Alt], menu: &mut Menu)
 }
 
 /// The same with alternatives whose guards may be known in parts.
-pub(crate) fn fill_offers(scene: &Scene, site: u8, offers: &[Offer], menu: &mut Menu)
+pub(crate) fn fill_offers(scene: &Scene, site: u8, offers: &[Offer], menu: &mut Items)
     requires site { offers.now ≡ alts_at (scene_seen scene.now).known.sheet site }
     ensures { menu_seen menu.new.items ≡ pure_menu_of (scene_seen scene.now) site }
 {
@@ -324,7 +330,7 @@ pub(crate) fn fill_offers(scene: &Scene, site: u8, offers: &[Offer], menu: &mut 
 }
 
 // Puts what they offer into an empty menu.
-fn make_offers(scene: &Scene, offers: &[Offer], menu: &mut Menu)
+fn make_offers(scene: &Scene, offers: &[Offer], menu: &mut Items)
     requires few { All (BindsFew 0) offers.now }
     requires empty { menu.old.items ≡ [] }
     ensures { menu_seen menu.new.items ≡ pure_menu_from (scene_seen scene.now) offers.now }
@@ -337,7 +343,7 @@ fn make_offers(scene: &Scene, offers: &[Offer], menu: &mut Menu)
 
 // The items that an alternative outside all binders offers: by its guard in parts, or else as it stands in the sheet.
 #[inline(always)]
-fn make_offer(scene: &Scene, scope: &Bindings, one: &Offer, item: &Item, menu: &mut Menu)
+fn make_offer(scene: &Scene, scope: &Bindings, one: &Offer, item: &Item, menu: &mut Items)
     requires outside { scope.now ≡ [] }
     requires few { BindsFew 0 one.now }
     requires bare { item.now.spots.items ≡ [] }

@@ -17,7 +17,7 @@ use crate::asks::{Asks, CardAsk, Parts, are_sought, joined_answer, joined_met, p
 use crate::parts::known_parts;
 use rc_asked::Guard;
 use rc_ast::Test;
-use rc_rules::{Item, Menu, Spots};
+use rc_rules::{Item, Items, Spots};
 use rc_value::{Bindings, Collection, Scene, ids_of};
 
 /// The item with one more position.
@@ -54,7 +54,7 @@ fn first_spot(alt: usize, spot: u16) -> Item
 
 // Puts the item with one more position behind the others, where there is room.
 #[inline(always)]
-fn put_at(menu: &mut Menu, item: &Item, spot: u16)
+fn put_at(menu: &mut Items, item: &Item, spot: u16)
     requires { length item.now.spots.items < 4 }
     ensures { menu_seen menu.new.items ≡ take most_items (menu_seen menu.old.items ++ extended (extended (item_seen item.now) (spot ∷ [])) [] ∷ []) }
 {
@@ -71,7 +71,7 @@ fn put_at(menu: &mut Menu, item: &Item, spot: u16)
 
 // Pushes the item with one more position behind those that it has.
 #[inline(never)]
-fn push_behind(menu: &mut Menu, item: &Item, spot: u16)
+fn push_behind(menu: &mut Items, item: &Item, spot: u16)
     requires spots { length item.now.spots.items < 4 }
     requires room { length menu.old.items < most_items }
     ensures { menu_seen menu.new.items ≡ menu_seen menu.old.items ++ extended (item_seen item.now) (spot ∷ []) ∷ [] }
@@ -81,7 +81,7 @@ fn push_behind(menu: &mut Menu, item: &Item, spot: u16)
 
 // The same where it passes.
 #[inline(always)]
-fn put_at_if(menu: &mut Menu, item: &Item, spot: u16, passes: bool)
+fn put_at_if(menu: &mut Items, item: &Item, spot: u16, passes: bool)
     requires { length item.now.spots.items < 4 }
     ensures { menu_seen menu.new.items ≡ take most_items (menu_seen menu.old.items ++ (if passes then extended (extended (item_seen item.now) (spot ∷ [])) [] ∷ [] else [])) }
 {
@@ -93,7 +93,7 @@ fn put_at_if(menu: &mut Menu, item: &Item, spot: u16, passes: bool)
 }
 
 // Offers each of the cards with these ids.
-fn offer_ids(ids: &[u16], item: &Item, menu: &mut Menu)
+fn offer_ids(ids: &[u16], item: &Item, menu: &mut Items)
     requires few { length ids.now ≤ most_in_list }
     requires room { length item.now.spots.items < 4 }
     ensures { menu_seen menu.new.items ≡ take most_items (menu_seen menu.old.items
@@ -107,7 +107,7 @@ fn offer_ids(ids: &[u16], item: &Item, menu: &mut Menu)
 }
 
 /// Offers each of the cards.
-pub(crate) fn offer_every(cards: &Collection, item: &Item, menu: &mut Menu)
+pub(crate) fn offer_every(cards: &Collection, item: &Item, menu: &mut Items)
     requires { length item.now.spots.items < 4 }
     ensures { menu_seen menu.new.items ≡ take most_items (menu_seen menu.old.items
         ++ map (extended (item_seen item.now)) (from_each (λ c. [] ∷ []) 0 cards.now)) }
@@ -128,7 +128,7 @@ fn offer_asked(
     asks: &[CardAsk],
     any: bool,
     item: &Item,
-    menu: &mut Menu,
+    menu: &mut Items,
 )
     requires fits { AllFit scope.now asks.now }
     requires room { length item.now.spots.items < 4 }
@@ -151,7 +151,7 @@ fn offer_some(
     asks: &[CardAsk],
     any: bool,
     item: &Item,
-    menu: &mut Menu,
+    menu: &mut Items,
 )
     requires fits { AllFit scope.now asks.now }
     requires room { length item.now.spots.items < 4 }
@@ -167,7 +167,7 @@ fn offer_some(
 }
 
 // Offers those of the cards with these ids that have the values that are asked for.
-fn offer_met(asks: &[CardAsk], any: bool, ids: &[u16], item: &Item, menu: &mut Menu)
+fn offer_met(asks: &[CardAsk], any: bool, ids: &[u16], item: &Item, menu: &mut Items)
     requires few { length ids.now ≤ most_in_list }
     requires room { length item.now.spots.items < 4 }
     ensures { menu_seen menu.new.items ≡ take most_items (menu_seen menu.old.items
@@ -188,7 +188,7 @@ pub(crate) fn offer_guarded<'t>(
     cards: &Collection,
     guard: &'t Test,
     item: &Item,
-    menu: &mut Menu,
+    menu: &mut Items,
 )
     requires deep { length scope.now + (1 + test_depth (test_seen guard.now)) ≤ 5 }
     requires room { length item.now.spots.items < 4 }
@@ -208,7 +208,7 @@ pub(crate) fn offer_guarded<'t>(
 
 // Offers those of the cards with these ids for which a guard in parts holds, where values are all that it asks.
 #[inline(always)]
-fn offer_sought(parts: Parts, asks: &[CardAsk], ids: &[u16], item: &Item, menu: &mut Menu)
+fn offer_sought(parts: Parts, asks: &[CardAsk], ids: &[u16], item: &Item, menu: &mut Items)
     requires few { length ids.now ≤ most_in_list }
     requires room { length item.now.spots.items < 4 }
     ensures { menu_seen menu.new.items ≡ take most_items (menu_seen menu.old.items
@@ -231,7 +231,7 @@ pub(crate) fn offer_in_parts(
     scope: &Bindings,
     guard: &Guard,
     item: &Item,
-    menu: &mut Menu,
+    menu: &mut Items,
 ) -> bool
     requires outside { scope.now ≡ [] }
     requires fixed { IsFixedGuard guard.now }

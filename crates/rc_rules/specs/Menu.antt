@@ -8,3 +8,7 @@ item_seen item = record { alt = item.alt; spots = item.spots.items }
 
 abbrev pub menu_seen : List Item → List PureItem
 menu_seen items = map item_seen items
+
+-- the items of a menu that a machine keeps
+pub record Listed : Type 0 where
+  pub items : List Item

@@ -11,7 +11,7 @@ ghost use Rattle.rc_stand.specs.State.{flat_of};
 
 use crate::place::{Position, write_list};
 use crate::state::State;
-use rc_rules::{About, Control, Menu};
+use rc_rules::{About, Control, Items};
 use rc_table::Table;
 
 /// Where a match stands beside its table: the control, the place in the code, and the menu.
@@ -19,7 +19,7 @@ use rc_table::Table;
 pub struct Stand {
     pub control: Control,
     pub place: Position,
-    pub menu: Menu,
+    pub menu: Items,
 }
 
 impl State {
@@ -63,7 +63,7 @@ fn write_control(from: &Control, to: &mut Control)
 }
 
 /// Writes a menu over another one.
-pub fn write_menu(from: &Menu, to: &mut Menu)
+pub fn write_menu(from: &Items, to: &mut Items)
     ensures { menu_seen to.new.items ≡ menu_seen from.now.items }
 {
     to.clear();

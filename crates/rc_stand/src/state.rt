@@ -10,7 +10,7 @@ ghost use Rattle.rc_value.specs.Current.{IsCurrent};
 use crate::place::Position;
 use rc_asked::Asked;
 use rc_board::Board;
-use rc_rules::{About, Control, Menu, Scores};
+use rc_rules::{About, Control, Items, Scores};
 use rc_state::{has_ended_by, scores_now};
 use rc_value::{Current, current_of};
 
@@ -21,7 +21,7 @@ pub struct State {
     pub board: Board,
     pub control: Control,
     pub place: Position,
-    pub menu: Menu,
+    pub menu: Items,
     pub current: Current,
 }
 

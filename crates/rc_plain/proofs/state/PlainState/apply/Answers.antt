@@ -1,14 +1,12 @@
-use Rattle.std.proofs.Common.{ap, sym, ◌∙◌, ◌<◌, subst, Some, arith}
+use Rattle.std.proofs.Common.{ap, sym, ◌∙◌, ◌<◌, subst, Some}
 use Rattle.rc_sheet_model.specs.Sheet.{choice}
 use Rattle.rc_ast.specs.Items.{alts_seen}
 use Rattle.rc_plain.proofs.KeptLemmas.{so_many, item_kept}
 use Rattle.rc_plain.proofs.state.PlainState.apply.Goals as goal
 
 pub swap_remove-item-requires : goal.swap_remove-item-requires
-swap_remove-item-requires g c = (
-  omega arith,
-  subst (λ n. c.args.item < n) (sym (so_many c.args.about.now c.args.self.now c.requires.ready c.requires.decision)) c.requires.offered,
-)
+swap_remove-item-requires g c =
+    subst (λ n. c.args.item < n) (sym (so_many c.args.about.now c.args.self.now c.requires.ready c.requires.decision)) c.requires.offered
 
 pub choose-requires-clause-here : goal.choose-requires-clause-here
 choose-requires-clause-here g c =

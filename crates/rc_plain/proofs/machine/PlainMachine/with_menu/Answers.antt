@@ -10,7 +10,7 @@ use Rattle.rc_rules.specs.Control.{control_seen}
 use Rattle.rc_plain.specs.Plain.{Plain}
 use Rattle.rc_plain.specs.State.{KeepsMenu}
 use Rattle.rc_plain.proofs.MachineLemmas.{site_plays, same_site, some_alts}
-use Rattle.rc_plain.proofs.machine.PlainMachine.at_decision.Goals as goal
+use Rattle.rc_plain.proofs.machine.PlainMachine.with_menu.Goals as goal
 
 pub path_of-path-requires : goal.path_of-path-requires
 path_of-path-requires c =
