@@ -2,3 +2,4 @@ pub mod Menu
 pub mod AlikeMenus
 pub mod Asks
 pub mod Known
+pub mod Bounds

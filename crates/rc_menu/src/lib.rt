@@ -1,14 +1,17 @@
-//! What a choice offers: the menu of its alternatives at a table, in order, with what guards ask once and for all cards told apart.
+//! What a choice offers: the menu of its alternatives at a table, in order, with what guards ask once and for all cards told apart; and
+//! what its items bind.
 //!
 //! Nothing here takes memory.
 #![tactic(auto)]
 
 mod asks;
+mod bounds;
 mod filling;
 mod known;
 mod menu;
 mod offering;
 mod parts;
 
+pub use bounds::item_bounds;
 pub use filling::{copy_menu, fill_menu_at, fill_menu_by, fill_offers_by};
 pub use menu::{fill_menu, menu_of};

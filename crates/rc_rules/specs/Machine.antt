@@ -2,6 +2,7 @@
 use Rattle.std.specs.Prelude.{ℕ, ◌<◌, List, length, unwrap_or}
 use Rattle.rc_play_model.specs.About.{About, menu_at}
 use Rattle.rc_play_model.specs.Menu.{Item}
+use Rattle.rc_play_model.specs.ItemBounds.{Bound, bounds_at}
 use Rattle.rc_play_model.specs.Step.{Config, Stop, decide, is_done, is_limit}
 use Rattle.rc_play_model.specs.Control.{Control}
 use Rattle.rc_play_model.specs.Table.{Table}
@@ -10,6 +11,10 @@ use Rattle.rc_play_model.specs.Fits.{IsDecision, FitsSite}
 -- the menu at the site of the control
 abbrev pub menu_here : About → Config → List Item
 menu_here about c = menu_at about (unwrap_or c.control.site 0) c.table c.control
+
+-- what the x-th item of that menu binds
+abbrev pub bounds_here : About → ℕ → Config → List Bound
+bounds_here about x c = bounds_at about (unwrap_or c.control.site 0) x c
 
 -- this seat decides at this site, where something is offered
 pub record Decides (about : About) (seat site : ℕ) (c : Config) : Type 0 where

@@ -2,6 +2,7 @@
 #![tactic(auto)]
 
 mod about;
+mod bound;
 mod control;
 mod dealer;
 mod lookup;
@@ -18,11 +19,12 @@ mod stages;
 mod teams;
 
 pub use about::About;
+pub use bound::{Bound, Bounds};
 pub use control::{Control, Frame, Frames, Stop};
 pub use dealer::{Dealer, MatchDealer};
 pub use lookup::Lookup;
 pub use machine::Machine;
-pub use menu::{Item, Menu, Scores, Spots};
+pub use menu::{Item, Items, Menu, Scores, Spots};
 pub use offhand::{made_by, offhand_of, picked, scripted};
 pub use plan::{Deal, Plan, Strategy};
 pub use points::{rank_points, rank_points_of};

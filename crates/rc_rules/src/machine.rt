@@ -8,9 +8,11 @@ ghost use Rattle.rc_play_model.specs.Decision.{choose};
 ghost use Rattle.rc_play_model.specs.Scores.{scores_of};
 ghost use Rattle.rc_rules.specs.Control.{control_seen, stop_seen};
 ghost use Rattle.rc_rules.specs.Dealer.{HasShuffled};
+ghost use Rattle.rc_rules.specs.Bounds.{bounds_seen};
 ghost use Rattle.rc_rules.specs.Menu.{menu_seen};
-ghost use Rattle.rc_rules.specs.Machine.{StandsAtDecision, StandsWhereItStops, menu_here};
+ghost use Rattle.rc_rules.specs.Machine.{StandsAtDecision, StandsWhereItStops, bounds_here, menu_here};
 
+use crate::bound::Bounds;
 use crate::control::{Control, Stop};
 use crate::dealer::Dealer;
 use crate::menu::{Menu, Scores};
@@ -53,6 +55,13 @@ pub trait Machine {
         requires decision { StandsAtDecision (about self.now) (config self.now) }
         ensures is { result ≡ length (menu_here (about self.now) (config self.now)) }
         ensures few { result ≤ most_items };
+
+    /// What an item of the menu binds.
+    fn bounds(&self, item: u16) -> Bounds
+        requires fresh { spent self.now ≡ false }
+        requires decision { StandsAtDecision (about self.now) (config self.now) }
+        requires offered { item < length (menu_here (about self.now) (config self.now)) }
+        ensures { bounds_seen result ≡ bounds_here (about self.now) item (config self.now) };
 
     /// Takes an item of the menu and does its effects. The match then stands behind the decision, and `advance` goes on. Where it
     /// lacks memory the dealer is in a state that shuffles lead to. Of a spent machine nothing is asked.
