@@ -1,5 +1,4 @@
 pub mod EffectSteps
-pub mod ShownLemmas
 pub mod ListLemmas
 pub mod ShuffleLemmas
 pub mod NumberLemmas

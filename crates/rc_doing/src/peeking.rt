@@ -1,5 +1,5 @@
 //! Cards that are shown to seats.
-ghost use Rattle.std.specs.Prelude.{◌≡◌, false, fold, length, All, OnOk, IsOk};
+ghost use Rattle.std.specs.Prelude.{◌≡◌, false, fold, All, OnOk, IsOk};
 ghost use Rattle.rc_sheet_model.specs.Sheet.{peek as peek_of};
 ghost use Rattle.rc_play_model.specs.Bound.{IsCardOf};
 ghost use Rattle.rc_play_model.specs.Effects.{is_named, show_card};

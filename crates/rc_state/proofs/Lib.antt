@@ -8,3 +8,4 @@ pub mod CurrentLemmas
 pub mod OwnerLemmas
 pub mod ScoreLemmas
 pub mod ShownLemmas
+pub mod PeekLemmas

@@ -6,7 +6,7 @@ use Rattle.rc_table.specs.Laid.{Laid}
 use Rattle.rc_value.specs.Cards.{values_seen}
 use Rattle.rc_state.specs.Context.{scene_in}
 use Rattle.rc_board.proofs.KeepsLemmas.{on_ok}
-use Rattle.rc_doing.proofs.ShownLemmas.{shown_leads}
+use Rattle.rc_state.proofs.PeekLemmas.{shown_leads}
 use Rattle.rc_doing.proofs.peeking.peek.Goals as goal
 
 pub returns-clause-leads : goal.returns-clause-leads

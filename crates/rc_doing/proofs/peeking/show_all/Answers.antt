@@ -1,6 +1,6 @@
 use Rattle.rc_value.specs.declared.cards.Card.TheVariants.{Held}
 use Rattle.rc_board.proofs.KeepsLemmas.{keeps_then}
-use Rattle.rc_doing.proofs.ShownLemmas.{one_shown}
+use Rattle.rc_state.proofs.PeekLemmas.{one_shown}
 use Rattle.rc_doing.proofs.peeking.show_all.Goals as goal
 
 pub returns-in-Err-clause-keeps : goal.returns-in-Err-clause-keeps
