@@ -3,12 +3,14 @@ ghost use Rattle.std.specs.Prelude.{◌≡◌, ◌<◌, [], ◌∷◌, ◌++◌,
 ghost use Rattle.rc_sheet_model.specs.Sheet.{any_alt};
 ghost use Rattle.rc_play_model.specs.Value.{Bind as PureBind};
 ghost use Rattle.rc_play_model.specs.Scene.{CardValue};
+ghost use Rattle.rc_play_model.specs.Bound.{IsBindOf};
 ghost use Rattle.rc_play_model.specs.About.{scene_at};
 ghost use Rattle.rc_play_model.specs.Menu.{alt_in, bindings_of, effects_of};
 ghost use Rattle.rc_play_model.specs.Effects.{does};
 ghost use Rattle.rc_ast.specs.Expressions.{domain_seen};
 ghost use Rattle.rc_ast.specs.Items.{alt_seen, alts_seen};
 ghost use Rattle.rc_rules.specs.Control.{frames_seen};
+ghost use Rattle.rc_value.specs.Seen.{bind_seen};
 ghost use Rattle.rc_state.specs.Point.{point_of};
 ghost use Rattle.rc_state.specs.Under.{IsAltUnder, IsDomainUnder};
 ghost use Rattle.rc_state.specs.Bindings.{AreAltsOutside};
@@ -17,9 +19,9 @@ ghost use Rattle.rc_state.specs.Context.{scene_in, Stands};
 use crate::effects::do_all;
 use rc_ast::{Alt, Domain};
 use rc_rules::{About, Dealer, Frames, Item};
-use rc_state::{Context, bind_of, member_at};
+use rc_state::{Context, bare_bind_at, bind_of, member_at};
 use rc_table::Table;
-use rc_value::{Bindings, Cards, current_of};
+use rc_value::{Bind, Bindings, Cards, current_of};
 
 /// Does the effects of an item of a menu, with its variables bound. It takes no memory.
 ///
@@ -106,16 +108,71 @@ fn do_any<D: Dealer>(
 {
     match spots.split_first() {
         None => do_alt(context, inner, spots, table, frames, dealer),
-        Some((spot, rest)) => {
-            let mut room = Cards::new();
-            let member = member_at(context, domain, *spot, &*table, &*frames, &mut room);
-            let scope = context.scope.with(bind_of(member, &room));
-            let within = Context {
-                about: context.about,
-                scope: &scope,
-                current: context.current,
-            };
-            do_alt(&within, inner, rest, table, frames, dealer)
-        }
+        Some((spot, rest)) => match bare_bind_at(context, domain, *spot, &*table, &*frames) {
+            Some(bind) => do_bound(context, inner, bind, rest, table, frames, dealer),
+            None => do_member(context, inner, domain, *spot, rest, table, frames, dealer),
+        },
     }
+}
+
+// The same where the member has to be found among cards or groups that are listed for it.
+#[cycle(alternatives)]
+#[inline(never)]
+fn do_member<D: Dealer>(
+    context: &Context,
+    inner: &Alt,
+    domain: &Domain,
+    spot: u16,
+    rest: &[u16],
+    table: &mut Table,
+    frames: &mut Frames,
+    dealer: &mut D,
+)
+    requires stands { Stands context.now table.old frames.old.items }
+    requires domain { IsDomainUnder context.now.about.now.sheet context.now.scope.now (domain_seen domain.now) }
+    requires room { length context.now.scope.now < 5 }
+    requires well { (member : PureBind CardValue) → IsAltUnder context.now.about.now.sheet (context.now.scope.now ++ member ∷ []) (alt_seen inner.now) }
+    ensures does { does context.now.about.now (D.dealing dealer.old)
+        (bindings_of (scene_in context.now table.old frames.old.items) context.now.scope.now (any_alt (domain_seen domain.now) 0 (alt_seen inner.now))
+        (spot ∷ rest.now))
+        (effects_of (alt_seen inner.now))
+        (point_of table.old frames.old.items (D.state dealer.old)) ≡ point_of table.new frames.new.items (D.state dealer.new) }
+    ensures shape { table.new.shape ≡ context.now.about.now.shape }
+    ensures dealing { D.dealing dealer.new ≡ D.dealing dealer.old }
+{
+    let mut room = Cards::new();
+    let member = member_at(context, domain, spot, &*table, &*frames, &mut room);
+    let bind = bind_of(member, &room);
+    do_bound(context, inner, bind, rest, table, frames, dealer)
+}
+
+// Does the effects of an alternative with one variable more.
+#[cycle(alternatives)]
+fn do_bound<D: Dealer>(
+    context: &Context,
+    alt: &Alt,
+    bind: Bind,
+    spots: &[u16],
+    table: &mut Table,
+    frames: &mut Frames,
+    dealer: &mut D,
+)
+    requires stands { Stands context.now table.old frames.old.items }
+    requires room { length context.now.scope.now < 5 }
+    requires bind { IsBindOf context.now.about.now.shape (bind_seen bind) }
+    requires well { IsAltUnder context.now.about.now.sheet (context.now.scope.now ++ bind_seen bind ∷ []) (alt_seen alt.now) }
+    ensures does { does context.now.about.now (D.dealing dealer.old)
+        (bindings_of (scene_in context.now table.old frames.old.items) (context.now.scope.now ++ bind_seen bind.entry ∷ []) (alt_seen alt.now) spots.now)
+        (effects_of (alt_seen alt.now))
+        (point_of table.old frames.old.items (D.state dealer.old)) ≡ point_of table.new frames.new.items (D.state dealer.new) }
+    ensures shape { table.new.shape ≡ context.now.about.now.shape }
+    ensures dealing { D.dealing dealer.new ≡ D.dealing dealer.old }
+{
+    let scope = context.scope.with(bind);
+    let within = Context {
+        about: context.about,
+        scope: &scope,
+        current: context.current,
+    };
+    do_alt(&within, alt, spots, table, frames, dealer)
 }

@@ -1,15 +1,11 @@
-use Rattle.std.proofs.Common.{rules, sym, ap, ◌∙◌, subst}
-use Rattle.rc_ast.specs.declared.items.Alt.TheFolds
-use Rattle.rc_play_model.specs.Bound.{IsBindOf}
+use Rattle.std.proofs.Common.{ap, ◌∙◌}
 use Rattle.rc_play_model.specs.Menu.{effects_of}
 use Rattle.rc_play_model.specs.Effects.{does}
 use Rattle.rc_ast.specs.Expressions.{domain_seen}
 use Rattle.rc_ast.specs.Items.{alt_seen}
-use Rattle.rc_value.specs.Seen.{bind_seen}
 use Rattle.rc_state.specs.Point.{point_of}
 use Rattle.rc_state.specs.Context.{scene_in}
-use Rattle.rc_state.specs.Under.{IsAltUnder}
-use Rattle.rc_state.proofs.MemberLemmas.{bare_any, bound_more}
+use Rattle.rc_state.proofs.MemberLemmas.{bare_any}
 use Rattle.rc_effects.proofs.items.+alternatives.Goals as goal
 
 pub do_any-returns-in-None-clause-does : goal.do_any-returns-in-None-clause-does
@@ -20,13 +16,3 @@ do_any-returns-in-None-clause-does g t c =
     (bare_any (scene_in context c.args.table.now c.args.frames.now.items) context.scope.now (domain_seen c.args.domain.now) 0 (alt_seen c.args.inner.now)
     c.args.spots.now c.in-None.ensures.cases)
     ∙ c.do_alt.ensures.does
-
-pub do_any-do_alt-requires-in-Some : goal.do_any-do_alt-requires-in-Some
-do_any-do_alt-requires-in-Some g t c κs within =
-    let context = c.args.context.now in
-    let shape = context.about.now.shape in
-    let stands = c.requires.stands in
-    let there = subst (IsBindOf shape) (sym c.bind_of.ensures) c.member_at-member.ensures.there in
-    let bound = bound_more shape context.scope.now c.with-scope.result (bind_seen c.bind_of.result) c.with-scope.ensures stands.2 there in
-    let well = subst (λ vars. IsAltUnder context.about.now.sheet vars (alt_seen c.args.inner.now)) (sym c.with-scope.ensures) (c.requires.well (bind_seen c.bind_of.result)) in
-    (search (rules, TheFolds.the_lemmas), (within, ((stands.0, stands.1, bound), well)))

@@ -2,7 +2,7 @@ use Rattle.std.proofs.Common.{ap, ◌∙◌}
 use Rattle.rc_ast.specs.Names.{who_seen}
 use Rattle.rc_ast.specs.Expressions.{coll_seen}
 use Rattle.rc_value.specs.Cards.{values_seen}
-use Rattle.rc_effects.proofs.ShownLemmas.{shown_leads}
+use Rattle.rc_state.proofs.PeekLemmas.{shown_leads}
 use Rattle.rc_effects.proofs.peeking.peek.Goals as goal
 
 pub returns-clause-leads : goal.returns-clause-leads

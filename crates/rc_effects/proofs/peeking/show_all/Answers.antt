@@ -1,7 +1,7 @@
 use Rattle.std.proofs.Common.{ap, ◌∙◌}
 use Rattle.rc_table.specs.Laid.{Laid}
 use Rattle.rc_value.specs.declared.cards.Card.TheVariants.{Held}
-use Rattle.rc_effects.proofs.ShownLemmas.{one_shown}
+use Rattle.rc_state.proofs.PeekLemmas.{one_shown}
 use Rattle.rc_effects.proofs.peeking.show_all.Goals as goal
 
 pub loop-card-preserved : goal.loop-card-preserved
