@@ -6,9 +6,10 @@ ghost use Rattle.rc_play_model.specs.About.{menu_at};
 ghost use Rattle.rc_play_model.specs.Step.{Config, goes};
 ghost use Rattle.rc_play_model.specs.Stop.{stop_of};
 ghost use Rattle.rc_play_model.specs.Decision.{choose};
+ghost use Rattle.rc_rules.specs.Bounds.{bounds_seen};
 ghost use Rattle.rc_rules.specs.Control.{control_seen, stop_seen};
 ghost use Rattle.rc_rules.specs.Dealer.{HasShuffled};
-ghost use Rattle.rc_rules.specs.Machine.{StandsAtDecision, StandsWhereItStops, menu_here};
+ghost use Rattle.rc_rules.specs.Machine.{StandsAtDecision, StandsWhereItStops, bounds_here, menu_here};
 ghost use Rattle.rc_rules.specs.Menu.{menu_seen};
 ghost use Rattle.rc_stand.specs.Flat.{config_of, flat_from};
 ghost use Rattle.rc_stand.specs.Moments.{IsInMatch};
@@ -18,13 +19,14 @@ ghost use Rattle.rc_flat.specs.Marks.{IsMark};
 
 use crate::decisions::apply;
 use crate::machine::FlatMachine;
+use crate::naming::bounds_of;
 use crate::steps::one_step;
 use crate::undoing::refill;
 use rc_code::Instruction;
 use rc_deck::Memory;
 use rc_menu::copy_menu;
 use rc_play_model::stops_stay;
-use rc_rules::{Control, Dealer, Machine, Menu, Scores, Stop};
+use rc_rules::{Bounds, Control, Dealer, Items, Machine, Menu, Scores, Stop};
 use rc_stand::{Mark, Stand, write_menu};
 use rc_table::Table;
 
@@ -89,7 +91,7 @@ impl FlatMachine {
     }
 
     /// Writes the menu of the site at which it stands, if there is one, over another one.
-    pub(crate) fn write_menu(&self, menu: &mut Menu)
+    pub(crate) fn write_menu(&self, menu: &mut Items)
         requires { self.now.spent ≡ false }
         ensures { (site : ℕ) → self.now.config.control.site ≡ Some site →
             menu_seen menu.new.items ≡ menu_at self.now.about site self.now.config.table self.now.config.control }
@@ -154,6 +156,15 @@ impl Machine for FlatMachine {
         ensures few { result ≤ most_items }
     {
         self.state.menu.len()
+    }
+
+    fn bounds(&self, item: u16) -> Bounds
+        requires fresh { self.now.spent ≡ false }
+        requires decision { StandsAtDecision self.now.about self.now.config }
+        requires offered { item < length (menu_here self.now.about self.now.config) }
+        ensures { bounds_seen result ≡ bounds_here self.now.about item self.now.config }
+    {
+        bounds_of(&self.state, &self.about, &self.code.list, item)
     }
 
     #[tactic(auto, using(rc_doing::proofs::ShuffleLemmas::not_shuffled))]

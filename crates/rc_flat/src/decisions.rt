@@ -15,7 +15,7 @@ use rc_asked::Offer;
 use rc_code::{Block, Instruction};
 use rc_deck::Memory;
 use rc_doing::{do_item, front, past};
-use rc_rules::{About, Dealer, Item, Menu};
+use rc_rules::{About, Dealer, Item, Items};
 use rc_stand::{State, behind, choice_there};
 use rc_state::count_decision;
 
@@ -102,9 +102,9 @@ fn take_item<D: Dealer>(
     Ok(())
 }
 
-// The item at a place of a menu.
+/// The item at a place of a menu.
 #[inline(always)]
-fn item_at(menu: &Menu, place: u16) -> &Item
+pub(crate) fn item_at(menu: &Items, place: u16) -> &Item
     requires { place < length menu.now.items }
     ensures { result.now ≡ slice_index_or menu.now.items place result.now }
 {

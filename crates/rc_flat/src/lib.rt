@@ -7,6 +7,7 @@ mod decisions;
 mod homing;
 mod machine;
 mod making;
+mod naming;
 mod steps;
 mod undoing;
 

@@ -5,3 +5,4 @@ pub mod PlayLemmas
 pub mod KeptLemmas
 pub mod SiteLemmas
 pub mod MachineLemmas
+mod NamingLemmas

@@ -3,6 +3,7 @@
 
 mod decisions;
 mod machine;
+mod naming;
 mod path;
 mod site;
 mod state;

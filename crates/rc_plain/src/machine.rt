@@ -6,9 +6,10 @@ ghost use Rattle.rc_play_model.specs.Step.{goes, start};
 ghost use Rattle.rc_play_model.specs.Stop.{stop_of};
 ghost use Rattle.rc_play_model.specs.Decision.{at_site, choose};
 ghost use Rattle.rc_play_model.specs.Table.{opening};
+ghost use Rattle.rc_rules.specs.Bounds.{bounds_seen};
 ghost use Rattle.rc_rules.specs.Control.{control_seen, stop_seen};
 ghost use Rattle.rc_rules.specs.Dealer.{HasShuffled};
-ghost use Rattle.rc_rules.specs.Machine.{StandsAtDecision, StandsWhereItStops, menu_here, CanDecide};
+ghost use Rattle.rc_rules.specs.Machine.{StandsAtDecision, StandsWhereItStops, bounds_here, menu_here, CanDecide};
 ghost use Rattle.rc_plain.specs.Plain.{config_of};
 
 use crate::path::Path;
@@ -18,7 +19,7 @@ use rc_deck::Memory;
 use rc_flow::Checked;
 use rc_menu::{copy_menu, fill_menu_at};
 use rc_play_model::sites_fix_choices;
-use rc_rules::{About, Control, Dealer, Machine, Menu, Scores, Stop};
+use rc_rules::{About, Bounds, Control, Dealer, Items, Machine, Menu, Scores, Stop};
 use rc_state::{new_control, scores_now};
 use rc_table::{Shape, Table};
 use std::alloc::Global;
@@ -71,7 +72,8 @@ impl PlainMachine {
         ensures start { IfOk result (λ m. config_of m ≡ start about) }
     {
         let table = Table::new(alloc, about.shape())?;
-        Ok(PlainMachine::with_opening(about, table))
+        let menu = Items::new(alloc)?;
+        Ok(PlainMachine::with_opening(about, table, menu))
     }
 
     /// A match at its start, in matches of this about, which is copied.
@@ -102,10 +104,11 @@ impl PlainMachine {
             ≡ at_site (record { sheet = checked.now.value; shape = shape.now.value; turns = turns }) table.table (control_seen control)) }
     {
         let about = about_of(alloc, checked, shape, turns)?;
-        Ok(PlainMachine::at_decision(about, table, control))
+        PlainMachine::at_decision(alloc, about, table, control)
     }
 
-    fn with_opening(about: About, table: Table) -> PlainMachine
+    // A match at its start, with this table and this room for menus.
+    fn with_opening(about: About, table: Table, menu: Items) -> PlainMachine
         requires { table ≡ record { shape = about.shape; table = opening about.shape } }
         ensures about { result.about ≡ about }
         ensures start { config_of result ≡ start about }
@@ -117,13 +120,29 @@ impl PlainMachine {
                 table,
                 control,
                 path: Path::start(),
-                menu: Menu::new(),
+                menu,
             },
         }
     }
 
-    /// A match at the decision for which this table and this control stand, in matches of this about. It takes no memory.
-    pub fn at_decision(about: About, table: Table, control: Control) -> PlainMachine
+    /// A match at the decision for which this table and this control stand, in matches of this about.
+    pub fn at_decision(
+        alloc: Global,
+        about: About,
+        table: Table,
+        control: Control,
+    ) -> Result<PlainMachine, Memory>
+        requires laid { table.shape ≡ about.shape }
+        requires decides { CanDecide about table.table (control_seen control) }
+        ensures about { IfOk result (λ m. m.about ≡ about) }
+        ensures at { IfOk result (λ m. config_of m ≡ at_site about table.table (control_seen control)) }
+    {
+        let menu = Items::new(alloc)?;
+        Ok(PlainMachine::with_menu(about, table, control, menu))
+    }
+
+    // The same with this room for menus.
+    fn with_menu(about: About, table: Table, control: Control, mut menu: Items) -> PlainMachine
         requires laid { table.shape ≡ about.shape }
         requires decides { CanDecide about table.table (control_seen control) }
         ensures about { result.about ≡ about }
@@ -134,7 +153,6 @@ impl PlainMachine {
         let _sheet = about.sheet();
         let site = site_of(&control);
         let path = path_of(&about, site);
-        let mut menu = Menu::new();
         fill_menu_at(&about, &table, &control, site, path.alts(&about), &mut menu);
         PlainMachine {
             about,
@@ -196,6 +214,14 @@ impl Machine for PlainMachine {
         ensures few { result ≤ most_items }
     {
         self.state.menu.len()
+    }
+
+    fn bounds(&self, item: u16) -> Bounds
+        requires decision { StandsAtDecision self.now.about (config_of self.now) }
+        requires offered { item < length (menu_here self.now.about (config_of self.now)) }
+        ensures { bounds_seen result ≡ bounds_here self.now.about item (config_of self.now) }
+    {
+        self.state.bounds(&self.about, item)
     }
 
     fn apply<D: Dealer>(&mut self, item: u16, dealer: &mut D) -> Result<(), Memory>
