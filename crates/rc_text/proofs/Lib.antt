@@ -1,4 +1,7 @@
 mod Below
 mod Cuts
 mod Exactly
+mod Heads
+mod MarkSteps
+mod Parts
 mod Words

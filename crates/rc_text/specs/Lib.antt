@@ -1,4 +1,6 @@
+pub mod BoundSeen
 pub mod House
+pub mod PickText
 pub mod Finds
 pub mod LineSeen
 pub mod PlaceSeen

@@ -1,6 +1,9 @@
 //! House texts: the matches of a plan as they were played, and the standings of its strategies. They are written and read.
 #![tactic(auto)]
 
+mod bounds;
+mod copies;
+mod faces;
 mod fields;
 mod house;
 mod lines;
@@ -9,7 +12,10 @@ mod ranking;
 mod reading;
 mod write;
 
-pub use house::{HouseText, write_house, write_record};
+pub use bounds::bounds_told;
+pub use faces::legend;
+pub use house::{HouseText, NamedText, write_house, write_named, write_record};
 pub use ranking::standings;
-pub use reading::{TextFail, read_house};
+pub use rc_rules::{Bound, Bounds};
+pub use reading::{TextFail, read_house, read_named};
 pub use write::write_standings;

@@ -1,22 +1,22 @@
 //! The lines of a house text, read.
-ghost use Rattle.rc_text_model.specs.Lines.{line_of, header_in, opening_in, chosen_in, shuffled_in, done_in, limit_in, scored_in, ranked_in};
+ghost use Rattle.rc_text_model.specs.Lines.{line_of, other_in, opening_in, chosen_in, shuffled_in, done_in, limit_in, scored_in, ranked_in};
 ghost use Rattle.rc_text_model.specs.Fields.{last};
 ghost use Rattle.rc_text.specs.Finds.{Finds};
-ghost use Rattle.rc_text.specs.LineSeen.{line_seen};
+ghost use Rattle.std.specs.Prelude.{◌≡◌, true, IfSome};
+ghost use Rattle.rc_text.specs.LineSeen.{line_seen, marked_seen, IsTold, IsBare};
 
-use crate::fields::{behind, counted, integer, number};
+use crate::bounds::bounds_in;
+use crate::fields::{counted, integer, number};
 use rc_names::limits::{LARGEST_SEED, MOST_ITEMS, MOST_TURNS};
-use rc_rules::{Ended, Pick, Score, Standing};
+use rc_rules::{Bounds, Ended, Pick, Score, Standing};
 
-/// A line of a house text.
-#[derive(Clone, Copy)]
+/// A line of a house text behind its head.
+#[derive(Drop)]
 pub enum Line {
-    /// The format's line.
-    Header,
     /// The line that a match begins with.
     Opening { number: u32, deal: u64, seats: u64 },
-    /// A choice.
-    Chosen(Pick),
+    /// A choice, with what its item binds where the text names that.
+    Chosen(Pick, Option<Bounds>),
     /// How many shuffles there were.
     Shuffled(u32),
     /// How a match ended, and in which turn.
@@ -27,29 +27,32 @@ pub enum Line {
     Ranked(Standing),
 }
 
-/// The line that a text spells. The text is without the line's LF.
-pub fn line_of(bytes: &[u8]) -> Option<Line>
-    ensures { Finds line_seen result (line_of bytes.now) }
+/// The line that bytes spell, in a text that names what items bind or in one that doesn't. The bytes are without the line's LF.
+pub fn line_of(named: bool, bytes: &[u8]) -> Option<Line>
+    ensures found { Finds marked_seen result (line_of named bytes.now) }
+    ensures told { named ≡ true → IfSome result IsTold }
 {
-    chosen_in(bytes)
-        .or_else(|| opening_in(bytes))
+    match chosen_in(named, bytes) {
+        Some(line) => Some(line),
+        None => other_in(bytes),
+    }
+}
+
+fn other_in(bytes: &[u8]) -> Option<Line>
+    ensures found { Finds line_seen result (other_in bytes.now) }
+    ensures bare { IfSome result IsBare }
+{
+    opening_in(bytes)
         .or_else(|| shuffled_in(bytes))
         .or_else(|| done_in(bytes))
         .or_else(|| limit_in(bytes))
         .or_else(|| scored_in(bytes))
         .or_else(|| ranked_in(bytes))
-        .or_else(|| header_in(bytes))
-}
-
-fn header_in(bytes: &[u8]) -> Option<Line>
-    ensures { Finds line_seen result (header_in bytes.now) }
-{
-    let rest = behind(b"house 1", bytes)?;
-    last(Line::Header, rest)
 }
 
 fn opening_in(bytes: &[u8]) -> Option<Line>
-    ensures { Finds line_seen result (opening_in bytes.now) }
+    ensures found { Finds line_seen result (opening_in bytes.now) }
+    ensures bare { IfSome result IsBare }
 {
     let (match_number, rest) = number(b"match ", 4095, bytes)?;
     let (deal, rest) = number(b" deal ", LARGEST_SEED, rest)?;
@@ -62,8 +65,9 @@ fn opening_in(bytes: &[u8]) -> Option<Line>
     last(line, rest)
 }
 
-fn chosen_in(bytes: &[u8]) -> Option<Line>
-    ensures { Finds line_seen result (chosen_in bytes.now) }
+fn chosen_in(named: bool, bytes: &[u8]) -> Option<Line>
+    ensures found { Finds marked_seen result (chosen_in named bytes.now) }
+    ensures told { named ≡ true → IfSome result IsTold }
 {
     let (seat, rest) = number(b"choose ", 7, bytes)?;
     let (site, rest) = number(b" ", 63, rest)?;
@@ -75,18 +79,27 @@ fn chosen_in(bytes: &[u8]) -> Option<Line>
         item: item as u16,
         size: size as u16,
     };
-    last(Line::Chosen(pick), rest)
+    if named {
+        let bounds = bounds_in(rest)?;
+        Some(Line::Chosen(pick, Some(bounds)))
+    } else if rest.is_empty() {
+        Some(Line::Chosen(pick, None))
+    } else {
+        None
+    }
 }
 
 fn shuffled_in(bytes: &[u8]) -> Option<Line>
-    ensures { Finds line_seen result (shuffled_in bytes.now) }
+    ensures found { Finds line_seen result (shuffled_in bytes.now) }
+    ensures bare { IfSome result IsBare }
 {
     let (shuffles, rest) = counted(b"shuffles ", 4_294_967_295, bytes)?;
     last(Line::Shuffled(shuffles as u32), rest)
 }
 
 fn done_in(bytes: &[u8]) -> Option<Line>
-    ensures { Finds line_seen result (done_in bytes.now) }
+    ensures found { Finds line_seen result (done_in bytes.now) }
+    ensures bare { IfSome result IsBare }
 {
     let (turn, rest) = number(b"end done ", MOST_TURNS, bytes)?;
     let line = Line::Ending {
@@ -97,7 +110,8 @@ fn done_in(bytes: &[u8]) -> Option<Line>
 }
 
 fn limit_in(bytes: &[u8]) -> Option<Line>
-    ensures { Finds line_seen result (limit_in bytes.now) }
+    ensures found { Finds line_seen result (limit_in bytes.now) }
+    ensures bare { IfSome result IsBare }
 {
     let (turn, rest) = number(b"end limit ", MOST_TURNS, bytes)?;
     let line = Line::Ending {
@@ -108,7 +122,8 @@ fn limit_in(bytes: &[u8]) -> Option<Line>
 }
 
 fn scored_in(bytes: &[u8]) -> Option<Line>
-    ensures { Finds line_seen result (scored_in bytes.now) }
+    ensures found { Finds line_seen result (scored_in bytes.now) }
+    ensures bare { IfSome result IsBare }
 {
     let (player, rest) = number(b"score ", 7, bytes)?;
     let (score, rest) = integer(b" ", rest)?;
@@ -122,7 +137,8 @@ fn scored_in(bytes: &[u8]) -> Option<Line>
 }
 
 fn ranked_in(bytes: &[u8]) -> Option<Line>
-    ensures { Finds line_seen result (ranked_in bytes.now) }
+    ensures found { Finds line_seen result (ranked_in bytes.now) }
+    ensures bare { IfSome result IsBare }
 {
     let (place, rest) = counted(b"standing ", 8, bytes)?;
     let (strategy, rest) = number(b" strategy ", 7, rest)?;
@@ -137,7 +153,8 @@ fn ranked_in(bytes: &[u8]) -> Option<Line>
 
 /// A line, if nothing follows.
 fn last(line: Line, rest: &[u8]) -> Option<Line>
-    ensures { Finds line_seen result (last (line_seen line) rest.now) }
+    ensures found { Finds line_seen result (last (line_seen line) rest.now) }
+    ensures same { IfSome result (λ found. found ≡ line) }
 {
     if rest.is_empty() { Some(line) } else { None }
 }

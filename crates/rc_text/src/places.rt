@@ -1,27 +1,42 @@
 //! Where a house text stands behind some lines, with what these told.
-ghost use Rattle.std.specs.Prelude.{◌≡◌, IfOk, map};
-ghost use Rattle.rc_text_model.specs.Reading.{outside, headed, playing, told, stopped, scoring, ranking, opened, take_line, take_bytes};
-ghost use Rattle.rc_rules.specs.Record.{record_seen, standing_seen};
+ghost use Rattle.std.specs.Prelude.{◌≡◌, ◌++◌, ◌∷◌, [], IfOk, IfSome, OnOk, map};
+ghost use Rattle.rc_text_model.specs.Reading.{headed, playing, told, stopped, scoring, ranking, opened, with_pick, noted, take_marked, take_bytes};
+ghost use Rattle.rc_rules.specs.Record.{pick_seen, record_seen, standing_seen};
+ghost use Rattle.rc_text.specs.BoundSeen.{option_seen};
 ghost use Rattle.rc_text.specs.Finds.{Finds};
-ghost use Rattle.rc_text.specs.LineSeen.{line_seen};
-ghost use Rattle.rc_text.specs.PlaceSeen.{place_seen};
+ghost use Rattle.rc_text.specs.LineSeen.{marked_seen, IsTold};
+ghost use Rattle.rc_text.specs.PlaceSeen.{open_marks, marks_of, marks_before, marks_with, place_seen, stand_seen, AreFit, IsFit, StandsFit};
+ghost use Rattle.std.specs.Prelude.{true, IsSome};
 
 use crate::lines::{Line, line_of};
 use rc_deck::Memory;
-use rc_rules::{Ended, MatchRecord, Standing};
+use rc_rules::{Bounds, Ended, MatchRecord, Pick, Standing};
 use std::alloc::Global;
 
-/// Where a text stands: before its first line, behind the header, in a match or behind its shuffles, behind its end, behind a
-/// score, or behind a standing. Each holds the matches before, and those that a match is open in hold that match.
+/// Matches, and for each of them what its choices bind: nothing in a text that doesn't name that.
+#[derive(Drop)]
+pub struct Matches {
+    pub records: Vec<MatchRecord>,
+    pub bounds: Vec<Vec<Bounds>>,
+}
+
+/// A match that is open, and what its choices bind.
+#[derive(Drop)]
+pub struct OpenMatch {
+    pub record: MatchRecord,
+    pub bounds: Vec<Bounds>,
+}
+
+/// Where a text stands behind its head, in a match or behind its shuffles, behind its end, behind a score, or behind a standing. Each
+/// holds the matches before, and those that a match is open in hold that match.
 #[derive(Drop)]
 pub enum Progress {
-    Outside,
     Headed,
-    Playing(Vec<MatchRecord>, MatchRecord),
-    Told(Vec<MatchRecord>, MatchRecord),
-    Stopped(Vec<MatchRecord>, MatchRecord),
-    Scoring(Vec<MatchRecord>, MatchRecord),
-    Ranking(Vec<MatchRecord>, Vec<Standing>),
+    Playing(Matches, OpenMatch),
+    Told(Matches, OpenMatch),
+    Stopped(Matches, OpenMatch),
+    Scoring(Matches, OpenMatch),
+    Ranking(Matches, Vec<Standing>),
 }
 
 /// Where the text stands behind one more line of bytes, if that may stand there.
@@ -29,10 +44,16 @@ pub enum Progress {
 /// # Errors
 ///
 /// No memory is left.
-pub fn take_bytes(alloc: Global, place: Progress, bytes: &[u8]) -> Result<Option<Progress>, Memory>
-    ensures { IfOk result (λ found. Finds place_seen found (take_bytes (place_seen place) bytes.now)) }
+pub fn take_bytes(
+    alloc: Global,
+    named: bool,
+    place: Progress,
+    bytes: &[u8],
+) -> Result<Option<Progress>, Memory>
+    ensures found { IfOk result (λ found. Finds stand_seen found (take_bytes named (stand_seen place) bytes.now)) }
+    ensures fit { named ≡ true → StandsFit place → IfOk result (λ found. IfSome found StandsFit) }
 {
-    match line_of(bytes) {
+    match line_of(named, bytes) {
         None => Ok(None),
         Some(line) => take_line(alloc, place, line),
     }
@@ -40,10 +61,10 @@ pub fn take_bytes(alloc: Global, place: Progress, bytes: &[u8]) -> Result<Option
 
 /// Where the text stands behind one more line, if that may stand there.
 fn take_line(alloc: Global, place: Progress, line: Line) -> Result<Option<Progress>, Memory>
-    ensures { IfOk result (λ found. Finds place_seen found (take_line (place_seen place) (line_seen line))) }
+    ensures found { IfOk result (λ found. Finds stand_seen found (take_marked (place_seen place) (marks_with place) (marked_seen line))) }
+    ensures fit { IsTold line → StandsFit place → IfOk result (λ found. IfSome found StandsFit) }
 {
     match place {
-        Progress::Outside => Ok(before_header(line)),
         Progress::Headed => Ok(behind_header(alloc, line)),
         Progress::Playing(before, played) => in_match(before, played, line),
         Progress::Told(before, played) => Ok(behind_shuffles(before, played, line)),
@@ -53,17 +74,9 @@ fn take_line(alloc: Global, place: Progress, line: Line) -> Result<Option<Progre
     }
 }
 
-fn before_header(line: Line) -> Option<Progress>
-    ensures { Finds place_seen result (take_line outside (line_seen line)) }
-{
-    match line {
-        Line::Header => Some(Progress::Headed),
-        _ => None,
-    }
-}
-
 fn behind_header(alloc: Global, line: Line) -> Option<Progress>
-    ensures { Finds place_seen result (take_line headed (line_seen line)) }
+    ensures found { Finds stand_seen result (take_marked headed [] (marked_seen line)) }
+    ensures fit { IfSome result StandsFit }
 {
     match line {
         Line::Opening {
@@ -72,50 +85,48 @@ fn behind_header(alloc: Global, line: Line) -> Option<Progress>
             seats,
         } => {
             let first = opened(alloc, number, deal, seats);
-            Some(Progress::Playing(Vec::new(alloc), first))
+            let before = Matches {
+                records: Vec::new(alloc),
+                bounds: Vec::new(alloc),
+            };
+            Some(Progress::Playing(before, first))
         }
         _ => None,
     }
 }
 
-fn in_match(
-    before: Vec<MatchRecord>,
-    mut played: MatchRecord,
-    line: Line,
-) -> Result<Option<Progress>, Memory>
-    ensures { IfOk result (λ found. Finds place_seen found
-        (take_line (playing (map record_seen before.items) (record_seen played)) (line_seen line))) }
+fn in_match(before: Matches, mut played: OpenMatch, line: Line) -> Result<Option<Progress>, Memory>
+    ensures found { IfOk result (λ found. Finds stand_seen found
+        (take_marked (playing (map record_seen before.records.items) (record_seen played.record)) (marks_before before played) (marked_seen line))) }
+    ensures fit { IsTold line → AreFit before → IsFit played → IfOk result (λ found. IfSome found StandsFit) }
 {
     match line {
-        Line::Chosen(pick) => {
-            played.picks.push(pick)?;
+        Line::Chosen(pick, bounds) => {
+            played.choose(pick, bounds)?;
             Ok(Some(Progress::Playing(before, played)))
         }
         Line::Shuffled(shuffles) => {
-            played.shuffles = shuffles;
+            played.record.shuffles = shuffles;
             Ok(Some(Progress::Told(before, played)))
         }
         Line::Ending { stop, turn } => {
-            played.stop = stop;
-            played.turn = turn;
+            played.record.stop = stop;
+            played.record.turn = turn;
             Ok(Some(Progress::Stopped(before, played)))
         }
         _ => Ok(None),
     }
 }
 
-fn behind_shuffles(
-    before: Vec<MatchRecord>,
-    mut played: MatchRecord,
-    line: Line,
-) -> Option<Progress>
-    ensures { Finds place_seen result
-        (take_line (told (map record_seen before.items) (record_seen played)) (line_seen line)) }
+fn behind_shuffles(before: Matches, mut played: OpenMatch, line: Line) -> Option<Progress>
+    ensures found { Finds stand_seen result
+        (take_marked (told (map record_seen before.records.items) (record_seen played.record)) (marks_before before played) (marked_seen line)) }
+    ensures fit { AreFit before → IsFit played → IfSome result StandsFit }
 {
     match line {
         Line::Ending { stop, turn } => {
-            played.stop = stop;
-            played.turn = turn;
+            played.record.stop = stop;
+            played.record.turn = turn;
             Some(Progress::Stopped(before, played))
         }
         _ => None,
@@ -123,16 +134,17 @@ fn behind_shuffles(
 }
 
 fn behind_end(
-    before: Vec<MatchRecord>,
-    mut played: MatchRecord,
+    before: Matches,
+    mut played: OpenMatch,
     line: Line,
 ) -> Result<Option<Progress>, Memory>
-    ensures { IfOk result (λ found. Finds place_seen found
-        (take_line (stopped (map record_seen before.items) (record_seen played)) (line_seen line))) }
+    ensures found { IfOk result (λ found. Finds stand_seen found
+        (take_marked (stopped (map record_seen before.records.items) (record_seen played.record)) (marks_before before played) (marked_seen line))) }
+    ensures fit { AreFit before → IsFit played → IfOk result (λ found. IfSome found StandsFit) }
 {
     match line {
         Line::Scored(score) => {
-            played.scores.push(score)?;
+            played.record.scores.push(score)?;
             Ok(Some(Progress::Scoring(before, played)))
         }
         _ => Ok(None),
@@ -141,16 +153,17 @@ fn behind_end(
 
 fn behind_score(
     alloc: Global,
-    mut before: Vec<MatchRecord>,
-    mut played: MatchRecord,
+    mut before: Matches,
+    mut played: OpenMatch,
     line: Line,
 ) -> Result<Option<Progress>, Memory>
-    ensures { IfOk result (λ found. Finds place_seen found
-        (take_line (scoring (map record_seen before.items) (record_seen played)) (line_seen line))) }
+    ensures found { IfOk result (λ found. Finds stand_seen found
+        (take_marked (scoring (map record_seen before.records.items) (record_seen played.record)) (marks_before before played) (marked_seen line))) }
+    ensures fit { AreFit before → IsFit played → IfOk result (λ found. IfSome found StandsFit) }
 {
     match line {
         Line::Scored(score) => {
-            played.scores.push(score)?;
+            played.record.scores.push(score)?;
             Ok(Some(Progress::Scoring(before, played)))
         }
         Line::Opening {
@@ -158,12 +171,12 @@ fn behind_score(
             deal,
             seats,
         } => {
-            before.push(played)?;
+            before.close(played)?;
             let next = opened(alloc, number, deal, seats);
             Ok(Some(Progress::Playing(before, next)))
         }
         Line::Ranked(standing) => {
-            before.push(played)?;
+            before.close(played)?;
             let mut standings = Vec::new(alloc);
             standings.push(standing)?;
             Ok(Some(Progress::Ranking(before, standings)))
@@ -173,12 +186,13 @@ fn behind_score(
 }
 
 fn behind_standing(
-    matches: Vec<MatchRecord>,
+    matches: Matches,
     mut standings: Vec<Standing>,
     line: Line,
 ) -> Result<Option<Progress>, Memory>
-    ensures { IfOk result (λ found. Finds place_seen found
-        (take_line (ranking (map record_seen matches.items) (map standing_seen standings.items)) (line_seen line))) }
+    ensures found { IfOk result (λ found. Finds stand_seen found
+        (take_marked (ranking (map record_seen matches.records.items) (map standing_seen standings.items)) (marks_of matches) (marked_seen line))) }
+    ensures fit { AreFit matches → IfOk result (λ found. IfSome found StandsFit) }
 {
     match line {
         Line::Ranked(standing) => {
@@ -189,11 +203,42 @@ fn behind_standing(
     }
 }
 
+impl Matches {
+    /// A match more, which was open.
+    fn close(&mut self, played: OpenMatch) -> Result<(), Memory>
+        ensures records { OnOk result (map record_seen self.new.records.items ≡ map record_seen self.old.records.items ++ record_seen played.record ∷ []) }
+        ensures marks { OnOk result (marks_of self.new ≡ marks_before self.old played) }
+        ensures fit { OnOk result (AreFit self.old → IsFit played → AreFit self.new) }
+    {
+        let OpenMatch { record, bounds } = played;
+        self.records.push(record)?;
+        self.bounds.push(bounds)?;
+        Ok(())
+    }
+}
+
+impl OpenMatch {
+    /// A choice more, with what its item binds where the text names that.
+    fn choose(&mut self, pick: Pick, bounds: Option<Bounds>) -> Result<(), Memory>
+        ensures record { OnOk result (record_seen self.new.record ≡ with_pick (record_seen self.old.record) (pick_seen pick)) }
+        ensures marks { OnOk result (open_marks self.new ≡ noted (open_marks self.old) (option_seen bounds)) }
+        ensures fit { OnOk result (IsSome bounds → IsFit self.old → IsFit self.new) }
+    {
+        self.record.picks.push(pick)?;
+        if let Some(bounds) = bounds {
+            self.bounds.push(bounds)?;
+        }
+        Ok(())
+    }
+}
+
 /// A match of which only the first line is read.
-fn opened(alloc: Global, number: u32, deal: u64, seats: u64) -> MatchRecord
-    ensures { record_seen result ≡ opened number deal seats }
+fn opened(alloc: Global, number: u32, deal: u64, seats: u64) -> OpenMatch
+    ensures record { record_seen result.record ≡ opened number deal seats }
+    ensures marks { open_marks result ≡ [] }
+    ensures fit { IsFit result }
 {
-    MatchRecord {
+    let record = MatchRecord {
         number,
         deal,
         seats,
@@ -202,5 +247,9 @@ fn opened(alloc: Global, number: u32, deal: u64, seats: u64) -> MatchRecord
         stop: Ended::Done,
         turn: 0,
         scores: Vec::new(alloc),
+    };
+    OpenMatch {
+        record,
+        bounds: Vec::new(alloc),
     }
 }

@@ -1,14 +1,14 @@
-//! Reads a house text, line by line.
-ghost use Rattle.std.specs.Prelude.{◌≡◌, ℕ, ◌<◌, ◌≤◌, ◌∷◌, [], length, IfSome, IfNone, IfOk, IfErr, Ok, Err};
+//! Reads a house text of either format, line by line.
+ghost use Rattle.std.specs.Prelude.{◌≡◌, ℕ, ◌+◌, ◌<◌, ◌≤◌, Bool, true, List, ◌∷◌, ◌++◌, [], length, IfSome, IfNone, IfOk, IfErr, Ok, Err};
 ghost use Rattle.rc_model.specs.Transcript.{house_text};
-ghost use Rattle.rc_text_model.specs.HouseText.{HouseText as ToldText, lines_of, IsHouseText};
-ghost use Rattle.rc_text_model.specs.Reading.{lines_in, read_text};
-ghost use Rattle.rc_text_model.specs.Laws.{IsFirstFault};
-ghost use Rattle.rc_text.specs.House.{text_of, house_seen};
+ghost use Rattle.rc_text_model.specs.HouseText.{HouseText as ToldText, NamedText as PureNamed, plain, naming, unmarked, lines_of, text_in, IsHouseText, IsText};
+ghost use Rattle.rc_text_model.specs.Reading.{before, lines_in, read_from, read_in};
+ghost use Rattle.rc_text_model.specs.Laws.{IsFirstFault, ReadIsText};
+ghost use Rattle.rc_text.specs.House.{text_of, house_seen, named_seen, Fits};
 ghost use Rattle.rc_text.specs.Gives.{Gives, IfTextFault};
 
-use crate::house::HouseText;
-use crate::places::{Progress, take_bytes};
+use crate::house::{HouseText, NamedText};
+use crate::places::{Matches, Progress, take_bytes};
 use rc_deck::Memory;
 use rc_text_model::{faults_are_first, texts_are_of_lines, texts_are_read};
 use std::alloc::Global;
@@ -47,33 +47,114 @@ pub fn read_house(alloc: Global, bytes: &[u8]) -> Result<HouseText, TextFail>
     // What is read is a house text with the bytes as its text, and it has no more lines than bytes.
     ensures is { IfOk result (λ text. IsHouseText (house_seen text)) }
     ensures spelled { IfOk result (λ text. bytes.now ≡ text_of text) }
-    ensures few { IfOk result (λ text. length (lines_of (house_seen text)) ≤ length bytes.now) }
+    ensures few { IfOk result (λ text. 1 + length (lines_of (house_seen text)) ≤ length bytes.now) }
 
     // The bytes of any house text are read as that one.
-    ensures again { (told : ToldText) → IsHouseText told → bytes.now ≡ house_text told.matches told.standings → Gives result (Ok told) }
+    ensures again { (told : ToldText) → IsHouseText told → bytes.now ≡ house_text told.matches told.standings → Gives house_seen result (Ok told) }
 
     // A fault is at the first line that no house text goes on with, and where there is such a line, it is found.
-    ensures fault { IfErr result (λ fail. IfTextFault fail (IsFirstFault bytes.now)) }
-    ensures first { (line : ℕ) → IsFirstFault bytes.now line → Gives result (Err line) }
+    ensures fault { IfErr result (λ fail. IfTextFault fail (IsFirstFault plain bytes.now)) }
+    ensures first { (line : ℕ) → IsFirstFault plain bytes.now line → Gives house_seen result (Err line) }
 
-    ensures exact { Gives result (read_text bytes.now) }
+    ensures exact { Gives (λ text. unmarked (house_seen text)) result (read_in plain bytes.now) }
 {
     texts_are_of_lines();
     texts_are_read();
     faults_are_first();
-    read_lines(alloc, bytes)
+    without_marks(read_lines(alloc, false, b"house 1\n", b"", bytes))
 }
 
-/// Reads the lines in turn.
-fn read_lines(alloc: Global, bytes: &[u8]) -> Result<HouseText, TextFail>
-    requires short { length bytes.now ≤ 33554432 }
-    ensures { Gives result (read_text bytes.now) }
+/// What was read of a text that has no marks.
+fn without_marks(read: Result<NamedText, TextFail>) -> Result<HouseText, TextFail>
+    ensures { (bytes : List ℕ) → ReadIsText → Gives named_seen read (read_in plain bytes) → Gives (λ text. unmarked (house_seen text)) result (read_in plain bytes) }
 {
-    let mut place = Progress::Outside;
-    let mut number: u32 = 1;
+    match read {
+        Ok(named) => Ok(named.text),
+        Err(fail) => Err(fail),
+    }
+}
+
+/// Reads a house text that names what items bind: the format's line, this legend, and then as `read_house`, but that choices have
+/// their marks. The legend's lines end with LF.
+///
+/// # Errors
+///
+/// The text is none with this legend, or memory ran out.
+pub fn read_named(alloc: Global, legend: &[u8], bytes: &[u8]) -> Result<NamedText, TextFail>
+    requires short { length bytes.now ≤ 33554432 }
+    requires legend { (lines_in legend.now).1 ≡ [] }
+    ensures is { IfOk result (λ named. IsText true (named_seen named)) }
+    ensures fits { IfOk result Fits }
+    ensures spelled { IfOk result (λ named. bytes.now ≡ text_in (naming (lines_in legend.now).0) (named_seen named)) }
+    ensures few { IfOk result (λ named. length (naming (lines_in legend.now).0).head + length (lines_of (house_seen named.text)) ≤ length bytes.now) }
+    ensures again { (told : PureNamed) → IsText true told → bytes.now ≡ text_in (naming (lines_in legend.now).0) told → Gives named_seen result (Ok told) }
+    ensures fault { IfErr result (λ fail. IfTextFault fail (IsFirstFault (naming (lines_in legend.now).0) bytes.now)) }
+    ensures first { (line : ℕ) → IsFirstFault (naming (lines_in legend.now).0) bytes.now line → Gives named_seen result (Err line) }
+    ensures exact { Gives named_seen result (read_in (naming (lines_in legend.now).0) bytes.now) }
+{
+    texts_are_of_lines();
+    texts_are_read();
+    faults_are_first();
+    read_lines(alloc, true, b"house 2\n", legend, bytes)
+}
+
+/// Reads the lines in turn: the first line of the head, the legend, and what stands behind them.
+fn read_lines(
+    alloc: Global,
+    named: bool,
+    first: &[u8],
+    legend: &[u8],
+    bytes: &[u8],
+) -> Result<NamedText, TextFail>
+    requires short { length bytes.now ≤ 33554432 }
+    requires first { (lines_in first.now).1 ≡ [] }
+    requires legend { (lines_in legend.now).1 ≡ [] }
+    ensures reads { Gives named_seen result (read_in (record { head = (lines_in first.now).0 ++ (lines_in legend.now).0; named = named }) bytes.now) }
+    ensures fits { named ≡ true → IfOk result Fits }
+{
+    let (number, rest) = behind_head(first, 1, bytes)?;
+    let (number, rest) = behind_head(legend, number, rest)?;
+    read_body(alloc, named, number, rest)
+}
+
+/// The number of the line behind these lines of the head, from the line of this number on, and the bytes behind them.
+fn behind_head<'a>(head: &[u8], from: u32, bytes: &'a [u8]) -> Result<(u32, &'a [u8]), TextFail>
+    requires short { from + length bytes.now ≤ 33554433 }
+    requires head { (lines_in head.now).1 ≡ [] }
+    ensures behind { IfOk result (λ x. (named : Bool) (more : List (List ℕ)) →
+        read_from named from (before ((lines_in head.now).0 ++ more)) (lines_in bytes.now).0 (lines_in bytes.now).1
+        ≡ read_from named x.0 (before more) (lines_in x.1.now).0 (lines_in x.1.now).1) }
+    ensures short { IfOk result (λ x. x.0 + length x.1.now ≤ from + length bytes.now) }
+    ensures fault { IfErr result (λ fail. IfTextFault fail (λ line. (named : Bool) (more : List (List ℕ)) →
+        read_from named from (before ((lines_in head.now).0 ++ more)) (lines_in bytes.now).0 (lines_in bytes.now).1 ≡ Err line)) }
+{
+    let mut number = from;
+    let mut wanted = head;
+    let mut rest = bytes;
+    while let Some((want, later)) = first_line(wanted) {
+        match first_line(rest) {
+            Some((line, behind)) if line == want => {
+                number += 1;
+                wanted = later;
+                rest = behind;
+            }
+            _ => return Err(TextFail::Fault { line: number }),
+        }
+    }
+    Ok((number, rest))
+}
+
+/// Reads the lines behind the head, the first of which has this number.
+fn read_body(alloc: Global, named: bool, from: u32, bytes: &[u8]) -> Result<NamedText, TextFail>
+    requires short { from + length bytes.now ≤ 33554433 }
+    ensures reads { Gives named_seen result (read_from named from (before []) (lines_in bytes.now).0 (lines_in bytes.now).1) }
+    ensures fits { named ≡ true → IfOk result Fits }
+{
+    let mut place = Progress::Headed;
+    let mut number = from;
     let mut rest = bytes;
     while let Some((line, later)) = first_line(rest) {
-        let Some(next) = take_bytes(alloc, place, line)? else {
+        let Some(next) = take_bytes(alloc, named, place, line)? else {
             return Err(TextFail::Fault { line: number });
         };
         place = next;
@@ -84,7 +165,13 @@ fn read_lines(alloc: Global, bytes: &[u8]) -> Result<HouseText, TextFail>
         return Err(TextFail::Fault { line: number });
     }
     match place {
-        Progress::Ranking(matches, standings) => Ok(HouseText { matches, standings }),
+        Progress::Ranking(Matches { records, bounds }, standings) => Ok(NamedText {
+            text: HouseText {
+                matches: records,
+                standings,
+            },
+            bounds,
+        }),
         _ => Err(TextFail::Fault { line: number }),
     }
 }

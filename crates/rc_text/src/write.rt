@@ -1,10 +1,16 @@
 //! The lines of a house text. Every line ends with LF.
-ghost use Rattle.std.specs.Prelude.{◌≡◌, ◌<◌, ◌++◌, codes, decimal, string_bytes, map, flat_map, OnOk};
+ghost use Rattle.std.specs.Prelude.{◌≡◌, ◌<◌, ◌++◌, codes, decimal, string_bytes, map, flat_map, option_map, OnOk};
 ghost use Rattle.std.specs.Fmt.{signed_decimal};
-ghost use Rattle.rc_model.specs.Transcript.{match_line, choose_line, shuffles_line, end_line, ending_word, score_line, standing_line};
+ghost use Rattle.rc_model.specs.Transcript.{match_line, shuffles_line, end_line, ending_word, score_line, standing_line};
+ghost use Rattle.rc_text_model.specs.Bounds.{mark_text};
+ghost use Rattle.rc_text_model.specs.Lines.{chosen};
+ghost use Rattle.rc_text_model.specs.HouseText.{ended_text};
+ghost use Rattle.rc_text_model.specs.TextParts.{picks_text};
+ghost use Rattle.rc_rules.specs.Bounds.{bound_seen, bounds_seen};
+ghost use Rattle.rc_text.specs.PickText.{pick_text};
 ghost use Rattle.rc_rules.specs.Record.{pick_seen, ending_seen, score_seen, record_seen, standing_seen};
 
-use rc_rules::{Ended, MatchRecord, Pick, Score, Standing};
+use rc_rules::{Bound, Bounds, Ended, MatchRecord, Pick, Score, Standing};
 use std::alloc::AllocError;
 use std::fmt::Write;
 
@@ -12,25 +18,41 @@ use std::fmt::Write;
 pub(crate) fn write_match_line(out: &mut Vec<u8>, played: &MatchRecord) -> Result<(), AllocError>
     ensures { OnOk result (out.new.items ≡ out.old.items ++ match_line (record_seen played.now)) }
 {
-    write_named(out, b"match ", u64::from(played.number))?;
-    write_named(out, b" deal ", played.deal)?;
-    write_named(out, b" seats ", played.seats)?;
+    write_words(out, b"match ", u64::from(played.number))?;
+    write_words(out, b" deal ", played.deal)?;
+    write_words(out, b" seats ", played.seats)?;
     end_the_line(out)
 }
 
-/// Adds a line for each choice.
-pub(crate) fn write_picks(out: &mut Vec<u8>, picks: &[Pick]) -> Result<(), AllocError>
-    ensures { OnOk result (out.new.items ≡ out.old.items ++ flat_map choose_line (map pick_seen picks.now)) }
+/// Adds a line for each choice, with a mark for each variable that its item binds where that is told.
+pub(crate) fn write_picks(
+    out: &mut Vec<u8>,
+    picks: &[Pick],
+    bounds: &[Bounds],
+) -> Result<(), AllocError>
+    ensures { OnOk result (out.new.items ≡ out.old.items ++ picks_text (map bounds_seen bounds.now) (map pick_seen picks.now)) }
 {
-    for pick in picks {
-        write_pick(out, *pick)?;
+    for (index, pick) in picks.iter().enumerate() {
+        write_choice(out, *pick, bounds.get(index))?;
     }
     Ok(())
 }
 
-// Adds the line of a choice, in one piece where each of its numbers has one digit, as most have.
+// Adds the line of a choice.
+#[inline(always)]
+fn write_choice(out: &mut Vec<u8>, pick: Pick, bounds: Option<&Bounds>) -> Result<(), AllocError>
+    ensures { OnOk result (out.new.items ≡ out.old.items ++ ended_text (chosen (pick_seen pick), option_map (λ b. bounds_seen b.now) bounds.entry)) }
+{
+    write_pick(out, pick)?;
+    if let Some(bounds) = bounds {
+        write_marks(out, bounds.as_slice())?;
+    }
+    end_the_line(out)
+}
+
+// Adds the numbers of a choice, in one piece where each of them has one digit, as most have.
 fn write_pick(out: &mut Vec<u8>, pick: Pick) -> Result<(), AllocError>
-    ensures { OnOk result (out.new.items ≡ out.old.items ++ choose_line (pick_seen pick)) }
+    ensures { OnOk result (out.new.items ≡ out.old.items ++ pick_text (pick_seen pick)) }
 {
     let Pick {
         seat,
@@ -44,16 +66,16 @@ fn write_pick(out: &mut Vec<u8>, pick: Pick) -> Result<(), AllocError>
     write_numbers(out, pick)
 }
 
-// The line of a choice of such numbers.
+// The choice of such numbers.
 #[inline(always)]
-fn short_line(seat: u8, site: u8, item: u8, size: u8) -> [u8; 15]
+fn short_line(seat: u8, site: u8, item: u8, size: u8) -> [u8; 14]
     requires seat { seat < 10 }
     requires site { site < 10 }
     requires item { item < 10 }
     requires size { size < 10 }
-    ensures { result ≡ choose_line (record { seat = seat; site = site; item = item; size = size }) }
+    ensures { result ≡ pick_text (record { seat = seat; site = site; item = item; size = size }) }
 {
-    let mut line = *b"choose 0 0 0 0\n";
+    let mut line = *b"choose 0 0 0 0";
     line[7] += seat;
     line[9] += site;
     line[11] += item;
@@ -61,16 +83,35 @@ fn short_line(seat: u8, site: u8, item: u8, size: u8) -> [u8; 15]
     line
 }
 
-// Adds the line of a choice, number by number.
+// Adds a choice, number by number.
 #[inline(never)]
 fn write_numbers(out: &mut Vec<u8>, pick: Pick) -> Result<(), AllocError>
-    ensures { OnOk result (out.new.items ≡ out.old.items ++ choose_line (pick_seen pick)) }
+    ensures { OnOk result (out.new.items ≡ out.old.items ++ pick_text (pick_seen pick)) }
 {
-    write_named(out, b"choose ", u64::from(pick.seat))?;
+    write_words(out, b"choose ", u64::from(pick.seat))?;
     write_next(out, u64::from(pick.site))?;
     write_next(out, u64::from(pick.item))?;
-    write_next(out, u64::from(pick.size))?;
-    end_the_line(out)
+    write_next(out, u64::from(pick.size))
+}
+
+// Adds a mark for each variable.
+fn write_marks(out: &mut Vec<u8>, bounds: &[Bound]) -> Result<(), AllocError>
+    ensures { OnOk result (out.new.items ≡ out.old.items ++ flat_map mark_text (map bound_seen bounds.now)) }
+{
+    for bound in bounds {
+        write_mark(out, *bound)?;
+    }
+    Ok(())
+}
+
+fn write_mark(out: &mut Vec<u8>, bound: Bound) -> Result<(), AllocError>
+    ensures { OnOk result (out.new.items ≡ out.old.items ++ mark_text (bound_seen bound)) }
+{
+    match bound {
+        Bound::Player(player) => write_words(out, b" p", u64::from(player)),
+        Bound::Card(face) => write_words(out, b" c", u64::from(face)),
+        Bound::Group(face) => write_words(out, b" g", u64::from(face)),
+    }
 }
 
 /// Adds a line for the shuffles, where there were any.
@@ -80,7 +121,7 @@ pub(crate) fn write_shuffles(out: &mut Vec<u8>, shuffles: u32) -> Result<(), All
     if shuffles == 0 {
         return Ok(());
     }
-    write_named(out, b"shuffles ", u64::from(shuffles))?;
+    write_words(out, b"shuffles ", u64::from(shuffles))?;
     end_the_line(out)
 }
 
@@ -88,7 +129,7 @@ pub(crate) fn write_shuffles(out: &mut Vec<u8>, shuffles: u32) -> Result<(), All
 pub(crate) fn write_end(out: &mut Vec<u8>, stop: Ended, turn: u32) -> Result<(), AllocError>
     ensures { OnOk result (out.new.items ≡ out.old.items ++ end_line (ending_seen stop) turn) }
 {
-    write_named(out, end_words(stop), u64::from(turn))?;
+    write_words(out, end_words(stop), u64::from(turn))?;
     end_the_line(out)
 }
 
@@ -115,7 +156,7 @@ pub(crate) fn write_scores(out: &mut Vec<u8>, scores: &[Score]) -> Result<(), Al
 fn write_score(out: &mut Vec<u8>, score: Score) -> Result<(), AllocError>
     ensures { OnOk result (out.new.items ≡ out.old.items ++ score_line (score_seen score)) }
 {
-    write_named(out, b"score ", u64::from(score.player))?;
+    write_words(out, b"score ", u64::from(score.player))?;
     write_integer(out, score.score)?;
     write_next(out, u64::from(score.points))?;
     end_the_line(out)
@@ -132,7 +173,7 @@ fn end_the_line(out: &mut Vec<u8>) -> Result<(), AllocError>
 
 // Adds words, and a number behind them.
 #[inline(always)]
-fn write_named(out: &mut Vec<u8>, words: &[u8], number: u64) -> Result<(), AllocError>
+pub(crate) fn write_words(out: &mut Vec<u8>, words: &[u8], number: u64) -> Result<(), AllocError>
     ensures { OnOk result (out.new.items ≡ out.old.items ++ words.now ++ decimal number) }
 {
     out.extend_from_slice(words)?;

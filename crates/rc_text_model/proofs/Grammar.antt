@@ -5,28 +5,27 @@ use Rattle.std.proofs.lemmas.List.{map-append}
 use Rattle.std.proofs.lemmas.List.Concat.{flat_map-append}
 use Rattle.rc_model.specs.Transcript.{Pick, Ending, done, Score, Record, Standing}
 use Rattle.rc_text_model.specs.Fields.{◌>>=◌}
-use Rattle.rc_text_model.specs.Lines.{Line, header, opening, chosen, shuffled, ending, scored, ranked, IsInRange}
-use Rattle.rc_text_model.specs.HouseText.{HouseText, shuffles_told, played_lines, told_lines, ended_lines, record_lines, lines_of, IsHouseText}
+use Rattle.rc_play_model.specs.ItemBounds.{Bound}
+use Rattle.rc_text_model.specs.Lines.{Line, opening, chosen, shuffled, ending, scored, ranked, IsInRange, HasMarks}
+use Rattle.rc_text_model.specs.HouseText.{HouseText, NamedText, shuffles_told, played_lines, told_lines, ended_lines, record_lines, lines_of}
 use Rattle.rc_text_model.specs.Grammar.{run}
 use Rattle.rc_text_model.proofs.FieldLemmas.{bind_some, some_is}
-use Rattle.rc_text_model.specs.Reading.{Place, outside, headed, playing, told, stopped, scoring, ranking, opened, with_pick, with_shuffles, with_end, with_score, take_line, whole}
+use Rattle.rc_text_model.specs.Reading.{Place, headed, playing, told, stopped, scoring, ranking, opened, with_pick, with_shuffles, with_end, with_score, take_line, whole_at}
 
 -- the lines that a place stands behind
 abbrev pub lines_at : Place → List Line
-lines_at outside = []
-lines_at headed = header ∷ []
-lines_at (playing before r) = header ∷ (flat_map record_lines before ++ played_lines r)
-lines_at (told before r) = header ∷ (flat_map record_lines before ++ told_lines r)
-lines_at (stopped before r) = header ∷ (flat_map record_lines before ++ ended_lines r)
-lines_at (scoring before r) = header ∷ (flat_map record_lines before ++ record_lines r)
-lines_at (ranking matches standings) = header ∷ (flat_map record_lines matches ++ map ranked standings)
+lines_at headed = []
+lines_at (playing before r) = flat_map record_lines before ++ played_lines r
+lines_at (told before r) = flat_map record_lines before ++ told_lines r
+lines_at (stopped before r) = flat_map record_lines before ++ ended_lines r
+lines_at (scoring before r) = flat_map record_lines before ++ record_lines r
+lines_at (ranking matches standings) = flat_map record_lines matches ++ map ranked standings
 
 abbrev pub HasScores : Record → Type 0
 HasScores r = r.scores ≢ []
 
 -- what holds there
 abbrev pub IsGood : Place → Type 0
-IsGood outside = Unit {0}
 IsGood headed = Unit {0}
 IsGood (playing before r) = AllByRecursion HasScores before × (r.scores ≡ []) × (r.shuffles ≡ 0)
 IsGood (told before r) = AllByRecursion HasScores before × (r.scores ≡ [])
@@ -47,8 +46,8 @@ records_more : (before : List Record) (r : Record) → flat_map record_lines (be
 records_more before r = flat_map-append record_lines before (r ∷ []) ∙ ap (λ t. flat_map record_lines before ++ t) (append-nil (record_lines r))
 
 -- one more line behind what stands behind a front
-one_more : (front a b : List Line) (l : Line) → b ≡ a ++ l ∷ [] → header ∷ (front ++ b) ≡ (header ∷ (front ++ a)) ++ l ∷ []
-one_more front a b l e = ap (λ t. header ∷ (front ++ t)) e ∙ ap (λ (t : List Line). header ∷ t) (sym (append_assoc front a (l ∷ [])))
+one_more : (front a b : List Line) (l : Line) → b ≡ a ++ l ∷ [] → front ++ b ≡ (front ++ a) ++ l ∷ []
+one_more front a b l e = ap (λ t. front ++ t) e ∙ sym (append_assoc front a (l ∷ []))
 
 map_more : {A : Type 0} (f : A → Line) (xs : List A) (x : A) → map f (xs ++ x ∷ []) ≡ map f xs ++ f x ∷ []
 map_more f xs x = map-append f xs (x ∷ [])
@@ -64,21 +63,12 @@ abbrev Follows : Place → Line → Place → Type 0
 Follows p l q = IsGood q × (lines_at q ≡ lines_at p ++ l ∷ [])
 
 pub follows : (p : Place) (l : Line) → IsGood p → IsInRange l → IfSome (take_line p l) (Follows p l)
-follows outside header good is = (tt, refl)
-follows outside (opening n deal seats) good is = tt
-follows outside (chosen p) good is = tt
-follows outside (shuffled n) good is = tt
-follows outside (ending e turn) good is = tt
-follows outside (scored s) good is = tt
-follows outside (ranked s) good is = tt
-follows headed header good is = tt
 follows headed (opening n deal seats) good is = ((tt, refl, refl), refl)
 follows headed (chosen p) good is = tt
 follows headed (shuffled n) good is = tt
 follows headed (ending e turn) good is = tt
 follows headed (scored s) good is = tt
 follows headed (ranked s) good is = tt
-follows (playing before r) header good is = tt
 follows (playing before r) (opening n deal seats) good is = tt
 follows (playing before r) (chosen p) good is = (
   (good.0, good.1, good.2),
@@ -97,7 +87,6 @@ follows (playing before r) (ending e turn) good is = (
 )
 follows (playing before r) (scored s) good is = tt
 follows (playing before r) (ranked s) good is = tt
-follows (told before r) header good is = tt
 follows (told before r) (opening n deal seats) good is = tt
 follows (told before r) (chosen p) good is = tt
 follows (told before r) (shuffled n) good is = tt
@@ -107,7 +96,6 @@ follows (told before r) (ending e turn) good is = (
 )
 follows (told before r) (scored s) good is = tt
 follows (told before r) (ranked s) good is = tt
-follows (stopped before r) header good is = tt
 follows (stopped before r) (opening n deal seats) good is = tt
 follows (stopped before r) (chosen p) good is = tt
 follows (stopped before r) (shuffled n) good is = tt
@@ -118,10 +106,9 @@ follows (stopped before r) (scored s) good is = (
       (ap (λ xs. ended_lines r ++ map scored (xs ++ s ∷ [])) good.1),
 )
 follows (stopped before r) (ranked s) good is = tt
-follows (scoring before r) header good is = tt
 follows (scoring before r) (opening n deal seats) good is = (
   (scored_more before r good.0 good.1, refl, refl),
-  ap (λ t. header ∷ (t ++ opening n deal seats ∷ [])) (records_more before r),
+  ap (λ t. t ++ opening n deal seats ∷ []) (records_more before r),
 )
 follows (scoring before r) (chosen p) good is = tt
 follows (scoring before r) (shuffled n) good is = tt
@@ -133,9 +120,8 @@ follows (scoring before r) (scored s) good is = (
 )
 follows (scoring before r) (ranked s) good is = (
   (scored_more before r good.0 good.1, not_nil before r, not_nil [] s),
-  ap (λ t. header ∷ (t ++ ranked s ∷ [])) (records_more before r),
+  ap (λ t. t ++ ranked s ∷ []) (records_more before r),
 )
-follows (ranking matches standings) header good is = tt
 follows (ranking matches standings) (opening n deal seats) good is = tt
 follows (ranking matches standings) (chosen p) good is = tt
 follows (ranking matches standings) (shuffled n) good is = tt
@@ -172,20 +158,20 @@ run_good p (l ∷ ls) q good all e =
     let r = run_good a.0 ls q f.0 all.1 a.2 in
     (r.0, r.1 ∙ ap (λ t. t ++ ls) f.1 ∙ append_assoc (lines_at p) (l ∷ []) ls)
 
--- what is whole is a house text
+-- what is whole is a text
 abbrev IsWhole : Place → HouseText → Type 0
-IsWhole q t = IsHouseText t × (lines_of t ≡ lines_at q)
+IsWhole q t = AllByRecursion HasScores t.matches × (t.matches ≢ []) × (t.standings ≢ []) × (lines_of t ≡ lines_at q)
 
-pub whole_good : (q : Place) (t : HouseText) → IsGood q → AllByRecursion IsInRange (lines_at q) → whole q ≡ Some t → IsWhole q t
-whole_good outside t good all e = absurd cc
-whole_good headed t good all e = absurd cc
-whole_good (playing before r) t good all e = absurd cc
-whole_good (told before r) t good all e = absurd cc
-whole_good (stopped before r) t good all e = absurd cc
-whole_good (scoring before r) t good all e = absurd cc
-whole_good (ranking matches standings) t good all e =
-    subst (IsWhole (ranking matches standings)) (some_is (record { matches = matches; standings = standings }) t e)
-    (record { ranges = all; matches = good.1; scores = good.0; standings = good.2 }, refl)
+pub whole_good : (q : Place) (marks : List (List Bound)) (n : NamedText) → IsGood q → whole_at q marks ≡ Some n → IsWhole q n.text × (n.marks ≡ marks)
+whole_good headed marks n good e = absurd cc
+whole_good (playing before r) marks n good e = absurd cc
+whole_good (told before r) marks n good e = absurd cc
+whole_good (stopped before r) marks n good e = absurd cc
+whole_good (scoring before r) marks n good e = absurd cc
+whole_good (ranking matches standings) marks n good e =
+    subst (λ (n : NamedText). IsWhole (ranking matches standings) n.text × (n.marks ≡ marks))
+    (some_is (record { text = record { matches = matches; standings = standings }; marks = marks }) n e)
+    ((good.0, good.1, good.2, refl), refl)
 
 -- each place leads to a whole text
 abbrev last_lines : List Line
@@ -200,20 +186,18 @@ match_lines = opening 0 0 0 ∷ end_lines
 
 pub record Finishes (p : Place) : Type 0 where
   pub more : List Line
-  pub place : Place
-  pub text : HouseText
-  pub leads : run p more ≡ Some place
-  pub ends : whole place ≡ Some text
-  pub ranges : AllByRecursion IsInRange more
+  pub matches : List Record
+  pub standings : List Standing
+  pub leads : run p more ≡ Some (ranking matches standings)
+  pub ranges : AllByRecursion (λ l. IsInRange l × HasMarks true l None) more
 
 pub finishes : (p : Place) → Finishes p
-finishes outside = record { more = header ∷ match_lines; place = _; text = _; leads = refl; ends = refl; ranges = search rules }
-finishes headed = record { more = match_lines; place = _; text = _; leads = refl; ends = refl; ranges = search rules }
-finishes (playing before r) = record { more = end_lines; place = _; text = _; leads = refl; ends = refl; ranges = search rules }
-finishes (told before r) = record { more = end_lines; place = _; text = _; leads = refl; ends = refl; ranges = search rules }
-finishes (stopped before r) = record { more = last_lines; place = _; text = _; leads = refl; ends = refl; ranges = search rules }
-finishes (scoring before r) = record { more = last_lines; place = _; text = _; leads = refl; ends = refl; ranges = search rules }
-finishes (ranking matches standings) = record { more = []; place = _; text = _; leads = refl; ends = refl; ranges = search rules }
+finishes headed = record { more = match_lines; matches = _; standings = _; leads = refl; ranges = search rules }
+finishes (playing before r) = record { more = end_lines; matches = _; standings = _; leads = refl; ranges = search rules }
+finishes (told before r) = record { more = end_lines; matches = _; standings = _; leads = refl; ranges = search rules }
+finishes (stopped before r) = record { more = last_lines; matches = _; standings = _; leads = refl; ranges = search rules }
+finishes (scoring before r) = record { more = last_lines; matches = _; standings = _; leads = refl; ranges = search rules }
+finishes (ranking matches standings) = record { more = []; matches = _; standings = _; leads = refl; ranges = search rules }
 
 -- ---- each text is taken
 
@@ -289,7 +273,7 @@ run_matches before r (r' ∷ matches) s more all =
     ∙ ap (λ t. run (ranking t (s ∷ [])) more) (append_assoc (before ++ r ∷ []) (r' ∷ []) matches)
 
 run_text : (matches : List Record) (standings : List Standing) → matches ≢ [] → standings ≢ [] → AllByRecursion HasScores matches →
-    run outside (lines_of (record { matches = matches; standings = standings })) ≡ Some (ranking matches standings)
+    run headed (lines_of (record { matches = matches; standings = standings })) ≡ Some (ranking matches standings)
 run_text [] standings ne ne' all = absurd (ne refl)
 run_text (r ∷ matches) [] ne ne' all = absurd (ne' refl)
 run_text (r ∷ matches) (s ∷ standings) ne ne' all =
@@ -298,5 +282,5 @@ run_text (r ∷ matches) (s ∷ standings) ne ne' all =
     ∙ run_matches [] r matches s (map ranked standings) all.1
     ∙ run_standings (r ∷ matches) (s ∷ []) standings
 
-pub text_taken : (t : HouseText) → IsHouseText t → run outside (lines_of t) ≡ Some (ranking t.matches t.standings)
-text_taken t is = run_text t.matches t.standings is.matches is.standings is.scores
+pub text_taken : (t : HouseText) → t.matches ≢ [] → t.standings ≢ [] → AllByRecursion HasScores t.matches → run headed (lines_of t) ≡ Some (ranking t.matches t.standings)
+text_taken t some some' scores = run_text t.matches t.standings some some' scores

@@ -1,12 +1,16 @@
 -- A text has no illegal line exactly where it is legal: by the rows, and then by the parts of a text.
-use Rattle.std.proofs.Common.{◌≡◌, ◌≢◌, ℕ, zero, suc, ◌+◌, ◌<◌, ◌≤◌, ◌==◌, nat_lt, Bool, true, false, not, if◌then◌else◌, ◌&&◌, ◌||◌, List, [], ◌∷◌, length, slice_get, Option, Some, None, Ok, Err, refl, sym, ap, ◌∙◌, subst, arith, eqb-true, ltb-true, ltb-false}
+use Rattle.std.proofs.Common.{◌≡◌, ◌≢◌, ℕ, zero, suc, ◌+◌, ◌<◌, ◌≤◌, ◌==◌, nat_lt, Bool, true, false, not, if◌then◌else◌, ◌&&◌, ◌||◌, List, [], ◌∷◌, ◌++◌, append_assoc, append-nil, length, slice_get, Option, Some, None, Ok, Err, refl, sym, ap, ◌∙◌, subst, arith, eqb-true, ltb-true, ltb-false}
 use Rattle.std.specs.Ordering.{int_eq}
 use Rattle.std.proofs.lemmas.Bool.{eq-eqb, lt-ltb, le-ltb}
 use Rattle.std.proofs.lemmas.Bool.Decides.{Decides-int_eq}
+use Rattle.std.proofs.lemmas.List.{length-append}
 use Rattle.std.proofs.lemmas.List.FromFn.{length-map-range_with_len}
 use Rattle.rc_model.specs.Transcript.{Pick, Ending, done, limit, Score, Record, Standing}
 use Rattle.rc_sheet_model.specs.Sheet.{do_item, stage, choice}
-use Rattle.rc_text_model.specs.HouseText.{HouseText}
+use Rattle.rc_play_model.specs.ItemBounds.{Bound}
+use Rattle.rc_text_model.specs.Bounds.{are_bounds}
+use Rattle.rc_text_model.specs.Naming.{marks_there}
+use Rattle.rc_text_model.specs.HouseText.{NamedText, first_marks, later_marks, IsText}
 use Rattle.rc_play_model.specs.Control.{Control}
 use Rattle.rc_play_model.specs.Table.{Table}
 use Rattle.rc_play_model.specs.About.{About, menu_at}
@@ -19,11 +23,13 @@ use Rattle.rc_play_model.specs.Scores.{scores_of, score_at}
 use Rattle.rc_play_model.specs.Plan.{Plan, deal_at}
 use Rattle.rc_play_model.specs.House.{standings_of}
 use Rattle.rc_play_model.proofs.StopLemmas.{comes_to_stop}
-use Rattle.rc_text_model.specs.Why.{Why, Illegal, by_match, by_shuffle, by_seat, by_menu, by_item, by_end, by_score, by_standing}
-use Rattle.rc_text_model.specs.Rows.{unless, ◌or◌, has_ended, is_ending, lacking_row, opening_row, decision_row, chosen_row, shuffled_row, ending_row, is_score, is_the_score, scores_at, scored_row, is_standing, is_the_standing, further_row, ranked_row, end_row}
+use Rattle.rc_text_model.specs.Why.{Why, Illegal, by_match, by_shuffle, by_seat, by_menu, by_item, by_name, by_end, by_score, by_standing}
+use Rattle.rc_text_model.specs.Rows.{unless, ◌or◌, has_ended, is_ending, lacking_row, opening_row, decision_row, stopped_row, named_row, chosen_row, shuffled_row, ending_row, is_score, is_the_score, scores_at, scored_row, is_standing, is_the_standing, further_row, ranked_row, end_row}
 use Rattle.rc_text_model.specs.Judged.{at_line, play_after}
-use Rattle.rc_text_model.specs.Along.{Judging, on_row, and_then, or_illegal, told_along, scores_along, end_along, standings_along, next_stop, picks_along, body_along, record_along, matches_along, judged}
-use Rattle.rc_text_model.specs.Legal.{IsMade, Leads, IsRecordOfPlay, AreRecords, IsLegal}
+use Rattle.rc_text_model.specs.Along.{Judging, Picked, on_row, and_then, or_illegal, told_along, scores_along, end_along, standings_along, next_stop, picks_along, body_along, record_along, matches_along, judged, marks_from, marks_over}
+use Rattle.rc_text_model.specs.Legal.{IsMade, Leads, IsRecordOfPlay, AreRecords, IsLegal, HasItsMarks, IsLegalText}
+use Rattle.rc_text_model.proofs.Marks.{bounds_are, bounds_themselves}
+use Rattle.rc_text_model.proofs.Fitting.{picks_in, enough_marks, no_more_marks, never_marks}
 use Rattle.rc_text_model.proofs.Rows.{unless_none, or_none, both, ok_is, on_row_ok, and_ok, or_ok, at_line_none}
 
 -- ---- where no row applies, judging goes on
@@ -378,29 +384,121 @@ made_goes_on about d p (decide seat site) c k made =
     goes_on_there about d p seat site c k (subst (λ n. p.item < n) (ap (λ (p : Pick). p.size) made.0) made.1)
 
 module _ (about : About) (dealing : ℕ → Dealing ℕ) (plan : Plan) where
-  picks_forth : (m n : ℕ) (at : Stopped ℕ) (picks : List Pick) (x : ℕ × Option (Stopped ℕ)) →
-      picks_along about dealing plan m n (Some at) picks ≡ Ok x →
-      (end : Stopped ℕ) × Leads about (dealing (deal_at plan m).deal) picks at end × (x.1 ≡ Some end)
-  picks_forth m n at [] x e = (at, refl, sym (ap (λ (x : ℕ × Option (Stopped ℕ)). x.1) (ok_is (n, Some at) x e)))
-  picks_forth m n at (p ∷ picks) x e =
-      let d = dealing (deal_at plan m).deal in
-      let r = on_row_ok n (chosen_row about (Some at) p) (picks_along about dealing plan m (n + 1) (next_stop about dealing plan m (Some at) p) picks) x e in
-      let made = made_forth about p at.stop at.config r.0 in
-      let next = goes_behind about d at.dealer p.item at.config.left at.config.table at.config.control in
-      let later = picks_forth m (n + 1) next.0 picks x
-      (ap (λ o. picks_along about dealing plan m (n + 1) o picks) (sym (made_goes_on about d p at.stop at.config at.dealer made ∙ next.1)) ∙ r.1) in
-      (later.0, (made, next.0, next.1, later.1), later.2)
+  -- ---- marks
 
-  picks_back : (m n : ℕ) (at end : Stopped ℕ) (picks : List Pick) → Leads about (dealing (deal_at plan m).deal) picks at end →
-      (x : ℕ) × (picks_along about dealing plan m n (Some at) picks ≡ Ok (x, Some end))
-  picks_back m n at end [] leads = (n, ap (λ e. Ok (n, Some e)) leads)
-  picks_back m n at end (p ∷ picks) leads =
+  -- What choices take off marks: each takes the first, which are its own; where none are left it takes nothing.
+  abbrev pub Uses : (m : ℕ) → Option (Stopped ℕ) → List Pick → List (List Bound) → List (List Bound) → Type 0
+  Uses m at [] marks left = marks ≡ left
+  Uses m at (p ∷ picks) [] left = Uses m (next_stop about dealing plan m at p) picks [] left
+  Uses m at (p ∷ picks) (k ∷ marks) left = (k ≡ marks_there about at p) × Uses m (next_stop about dealing plan m at p) picks marks left
+
+  uses_forth : (m : ℕ) (at : Option (Stopped ℕ)) (p : Pick) (picks : List Pick) (marks left : List (List Bound)) → named_row about at p (first_marks marks) ≡ None →
+      Uses m (next_stop about dealing plan m at p) picks (later_marks marks) left → Uses m at (p ∷ picks) marks left
+  uses_forth m at p picks [] left row more = more
+  uses_forth m at p picks (k ∷ marks) left row more = (bounds_are k (marks_there about at p) (unless_none _ by_name row), more)
+
+  uses_back : (m : ℕ) (at : Option (Stopped ℕ)) (p : Pick) (picks : List Pick) (marks left : List (List Bound)) → Uses m at (p ∷ picks) marks left →
+      (named_row about at p (first_marks marks) ≡ None) × Uses m (next_stop about dealing plan m at p) picks (later_marks marks) left
+  uses_back m at p picks [] left uses = (refl, uses)
+  uses_back m at p picks (k ∷ marks) left uses =
+      (unless_true _ by_name (subst (λ k. are_bounds k (marks_there about at p) ≡ true) (sym uses.0) (bounds_themselves (marks_there about at p))), uses.1)
+
+  uses_none : (m : ℕ) (at : Option (Stopped ℕ)) (picks : List Pick) → Uses m at picks [] []
+  uses_none m at [] = refl
+  uses_none m at (p ∷ picks) = uses_none m (next_stop about dealing plan m at p) picks
+
+  uses_own : (m : ℕ) (at : Option (Stopped ℕ)) (picks : List Pick) (left : List (List Bound)) → Uses m at picks (marks_from about dealing plan m at picks ++ left) left
+  uses_own m at [] left = refl
+  uses_own m at (p ∷ picks) left = (refl, uses_own m (next_stop about dealing plan m at p) picks left)
+
+  own_used : (m : ℕ) (at : Option (Stopped ℕ)) (picks : List Pick) (marks left : List (List Bound)) → length picks ≤ length marks → Uses m at picks marks left →
+      marks ≡ marks_from about dealing plan m at picks ++ left
+  own_used m at [] marks left le uses = uses
+  own_used m at (p ∷ picks) [] left le uses = absurd (omega (arith, le))
+  own_used m at (p ∷ picks) (k ∷ marks) left le uses =
+      let more = own_used m (next_stop about dealing plan m at p) picks marks left (omega (arith, le)) uses.1 in
+      let own = uses.0 in
+      λ i. own i ∷ more i
+
+  one_each : (m : ℕ) (at : Option (Stopped ℕ)) (picks : List Pick) → length (marks_from about dealing plan m at picks) ≡ length picks
+  one_each m at [] = refl
+  one_each m at (p ∷ picks) = omega (arith, one_each m (next_stop about dealing plan m at p) picks)
+
+  -- and what matches take
+  abbrev pub AllUse : (m : ℕ) → List Record → List (List Bound) → List (List Bound) → Type 0
+  AllUse m [] marks left = marks ≡ left
+  AllUse m (r ∷ matches) marks left =
+      (next : List (List Bound)) × Uses m (play_after about dealing plan m []) r.picks marks next × AllUse (m + 1) matches next left
+
+  all_none : (m : ℕ) (matches : List Record) → AllUse m matches [] []
+  all_none m [] = refl
+  all_none m (r ∷ matches) = ([], uses_none m (play_after about dealing plan m []) r.picks, all_none (m + 1) matches)
+
+  all_own : (m : ℕ) (matches : List Record) (left : List (List Bound)) → AllUse m matches (marks_over about dealing plan m matches ++ left) left
+  all_own m [] left = refl
+  all_own m (r ∷ matches) left =
+      let at = play_after about dealing plan m [] in
+      let own = marks_from about dealing plan m at r.picks in
+      let more = marks_over about dealing plan (m + 1) matches in
+      (more ++ left, subst (λ marks. Uses m at r.picks marks (more ++ left)) (sym (append_assoc own more left)) (uses_own m at r.picks (more ++ left)), all_own (m + 1) matches left)
+
+  own_all : (m : ℕ) (matches : List Record) (marks left : List (List Bound)) → picks_in matches ≤ length marks → AllUse m matches marks left →
+      marks ≡ marks_over about dealing plan m matches ++ left
+  own_all m [] marks left le uses = uses
+  own_all m (r ∷ matches) marks left le uses =
+      let at = play_after about dealing plan m [] in
+      let own = marks_from about dealing plan m at r.picks in
+      let one : marks ≡ own ++ uses.0 = own_used m at r.picks marks uses.0 (omega (arith, le)) uses.1 in
+      let a = ap length one in
+      let b = length-append own uses.0 in
+      let c = one_each m at r.picks in
+      let more = own_all (m + 1) matches uses.0 left (omega (arith, le, a, b, c)) uses.2 in
+      one ∙ ap (λ t. own ++ t) more ∙ sym (append_assoc own (marks_over about dealing plan (m + 1) matches) left)
+
+  pub each_over : (m : ℕ) (matches : List Record) → length (marks_over about dealing plan m matches) ≡ picks_in matches
+  each_over m [] = refl
+  each_over m (r ∷ matches) =
+      let at = play_after about dealing plan m [] in
+      let a = length-append (marks_from about dealing plan m at r.picks) (marks_over about dealing plan (m + 1) matches) in
+      let b = one_each m at r.picks in
+      let c = each_over (m + 1) matches in
+      omega (arith, a, b, c)
+
+  -- ---- choices
+
+  picks_forth : (m n : ℕ) (at : Stopped ℕ) (marks : List (List Bound)) (picks : List Pick) (x : Picked) →
+      picks_along about dealing plan m n (Some at) marks picks ≡ Ok x →
+      (end : Stopped ℕ) × Leads about (dealing (deal_at plan m).deal) picks at end × (x.1 ≡ Some end) × Uses m (Some at) picks marks x.2
+  picks_forth m n at marks [] x e =
+      let same = ok_is (n, Some at, marks) x e in
+      (at, refl, sym (ap (λ (x : Picked). x.1) same), ap (λ (x : Picked). x.2) same)
+  picks_forth m n at marks (p ∷ picks) x e =
       let d = dealing (deal_at plan m).deal in
-      let later = picks_back m (n + 1) leads.1 end picks leads.3 in (
+      let stop = next_stop about dealing plan m (Some at) p in
+      let r = on_row_ok n (chosen_row about (Some at) p (first_marks marks)) (picks_along about dealing plan m (n + 1) stop (later_marks marks) picks) x e in
+      let rows = or_none (stopped_row about (Some at) p) (named_row about (Some at) p (first_marks marks)) r.0 in
+      let made = made_forth about p at.stop at.config rows.0 in
+      let next = goes_behind about d at.dealer p.item at.config.left at.config.table at.config.control in
+      let there : stop ≡ Some next.0 = made_goes_on about d p at.stop at.config at.dealer made ∙ next.1 in
+      let later = picks_forth m (n + 1) next.0 (later_marks marks) picks x
+      (ap (λ o. picks_along about dealing plan m (n + 1) o (later_marks marks) picks) (sym there) ∙ r.1) in
+      let uses = subst (λ o. Uses m o picks (later_marks marks) x.2) (sym there) later.3 in
+      (later.0, (made, next.0, next.1, later.1), later.2, uses_forth m (Some at) p picks marks x.2 rows.1 uses)
+
+  picks_back : (m n : ℕ) (at end : Stopped ℕ) (marks left : List (List Bound)) (picks : List Pick) → Leads about (dealing (deal_at plan m).deal) picks at end →
+      Uses m (Some at) picks marks left →
+      (x : ℕ) × (picks_along about dealing plan m n (Some at) marks picks ≡ Ok (x, Some end, left))
+  picks_back m n at end marks left [] leads uses = (n, λ i. Ok (n, Some (leads i), uses i))
+  picks_back m n at end marks left (p ∷ picks) leads uses =
+      let d = dealing (deal_at plan m).deal in
+      let stop = next_stop about dealing plan m (Some at) p in
+      let there : stop ≡ Some leads.1 = made_goes_on about d p at.stop at.config at.dealer leads.0 ∙ leads.2 in
+      let one = uses_back m (Some at) p picks marks left uses in
+      let later = picks_back m (n + 1) leads.1 end (later_marks marks) left picks leads.3 (subst (λ o. Uses m o picks (later_marks marks) left) there one.1) in (
         later.0,
-        on_row_none n (chosen_row about (Some at) p) (picks_along about dealing plan m (n + 1) (next_stop about dealing plan m (Some at) p) picks)
-            (made_back about p at.stop at.config leads.0)
-            ∙ ap (λ o. picks_along about dealing plan m (n + 1) o picks) (made_goes_on about d p at.stop at.config at.dealer leads.0 ∙ leads.2) ∙ later.1,
+        on_row_none n (chosen_row about (Some at) p (first_marks marks)) (picks_along about dealing plan m (n + 1) stop (later_marks marks) picks)
+            (neither (stopped_row about (Some at) p) (named_row about (Some at) p (first_marks marks)) (made_back about p at.stop at.config leads.0) one.0)
+            ∙ ap (λ o. picks_along about dealing plan m (n + 1) o (later_marks marks) picks) there ∙ later.1,
       )
 
   -- ---- records
@@ -411,18 +509,23 @@ module _ (about : About) (dealing : ℕ → Dealing ℕ) (plan : Plan) where
   opens : (m : ℕ) (first : Stopped ℕ) → stop_of about (dealing (deal_at plan m).deal) 0 (start about) ≡ Some first → play_after about dealing plan m [] ≡ Some first
   opens m first e = nothing_more about (dealing (deal_at plan m).deal) (stop_of about (dealing (deal_at plan m).deal) 0 (start about)) ∙ e
 
-  record_forth : (m n : ℕ) (r : Record) (x : ℕ) → record_along about dealing plan m n r ≡ Ok x → lacking_row about r ≡ None →
-      IsRecordOfPlay about dealing plan m r × (m < length plan.matches)
-  record_forth m n r x e whole =
+  record_forth : (m n : ℕ) (marks : List (List Bound)) (r : Record) (x : ℕ × List (List Bound)) → record_along about dealing plan m n marks r ≡ Ok x →
+      lacking_row about r ≡ None →
+      IsRecordOfPlay about dealing plan m r × (m < length plan.matches) × Uses m (play_after about dealing plan m []) r.picks marks x.1
+  record_forth m n marks r x e whole =
       let d = dealing (deal_at plan m).deal in
       let first = comes_to_stop about d 0 (start about) in
-      let row = on_row_ok n (opening_row plan m r.number r.deal r.seats) (body_along about dealing plan m (n + 1) (play_after about dealing plan m []) r) x e in
+      let after = play_after about dealing plan m [] in
+      let row = on_row_ok n (opening_row plan m r.number r.deal r.seats) (body_along about dealing plan m (n + 1) after marks r) x e in
       let opens_as = opening_forth plan m r row.0 in
-      let body : body_along about dealing plan m (n + 1) (Some first.0) r ≡ Ok x =
-      ap (λ o. body_along about dealing plan m (n + 1) o r) (sym (opens m first.0 first.1)) ∙ row.1 in
-      let played = and_ok (picks_along about dealing plan m (n + 1) (Some first.0) r.picks) (λ played. end_along about played.0 played.1 r) x body in
-      let picks = picks_forth m (n + 1) first.0 r.picks played.0 played.1 in
-      let tells = end_forth about played.0.0 picks.0 r x (ap (λ o. end_along about played.0.0 o r) (sym picks.2) ∙ played.2) in
+      let body : body_along about dealing plan m (n + 1) (Some first.0) marks r ≡ Ok x =
+      ap (λ o. body_along about dealing plan m (n + 1) o marks r) (sym (opens m first.0 first.1)) ∙ row.1 in
+      let played = and_ok (picks_along about dealing plan m (n + 1) (Some first.0) marks r.picks)
+      (λ played. and_then (end_along about played.0 played.1 r) (λ n'. Ok (n', played.2))) x body in
+      let picks = picks_forth m (n + 1) first.0 marks r.picks played.0 played.1 in
+      let told = and_ok (end_along about played.0.0 played.0.1 r) (λ n'. Ok (n', played.0.2)) x played.2 in
+      let left : played.0.2 ≡ x.1 = ap (λ (x : ℕ × List (List Bound)). x.1) (ok_is (told.0, played.0.2) x told.2) in
+      let tells = end_forth about played.0.0 picks.0 r told.0 (ap (λ o. end_along about played.0.0 o r) (sym picks.2) ∙ told.1) in
       let enough = not_less (length r.scores) about.sheet.players (unless_none _ by_score whole) in
       let scores : r.scores ≡ scores_at about picks.0.config =
       sym (whole_rest (scores_at about picks.0.config) 0 r.scores tells.scores (omega (arith, enough, long_scores picks.0.config))) in (
@@ -435,11 +538,13 @@ module _ (about : About) (dealing : ℕ → Dealing ℕ) (plan : Plan) where
           tells = λ i. record { number = opens_as.1 i; deal = opens_as.2 i; seats = opens_as.3 i; picks = r.picks; shuffles = tells.shuffles i; ending = r.ending; turn = tells.turn i; scores = scores i };
         },
         opens_as.0,
+        subst (λ o. Uses m o r.picks marks x.1) (sym (opens m first.0 first.1)) (subst (λ left. Uses m (Some first.0) r.picks marks left) left picks.3),
       )
 
-  record_back : (m n : ℕ) (r : Record) → IsRecordOfPlay about dealing plan m r → m < length plan.matches →
-      (x : ℕ) × (record_along about dealing plan m n r ≡ Ok x) × (lacking_row about r ≡ None)
-  record_back m n r is lt =
+  record_back : (m n : ℕ) (marks left : List (List Bound)) (r : Record) → IsRecordOfPlay about dealing plan m r → m < length plan.matches →
+      Uses m (play_after about dealing plan m []) r.picks marks left →
+      (x : ℕ) × (record_along about dealing plan m n marks r ≡ Ok (x, left)) × (lacking_row about r ≡ None)
+  record_back m n marks left r is lt uses =
       let scores : r.scores ≡ scores_at about is.end.config = ap (λ (r : Record). r.scores) is.tells in
       let tells : Tells about is.end r = record {
         stop = is.stop;
@@ -447,56 +552,97 @@ module _ (about : About) (dealing : ℕ → Dealing ℕ) (plan : Plan) where
         turn = ap (λ (r : Record). r.turn) is.tells;
         scores = subst (λ all. StandAt all 0 r.scores) scores (stand_there r.scores);
       } in
-      let picks = picks_back m (n + 1) is.first is.end r.picks is.leads in
+      let there : play_after about dealing plan m [] ≡ Some is.first = opens m is.first is.begins in
+      let picks = picks_back m (n + 1) is.first is.end marks left r.picks is.leads (subst (λ o. Uses m o r.picks marks left) there uses) in
       let end = end_back about picks.0 is.end r tells in
-      let body : body_along about dealing plan m (n + 1) (Some is.first) r ≡ Ok end.0 =
-      and_on (picks_along about dealing plan m (n + 1) (Some is.first) r.picks) (λ played. end_along about played.0 played.1 r) (picks.0, Some is.end) picks.1 ∙ end.1 in
+      let body : body_along about dealing plan m (n + 1) (Some is.first) marks r ≡ Ok (end.0, left) =
+      and_on (picks_along about dealing plan m (n + 1) (Some is.first) marks r.picks)
+      (λ played. and_then (end_along about played.0 played.1 r) (λ n'. Ok (n', played.2))) (picks.0, Some is.end, left) picks.1
+      ∙ and_on (end_along about picks.0 (Some is.end) r) (λ n'. Ok (n', left)) end.0 end.1 in
       let row = opening_back plan m r lt (ap (λ (r : Record). r.number) is.tells) (ap (λ (r : Record). r.deal) is.tells) (ap (λ (r : Record). r.seats) is.tells) in (
         end.0,
-        on_row_none n (opening_row plan m r.number r.deal r.seats) (body_along about dealing plan m (n + 1) (play_after about dealing plan m []) r) row
-            ∙ ap (λ o. body_along about dealing plan m (n + 1) o r) (opens m is.first is.begins) ∙ body,
+        on_row_none n (opening_row plan m r.number r.deal r.seats) (body_along about dealing plan m (n + 1) (play_after about dealing plan m []) marks r) row
+            ∙ ap (λ o. body_along about dealing plan m (n + 1) o marks r) there ∙ body,
         unless_true _ by_score (less_not (length r.scores) about.sheet.players (omega (arith, ap length scores, long_scores is.end.config))),
       )
 
-  matches_forth : (m n : ℕ) (matches : List Record) (x : ℕ) → matches_along about dealing plan m n matches ≡ Ok x →
+  matches_forth : (m n : ℕ) (marks : List (List Bound)) (matches : List Record) (x : ℕ) → matches_along about dealing plan m n marks matches ≡ Ok x →
       AreRecords about dealing plan m matches × (m ≤ length plan.matches → m + length matches ≤ length plan.matches)
-  matches_forth m n [] x e = (tt, λ le. omega (arith, le))
-  matches_forth m n (r ∷ matches) x e =
-      let one = and_ok (record_along about dealing plan m n r) (λ n'. on_row n' (lacking_row about r) (matches_along about dealing plan (m + 1) n' matches)) x e in
-      let row = on_row_ok one.0 (lacking_row about r) (matches_along about dealing plan (m + 1) one.0 matches) x one.2 in
-      let is = record_forth m n r one.0 one.1 row.0 in
-      let later = matches_forth (m + 1) one.0 matches x row.1 in
-      ((is.0, later.0), λ le. let all = later.1 (omega (arith, is.1)) in omega (arith, all))
+      × (left : List (List Bound)) × AllUse m matches marks left
+  matches_forth m n marks [] x e = (tt, (λ le. omega (arith, le)), marks, refl)
+  matches_forth m n marks (r ∷ matches) x e =
+      let one = and_ok (record_along about dealing plan m n marks r) (λ next. on_row next.0 (lacking_row about r) (matches_along about dealing plan (m + 1) next.0 next.1 matches)) x e in
+      let row = on_row_ok one.0.0 (lacking_row about r) (matches_along about dealing plan (m + 1) one.0.0 one.0.1 matches) x one.2 in
+      let is = record_forth m n marks r one.0 one.1 row.0 in
+      let later = matches_forth (m + 1) one.0.0 one.0.1 matches x row.1 in
+      ((is.0, later.0), (λ le. let all = later.1 (omega (arith, is.1)) in omega (arith, all)), later.2, (one.0.1, is.2, later.3))
 
-  matches_back : (m n : ℕ) (matches : List Record) → AreRecords about dealing plan m matches → m + length matches ≤ length plan.matches →
-      (x : ℕ) × (matches_along about dealing plan m n matches ≡ Ok x)
-  matches_back m n [] are le = (n, refl)
-  matches_back m n (r ∷ matches) are le =
-      let one = record_back m n r are.0 (omega (arith, le)) in
-      let later = matches_back (m + 1) one.0 matches are.1 (omega (arith, le)) in (
+  matches_back : (m n : ℕ) (marks left : List (List Bound)) (matches : List Record) → AreRecords about dealing plan m matches →
+      m + length matches ≤ length plan.matches → AllUse m matches marks left →
+      (x : ℕ) × (matches_along about dealing plan m n marks matches ≡ Ok x)
+  matches_back m n marks left [] are le uses = (n, refl)
+  matches_back m n marks left (r ∷ matches) are le uses =
+      let one = record_back m n marks uses.0 r are.0 (omega (arith, le)) uses.1 in
+      let later = matches_back (m + 1) one.0 uses.0 left matches are.1 (omega (arith, le)) uses.2 in (
         later.0,
-        and_on (record_along about dealing plan m n r) (λ n'. on_row n' (lacking_row about r) (matches_along about dealing plan (m + 1) n' matches)) one.0 one.1
-            ∙ on_row_none one.0 (lacking_row about r) (matches_along about dealing plan (m + 1) one.0 matches) one.2 ∙ later.1,
+        and_on (record_along about dealing plan m n marks r) (λ next. on_row next.0 (lacking_row about r) (matches_along about dealing plan (m + 1) next.0 next.1 matches)) (one.0, uses.0) one.1
+            ∙ on_row_none one.0 (lacking_row about r) (matches_along about dealing plan (m + 1) one.0 uses.0 matches) one.2 ∙ later.1,
       )
 
   -- ---- whole texts
 
-  pub legal_forth : (t : HouseText) → t.standings ≢ [] → judged about dealing plan t ≡ None → IsLegal about dealing plan t
-  legal_forth t some e =
-      let r = or_ok (matches_along about dealing plan 0 2 t.matches) (λ n. standings_along plan n t.matches 0 t.standings) e in
-      let matches = matches_forth 0 2 t.matches r.0 r.1 in
-      let all = further_forth plan r.0 t.matches 0 t.standings some r.2 in
-      let no_more = matches.1 (omega arith) in
-      let standings = standings_forth plan r.0 t.matches 0 t.standings r.2 in
-      record {
-        count = omega (arith, all, no_more);
-        records = matches.0;
-        standings = sym (whole_rest (standings_of plan t.matches) 0 t.standings standings.0 standings.1);
-      }
+  -- what is used is all there is, where there is one of each choice
+  its_marks : (named : Bool) (n : NamedText) (left : List (List Bound)) → IsText named n → AllUse 0 n.text.matches n.marks left → HasItsMarks about dealing plan named n
+  its_marks false n left is uses = tt
+  its_marks true n left is uses =
+      let few = no_more_marks true n is in
+      let own = own_all 0 n.text.matches n.marks left (enough_marks n is) uses in
+      let a = ap length own in
+      let b = length-append (marks_over about dealing plan 0 n.text.matches) left in
+      let c = each_over 0 n.text.matches in
+      let none : length left ≡ 0 = omega (arith, few, a, b, c) in
+      own ∙ ap (λ t. marks_over about dealing plan 0 n.text.matches ++ t) (empty left none) ∙ append-nil (marks_over about dealing plan 0 n.text.matches)
+    where
+      empty : (xs : List (List Bound)) → length xs ≡ 0 → xs ≡ []
+      empty [] e = refl
+      empty (x ∷ xs) e = absurd (omega (arith, e))
 
-  pub legal_back : (t : HouseText) → IsLegal about dealing plan t → judged about dealing plan t ≡ None
-  legal_back t is =
-      let r = matches_back 0 2 t.matches is.records (omega (arith, is.count)) in
-      or_on (matches_along about dealing plan 0 2 t.matches) (λ n. standings_along plan n t.matches 0 t.standings) r.0 r.1
-      ∙ standings_back plan r.0 t.matches 0 t.standings (omega (arith, is.count))
-      (subst (λ all. StandAt all 0 t.standings) is.standings (stand_there t.standings)) (omega (arith, ap length is.standings))
+  uses_its : (named : Bool) (n : NamedText) → IsText named n → HasItsMarks about dealing plan named n → AllUse 0 n.text.matches n.marks []
+  uses_its false n is has = subst (λ marks. AllUse 0 n.text.matches marks []) (sym (never_marks n is)) (all_none 0 n.text.matches)
+  uses_its true n is has =
+      subst (λ marks. AllUse 0 n.text.matches marks []) (append-nil (marks_over about dealing plan 0 n.text.matches) ∙ sym has) (all_own 0 n.text.matches [])
+
+  pub legal_forth : (named : Bool) (head : ℕ) (n : NamedText) → IsText named n → judged about dealing plan head n ≡ None → IsLegalText about dealing plan named n
+  legal_forth named head n is e =
+      let t = n.text in
+      let r = or_ok (matches_along about dealing plan 0 (head + 1) n.marks t.matches) (λ at. standings_along plan at t.matches 0 t.standings) e in
+      let matches = matches_forth 0 (head + 1) n.marks t.matches r.0 r.1 in
+      let all = further_forth plan r.0 t.matches 0 t.standings is.standings r.2 in
+      let no_more = matches.1 (omega arith) in
+      let standings = standings_forth plan r.0 t.matches 0 t.standings r.2 in (
+        record {
+          count = omega (arith, all, no_more);
+          records = matches.0;
+          standings = sym (whole_rest (standings_of plan t.matches) 0 t.standings standings.0 standings.1);
+        },
+        its_marks named n matches.2 is matches.3,
+      )
+
+  -- where the marks are used up by the choices
+  pub legal_used : (head : ℕ) (n : NamedText) → IsLegal about dealing plan n.text → AllUse 0 n.text.matches n.marks [] → judged about dealing plan head n ≡ None
+  legal_used head n legal uses =
+      let t = n.text in
+      let le = legal.count in
+      let r = matches_back 0 (head + 1) n.marks [] t.matches legal.records (omega (arith, le)) uses in
+      or_on (matches_along about dealing plan 0 (head + 1) n.marks t.matches) (λ at. standings_along plan at t.matches 0 t.standings) r.0 r.1
+      ∙ standings_back plan r.0 t.matches 0 t.standings (omega (arith, le))
+      (subst (λ all. StandAt all 0 t.standings) legal.standings (stand_there t.standings)) (omega (arith, ap length legal.standings))
+
+  pub legal_back : (named : Bool) (head : ℕ) (n : NamedText) → IsText named n → IsLegalText about dealing plan named n → judged about dealing plan head n ≡ None
+  legal_back named head n is legal = legal_used head n legal.0 (uses_its named n is legal.1)
+
+  pub none_used : (matches : List Record) → AllUse 0 matches [] []
+  none_used matches = all_none 0 matches
+
+  pub own_used_up : (matches : List Record) → AllUse 0 matches (marks_over about dealing plan 0 matches) []
+  own_used_up matches = subst (λ marks. AllUse 0 matches marks []) (append-nil (marks_over about dealing plan 0 matches)) (all_own 0 matches [])

@@ -131,13 +131,10 @@ module _ (about : About) (plan : Plan) (is : IsPlayable about plan) where
       standings_in_range plan played_records is.within.seats.1 (omega (arith, count, most)) (each_of HasFewPoints (λ r range. range.points) played_records records_in_range) in
       let standings = standings_of plan played_records in
       record {
-        ranges = (
-          tt,
-          append_each IsInRange (flat_map record_lines played_records) (map ranked standings)
-              (rows_each IsInRange record_lines played_records
-              (each_of (λ r. AllByRecursion IsInRange (record_lines r)) (λ r range. range.lines) played_records records_in_range))
-              (map_each (λ s. IsInRange (ranked s)) IsInRange ranked (λ s within. within) standings ranked_all),
-        );
+        ranges = append_each IsInRange (flat_map record_lines played_records) (map ranked standings)
+            (rows_each IsInRange record_lines played_records
+            (each_of (λ r. AllByRecursion IsInRange (record_lines r)) (λ r range. range.lines) played_records records_in_range))
+            (map_each (λ s. IsInRange (ranked s)) IsInRange ranked (λ s within. within) standings ranked_all);
         matches = some_of played_records (omega (arith, count, least));
         scores = each_of (λ r. r.scores ≢ []) (λ r range. range.scores) played_records records_in_range;
         standings = some_of standings standings_there;

@@ -1,5 +1,5 @@
 -- What is played is legal: the picks of a play lead from its first stop to its end.
-use Rattle.std.proofs.Common.{◌≡◌, ℕ, zero, suc, ◌+◌, ◌<◌, length, Option, Some, None, refl, sym, subst}
+use Rattle.std.proofs.Common.{◌≡◌, ℕ, zero, suc, ◌+◌, ◌<◌, Bool, true, false, length, Option, Some, None, refl, sym, subst}
 use Rattle.std.specs.Prelude.{filter_map}
 use Rattle.std.specs.List.{AllByRecursion, range_with_len}
 use Rattle.std.proofs.lemmas.List.Elements.{recursion_from_All}
@@ -23,8 +23,10 @@ use Rattle.rc_play_model.proofs.FitLemmas.{keyed_fit}
 use Rattle.rc_play_model.proofs.FollowLemmas.{mapped}
 use Rattle.rc_play_model.proofs.MatchLemmas.{all_recorded}
 use Rattle.rc_play_model.proofs.PlayLemmas.{match_recorded}
-use Rattle.rc_text_model.specs.Legal.{Leads, IsRecordOfPlay, AreRecords, IsLegal}
-use Rattle.rc_text_model.specs.PlayedLaws.{played_text}
+use Rattle.rc_text_model.specs.Legal.{Leads, IsRecordOfPlay, AreRecords, IsLegal, IsLegalText}
+use Rattle.rc_text_model.specs.PlayedLaws.{played_text, told_in}
+use Rattle.rc_text_model.specs.Along.{judged}
+use Rattle.rc_text_model.proofs.LegalLemmas.{legal_used, none_used, own_used_up}
 
 -- a pick of an item that the menu has
 abbrev IsItem : Pick → Type 0
@@ -118,3 +120,13 @@ module _ (about : About) (plan : Plan) (fits : about.shape.places ≡ places abo
         records = matches_from 0 (length plan.matches);
         standings = refl;
       }
+
+  pub played_legal_in : (named : Bool) → IsLegalText about dealing_of plan named (told_in named about plan (played_text about plan))
+  played_legal_in false = (played_legal, tt)
+  played_legal_in true = (played_legal, refl)
+
+  pub played_used : (named : Bool) (head : ℕ) → judged about dealing_of plan head (told_in named about plan (played_text about plan)) ≡ None
+  played_used false head =
+      legal_used about dealing_of plan head (told_in false about plan (played_text about plan)) played_legal (none_used about dealing_of plan (played_text about plan).matches)
+  played_used true head =
+      legal_used about dealing_of plan head (told_in true about plan (played_text about plan)) played_legal (own_used_up about dealing_of plan (played_text about plan).matches)

@@ -1,10 +1,12 @@
 -- The first illegal line, found in one pass: the play goes on from line to line. That it is the one of first_illegal in Judged.antt is
 -- a law.
-use Rattle.std.specs.Prelude.{ℕ, ◌+◌, ◌==◌, if◌then◌else◌, List, [], ◌∷◌, length, Option, Some, None, Result, Ok, Err}
+use Rattle.std.specs.Prelude.{ℕ, ◌+◌, ◌==◌, if◌then◌else◌, List, [], ◌∷◌, ◌++◌, length, Option, Some, None, Result, Ok, Err}
 use Rattle.rc_model.specs.Transcript.{Pick, Score, Record, Standing}
 use Rattle.rc_text_model.specs.Fields.{◌>>=◌}
+use Rattle.rc_play_model.specs.ItemBounds.{Bound}
 use Rattle.rc_text_model.specs.Lines.{Line, opening, chosen, ranked}
-use Rattle.rc_text_model.specs.HouseText.{HouseText}
+use Rattle.rc_text_model.specs.Naming.{marks_there}
+use Rattle.rc_text_model.specs.HouseText.{HouseText, NamedText, first_marks, later_marks, marks_of, left_of}
 use Rattle.rc_text_model.specs.Reading.{Place, headed, playing, scoring, take_line}
 use Rattle.rc_play_model.specs.About.{About}
 use Rattle.rc_play_model.specs.Effects.{Dealing}
@@ -53,6 +55,10 @@ standings_along plan n matches k [] = at_line n (end_row plan matches k) None
 standings_along plan n matches k (s ∷ standings) =
     at_line n (ranked_row plan matches k s) (standings_along plan (n + 1) matches (k + 1) standings)
 
+-- behind some choices: the line there, where the play stands, and the marks that are left
+abbrev pub Picked : Type 0
+Picked = ℕ × Option (Stopped ℕ) × List (List Bound)
+
 module _ (about : About) (dealing : ℕ → Dealing ℕ) (plan : Plan) where
   -- one choice more in match m
   abbrev pub next_stop : ℕ → Option (Stopped ℕ) → Pick → Option (Stopped ℕ)
@@ -66,32 +72,53 @@ module _ (about : About) (dealing : ℕ → Dealing ℕ) (plan : Plan) where
   stop_along (scoring before r) at (ranked s) = None
   stop_along _ at _ = at
 
-  -- the first line to which a row applies, from the n-th on
-  abbrev pub along_from : ℕ → Place → Option (Stopped ℕ) → List Line → Option Illegal
-  along_from n place at [] = at_line n (end_at plan place) None
-  along_from n place at (l ∷ lines) =
-      at_line n (row_at about dealing plan place at l) (take_line place l >>= λ next. along_from (n + 1) next (stop_along place at l) lines)
+  -- the first line to which a row applies, from the n-th on; what is told behind choices is taken off as they come
+  abbrev pub along_from : ℕ → Place → Option (Stopped ℕ) → List (List Bound) → List Line → Option Illegal
+  along_from n place at marks [] = at_line n (end_at plan place) None
+  along_from n place at marks (l ∷ lines) =
+      at_line n (row_at about dealing plan place at l (marks_of l marks))
+      (take_line place l >>= λ next. along_from (n + 1) next (stop_along place at l) (left_of l marks) lines)
 
   -- ---- the same over the parts of a text
 
-  -- the choices of match m from the n-th line on: the line behind them, and where the play stands then
-  abbrev pub picks_along : (m n : ℕ) → Option (Stopped ℕ) → List Pick → Judging (ℕ × Option (Stopped ℕ))
-  picks_along m n at [] = Ok (n, at)
-  picks_along m n at (p ∷ picks) = on_row n (chosen_row about at p) (picks_along m (n + 1) (next_stop m at p) picks)
+  -- the choices of match m from the n-th line on
+  abbrev pub picks_along : (m n : ℕ) → Option (Stopped ℕ) → List (List Bound) → List Pick → Judging Picked
+  picks_along m n at marks [] = Ok (n, at, marks)
+  picks_along m n at marks (p ∷ picks) =
+      on_row n (chosen_row about at p (first_marks marks)) (picks_along m (n + 1) (next_stop m at p) (later_marks marks) picks)
 
-  -- match m behind its first line: the line behind it
-  abbrev pub body_along : (m n : ℕ) → Option (Stopped ℕ) → Record → Judging ℕ
-  body_along m n at r = and_then (picks_along m n at r.picks) (λ played. end_along about played.0 played.1 r)
+  -- match m behind its first line: the line behind it, and the marks that are left
+  abbrev pub body_along : (m n : ℕ) → Option (Stopped ℕ) → List (List Bound) → Record → Judging (ℕ × List (List Bound))
+  body_along m n at marks r =
+      and_then (picks_along m n at marks r.picks) (λ played. and_then (end_along about played.0 played.1 r) (λ n'. Ok (n', played.2)))
 
-  -- match m: the line behind it
-  abbrev pub record_along : (m n : ℕ) → Record → Judging ℕ
-  record_along m n r = on_row n (opening_row plan m r.number r.deal r.seats) (body_along m (n + 1) (play_after about dealing plan m []) r)
+  -- match m: the same
+  abbrev pub record_along : (m n : ℕ) → List (List Bound) → Record → Judging (ℕ × List (List Bound))
+  record_along m n marks r =
+      on_row n (opening_row plan m r.number r.deal r.seats) (body_along m (n + 1) (play_after about dealing plan m []) marks r)
 
   -- the matches from match m on; whether a match lacks score lines is asked at the line behind it
-  abbrev pub matches_along : (m n : ℕ) → List Record → Judging ℕ
-  matches_along m n [] = Ok n
-  matches_along m n (r ∷ matches) = and_then (record_along m n r) (λ n'. on_row n' (lacking_row about r) (matches_along (m + 1) n' matches))
+  abbrev pub matches_along : (m n : ℕ) → List (List Bound) → List Record → Judging ℕ
+  matches_along m n marks [] = Ok n
+  matches_along m n marks (r ∷ matches) =
+      and_then (record_along m n marks r) (λ next. on_row next.0 (lacking_row about r) (matches_along (m + 1) next.0 next.1 matches))
 
-  -- the whole text: its matches begin in line 2
-  abbrev pub judged : HouseText → Option Illegal
-  judged t = or_illegal (matches_along 0 2 t.matches) (λ n. standings_along plan n t.matches 0 t.standings)
+  -- the whole text behind a head of so many lines
+  abbrev pub judged : (head : ℕ) → NamedText → Option Illegal
+  judged head n = or_illegal (matches_along 0 (head + 1) n.marks n.text.matches) (λ at. standings_along plan at n.text.matches 0 n.text.standings)
+
+  -- ---- the marks of a text
+
+  -- those of the choices of match m from a stop on
+  abbrev pub marks_from : (m : ℕ) → Option (Stopped ℕ) → List Pick → List (List Bound)
+  marks_from m at [] = []
+  marks_from m at (p ∷ picks) = marks_there about at p ∷ marks_from m (next_stop m at p) picks
+
+  -- those of the matches from match m on
+  abbrev pub marks_over : (m : ℕ) → List Record → List (List Bound)
+  marks_over m [] = []
+  marks_over m (r ∷ matches) = marks_from m (play_after about dealing plan m []) r.picks ++ marks_over (m + 1) matches
+
+  -- those of all matches of a text
+  abbrev pub marks_of_text : HouseText → List (List Bound)
+  marks_of_text t = marks_over 0 t.matches

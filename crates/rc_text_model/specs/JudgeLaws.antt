@@ -1,13 +1,13 @@
 -- Statements of laws on the judge.
-use Rattle.std.specs.Prelude.{◌≡◌, ℕ, List, ◌++◌, None, ◌↔◌}
-use Rattle.rc_text_model.specs.HouseText.{HouseText, IsHouseText}
+use Rattle.std.specs.Prelude.{◌≡◌, ℕ, Bool, List, ◌++◌, None, ◌↔◌}
+use Rattle.rc_text_model.specs.HouseText.{NamedText, IsText}
 use Rattle.rc_play_model.specs.About.{About}
 use Rattle.rc_play_model.specs.Effects.{Dealing}
 use Rattle.rc_play_model.specs.Play.{from_stop, follow, reached}
 use Rattle.rc_play_model.specs.Plan.{Plan}
 use Rattle.rc_text_model.specs.Judged.{first_illegal}
 use Rattle.rc_text_model.specs.Along.{judged}
-use Rattle.rc_text_model.specs.Legal.{IsLegal}
+use Rattle.rc_text_model.specs.Legal.{IsLegalText}
 
 -- a play goes on from where its first items lead
 abbrev pub PlayGoesOn : Type 0
@@ -18,11 +18,11 @@ PlayGoesOn =
 -- one pass finds the first illegal line
 abbrev pub OnePassJudges : Type 0
 OnePassJudges =
-    (about : About) (dealing : ℕ → Dealing ℕ) (plan : Plan) (t : HouseText) → IsHouseText t →
-    judged about dealing plan t ≡ first_illegal about dealing plan t
+    (about : About) (dealing : ℕ → Dealing ℕ) (plan : Plan) (named : Bool) (head : ℕ) (n : NamedText) → IsText named n →
+    judged about dealing plan head n ≡ first_illegal about dealing plan head n
 
 -- no line is illegal exactly where the text is legal
 abbrev pub LegalExactly : Type 0
 LegalExactly =
-    (about : About) (dealing : ℕ → Dealing ℕ) (plan : Plan) (t : HouseText) → IsHouseText t →
-    (first_illegal about dealing plan t ≡ None) ↔ IsLegal about dealing plan t
+    (about : About) (dealing : ℕ → Dealing ℕ) (plan : Plan) (named : Bool) (head : ℕ) (n : NamedText) → IsText named n →
+    (first_illegal about dealing plan head n ≡ None) ↔ IsLegalText about dealing plan named n

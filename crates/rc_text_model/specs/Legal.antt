@@ -1,7 +1,9 @@
--- Legal house texts, over whole records: records of plays with the plan's shuffles and any items as choices, and their standings.
-use Rattle.std.specs.Prelude.{◌≡◌, ℕ, ◌+◌, ◌<◌, List, [], ◌∷◌, length, Some}
+-- Legal house texts, over whole records: records of plays with the plan's shuffles and any items as choices, and their standings. Where a
+-- text names what items bind, its marks are those of the choices.
+use Rattle.std.specs.Prelude.{◌≡◌, ℕ, ◌+◌, ◌<◌, Bool, true, false, List, [], ◌∷◌, length, Some}
 use Rattle.rc_model.specs.Transcript.{Pick, Record}
-use Rattle.rc_text_model.specs.HouseText.{HouseText}
+use Rattle.rc_text_model.specs.HouseText.{HouseText, NamedText}
+use Rattle.rc_text_model.specs.Along.{marks_of_text}
 use Rattle.rc_play_model.specs.About.{About}
 use Rattle.rc_play_model.specs.Effects.{Dealing}
 use Rattle.rc_play_model.specs.Step.{Config, Stop, decide, is_done, is_limit, start}
@@ -47,3 +49,11 @@ module _ (about : About) (dealing : ℕ → Dealing ℕ) (plan : Plan) where
     pub count : length t.matches ≡ length plan.matches
     pub records : AreRecords 0 t.matches
     pub standings : t.standings ≡ standings_of plan t.matches
+
+  -- the same with its marks, if it has any
+  abbrev pub HasItsMarks : (named : Bool) → NamedText → Type 0
+  HasItsMarks false n = Unit {0}
+  HasItsMarks true n = n.marks ≡ marks_of_text about dealing plan n.text
+
+  abbrev pub IsLegalText : (named : Bool) → NamedText → Type 0
+  IsLegalText named n = IsLegal n.text × HasItsMarks named n

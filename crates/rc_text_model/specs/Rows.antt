@@ -10,7 +10,10 @@ use Rattle.rc_play_model.specs.Stop.{Stopped}
 use Rattle.rc_play_model.specs.Scores.{scores_of, score_at}
 use Rattle.rc_play_model.specs.Plan.{Plan, deal_at}
 use Rattle.rc_play_model.specs.House.{standings_of}
-use Rattle.rc_text_model.specs.Why.{Why, by_match, by_shuffle, by_seat, by_menu, by_item, by_end, by_score, by_standing}
+use Rattle.rc_play_model.specs.ItemBounds.{Bound}
+use Rattle.rc_text_model.specs.Bounds.{are_bounds}
+use Rattle.rc_text_model.specs.Naming.{marks_there}
+use Rattle.rc_text_model.specs.Why.{Why, by_match, by_shuffle, by_seat, by_menu, by_item, by_name, by_end, by_score, by_standing}
 
 -- nothing where a test holds
 abbrev pub unless : Bool → Why → Option Why
@@ -56,9 +59,17 @@ decision_row about p (decide seat site) c =
     unless (p.seat == seat && p.site == site) by_seat or unless (p.size == length (menu_at about site c.table c.control)) by_menu
     or unless (nat_lt p.item p.size) by_item
 
-abbrev pub chosen_row : About → Option (Stopped ℕ) → Pick → Option Why
-chosen_row about None p = Some by_end
-chosen_row about (Some at) p = decision_row about p at.stop at.config
+abbrev pub stopped_row : About → Option (Stopped ℕ) → Pick → Option Why
+stopped_row about None p = Some by_end
+stopped_row about (Some at) p = decision_row about p at.stop at.config
+
+-- where marks are told, they are those of the item
+abbrev pub named_row : About → Option (Stopped ℕ) → Pick → Option (List Bound) → Option Why
+named_row about at p None = None
+named_row about at p (Some marks) = unless (are_bounds marks (marks_there about at p)) by_name
+
+abbrev pub chosen_row : About → Option (Stopped ℕ) → Pick → Option (List Bound) → Option Why
+chosen_row about at p marks = stopped_row about at p or named_row about at p marks
 
 -- ---- shuffles and end lines; the dealer's state is the count of the shuffles
 

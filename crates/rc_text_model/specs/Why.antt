@@ -7,6 +7,7 @@ pub data Why : Type 0 where
   by_seat : Why
   by_menu : Why
   by_item : Why
+  by_name : Why
   by_end : Why
   by_score : Why
   by_standing : Why

@@ -1,5 +1,5 @@
 //! Laws of what is played. No function here does anything: a crate above gets a law by calling its function.
-ghost use Rattle.rc_text_model.specs.PlayedBack.{PlayedIsHouseText, PlayedIsRead, PlayedIsJudgedLegal, PlayedStandsBehind};
+ghost use Rattle.rc_text_model.specs.PlayedBack.{PlayedIsHouseText, PlayedIsToldBack, PlayedIsRead, PlayedIsJudgedLegal, PlayedStandsBehind};
 
 /// What a plan's keys make of its matches is in the ranges of house texts, and is read back off its bytes.
 pub fn what_is_played_is_read_back()
@@ -16,4 +16,9 @@ pub fn what_is_played_is_judged_legal()
 /// that house text.
 pub fn what_is_played_may_stand_behind()
     ensures { PlayedStandsBehind }
+{}
+
+/// In either format what is played has a text, which is read back, and the judge finds no illegal line in it.
+pub fn what_is_played_is_told_back()
+    ensures { PlayedIsToldBack }
 {}

@@ -1,7 +1,8 @@
-use Rattle.std.proofs.Common.{◌≡◌, ◌++◌, map, take, flat_map}
-use Rattle.rc_model.specs.Transcript.{record_text}
-use Rattle.rc_rules.specs.Record.{record_seen}
+use Rattle.std.proofs.Common.{◌≡◌, ◌++◌, drop}
+use Rattle.rc_text.specs.House.{records_told}
 use Rattle.rc_text.proofs.house.add_records.Given as goal
 
-abbrev pub invariant-loop-played : goal.invariant-loop-played
-invariant-loop-played l = l.out.items ≡ l.initial.out.items ++ flat_map record_text (map record_seen (take l.played-index l.matches))
+-- with what is left it is the whole
+abbrev pub invariant-loop-index : goal.invariant-loop-index
+invariant-loop-index l =
+    l.out.items ++ records_told (drop l.index l.bounds) (drop l.index l.matches) ≡ l.initial.out.items ++ records_told l.bounds l.matches

@@ -1,5 +1,5 @@
 use Rattle.std.proofs.Common.{◌≤◌, ◌-◌, length, take}
-use Rattle.rc_text_model.proofs.LineCuts.{IsOneLine}
+use Rattle.rc_text_model.specs.HouseText.{IsOneLine}
 use Rattle.rc_text.proofs.reading.first_line.Given as goal
 
 abbrev pub invariant-loop-at : goal.invariant-loop-at

@@ -1,7 +1,11 @@
-use Rattle.std.proofs.Common.{◌≡◌, ◌++◌, map, take, flat_map}
-use Rattle.rc_model.specs.Transcript.{choose_line}
+use Rattle.std.proofs.Common.{◌≡◌, ◌++◌, map, drop}
+use Rattle.rc_text_model.specs.TextParts.{picks_text}
 use Rattle.rc_rules.specs.Record.{pick_seen}
+use Rattle.rc_rules.specs.Bounds.{bounds_seen}
 use Rattle.rc_text.proofs.write.write_picks.Given as goal
 
-abbrev pub invariant-loop-pick : goal.invariant-loop-pick
-invariant-loop-pick l = l.out.items ≡ l.initial.out.items ++ flat_map choose_line (map pick_seen (take l.pick-index l.picks))
+-- with what is left it is the whole
+abbrev pub invariant-loop-index : goal.invariant-loop-index
+invariant-loop-index l =
+    l.out.items ++ picks_text (map bounds_seen (drop l.index l.bounds)) (map pick_seen (drop l.index l.picks))
+    ≡ l.initial.out.items ++ picks_text (map bounds_seen l.bounds) (map pick_seen l.picks)

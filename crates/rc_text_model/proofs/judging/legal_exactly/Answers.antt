@@ -4,7 +4,7 @@ use Rattle.rc_text_model.proofs.LegalLemmas.{legal_forth, legal_back}
 use Rattle.rc_text_model.proofs.judging.legal_exactly.Goals as goal
 
 pub returns : goal.returns
-returns c = λ about dealing plan t is. (
-  (λ none. legal_forth about dealing plan t is.standings (one_pass about dealing plan t is ∙ none)),
-  (λ legal. sym (one_pass about dealing plan t is) ∙ legal_back about dealing plan t legal),
+returns c = λ about dealing plan named head n is. (
+  (λ none. legal_forth about dealing plan named head n is (one_pass about dealing plan named head n is ∙ none)),
+  (λ legal. sym (one_pass about dealing plan named head n is) ∙ legal_back about dealing plan named head n is legal),
 )
