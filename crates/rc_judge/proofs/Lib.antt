@@ -1,3 +1,4 @@
 mod Steps
 mod Told
 mod Lengths
+mod Fits

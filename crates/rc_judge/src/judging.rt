@@ -1,30 +1,35 @@
 //! The judge of whole house texts.
-ghost use Rattle.std.specs.Prelude.{◌≡◌, ◌+◌, ◌<◌, ◌≤◌, ◌^◌, ◌↔◌, List, Option, length, map, None, All, IfOk, OnOk};
+ghost use Rattle.std.specs.Prelude.{◌≡◌, ◌+◌, ◌++◌, ◌<◌, ◌≤◌, ◌^◌, ◌↔◌, [], List, Option, length, map, true, is_ok, None, All, IfOk, OnOk};
 ghost use Rattle.rc_model.specs.Transcript.{Record};
 ghost use Rattle.rc_model.specs.Limits.{most_matches};
 ghost use Rattle.rc_play_model.specs.Keyed.{dealing_of};
 ghost use Rattle.rc_play_model.specs.House as house;
 ghost use Rattle.rc_play_model.specs.Plan.{Plan as PurePlan};
 ghost use Rattle.rc_plan_model.specs.Limits.{IsWithinLimits};
-ghost use Rattle.rc_text_model.specs.HouseText.{IsHouseText, lines_of};
+ghost use Rattle.rc_text_model.specs.HouseText.{IsHouseText, IsText, lines_of, unmarked};
+ghost use Rattle.rc_text_model.specs.Naming.{legend_of};
 ghost use Rattle.rc_text_model.specs.Along as along;
 ghost use Rattle.rc_text_model.specs.Rows as rows;
 ghost use Rattle.rc_text_model.specs.Judged.{first_illegal};
-ghost use Rattle.rc_text_model.specs.Legal.{IsLegal};
+ghost use Rattle.rc_text_model.specs.Legal.{IsLegal, IsLegalText};
+ghost use Rattle.rc_text_model.specs.PlayedLaws as played;
 ghost use Rattle.rc_text_model.specs.Why.{Illegal};
 ghost use Rattle.rc_judge.specs.declared.verdict.Verdict.TheVariants.{Legal};
 ghost use Rattle.rc_rules.specs.Plan.{plan_seen};
 ghost use Rattle.rc_rules.specs.Record.{record_seen, standing_seen};
-ghost use Rattle.rc_text.specs.House.{house_seen};
-ghost use Rattle.rc_judge.specs.Seen.{Finds, Judges, row_seen, verdict_seen, lines_in_all};
+ghost use Rattle.rc_text.specs.BoundSeen.{all_bounds, AreFor};
+ghost use Rattle.rc_text.specs.House.{house_seen, named_seen, Fits};
+ghost use Rattle.rc_judge.specs.Seen.{Finds, Judges, IfLegal, illegal_in, row_seen, verdict_seen, lines_in_all, lists_over};
 
+use crate::legend::face_count;
+use crate::margin::{Bare, Margin, Notes, Told};
 use crate::playing::record_along;
 use crate::rows::ranked_row;
-use crate::verdict::{Halt, Verdict, Why, on_row};
+use crate::verdict::{Halt, Named, Verdict, Why, on_row};
 use rc_deck::Memory;
 use rc_rules::{About, MatchRecord, Plan, Standing};
-use rc_text::{HouseText, standings};
-use rc_text_model::{legal_exactly, one_pass_judges};
+use rc_text::{HouseText, NamedText, standings};
+use rc_text_model::{legal_exactly, one_pass_judges, texts_are_of_lines};
 use std::alloc::Global;
 
 /// Judges a house text by what its matches are played by and a plan: `Legal`, or the first illegal line and why. The plan is within
@@ -38,13 +43,91 @@ pub fn judge(alloc: Global, about: &About, plan: &Plan, text: &HouseText) -> Res
     requires within { IsWithinLimits (plan_seen plan.now) }
     requires seats { length plan.now.strategies.items ≡ about.now.sheet.players }
     requires text { IsHouseText (house_seen text.now) }
-    requires few { length (lines_of (house_seen text.now)) ≤ 33554432 }
-    ensures first { IfOk result (λ v. verdict_seen v ≡ first_illegal about.now dealing_of (plan_seen plan.now) (house_seen text.now)) }
-    ensures legal { IfOk result (λ v. (v ≡ Legal) ↔ IsLegal about.now dealing_of (plan_seen plan.now) (house_seen text.now)) }
+    requires few { 1 + length (lines_of (house_seen text.now)) ≤ 33554432 }
+    ensures first { IfOk result (λ v. verdict_seen v
+        ≡ first_illegal about.now dealing_of (plan_seen plan.now) 1 (unmarked (house_seen text.now))) }
+    ensures legal { IfOk result (λ v. (v ≡ Legal)
+        ↔ IsLegal about.now dealing_of (plan_seen plan.now) (house_seen text.now)) }
 {
+    texts_are_of_lines();
     one_pass_judges();
     legal_exactly();
-    verdict_of(text_along(alloc, about, plan, text))
+    verdict_of(text_along(alloc, about, plan, 1, text, &mut Bare))
+}
+
+/// Judges a house text that names what items bind, by the same, and by what they do bind.
+///
+/// # Errors
+///
+/// No memory is left.
+pub fn judge_named(
+    alloc: Global,
+    about: &About,
+    plan: &Plan,
+    named: &NamedText,
+) -> Result<Verdict, Memory>
+    requires within { IsWithinLimits (plan_seen plan.now) }
+    requires seats { length plan.now.strategies.items ≡ about.now.sheet.players }
+    requires text { IsText true (named_seen named.now) }
+    requires fits { Fits named.now }
+    requires few { length (lines_of (house_seen named.now.text)) ≤ 33554432 }
+    ensures first { IfOk result (λ v. verdict_seen v ≡ first_illegal about.now dealing_of (plan_seen plan.now)
+        (1 + length (legend_of about.now.sheet about.now.shape)) (named_seen named.now)) }
+    ensures legal { IfOk result (λ v. (v ≡ Legal)
+        ↔ IsLegalText about.now dealing_of (plan_seen plan.now) true (named_seen named.now)) }
+{
+    texts_are_of_lines();
+    one_pass_judges();
+    legal_exactly();
+    let head = 1 + face_count(about.shape());
+    let mut told = Told::new(&named.bounds);
+    verdict_of(text_along(alloc, about, plan, head, &named.text, &mut told))
+}
+
+/// Judges a house text as `judge` does, and tells what its items bind where it is legal. The matches are played once for both.
+///
+/// # Errors
+///
+/// No memory is left.
+pub fn judge_and_name(
+    alloc: Global,
+    about: &About,
+    plan: &Plan,
+    text: &HouseText,
+) -> Result<Named, Memory>
+    requires within { IsWithinLimits (plan_seen plan.now) }
+    requires seats { length plan.now.strategies.items ≡ about.now.sheet.players }
+    requires text { IsHouseText (house_seen text.now) }
+    requires few { 1 + length (lines_of (house_seen text.now)) ≤ 33554432 }
+    ensures first { IfOk result (λ n. illegal_in n
+        ≡ first_illegal about.now dealing_of (plan_seen plan.now) 1 (unmarked (house_seen text.now))) }
+    ensures legal { IfOk result (λ n. (illegal_in n ≡ None)
+        ↔ IsLegal about.now dealing_of (plan_seen plan.now) (house_seen text.now)) }
+    ensures marks { IfOk result (λ n. IfLegal n (λ bounds. all_bounds bounds.items
+        ≡ played.bounds_of about.now (plan_seen plan.now) (house_seen text.now))) }
+    ensures fits { IfOk result (λ n. IfLegal n (λ bounds. AreFor text.now.matches.items bounds.items)) }
+{
+    texts_are_of_lines();
+    one_pass_judges();
+    legal_exactly();
+    let mut notes = Notes::new(alloc);
+    let judged = text_along(alloc, about, plan, 1, text, &mut notes);
+    named_by(judged, notes)
+}
+
+// The verdict on a text that was judged, with these notes.
+fn named_by(judged: Result<(), Halt>, notes: Notes) -> Result<Named, Memory>
+    ensures found { (found : Option Illegal) → Finds judged found → IfOk result (λ n. illegal_in n ≡ found) }
+    ensures notes { IfOk result (λ n. IfLegal n (λ bounds. (bounds ≡ notes.before) × (is_ok judged ≡ true))) }
+{
+    match judged {
+        Ok(()) => {
+            let Notes { before, .. } = notes;
+            Ok(Named::Legal(before))
+        }
+        Err(Halt::Illegal { line, why }) => Ok(Named::Illegal { line, why }),
+        Err(Halt::NoMemory) => Err(Memory),
+    }
 }
 
 // The verdict on a text that was judged.
@@ -58,39 +141,55 @@ fn verdict_of(judged: Result<(), Halt>) -> Result<Verdict, Memory>
     }
 }
 
-// Judges a whole text.
-fn text_along(alloc: Global, about: &About, plan: &Plan, text: &HouseText) -> Result<(), Halt>
+// Judges a whole text behind a head of so many lines, with what stands beside its choices.
+fn text_along<N: Margin>(
+    alloc: Global,
+    about: &About,
+    plan: &Plan,
+    head: u32,
+    text: &HouseText,
+    margin: &mut N,
+) -> Result<(), Halt>
     requires within { IsWithinLimits (plan_seen plan.now) }
     requires seats { length plan.now.strategies.items ≡ about.now.sheet.players }
     requires text { IsHouseText (house_seen text.now) }
-    requires few { length (lines_of (house_seen text.now)) ≤ 33554432 }
-    ensures { Finds result (along.judged about.now dealing_of (plan_seen plan.now) (house_seen text.now)) }
+    requires few { head + length (lines_of (house_seen text.now)) ≤ 67108864 }
+    ensures is { Finds result (along.judged about.now dealing_of (plan_seen plan.now) head
+        (record { text = house_seen text.now; marks = N.told margin.old })) }
+    ensures noted { N.notes ≡ true → N.here margin.old ≡ [] → OnOk result (N.before margin.new ≡ N.before margin.old
+        ++ lists_over about.now dealing_of (plan_seen plan.now) 0 (map record_seen text.now.matches.items)) }
 {
-    let line = matches_along(alloc, about, plan, &text.matches)?;
+    let line = matches_along(alloc, about, plan, head + 1, &text.matches, margin)?;
     on_row(line, further_row(plan, &text.matches))?;
     let standings = standings(alloc, plan, &text.matches)?;
     standings_along(line, &standings, &text.standings)
 }
 
-// Judges the matches of a text, which begin in line 2. Answers the line behind them.
-fn matches_along(
+// Judges the matches of a text, which begin in this line. Answers the line behind them.
+fn matches_along<N: Margin>(
     alloc: Global,
     about: &About,
     plan: &Plan,
+    from: u32,
     matches: &[MatchRecord],
+    margin: &mut N,
 ) -> Result<u32, Halt>
     requires within { length plan.now.matches.items ≤ most_matches }
-    requires room { 2 + lines_in_all matches.now < 2 ^ 32 }
-    ensures is { Judges (λ n. n) result (along.matches_along about.now dealing_of (plan_seen plan.now) 0 2 (map record_seen matches.now)) }
-    ensures far { IfOk result (λ n. n ≡ 2 + lines_in_all matches.now) }
+    requires room { from + lines_in_all matches.now < 2 ^ 32 }
+    ensures is { Judges (λ n. n) result (along.matches_along about.now dealing_of (plan_seen plan.now) 0 from
+        (N.told margin.old) (map record_seen matches.now)) }
+    ensures noted { N.notes ≡ true → N.here margin.old ≡ [] → OnOk result (N.before margin.new ≡ N.before margin.old
+        ++ lists_over about.now dealing_of (plan_seen plan.now) 0 (map record_seen matches.now)) }
+    ensures far { IfOk result (λ n. n ≡ from + lines_in_all matches.now) }
     ensures each { OnOk result (All (λ r. length r.scores.items ≡ about.now.sheet.players) matches.now) }
     ensures few { OnOk result (length matches.now ≤ length plan.now.matches.items) }
 {
-    let mut line = 2;
+    let mut line = from;
     let mut number = 0;
     for played in matches {
-        line = record_along(alloc, about, plan, number, line, played)?;
+        line = record_along(alloc, about, plan, number, line, played, margin)?;
         on_row(line, lacking_row(about, played))?;
+        margin.close(alloc)?;
         number += 1;
     }
     Ok(line)

@@ -3,9 +3,13 @@
 #![tactic(auto)]
 
 mod judging;
+mod legend;
+mod margin;
+mod naming;
 mod playing;
 mod rows;
 mod verdict;
 
-pub use judging::judge;
-pub use verdict::{Verdict, Why};
+pub use judging::{judge, judge_and_name, judge_named};
+pub use naming::bounds_of;
+pub use verdict::{Named, Verdict, Why};

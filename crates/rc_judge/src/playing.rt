@@ -1,5 +1,5 @@
 //! The play of a match, as its record tells it.
-ghost use Rattle.std.specs.Prelude.{◌≡◌, ℕ, ◌+◌, ◌<◌, ◌≤◌, ◌^◌, [], false, length, map, Some, IfOk, OnOk};
+ghost use Rattle.std.specs.Prelude.{◌≡◌, ℕ, ◌+◌, ◌++◌, ◌<◌, ◌≤◌, ◌^◌, [], true, false, length, map, Some, IfOk, OnOk};
 ghost use Rattle.rc_play_model.specs.Step.{start, Config};
 ghost use Rattle.rc_play_model.specs.Play.{stop_behind};
 ghost use Rattle.rc_play_model.specs.Decision.{choose};
@@ -14,7 +14,8 @@ ghost use Rattle.rc_rules.specs.Record.{pick_seen, score_seen, record_seen};
 ghost use Rattle.rc_rules.specs.Machine.{StandsAtDecision, StandsWhereItStops, menu_here};
 ghost use Rattle.rc_judge.specs.Seen.{Judges, stands_at, lines_in};
 
-use crate::rows::{chosen_row, ending_row, opening_row, scored_row, shuffled_row};
+use crate::margin::Margin;
+use crate::rows::{ending_row, opening_row, scored_row, shuffled_row, stopped_row};
 use crate::verdict::{Halt, on_row};
 use rc_deck::Memory;
 use rc_plain::PlainMachine;
@@ -22,64 +23,84 @@ use rc_rules::{About, Machine, MatchDealer, MatchRecord, Pick, Plan, Score, Stop
 use std::alloc::Global;
 
 /// Judges the lines of match `number` of a plan, from its match line on. Answers the line behind them.
-pub(crate) fn record_along(
+pub(crate) fn record_along<N: Margin>(
     alloc: Global,
     about: &About,
     plan: &Plan,
     number: u32,
     line: u32,
     played: &MatchRecord,
+    margin: &mut N,
 ) -> Result<u32, Halt>
     requires room { line + lines_in played.now < 2 ^ 32 }
-    ensures is { Judges (λ n. n) result (along.record_along about.now dealing_of (plan_seen plan.now) number line (record_seen played.now)) }
+    ensures is { Judges (λ n. (n, N.told margin.new)) result
+        (along.record_along about.now dealing_of (plan_seen plan.now) number line
+        (N.told margin.old) (record_seen played.now)) }
+    ensures noted { N.notes ≡ true → OnOk result (N.here margin.new ≡ N.here margin.old
+        ++ along.marks_from about.now dealing_of (plan_seen plan.now) number
+        (play_after about.now dealing_of (plan_seen plan.now) number []) (map pick_seen played.now.picks.items)) }
+    ensures before { N.before margin.new ≡ N.before margin.old }
     ensures far { IfOk result (λ n. n ≡ line + lines_in played.now) }
     ensures few { OnOk result (length played.now.scores.items ≤ about.now.sheet.players) }
     ensures there { OnOk result (number < length plan.now.matches.items) }
 {
     on_row(line, opening_row(plan, number, played))?;
     let machine = PlainMachine::start_of(alloc, about)?;
-    body_along(about, plan, number, line + 1, machine, played)
+    body_along(about, plan, number, line + 1, machine, played, margin)
 }
 
 // Judges the lines of a match behind its first one, on a machine that stands at its start.
-fn body_along<M: Machine + Drop>(
+fn body_along<M: Machine + Drop, N: Margin>(
     about: &About,
     plan: &Plan,
     number: u32,
     line: u32,
     mut machine: M,
     played: &MatchRecord,
+    margin: &mut N,
 ) -> Result<u32, Halt>
     requires about { M.about machine ≡ about.now }
     requires start { M.config machine ≡ start about.now }
     requires fresh { M.spent machine ≡ false }
     requires number { number < length plan.now.matches.items }
     requires room { line + lines_in played.now ≤ 2 ^ 32 }
-    ensures is { Judges (λ n. n) result (along.body_along about.now dealing_of (plan_seen plan.now) number line
-        (play_after about.now dealing_of (plan_seen plan.now) number []) (record_seen played.now)) }
+    ensures is { Judges (λ n. (n, N.told margin.new)) result
+        (along.body_along about.now dealing_of (plan_seen plan.now) number line
+        (play_after about.now dealing_of (plan_seen plan.now) number []) (N.told margin.old) (record_seen played.now)) }
+    ensures noted { N.notes ≡ true → OnOk result (N.here margin.new ≡ N.here margin.old
+        ++ along.marks_from about.now dealing_of (plan_seen plan.now) number
+        (play_after about.now dealing_of (plan_seen plan.now) number []) (map pick_seen played.now.picks.items)) }
+    ensures before { N.before margin.new ≡ N.before margin.old }
     ensures far { IfOk result (λ n. n + 1 ≡ line + lines_in played.now) }
     ensures few { OnOk result (length played.now.scores.items ≤ about.now.sheet.players) }
 {
     let mut dealer = MatchDealer::new(plan.matches[number as usize].deal);
     let stop = machine.advance(&mut dealer)?;
-    let (line, stop) = picks_along(&mut machine, &mut dealer, stop, line, &played.picks)?;
+    let (line, stop) = picks_along(&mut machine, &mut dealer, stop, line, &played.picks, margin)?;
     end_along(about, &machine, stop, dealer.count(), line, played)
 }
 
 // Judges the choices of a match, where it stands at this stop. Answers the line behind them, and the stop to which they lead.
-fn picks_along<M: Machine>(
+fn picks_along<M: Machine, N: Margin>(
     machine: &mut M,
     dealer: &mut MatchDealer,
     start: Stop,
     from: u32,
     picks: &[Pick],
+    margin: &mut N,
 ) -> Result<(u32, Stop), Halt>
     requires fresh { M.spent machine.old ≡ false }
     requires stands { StandsWhereItStops (M.about machine.old) (stop_seen start) (M.config machine.old) }
     requires room { from + length picks.now < 2 ^ 32 }
     ensures is { (plan : PurePlan) (m : ℕ) → dealing_of (deal_at plan m).deal ≡ dealing_of dealer.old.deal →
-        Judges (λ x. (x.0, Some (stands_at x.1 (M.config machine.new) dealer.new.count))) result
-        (along.picks_along (M.about machine.old) dealing_of plan m from (Some (stands_at start (M.config machine.old) dealer.old.count)) (map pick_seen picks.now)) }
+        Judges (λ x. (x.0, Some (stands_at x.1 (M.config machine.new) dealer.new.count), N.told margin.new)) result
+        (along.picks_along (M.about machine.old) dealing_of plan m from
+        (Some (stands_at start (M.config machine.old) dealer.old.count)) (N.told margin.old) (map pick_seen picks.now)) }
+    ensures noted { N.notes ≡ true → (plan : PurePlan) (m : ℕ) → dealing_of (deal_at plan m).deal ≡ dealing_of dealer.old.deal →
+        OnOk result (N.here margin.new ≡ N.here margin.old
+        ++ along.marks_from (M.about machine.old) dealing_of plan m
+        (Some (stands_at start (M.config machine.old) dealer.old.count)) (map pick_seen picks.now)) }
+    ensures before { N.before margin.new ≡ N.before margin.old }
     ensures far { IfOk result (λ x. x.0 ≡ from + length picks.now) }
     ensures fresh { OnOk result (M.spent machine.new ≡ false) }
     ensures same { M.about machine.new ≡ M.about machine.old }
@@ -87,7 +108,8 @@ fn picks_along<M: Machine>(
     let mut line = from;
     let mut stop = start;
     for pick in picks {
-        on_row(line, chosen_row(machine, stop, pick))?;
+        on_row(line, stopped_row(machine, stop, pick))?;
+        on_row(line, margin.row(machine, pick.item)?)?;
         stop = go_on(machine, dealer, pick.item)?;
         line += 1;
     }

@@ -14,7 +14,7 @@ ghost use Rattle.rc_judge.specs.Seen.{row_seen, stands_at};
 
 use crate::verdict::Why;
 use arrayvec::ArrayVec;
-use rc_rules::{Ended, Machine, MatchRecord, Pick, Plan, Score, Scores, Standing, Stop};
+use rc_rules::{About, Ended, Machine, MatchRecord, Pick, Plan, Score, Scores, Standing, Stop};
 
 /// The row of a match line where match `number` of the plan comes next, if there is one.
 pub(crate) fn opening_row(plan: &Plan, number: u32, played: &MatchRecord) -> Option<Why>
@@ -31,8 +31,8 @@ pub(crate) fn opening_row(plan: &Plan, number: u32, played: &MatchRecord) -> Opt
     }
 }
 
-/// The row of a choose line. Where none applies the item may be taken.
-pub(crate) fn chosen_row<M: Machine>(machine: &M, stop: Stop, pick: &Pick) -> Option<Why>
+/// The row of a choose line but for what its item is told to bind. Where none applies the item may be taken.
+pub(crate) fn stopped_row<M: Machine>(machine: &M, stop: Stop, pick: &Pick) -> Option<Why>
     requires fresh { M.spent machine.now ≡ false }
     requires stands { StandsWhereItStops (M.about machine.now) (stop_seen stop) (M.config machine.now) }
     ensures is { row_seen result ≡ rows.decision_row (M.about machine.now) (pick_seen pick.now) (stop_seen stop) (M.config machine.now) }

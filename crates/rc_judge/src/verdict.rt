@@ -4,6 +4,7 @@ ghost use Rattle.rc_text_model.specs.Judged.{at_line};
 ghost use Rattle.rc_judge.specs.Seen.{Finds, row_seen};
 
 use rc_deck::Memory;
+use rc_text::Bounds;
 
 /// Why a line is illegal.
 #[derive(Clone, Copy, PartialEq, Eq, Debug)]
@@ -18,6 +19,8 @@ pub enum Why {
     Menu,
     /// The item isn't in the menu.
     Item,
+    /// The item binds something else.
+    Named,
     /// The play has no decision there, or hasn't ended, or ends otherwise.
     End,
     /// A score is another, is missing, or is one too many.
@@ -31,6 +34,15 @@ pub enum Why {
 pub enum Verdict {
     Legal,
     /// The first illegal line, counted from 1. At the end of the text it is the number of lines plus one.
+    Illegal { line: u32, why: Why },
+}
+
+/// What a text is judged, with what its items bind where it is legal.
+#[derive(Debug, Drop)]
+pub enum Named {
+    /// A list for each match, with an entry for each of its choices.
+    Legal(Vec<Vec<Bounds>>),
+    /// The first illegal line, as a verdict has it.
     Illegal { line: u32, why: Why },
 }
 

@@ -1,4 +1,4 @@
-use Rattle.std.proofs.Common.{◌≡◌, Ok, map, sym, ap, subst, ◌∙◌}
+use Rattle.std.proofs.Common.{◌≡◌, ◌+◌, Ok, map, sym, ap, subst, ◌∙◌}
 use Rattle.rc_play_model.specs.Keyed.{dealing_of}
 use Rattle.rc_text_model.specs.Rows.{further_row}
 use Rattle.rc_text_model.specs.Along as along
@@ -9,15 +9,17 @@ use Rattle.rc_judge.specs.Seen.{IsFound, row_seen}
 use Rattle.rc_judge.proofs.Steps.{further_found, hands_found}
 use Rattle.rc_judge.proofs.judging.text_along.Goals as goal
 
-pub returns-in_err-on_row : goal.returns-in_err-on_row
-returns-in_err-on_row c =
+pub returns-in_err-on_row-clause-is : goal.returns-in_err-on_row-clause-is
+returns-in_err-on_row-clause-is g c =
+    let about = c.args.about.now in
     let plan = plan_seen c.args.plan.now in
+    let told = g.N.Margin.told c.args.margin.now in
     let matches = map record_seen c.args.text.now.matches.items in
     let standings = map standing_seen c.args.text.now.standings.items in
     let halt = c.in_err-on_row.field-0.0 in
     hands_found c.from_residual-in_err-on_row.result halt _ c.from_residual-in_err-on_row.ensures.1
     (subst (IsFound halt)
-    (sym (or_on (along.matches_along c.args.about.now dealing_of plan 0 2 matches) (λ n. along.standings_along plan n matches 0 standings) c.in_ok-line.line
-    (subst (λ all. along.matches_along c.args.about.now dealing_of plan 0 2 (map record_seen all) ≡ Ok c.in_ok-line.line) c.deref.ensures.value c.in_ok-line.ensures.is)))
+    (sym (or_on (along.matches_along about dealing_of plan 0 (c.args.head + 1) told matches) (λ n. along.standings_along plan n matches 0 standings) c.in_ok-line.line
+    (subst (λ all. along.matches_along about dealing_of plan 0 (c.args.head + 1) told (map record_seen all) ≡ Ok c.in_ok-line.line) c.deref.ensures.value c.in_ok-line.ensures.is)))
     (further_found plan c.in_ok-line.line matches standings halt (row_seen c.further_row.result) c.requires.text.standings
     (c.further_row.ensures ∙ ap (λ all. further_row plan (map record_seen all)) c.deref-2.ensures.value) c.in_err-on_row.ensures.is))

@@ -1,0 +1,10 @@
+use Rattle.std.proofs.Common.{◌≡◌, ◌≤◌, ◌==◌, filter, length}
+use Rattle.rc_model.specs.Numbers.{below}
+use Rattle.rc_play_model.specs.Shape.{face_number}
+use Rattle.rc_judge.proofs.legend.face_count.Given as goal
+
+abbrev pub invariant-loop-id : goal.invariant-loop-id
+invariant-loop-id l = record {
+  count : l.count ≡ length (filter (λ id. face_number l.shape id == id) (below l.id));
+  few : l.count ≤ l.id;
+}
