@@ -1,14 +1,16 @@
 //! What is picked at a stop of a match that is played at once.
-ghost use Rattle.std.specs.Prelude.{◌≡◌, ◌<◌, false, length, Some, IfSome, IfOk, OnOk, OnErr};
+ghost use Rattle.std.specs.Prelude.{◌≡◌, ◌<◌, ◌++◌, false, length, Some, IfSome, IfOk, OnOk, OnErr};
 ghost use Rattle.rc_play_model.specs.About.{About as PureAbout};
 ghost use Rattle.rc_play_model.specs.Owners.{mover};
 ghost use Rattle.rc_redraw.specs.Choosing.{AsksAll, AsksSome, asked_for};
 ghost use Rattle.rc_redraw.specs.Need.{IsNeed};
+ghost use Rattle.rc_rules.specs.Bounds.{match_bounds};
 ghost use Rattle.rc_rules.specs.Control.{stop_seen};
-ghost use Rattle.rc_rules.specs.Machine.{StandsAtDecision, StandsWhereItStops};
+ghost use Rattle.rc_rules.specs.Machine.{StandsAtDecision, StandsWhereItStops, menu_here};
 ghost use Rattle.rc_rules.specs.Plan.{plan_seen};
 ghost use Rattle.rc_rules.specs.Record.{record_seen};
 ghost use Rattle.rc_match.specs.Chosen.{Chosen, IsChoice, IsOffhand, asked_at};
+ghost use Rattle.rc_match.specs.Named.{noted_here};
 ghost use Rattle.rc_match.specs.Lane.{asks, need_at, notes_at, phase_at};
 
 use crate::ending::complete;
@@ -16,12 +18,13 @@ use crate::job::{Job, deal_of, strategy_of};
 use crate::stepping::need_of;
 use rc_deck::Memory;
 use rc_redraw::Chooser;
-use rc_rules::{Ended, Machine, MatchDealer, MatchRecord, Stop, offhand_of};
+use rc_rules::{Bounds, Ended, Machine, MatchDealer, MatchRecord, Stop, offhand_of};
 use rc_steps::Steps;
 use std::alloc::Global;
 use std::sync::ledger::Ledger;
 
-/// The item that is picked at a decision, and nothing at an end, where the record is completed.
+/// The item that is picked at a decision, and nothing at an end, where the record is completed. What the item binds is noted, where
+/// that is asked for.
 pub(crate) fn picked_at<M: Machine, C: Chooser, L: Ledger>(
     alloc: Global,
     job: &Job,
@@ -29,6 +32,8 @@ pub(crate) fn picked_at<M: Machine, C: Chooser, L: Ledger>(
     machine: &M,
     dealer: &MatchDealer,
     notes: &mut MatchRecord,
+    noted: bool,
+    bounds: &mut Vec<Bounds>,
     chooser: &mut C,
     steps: &mut Steps<L>,
 ) -> Result<Option<u16>, Memory>
@@ -44,6 +49,8 @@ pub(crate) fn picked_at<M: Machine, C: Chooser, L: Ledger>(
         (phase_at job.now.about.value (plan_seen job.now.plan.value) job.now.number (stop_seen stop) (M.config machine.now)) pick) }
     ensures notes { OnOk result (record_seen notes.new
         ≡ notes_at job.now.about.value (record_seen notes.old) (stop_seen stop) (M.config machine.now) dealer.now.count) }
+    ensures bounds { IfOk result (λ pick. match_bounds bounds.new
+        ≡ match_bounds bounds.old ++ noted_here noted job.now.about.value (M.config machine.now) pick) }
     ensures asked { OnOk result (AsksAll
         (asked_at (phase_at job.now.about.value (plan_seen job.now.plan.value) job.now.number (stop_seen stop) (M.config machine.now)))
         (C.counts chooser.old) (C.counts chooser.new) steps.old steps.new) }
@@ -56,6 +63,7 @@ pub(crate) fn picked_at<M: Machine, C: Chooser, L: Ledger>(
     match stop {
         Stop::Decide { seat, .. } => {
             let item = item_of(alloc, job, seat, machine, chooser, steps)?;
+            note(noted, machine, item, bounds)?;
             Ok(Some(item))
         }
         Stop::Done => {
@@ -67,6 +75,26 @@ pub(crate) fn picked_at<M: Machine, C: Chooser, L: Ledger>(
             Ok(None)
         }
     }
+}
+
+// Notes what an item of the menu binds, where that is asked for.
+#[inline(always)]
+fn note<M: Machine>(
+    noted: bool,
+    machine: &M,
+    item: u16,
+    bounds: &mut Vec<Bounds>,
+) -> Result<(), Memory>
+    requires fresh { M.spent machine.now ≡ false }
+    requires decides { StandsAtDecision (M.about machine.now) (M.config machine.now) }
+    requires offered { item < length (menu_here (M.about machine.now) (M.config machine.now)) }
+    ensures { OnOk result (match_bounds bounds.new
+        ≡ match_bounds bounds.old ++ noted_here noted (M.about machine.now) (M.config machine.now) (Some item)) }
+{
+    if noted {
+        bounds.push(machine.bounds(item))?;
+    }
+    Ok(())
 }
 
 // The item that the strategy of the seat that decides chooses. The chooser is asked where the strategy is a rollout. What others pick

@@ -46,7 +46,7 @@ fn play_over<N: BookNaming + Send + Sync, R: AllocGlobal + Abort + Threads + Wai
 {
     let memos = memos(rt, rt.alloc(), book, lanes)?;
     assert!(rt; memos.len() == 2);
-    let (records, lanes) = play_shared(rt, rt.alloc(), about, plan, memos, &OpenGate)?;
+    let (records, lanes) = play_shared(rt, rt.alloc(), about, plan, false, memos, &OpenGate)?;
     expect_same(rt, records.len(), 2);
     Ok(lanes)
 }

@@ -119,7 +119,16 @@ fn played<R: AllocGlobal + Threads + Sync>(
 {
     let Game { about, plan, code } = game;
     let choosers = choosers(rt.alloc(), code, doors)?;
-    let (_records, choosers) = play_claimed(rt, rt.alloc(), about, plan, code, choosers, &**doors)?;
+    let (_records, choosers) = play_claimed(
+        rt,
+        rt.alloc(),
+        about,
+        plan,
+        code,
+        false,
+        choosers,
+        &**doors,
+    )?;
     Ok(seen(choosers))
 }
 

@@ -43,10 +43,19 @@ fn watch_match<L: Ledger>(
     let mut steps = Steps::<L>::new(blank);
     let mut chooser = Observed::new(&game.code, Returns::new())?;
     let Game { about, plan, code } = game;
-    let record = record_of(alloc, about, plan, code, number, &mut chooser, &mut steps)?;
+    let played = record_of(
+        alloc,
+        about,
+        plan,
+        code,
+        number,
+        false,
+        &mut chooser,
+        &mut steps,
+    )?;
     let (memo, returns) = chooser.into_parts();
     Ok(Watched {
-        record,
+        record: played.record,
         memo,
         returns,
     })

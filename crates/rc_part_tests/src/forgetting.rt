@@ -43,11 +43,11 @@ fn play_with<L: Ledger>(
     let memo = Fickle::new(alloc, Arc::try_clone(&game.about)?, loses);
     let mut choices = Choices::new(Arc::try_clone(&game.code)?, memo);
     let Game { about, plan, code } = game;
-    let first = record_of(alloc, about, plan, code, 0, &mut choices, &mut steps)?;
-    let second = record_of(alloc, about, plan, code, 1, &mut choices, &mut steps)?;
+    let first = record_of(alloc, about, plan, code, 0, false, &mut choices, &mut steps)?;
+    let second = record_of(alloc, about, plan, code, 1, false, &mut choices, &mut steps)?;
     Ok(Played {
-        first,
-        second,
+        first: first.record,
+        second: second.record,
         memo: choices.into_memo(),
     })
 }

@@ -11,14 +11,13 @@ use Rattle.rc_play_model.specs.Plan.{Plan}
 use Rattle.rc_play_model.specs.Keyed.{keyed_match}
 use Rattle.rc_redraw.specs.Counts.{Counts}
 use Rattle.rc_redraw.specs.Choosing.{AsksAll, AsksSome}
-use Rattle.rc_rules.specs.declared.record.MatchRecord.{MatchRecord}
 use Rattle.rc_rules.specs.declared.plan.Plan.{Plan as StoredPlan}
 use Rattle.rc_rules.specs.Plan.{deal_seen, plan_seen}
-use Rattle.rc_rules.specs.Record.{record_seen}
 use Rattle.rc_rules.proofs.PointLemmas.{below_push}
 use Rattle.rc_match.specs.Asks.{asks_of}
+use Rattle.rc_match.specs.declared.playing.Played.{Played}
 use Rattle.rc_match.proofs.AskLemmas.{IsFront, asks_then, some_then, some_of}
-use Rattle.rc_records.specs.Series.{looks_below, looks_of, records_below}
+use Rattle.rc_records.specs.Series.{looks_below, looks_of, played_seen, records_below}
 
 -- one match more
 one_more : (about : About) (plan : Plan) (n : ℕ) (r : Record) → keyed_match about plan n ≡ Some r → records_below about plan (n + 1) ≡ records_below about plan n ++ r ∷ []
@@ -29,12 +28,12 @@ one_more about plan n r is =
     alone : (n : ℕ) (r : Record) → keyed_match about plan n ≡ Some r → filter_map (keyed_match about plan) (n ∷ []) ≡ r ∷ []
     alone n r is = rw is refl
 
-pub told_more : (about : About) (plan : Plan) (n : ℕ) (records : List MatchRecord) (record' : MatchRecord) → keyed_match about plan n ≡ Some (record_seen record') →
-    map record_seen records ≡ records_below about plan n →
-    map record_seen (records ++ record' ∷ []) ≡ records_below about plan (n + 1)
-told_more about plan n records record' is so_far =
-    map-append record_seen records (record' ∷ []) ∙ ap (λ front. front ++ record_seen record' ∷ []) so_far
-    ∙ sym (one_more about plan n (record_seen record') is)
+pub told_more : (about : About) (plan : Plan) (n : ℕ) (records : List Played) (played' : Played) → keyed_match about plan n ≡ Some (played_seen played') →
+    map played_seen records ≡ records_below about plan n →
+    map played_seen (records ++ played' ∷ []) ≡ records_below about plan (n + 1)
+told_more about plan n records played' is so_far =
+    map-append played_seen records (played' ∷ []) ∙ ap (λ front. front ++ played_seen played' ∷ []) so_far
+    ∙ sym (one_more about plan n (played_seen played') is)
 
 -- what one match more asks
 pub looks_more : (about : About) (plan : Plan) (n : ℕ) → looks_below about plan n ++ asks_of about plan n ≡ looks_below about plan (n + 1)

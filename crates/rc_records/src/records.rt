@@ -7,38 +7,41 @@ ghost use Rattle.rc_code.specs.Seen.{code_seen};
 ghost use Rattle.rc_code.specs.Stands.{StandsFor};
 ghost use Rattle.rc_redraw.specs.Choosing.{AsksAll, AsksSome, all_costs};
 ghost use Rattle.rc_rules.specs.Plan.{plan_seen};
-ghost use Rattle.rc_rules.specs.Record.{record_seen};
 ghost use Rattle.rc_match.specs.Asks.{asks_of};
-ghost use Rattle.rc_records.specs.Series.{looks_below, records_below};
+ghost use Rattle.rc_match.specs.Named.{IsNoted};
+ghost use Rattle.rc_records.specs.Series.{IsNotedAs, looks_below, played_seen, records_below};
 
 use rc_code::Code;
 use rc_deck::Memory;
 use rc_flat::FlatMachine;
-use rc_match::{Job, play_match};
+use rc_match::{Job, Played, play_noted};
 use rc_redraw::Chooser;
-use rc_rules::{About, MatchRecord, Plan};
+use rc_rules::{About, Plan};
 use rc_steps::Steps;
 use std::alloc::Global;
 use std::sync::Arc;
 use std::sync::ledger::Ledger;
 
-/// The records of a plan's matches, in order, by any chooser, on code that stands for the sheet. Memory may run out.
+/// The records of a plan's matches, in order, by any chooser, on code that stands for the sheet, with what their choices bind, where
+/// that is to be noted. Memory may run out.
 pub fn records_of<C: Chooser, L: Ledger>(
     alloc: Global,
     about: &Arc<About>,
     plan: &Arc<Plan>,
     code: &Arc<Code>,
+    noted: bool,
     chooser: &mut C,
     steps: &mut Steps<L>,
-) -> Result<Vec<MatchRecord>, Memory>
+) -> Result<Vec<Played>, Memory>
     requires code { StandsFor about.now.value.sheet (code_seen code.now.value) }
     requires served { C.serves chooser.old about.now.value }
     requires matches { length plan.now.value.matches.items ≤ most_matches }
     requires seats { length plan.now.value.strategies.items ≡ about.now.value.sheet.players }
-    ensures are { IfOk result (λ records. map record_seen records.items
+    ensures are { IfOk result (λ records. map played_seen records.items
         ≡ records_below about.now.value (plan_seen plan.now.value) (length plan.now.value.matches.items)) }
     ensures count { IfOk result (λ records. length records.items ≡ length plan.now.value.matches.items) }
-    ensures each { IfOk result (λ records. All (λ r. length r.scores.items ≡ about.now.value.sheet.players) records.items) }
+    ensures each { IfOk result (λ records. All (λ p. length p.record.scores.items ≡ about.now.value.sheet.players) records.items) }
+    ensures noted { IfOk result (λ records. All (IsNotedAs noted about.now.value (plan_seen plan.now.value)) records.items) }
     ensures asked { OnOk result (AsksAll (looks_below about.now.value (plan_seen plan.now.value) (length plan.now.value.matches.items))
         (C.counts chooser.old) (C.counts chooser.new) steps.old steps.new) }
     ensures lacking { OnErr result (AsksSome (looks_below about.now.value (plan_seen plan.now.value) (length plan.now.value.matches.items))
@@ -46,28 +49,31 @@ pub fn records_of<C: Chooser, L: Ledger>(
 {
     let mut records = Vec::new(alloc);
     for number in 0..plan.matches.len() as u32 {
-        let played = record_of(alloc, about, plan, code, number, chooser, steps)?;
+        let played = record_of(alloc, about, plan, code, number, noted, chooser, steps)?;
         records.push(played)?;
     }
     Ok(records)
 }
 
-/// The record of one match, by any chooser, on code that stands for the sheet. Memory may run out.
+/// The record of one match, by any chooser, on code that stands for the sheet, with what its choices bind, where that is to be noted.
+/// Memory may run out.
 pub fn record_of<C: Chooser, L: Ledger>(
     alloc: Global,
     about: &Arc<About>,
     plan: &Arc<Plan>,
     code: &Arc<Code>,
     number: u32,
+    noted: bool,
     chooser: &mut C,
     steps: &mut Steps<L>,
-) -> Result<MatchRecord, Memory>
+) -> Result<Played, Memory>
     requires code { StandsFor about.now.value.sheet (code_seen code.now.value) }
     requires served { C.serves chooser.old about.now.value }
     requires number { number < length plan.now.value.matches.items }
     requires seats { length plan.now.value.strategies.items ≡ about.now.value.sheet.players }
-    ensures is { IfOk result (λ r. keyed_match about.now.value (plan_seen plan.now.value) number ≡ Some (record_seen r)) }
-    ensures each { IfOk result (λ r. length r.scores.items ≡ about.now.value.sheet.players) }
+    ensures is { IfOk result (λ p. keyed_match about.now.value (plan_seen plan.now.value) number ≡ Some (played_seen p)) }
+    ensures each { IfOk result (λ p. length p.record.scores.items ≡ about.now.value.sheet.players) }
+    ensures noted { IfOk result (IsNoted noted about.now.value (plan_seen plan.now.value) number) }
     ensures asked { OnOk result (AsksAll (asks_of about.now.value (plan_seen plan.now.value) number)
         (C.counts chooser.old) (C.counts chooser.new) steps.old steps.new) }
     ensures lacking { OnErr result (AsksSome (asks_of about.now.value (plan_seen plan.now.value) number)
@@ -79,5 +85,5 @@ pub fn record_of<C: Chooser, L: Ledger>(
 {
     let machine = FlatMachine::onward_start(alloc, code, about)?;
     let job = Job::of(about, plan, number)?;
-    play_match(alloc, &job, machine, chooser, steps)
+    play_noted(alloc, &job, noted, machine, chooser, steps)
 }

@@ -8,7 +8,7 @@ ghost use Rattle.rc_code.specs.Seen.{code_seen};
 ghost use Rattle.rc_code.specs.Stands.{StandsFor};
 ghost use Rattle.rc_rules.specs.Plan.{plan_seen};
 ghost use Rattle.rc_rules.specs.Record.{record_seen, standing_seen};
-ghost use Rattle.rc_records.specs.Series.{looks_of, matches_of};
+ghost use Rattle.rc_records.specs.Series.{IsTold, looks_of, matches_of};
 ghost use Rattle.rc_cache.specs.Hits.{hits, cost};
 ghost use Rattle.rc_cache.specs.Sums.{idle};
 
@@ -29,21 +29,23 @@ use std::sync::Arc;
 use std::sync::ledger::Ledger;
 
 /// Plays the matches of a plan for a checked sheet one after the other, on code that is made of the sheet once. The plan is within the
-/// limits, and has a strategy for each player. What rollouts find is kept in a book of so many entries, 1 to 65,536. Each playout is a
+/// limits, and has a strategy for each player. What choices bind is noted, where that is asked for. What rollouts find is kept in a book of so many entries, 1 to 65,536. Each playout is a
 /// step. Memory may run out; then no more steps were counted than the whole call counts.
 pub fn series_of<L: Ledger>(
     alloc: Global,
     checked: Checked,
     plan: Plan,
+    noted: bool,
     capacity: u32,
     steps: &mut Steps<L>,
 ) -> Result<Series, Memory>
     requires within { IsWithinLimits (plan_seen plan) }
     requires seats { length (plan_seen plan).strategies ≡ checked.players }
     requires capacity { (1 ≤ capacity) × (capacity ≤ most_entries) }
-    ensures matches { IfOk result (λ series. map record_seen series.text.matches.items ≡ matches_of (about_of checked plan.turns) (plan_seen plan)) }
-    ensures standings { IfOk result (λ series. map standing_seen series.text.standings.items
+    ensures matches { IfOk result (λ series. map record_seen series.named.text.matches.items ≡ matches_of (about_of checked plan.turns) (plan_seen plan)) }
+    ensures standings { IfOk result (λ series. map standing_seen series.named.text.standings.items
         ≡ standings_of (plan_seen plan) (matches_of (about_of checked plan.turns) (plan_seen plan))) }
+    ensures named { IfOk result (λ series. IsTold noted (about_of checked plan.turns) (plan_seen plan) series.named) }
     ensures book { IfOk result (λ series. (series.totals.capacity ≡ capacity) × (series.totals.lanes ≡ 1)) }
     ensures looks { IfOk result (λ series. series.totals.looks ≡ length (looks_of (about_of checked plan.turns) (plan_seen plan))) }
     ensures hits { IfOk result (λ series. series.totals.hits ≡ hits (looks_of (about_of checked plan.turns) (plan_seen plan)) capacity) }
@@ -54,7 +56,16 @@ pub fn series_of<L: Ledger>(
     let about = shared_about(alloc, checked, plan.turns)?;
     let code = shared_code(alloc, &about)?;
     let plan = Arc::new(alloc, plan)?;
-    played::<Brand, L>(alloc, Fresh::new(1), &about, &plan, &code, capacity, steps)
+    played::<Brand, L>(
+        alloc,
+        Fresh::new(1),
+        &about,
+        &plan,
+        &code,
+        noted,
+        capacity,
+        steps,
+    )
 }
 
 // The matches of a plan, with a book of so many entries, and the standings.
@@ -64,6 +75,7 @@ fn played<N: BookNaming, L: Ledger>(
     about: &Arc<About>,
     plan: &Arc<Plan>,
     code: &Arc<Code>,
+    noted: bool,
     capacity: u32,
     steps: &mut Steps<L>,
 ) -> Result<Series, Memory>
@@ -74,9 +86,10 @@ fn played<N: BookNaming, L: Ledger>(
     requires name { (about.now.value ≡ N.about) × (capacity ≡ N.capacity) × (1 ≡ N.lanes) }
     requires names { (fresh.looks.name ≡ N.looks) × (fresh.hits.name ≡ N.hits) × (fresh.keeps.name ≡ N.keeps) }
     requires parts { (fresh.looks.parts ≡ N.lanes) × (fresh.hits.parts ≡ N.lanes) × (fresh.keeps.parts ≡ N.lanes) }
-    ensures matches { IfOk result (λ series. map record_seen series.text.matches.items ≡ matches_of about.now.value (plan_seen plan.now.value)) }
-    ensures standings { IfOk result (λ series. map standing_seen series.text.standings.items
+    ensures matches { IfOk result (λ series. map record_seen series.named.text.matches.items ≡ matches_of about.now.value (plan_seen plan.now.value)) }
+    ensures standings { IfOk result (λ series. map standing_seen series.named.text.standings.items
         ≡ standings_of (plan_seen plan.now.value) (matches_of about.now.value (plan_seen plan.now.value))) }
+    ensures named { IfOk result (λ series. IsTold noted about.now.value (plan_seen plan.now.value) series.named) }
     ensures book { IfOk result (λ series. (series.totals.capacity ≡ capacity) × (series.totals.lanes ≡ 1)) }
     ensures looks { IfOk result (λ series. series.totals.looks ≡ length (looks_of about.now.value (plan_seen plan.now.value))) }
     ensures hits { IfOk result (λ series. series.totals.hits ≡ hits (looks_of about.now.value (plan_seen plan.now.value)) capacity) }
@@ -87,11 +100,11 @@ fn played<N: BookNaming, L: Ledger>(
     one_worker_has_the_hits_of_its_looks();
     one_worker_lacking_memory_takes_no_more_steps();
     let mut choices = own_choices::<N>(alloc, fresh, about, code, capacity)?;
-    let records = records_of(alloc, about, plan, code, &mut choices, steps);
+    let records = records_of(alloc, about, plan, code, noted, &mut choices, steps);
     // before the match, so that the book is closed also where memory ran out
     let totals = choices.into_memo().close();
     match records {
-        Ok(matches) => Ok(told(alloc, plan, matches, totals)?),
+        Ok(matches) => Ok(told(alloc, plan, noted, matches, totals)?),
         Err(Memory) => Err(Memory),
     }
 }

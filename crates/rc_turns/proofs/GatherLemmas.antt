@@ -1,5 +1,5 @@
 -- What workers did is put together.
-use Rattle.std.proofs.Common.{◌≡◌, ℕ, suc, ◌+◌, ◌<◌, ltb, List, [], ◌∷◌, ◌++◌, append-nil, append_assoc, length, length-append, map, flat_map, All, Result, Ok, Err, IfOk, slice_index_or, refl, sym, ap, ◌∙◌, subst, arith}
+use Rattle.std.proofs.Common.{◌≡◌, ℕ, suc, ◌+◌, ◌<◌, ltb, Bool, List, [], ◌∷◌, ◌++◌, append-nil, append_assoc, length, length-append, map, flat_map, All, Result, Ok, Err, IfOk, slice_index_or, refl, sym, ap, ◌∙◌, subst, arith}
 use Rattle.std.specs.List.{AllByRecursion}
 use Rattle.std.proofs.lemmas.List.{map-append}
 use Rattle.std.proofs.lemmas.List.Concat.{flat_map-append}
@@ -8,7 +8,7 @@ use Rattle.std.proofs.lemmas.List.Sums.{sum_by-append, sum_by_push}
 use Rattle.rc_deck.specs.declared.memory.Memory.{Memory}
 use Rattle.rc_play_model.specs.About.{About}
 use Rattle.rc_play_model.specs.Plan.{Plan}
-use Rattle.rc_rules.specs.declared.record.MatchRecord.{MatchRecord}
+use Rattle.rc_match.specs.declared.playing.Played.{Played}
 use Rattle.rc_redraw.specs.Counts.{Counts}
 use Rattle.rc_match.specs.Asks.{asks_of}
 use Rattle.atomic_table.specs.Seated.{TableId}
@@ -27,10 +27,10 @@ pub nothing_left : {X : Type 0} (xs : List X) → length xs ≡ 0 → xs ≡ []
 nothing_left [] none = refl
 nothing_left (x ∷ xs) none = absurd (omega (arith, none))
 
-module _ {C : Type 0} (name : C → ℕ) (counts : C → Counts) (about : About) (plan : Plan) where
+module _ {C : Type 0} (name : C → ℕ) (counts : C → Counts) (noted : Bool) (about : About) (plan : Plan) where
   -- one worker alone
-  pub gathered_one : (worker : Worker C) (turn : Turn C) → IsTurn name counts about plan worker turn →
-      IsGathered name counts about plan (worker ∷ []) turn.pass turn.records.items (turn.chooser ∷ [])
+  pub gathered_one : (worker : Worker C) (turn : Turn C) → IsTurn name counts noted about plan worker turn →
+      IsGathered name counts noted about plan (worker ∷ []) turn.pass turn.records.items (turn.chooser ∷ [])
   gathered_one worker turn is =
       record {
         holders = is.holders ∙ sym (append-nil worker.pass.holders);
@@ -48,9 +48,9 @@ module _ {C : Type 0} (name : C → ℕ) (counts : C → Counts) (about : About)
       }
 
   -- and one worker more
-  pub gathered_more : (workers : List (Worker C)) (pass : Pass) (records : List MatchRecord) (choosers : List C) (worker : Worker C) (turn : Turn C) →
-      IsGathered name counts about plan workers pass records choosers → IsTurn name counts about plan worker turn →
-      IsGathered name counts about plan (workers ++ worker ∷ []) (joined pass turn.pass) (records ++ turn.records.items) (choosers ++ turn.chooser ∷ [])
+  pub gathered_more : (workers : List (Worker C)) (pass : Pass) (records : List Played) (choosers : List C) (worker : Worker C) (turn : Turn C) →
+      IsGathered name counts noted about plan workers pass records choosers → IsTurn name counts noted about plan worker turn →
+      IsGathered name counts noted about plan (workers ++ worker ∷ []) (joined pass turn.pass) (records ++ turn.records.items) (choosers ++ turn.chooser ∷ [])
   gathered_more workers pass records choosers worker turn so_far is =
       let played = turn.records.items in
       let count = length plan.matches in
@@ -73,7 +73,7 @@ module _ {C : Type 0} (name : C → ℕ) (counts : C → Counts) (about : About)
             ∙ sym (map-append number_of records played);
         past =
             omega (arith, so_far.past, is.past, length-append records played, length-append pass.numbers turn.pass.numbers);
-        are = All-both (IsRecordIn about plan) records played so_far.are is.are;
+        are = All-both (IsRecordIn noted about plan) records played so_far.are is.are;
         named =
             map-append name choosers (turn.chooser ∷ [])
             ∙ ap (λ l. l ++ name turn.chooser ∷ []) so_far.named
@@ -102,19 +102,19 @@ module _ {C : Type 0} (name : C → ℕ) (counts : C → Counts) (about : About)
       }
 
   -- the first of the results that are left is that of the first of the workers that are left
-  turn_next : (left : List (Worker C)) (turn : Turn C) (rest : List (Result (Turn C) Memory)) → AreTurns name counts about plan left (Ok turn ∷ rest) →
-      (worker : Worker C) × (others : List (Worker C)) × (left ≡ worker ∷ others) × IsTurn name counts about plan worker turn × AreTurns name counts about plan others rest
+  turn_next : (left : List (Worker C)) (turn : Turn C) (rest : List (Result (Turn C) Memory)) → AreTurns name counts noted about plan left (Ok turn ∷ rest) →
+      (worker : Worker C) × (others : List (Worker C)) × (left ≡ worker ∷ others) × IsTurn name counts noted about plan worker turn × AreTurns name counts noted about plan others rest
   turn_next [] turn rest are = absurd are
   turn_next (worker ∷ others) turn rest are = (worker, others, refl, are.0, are.1)
 
-  none_left : (left : List (Worker C)) → AreTurns name counts about plan left [] → left ≡ []
+  none_left : (left : List (Worker C)) → AreTurns name counts noted about plan left [] → left ≡ []
   none_left [] are = refl
   none_left (worker ∷ left) are = absurd are
 
   pub gathers_first : (workers : List (Worker C)) (turn : Turn C) (rest : List (Result (Turn C) Memory)) (g : Gathered C) →
-      AreTurns name counts about plan workers (Ok turn ∷ rest) →
+      AreTurns name counts noted about plan workers (Ok turn ∷ rest) →
       g.pass ≡ turn.pass → g.records.items ≡ turn.records.items → g.choosers.items ≡ turn.chooser ∷ [] →
-      Gathers name counts about plan workers rest g
+      Gathers name counts noted about plan workers rest g
   gathers_first workers turn rest g are pass records choosers =
       let next = turn_next workers turn rest are in (
         next.0 ∷ [],
@@ -125,9 +125,9 @@ module _ {C : Type 0} (name : C → ℕ) (counts : C → Counts) (about : About)
       )
 
   pub gathers_more : (workers : List (Worker C)) (turn : Turn C) (rest : List (Result (Turn C) Memory)) (g g' : Gathered C) →
-      Gathers name counts about plan workers (Ok turn ∷ rest) g →
+      Gathers name counts noted about plan workers (Ok turn ∷ rest) g →
       g'.pass ≡ joined g.pass turn.pass → g'.records.items ≡ g.records.items ++ turn.records.items → g'.choosers.items ≡ g.choosers.items ++ turn.chooser ∷ [] →
-      Gathers name counts about plan workers rest g'
+      Gathers name counts noted about plan workers rest g'
   gathers_more workers turn rest g g' so_far pass records choosers =
       let next = turn_next so_far.1 turn rest so_far.3 in (
         so_far.0 ++ next.0 ∷ [],
@@ -137,16 +137,16 @@ module _ {C : Type 0} (name : C → ℕ) (counts : C → Counts) (about : About)
         rw (pass, records, choosers) (gathered_more so_far.0 g.pass g.records.items g.choosers.items next.0 turn so_far.4 next.3),
       )
 
-  pub gathers_all : (workers : List (Worker C)) (g : Gathered C) → Gathers name counts about plan workers [] g →
-      IsGathered name counts about plan workers g.pass g.records.items g.choosers.items
+  pub gathers_all : (workers : List (Worker C)) (g : Gathered C) → Gathers name counts noted about plan workers [] g →
+      IsGathered name counts noted about plan workers g.pass g.records.items g.choosers.items
   gathers_all workers g so_far =
       let all : workers ≡ so_far.0 = so_far.2 ∙ ap (λ l. so_far.0 ++ l) (none_left so_far.1 so_far.3) ∙ append-nil so_far.0 in
       rw all so_far.4
 
   -- what is known of each place is known of the two lists
   pub turns_from_index : (workers : List (Worker C)) (results : List (Result (Turn C) Memory)) → length results ≡ length workers →
-      ((i : ℕ) (w : Worker C) (r : Result (Turn C) Memory) → i < length workers → IfOk (slice_index_or results i r) (IsTurn name counts about plan (slice_index_or workers i w))) →
-      AreTurns name counts about plan workers results
+      ((i : ℕ) (w : Worker C) (r : Result (Turn C) Memory) → i < length workers → IfOk (slice_index_or results i r) (IsTurn name counts noted about plan (slice_index_or workers i w))) →
+      AreTurns name counts noted about plan workers results
   turns_from_index [] [] same each = tt
   turns_from_index [] (r ∷ rs) same each = absurd (omega (arith, same))
   turns_from_index (w ∷ ws) [] same each = absurd (omega (arith, same))
@@ -154,13 +154,13 @@ module _ {C : Type 0} (name : C → ℕ) (counts : C → Counts) (about : About)
       one w ws r rs (each 0 w r (omega arith)) (turns_from_index ws rs (omega (arith, same)) (λ i u e l. each (suc i) u e (omega (arith, l))))
     where
       one : (w : Worker C) (ws : List (Worker C)) (r : Result (Turn C) Memory) (rs : List (Result (Turn C) Memory)) →
-          IfOk r (IsTurn name counts about plan w) → AreTurns name counts about plan ws rs → AreTurns name counts about plan (w ∷ ws) (r ∷ rs)
+          IfOk r (IsTurn name counts noted about plan w) → AreTurns name counts noted about plan ws rs → AreTurns name counts noted about plan (w ∷ ws) (r ∷ rs)
       one w ws (Ok turn) rs known rest = (known, rest)
       one w ws (Err lack) rs known rest = rest
 
   -- the passes of turns draw from the word that the workers' passes draw from
   pub own_turns : (table : TableId) (workers : List (Worker C)) (results : List (Result (Turn C) Memory)) → AllByRecursion (λ (w : Worker C). w.pass.table ≡ table) workers →
-      AreTurns name counts about plan workers results → AllByRecursion (IsOwn table) results
+      AreTurns name counts noted about plan workers results → AllByRecursion (IsOwn table) results
   own_turns table [] [] own are = tt
   own_turns table [] (r ∷ rs) own are = absurd are
   own_turns table (w ∷ ws) [] own are = absurd are

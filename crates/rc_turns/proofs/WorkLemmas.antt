@@ -1,20 +1,21 @@
 -- A worker's matches, one after the other.
-use Rattle.std.proofs.Common.{◌≡◌, ℕ, ◌<◌, ◌≤◌, List, [], ◌∷◌, length, length-append, map, All, Option, Some, None, option_map, unwrap_or, Result, Ok, Err, IfOk, OnOk, refl, sym, ap, ◌∙◌, arith}
+use Rattle.std.proofs.Common.{◌≡◌, ℕ, ◌<◌, ◌≤◌, Bool, List, [], ◌∷◌, length, length-append, map, All, Option, Some, None, option_map, unwrap_or, Result, Ok, Err, IfOk, OnOk, refl, sym, ap, ◌∙◌, subst, arith}
 use Rattle.std.specs.List.{AllByRecursion}
 use Rattle.std.proofs.lemmas.List.{length-map}
 use Rattle.rc_play_model.specs.About.{About}
 use Rattle.rc_deck.specs.declared.memory.Memory.{Memory}
 use Rattle.rc_model.specs.Transcript.{Record}
 use Rattle.rc_play_model.specs.Plan.{Plan, deal_at}
-use Rattle.rc_play_model.specs.Play.{Played}
+use Rattle.rc_play_model.specs.Play.{Played as Play}
 use Rattle.rc_play_model.specs.Keyed.{keyed_match, keyed_play}
 use Rattle.rc_play_model.specs.Scores.{record_of}
-use Rattle.rc_rules.specs.Record.{record_seen}
-use Rattle.rc_rules.specs.declared.record.MatchRecord.{MatchRecord}
+use Rattle.rc_match.specs.declared.playing.Played.{Played}
 use Rattle.rc_redraw.specs.Asking.{Key}
 use Rattle.rc_redraw.specs.Counts.{Counts}
 use Rattle.rc_redraw.specs.Choosing.{AsksAll}
+use Rattle.rc_match.specs.Named.{IsNoted}
 use Rattle.rc_match.proofs.AskLemmas.{looks_rise, keeps_rise}
+use Rattle.rc_records.specs.Series.{played_seen}
 use Rattle.rc_claims.specs.Claims.{Pass, with_number}
 use Rattle.rc_turns.specs.Turns.{IsRecordIn, number_of, asked_by_all, Rise, IsWork}
 use Rattle.rc_turns.proofs.NumberLemmas.{counted_before}
@@ -26,12 +27,12 @@ keys_rise keys before after steps steps' asked =
     record { looked = looks_rise keys before after steps steps' asked; hit = keeps.0; kept = keeps.1 }
 
 -- a claim behind which nothing is left
-pub worked : (about : About) (plan : Plan) (before pass after : Pass) (name name' : ℕ) (asked asked' : Counts) (records : List MatchRecord) (last : ℕ) →
+pub worked : (noted : Bool) (about : About) (plan : Plan) (before pass after : Pass) (name name' : ℕ) (asked asked' : Counts) (records : List Played) (last : ℕ) →
     pass.table ≡ before.table → pass.holders ≡ before.holders → pass.numbers ≡ map number_of records →
     All (λ n. n < length plan.matches) pass.numbers → length plan.matches ≤ last → after ≡ with_number pass last →
-    AllByRecursion (IsRecordIn about plan) records → name' ≡ name → Rise (asked_by_all about plan (map number_of records)) asked asked' →
-    IsWork about plan before after name name' asked asked' records
-worked about plan before pass after name name' asked asked' records last own holders numbers all late is are named rise =
+    AllByRecursion (IsRecordIn noted about plan) records → name' ≡ name → Rise (asked_by_all about plan (map number_of records)) asked asked' →
+    IsWork noted about plan before after name name' asked asked' records
+worked noted about plan before pass after name name' asked asked' records last own holders numbers all late is are named rise =
     rw is
     record {
       own = own;
@@ -44,7 +45,7 @@ worked about plan before pass after name name' asked asked' records last own hol
     }
 
 -- the record of a match has its number
-numbered : (about : About) (m deal seats : ℕ) (o : Option (Played ℕ)) →
+numbered : (about : About) (m deal seats : ℕ) (o : Option (Play ℕ)) →
     unwrap_or (option_map (λ (r : Record). r.number) (option_map (record_of about m deal seats) o)) m ≡ m
 numbered about m deal seats None = refl
 numbered about m deal seats (Some p) = refl
@@ -55,18 +56,20 @@ number_is about plan m r is =
     ∙ numbered about m (deal_at plan m).deal (deal_at plan m).seats (keyed_play about plan m)
 
 -- what a match of these gives
-pub numbers_it : (about : About) (plan : Plan) (n : ℕ) (result : Result MatchRecord Memory) →
-    IfOk result (λ r. keyed_match about plan n ≡ Some (record_seen r)) → IfOk result (λ r. r.number ≡ n)
+pub numbers_it : (about : About) (plan : Plan) (n : ℕ) (result : Result Played Memory) →
+    IfOk result (λ p. keyed_match about plan n ≡ Some (played_seen p)) → IfOk result (λ p. p.record.number ≡ n)
 numbers_it about plan n (Err lack) is = tt
-numbers_it about plan n (Ok r) is = number_is about plan n (record_seen r) is
+numbers_it about plan n (Ok p) is = number_is about plan n (played_seen p) is
 
-pub is_record : (about : About) (plan : Plan) (n : ℕ) (result : Result MatchRecord Memory) →
-    IfOk result (λ r. keyed_match about plan n ≡ Some (record_seen r)) → IfOk result (λ r. length r.scores.items ≡ about.sheet.players) →
-    IfOk result (IsRecordIn about plan)
-is_record about plan n (Err lack) is each = tt
-is_record about plan n (Ok r) is each = (ap (keyed_match about plan) (number_is about plan n (record_seen r) is) ∙ is, each)
+pub is_record : (noted : Bool) (about : About) (plan : Plan) (n : ℕ) (result : Result Played Memory) →
+    IfOk result (λ p. keyed_match about plan n ≡ Some (played_seen p)) → IfOk result (λ p. length p.record.scores.items ≡ about.sheet.players) →
+    IfOk result (IsNoted noted about plan n) → IfOk result (IsRecordIn noted about plan)
+is_record noted about plan n (Err lack) is each bounds = tt
+is_record noted about plan n (Ok p) is each bounds =
+    let number = number_is about plan n (played_seen p) is in
+    (ap (keyed_match about plan) number ∙ is, each, subst (λ m. IsNoted noted about plan m p) (sym number) bounds)
 
-pub rises_so : (keys : List Key) (result : Result MatchRecord Memory) (before after : Counts) (s s' : ℕ) →
+pub rises_so : (keys : List Key) (result : Result Played Memory) (before after : Counts) (s s' : ℕ) →
     OnOk result (AsksAll keys before after s s') → OnOk result (Rise (length keys) before after)
 rises_so keys (Err lack) before after s s' asked = tt
-rises_so keys (Ok r) before after s s' asked = keys_rise keys before after s s' asked
+rises_so keys (Ok p) before after s s' asked = keys_rise keys before after s s' asked

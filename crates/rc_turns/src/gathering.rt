@@ -1,5 +1,5 @@
 //! What all workers did is put together.
-ghost use Rattle.std.specs.Prelude.{◌≡◌, ◌<◌, ◌++◌, ◌∷◌, [], List, length, IfOk};
+ghost use Rattle.std.specs.Prelude.{◌≡◌, ◌<◌, ◌++◌, ◌∷◌, [], Bool, List, length, IfOk};
 ghost use Rattle.std.specs.List.{AllByRecursion};
 ghost use Rattle.rc_play_model.specs.About.{About};
 ghost use Rattle.rc_play_model.specs.Plan.{Plan};
@@ -10,15 +10,15 @@ ghost use Rattle.rc_turns.specs.Gathered.{AreTurns, IsGathered, IsOwn};
 use crate::turn::Turn;
 use rc_claims::{Claims, Pass};
 use rc_deck::Memory;
+use rc_match::Played;
 use rc_redraw::Chooser;
-use rc_rules::MatchRecord;
 use std::alloc::Global;
 
 /// What some workers have together: the passes as one, all records, and the choosers in the order of the workers.
 #[derive(Drop)]
 pub(crate) struct Gathered<C: Drop> {
     pub(crate) pass: Pass,
-    pub(crate) records: Vec<MatchRecord>,
+    pub(crate) records: Vec<Played>,
     pub(crate) choosers: Vec<C>,
 }
 
@@ -31,8 +31,8 @@ pub(crate) fn gather<C: Chooser + Drop>(
     requires some { 0 < length turns.items }
     requires own { AllByRecursion (IsOwn claims.now.table) turns.items }
     ensures own { IfOk result (λ g. g.pass.table ≡ claims.now.table) }
-    ensures gathered { IfOk result (λ g. (about : About) (plan : Plan) (workers : List (Worker C)) → AreTurns C.name C.counts about plan workers turns.items
-        → IsGathered C.name C.counts about plan workers g.pass g.records.items g.choosers.items) }
+    ensures gathered { IfOk result (λ g. (noted : Bool) (about : About) (plan : Plan) (workers : List (Worker C)) → AreTurns C.name C.counts noted about plan workers turns.items
+        → IsGathered C.name C.counts noted about plan workers g.pass g.records.items g.choosers.items) }
 {
     let mut rest = turns;
     let mut gathered = match rest.remove(0) {

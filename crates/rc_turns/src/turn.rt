@@ -10,10 +10,11 @@ ghost use Rattle.rc_turns.specs.Turns.{IsRecordIn, IsTurn, IsWork, Rise};
 use rc_claims::{Claims, Pass};
 use rc_code::Code;
 use rc_deck::Memory;
+use rc_match::Played;
 use rc_outside::Gate;
 use rc_records::record_of;
 use rc_redraw::Chooser;
-use rc_rules::{About, MatchRecord, Plan};
+use rc_rules::{About, Plan};
 use rc_steps::Steps;
 use std::alloc::Global;
 use std::marker::Brand;
@@ -31,7 +32,7 @@ pub(crate) struct Worker<C: Drop> {
 #[derive(Drop)]
 pub(crate) struct Turn<C: Drop> {
     pub(crate) pass: Pass,
-    pub(crate) records: Vec<MatchRecord>,
+    pub(crate) records: Vec<Played>,
     pub(crate) chooser: C,
 }
 
@@ -41,6 +42,7 @@ pub(crate) fn take_turn<C: Chooser + Drop, G: Gate>(
     about: &Arc<About>,
     plan: &Arc<Plan>,
     code: &Arc<Code>,
+    noted: bool,
     claims: &Claims,
     gate: &G,
     worker: Worker<C>,
@@ -51,13 +53,14 @@ pub(crate) fn take_turn<C: Chooser + Drop, G: Gate>(
     requires seats { length plan.now.value.strategies.items ≡ about.now.value.sheet.players }
     requires served { C.serves worker.chooser about.now.value }
     requires code { StandsFor about.now.value.sheet (code_seen code.now.value) }
-    ensures { IfOk result (IsTurn C.name C.counts about.now.value (plan_seen plan.now.value) worker) }
+    ensures { IfOk result (IsTurn C.name C.counts noted about.now.value (plan_seen plan.now.value) worker) }
 {
     counted_turn::<C, G, Brand>(
         alloc,
         about,
         plan,
         code,
+        noted,
         claims,
         gate,
         worker,
@@ -71,6 +74,7 @@ fn counted_turn<C: Chooser + Drop, G: Gate, L: Ledger>(
     about: &Arc<About>,
     plan: &Arc<Plan>,
     code: &Arc<Code>,
+    noted: bool,
     claims: &Claims,
     gate: &G,
     worker: Worker<C>,
@@ -85,7 +89,7 @@ fn counted_turn<C: Chooser + Drop, G: Gate, L: Ledger>(
     requires seats { length plan.now.value.strategies.items ≡ about.now.value.sheet.players }
     requires served { C.serves worker.chooser about.now.value }
     requires code { StandsFor about.now.value.sheet (code_seen code.now.value) }
-    ensures { IfOk result (IsTurn C.name C.counts about.now.value (plan_seen plan.now.value) worker) }
+    ensures { IfOk result (IsTurn C.name C.counts noted about.now.value (plan_seen plan.now.value) worker) }
 {
     let Worker {
         mut pass,
@@ -97,6 +101,7 @@ fn counted_turn<C: Chooser + Drop, G: Gate, L: Ledger>(
         about,
         plan,
         code,
+        noted,
         claims,
         gate,
         &mut pass,
@@ -119,25 +124,26 @@ fn work<C: Chooser, G: Gate, L: Ledger>(
     about: &Arc<About>,
     plan: &Arc<Plan>,
     code: &Arc<Code>,
+    noted: bool,
     claims: &Claims,
     gate: &G,
     pass: &mut Pass,
     chooser: &mut C,
     steps: &mut Steps<L>,
-) -> Result<Vec<MatchRecord>, Memory>
+) -> Result<Vec<Played>, Memory>
     requires own { pass.old.table ≡ claims.now.table }
     requires none { pass.old.numbers ≡ [] }
     requires count { claims.now.count ≡ length plan.now.value.matches.items }
     requires seats { length plan.now.value.strategies.items ≡ about.now.value.sheet.players }
     requires served { C.serves chooser.old about.now.value }
     requires code { StandsFor about.now.value.sheet (code_seen code.now.value) }
-    ensures { IfOk result (λ records. IsWork about.now.value (plan_seen plan.now.value) pass.old pass.new (C.name chooser.old) (C.name chooser.new)
+    ensures { IfOk result (λ records. IsWork noted about.now.value (plan_seen plan.now.value) pass.old pass.new (C.name chooser.old) (C.name chooser.new)
         (C.counts chooser.old) (C.counts chooser.new) records.items) }
 {
     let mut records = Vec::new(alloc);
     while let Some(number) = claims.claim(pass) {
         gate.enter(number);
-        let record = match play(alloc, about, plan, code, number, chooser, steps) {
+        let record = match play(alloc, about, plan, code, number, noted, chooser, steps) {
             Ok(record) => record,
             Err(Memory) => return Err(Memory),
         };
@@ -156,18 +162,19 @@ fn play<C: Chooser, L: Ledger>(
     plan: &Arc<Plan>,
     code: &Arc<Code>,
     number: u32,
+    noted: bool,
     chooser: &mut C,
     steps: &mut Steps<L>,
-) -> Result<MatchRecord, Memory>
+) -> Result<Played, Memory>
     requires served { C.serves chooser.old about.now.value }
     requires code { StandsFor about.now.value.sheet (code_seen code.now.value) }
     requires number { number < length plan.now.value.matches.items }
     requires seats { length plan.now.value.strategies.items ≡ about.now.value.sheet.players }
-    ensures number { IfOk result (λ r. r.number ≡ number) }
-    ensures is { IfOk result (IsRecordIn about.now.value (plan_seen plan.now.value)) }
+    ensures number { IfOk result (λ p. p.record.number ≡ number) }
+    ensures is { IfOk result (IsRecordIn noted about.now.value (plan_seen plan.now.value)) }
     ensures rise { OnOk result (Rise (length (asks_of about.now.value (plan_seen plan.now.value) number)) (C.counts chooser.old) (C.counts chooser.new)) }
     ensures same { (other : PureAbout) → C.serves chooser.old other → C.serves chooser.new other }
     ensures named { C.name chooser.new ≡ C.name chooser.old }
 {
-    record_of(alloc, about, plan, code, number, chooser, steps)
+    record_of(alloc, about, plan, code, number, noted, chooser, steps)
 }

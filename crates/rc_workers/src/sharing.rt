@@ -2,41 +2,43 @@
 ghost use Rattle.std.specs.Prelude.{◌≡◌, ◌≤◌, length, map, All, IfOk};
 ghost use Rattle.rc_model.specs.Limits.{most_matches, most_workers};
 ghost use Rattle.rc_rules.specs.Plan.{plan_seen};
-ghost use Rattle.rc_rules.specs.Record.{record_seen};
 ghost use Rattle.rc_cache.specs.Memos.{shared_counts};
-ghost use Rattle.rc_records.specs.Series.{looks_of, matches_of};
+ghost use Rattle.rc_records.specs.Series.{IsNotedAs, looks_of, matches_of, played_seen};
 ghost use Rattle.rc_turns.specs.Gathered.{RiseTogether};
 
 use rc_cache::{Book, BookNaming, Lane, SharedBook};
 use rc_code::Code;
 use rc_deck::Memory;
+use rc_match::Played;
 use rc_outside::Gate;
 use rc_rollout::{Choices, shared_code};
-use rc_rules::{About, MatchRecord, Plan};
+use rc_rules::{About, Plan};
 use rc_turns::play_claimed;
 use std::alloc::Global;
 use std::sync::{Arc, Mutex, Wait};
 use std::thread::Threads;
 
 /// Plays every match of a plan, with one worker for each lane to the book, on code that is made of the sheet once. The records are
-/// those of the matches, in order. The lanes come back in the order of the memos, each by its number, and their counts rise together
-/// by what the matches ask: each decision that asks for totals is one look, and each look hits, or is followed by a keep. Memory may
+/// those of the matches, in order, with what their choices bind, where that is to be noted. The lanes come back in the order of the
+/// memos, each by its number, and their counts rise together by what the matches ask: each decision that asks for totals is one look, and each look hits, or is followed by a keep. Memory may
 /// run out.
 pub fn play_shared<'a, N: BookNaming + Send + Sync, R: Threads + Wait + Sync, G: Gate>(
     rt: &R,
     alloc: Global,
     about: &Arc<About>,
     plan: &Arc<Plan>,
+    noted: bool,
     memos: Vec<SharedBook<'a, N, R>>,
     gate: &G,
-) -> Result<(Vec<MatchRecord>, Vec<Lane<N>>), Memory>
+) -> Result<(Vec<Played>, Vec<Lane<N>>), Memory>
     requires about { N.about ≡ about.now.value }
     requires matches { (1 ≤ length plan.now.value.matches.items) × (length plan.now.value.matches.items ≤ most_matches) }
     requires seats { length plan.now.value.strategies.items ≡ about.now.value.sheet.players }
     requires memos { (1 ≤ length memos.items) × (length memos.items ≤ most_workers) }
-    ensures records { IfOk result (λ r. map record_seen r.0.items ≡ matches_of about.now.value (plan_seen plan.now.value)) }
+    ensures records { IfOk result (λ r. map played_seen r.0.items ≡ matches_of about.now.value (plan_seen plan.now.value)) }
     ensures count { IfOk result (λ r. length r.0.items ≡ length plan.now.value.matches.items) }
-    ensures each { IfOk result (λ r. All (λ played. length played.scores.items ≡ about.now.value.sheet.players) r.0.items) }
+    ensures each { IfOk result (λ r. All (λ p. length p.record.scores.items ≡ about.now.value.sheet.players) r.0.items) }
+    ensures noted { IfOk result (λ r. All (IsNotedAs noted about.now.value (plan_seen plan.now.value)) r.0.items) }
     ensures rise { IfOk result (λ r. RiseTogether (length (looks_of about.now.value (plan_seen plan.now.value)))
         (map shared_counts memos.entry.items) (map shared_counts r.1.items)) }
     ensures lanes { IfOk result (λ r. length r.1.items ≡ length memos.entry.items) }
@@ -50,7 +52,9 @@ pub fn play_shared<'a, N: BookNaming + Send + Sync, R: Threads + Wait + Sync, G:
         Ok(choosers) => choosers,
         Err(Memory) => return Err(Memory),
     };
-    let (records, choosers) = match play_claimed(rt, alloc, about, plan, &code, choosers, gate) {
+    let (records, choosers) = match play_claimed(
+        rt, alloc, about, plan, &code, noted, choosers, gate,
+    ) {
         Ok(played) => played,
         Err(Memory) => return Err(Memory),
     };

@@ -3,20 +3,24 @@ use Rattle.std.proofs.lemmas.List.{length-append}
 use Rattle.std.proofs.lemmas.List.Elements.{All-push, All-nil}
 use Rattle.rc_redraw.specs.Choosing.{AsksAll}
 use Rattle.rc_rules.specs.Plan.{plan_seen}
-use Rattle.rc_rules.specs.Record.{record_seen}
 use Rattle.rc_match.specs.Asks.{asks_of}
 use Rattle.rc_match.proofs.AskLemmas.{all_some, anyway}
-use Rattle.rc_records.specs.Series.{looks_below}
+use Rattle.rc_records.specs.Series.{IsNotedAs, looks_below, played_seen}
+use Rattle.rc_records.proofs.NamedLemmas.{noted_as}
 use Rattle.rc_records.proofs.SeriesLemmas.{asked_more, told_more, stopped_in}
 use Rattle.rc_records.proofs.records.records_of.Goals as goal
 
 pub loop-number-init : goal.loop-number-init
 loop-number-init g c = record {
-  are = ap (map record_seen) c.new-records.ensures.items;
+  are = ap (map played_seen) c.new-records.ensures.items;
   count = ap length c.new-records.ensures.items;
   each =
-      let each : All (λ r. length r.scores.items ≡ c.args.about.now.value.sheet.players) [] = All-nil _ in
-      subst (All (λ r. length r.scores.items ≡ c.args.about.now.value.sheet.players)) (sym c.new-records.ensures.items) each;
+      let each : All (λ p. length p.record.scores.items ≡ c.args.about.now.value.sheet.players) [] = All-nil _ in
+      subst (All (λ p. length p.record.scores.items ≡ c.args.about.now.value.sheet.players)) (sym c.new-records.ensures.items) each;
+  noted =
+      let none : All (IsNotedAs c.args.noted c.args.about.now.value (plan_seen c.args.plan.now.value)) [] =
+      All-nil (IsNotedAs c.args.noted c.args.about.now.value (plan_seen c.args.plan.now.value)) in
+      subst (All (IsNotedAs c.args.noted c.args.about.now.value (plan_seen c.args.plan.now.value))) (sym c.new-records.ensures.items) none;
   served = c.requires.served;
   asked = (refl, refl);
 }
@@ -32,12 +36,16 @@ loop-number-preserved g c =
     let more = ap length c.in_ok-push.ensures.items ∙ length-append told (c.in_ok-played.played ∷ []) in
     record {
       are =
-          ap (map record_seen) c.in_ok-push.ensures.items
+          ap (map played_seen) c.in_ok-push.ensures.items
           ∙ told_more about plan c.loop-number.number told c.in_ok-played.played c.in_ok-played.ensures.is c.loop-number.invariant.are;
       count = omega (arith, c.loop-number.invariant.count, more);
       each =
-          subst (All (λ r. length r.scores.items ≡ c.args.about.now.value.sheet.players)) (sym c.in_ok-push.ensures.items)
-          (All-push (λ r. length r.scores.items ≡ c.args.about.now.value.sheet.players) told c.in_ok-played.played c.loop-number.invariant.each c.in_ok-played.ensures.each);
+          subst (All (λ p. length p.record.scores.items ≡ c.args.about.now.value.sheet.players)) (sym c.in_ok-push.ensures.items)
+          (All-push (λ p. length p.record.scores.items ≡ c.args.about.now.value.sheet.players) told c.in_ok-played.played c.loop-number.invariant.each c.in_ok-played.ensures.each);
+      noted =
+          subst (All (IsNotedAs c.args.noted about plan)) (sym c.in_ok-push.ensures.items)
+          (All-push (IsNotedAs c.args.noted about plan) told c.in_ok-played.played c.loop-number.invariant.noted
+          (noted_as about plan c.args.noted c.loop-number.number c.in_ok-played.played c.in_ok-played.ensures.is c.in_ok-played.ensures.noted));
       served = c.in_ok-played.ensures.same about c.loop-number.invariant.served;
       asked =
           asked_more about plan c.loop-number.number (g.C.Chooser.counts c.args.chooser.now) (g.C.Chooser.counts c.loop-number.chooser) (g.C.Chooser.counts c.record_of.new.chooser)

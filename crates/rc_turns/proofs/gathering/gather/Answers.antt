@@ -15,9 +15,9 @@ loop-rest-init g c =
       own = own.1;
       pass = ap (λ p. p.table) is.0 ∙ own.0;
       so_far =
-          λ about plan workers are.
-          gathers_first g.C.Chooser.name g.C.Chooser.counts about plan workers turn rest c.in-Ok-begin.gathered
-          (subst (AreTurns g.C.Chooser.name g.C.Chooser.counts about plan workers) split are) is.0 is.1 is.2;
+          λ noted about plan workers are.
+          gathers_first g.C.Chooser.name g.C.Chooser.counts noted about plan workers turn rest c.in-Ok-begin.gathered
+          (subst (AreTurns g.C.Chooser.name g.C.Chooser.counts noted about plan workers) split are) is.0 is.1 is.2;
     }
 
 pub loop-rest-preserved : goal.loop-rest-preserved
@@ -31,14 +31,14 @@ loop-rest-preserved g c =
       own = own.1;
       pass = ap (λ p. p.table) is.pass ∙ c.loop-rest.invariant.pass;
       so_far =
-          λ about plan workers are.
-          gathers_more g.C.Chooser.name g.C.Chooser.counts about plan workers turn rest c.loop-rest.gathered c.in-Ok-add.more
-          (subst (λ left. Gathers g.C.Chooser.name g.C.Chooser.counts about plan workers left c.loop-rest.gathered) split (c.loop-rest.invariant.so_far about plan workers are))
+          λ noted about plan workers are.
+          gathers_more g.C.Chooser.name g.C.Chooser.counts noted about plan workers turn rest c.loop-rest.gathered c.in-Ok-add.more
+          (subst (λ left. Gathers g.C.Chooser.name g.C.Chooser.counts noted about plan workers left c.loop-rest.gathered) split (c.loop-rest.invariant.so_far noted about plan workers are))
           is.pass is.records is.choosers;
     }
 
 pub returns-clause-gathered : goal.returns-clause-gathered
-returns-clause-gathered g c about plan workers are =
+returns-clause-gathered g c noted about plan workers are =
     let none : c.loop-rest.rest.items ≡ [] = nothing_left c.loop-rest.rest.items (search rules) in
-    gathers_all g.C.Chooser.name g.C.Chooser.counts about plan workers c.loop-rest.gathered
-    (subst (λ left. Gathers g.C.Chooser.name g.C.Chooser.counts about plan workers left c.loop-rest.gathered) none (c.loop-rest.invariant.so_far about plan workers are))
+    gathers_all g.C.Chooser.name g.C.Chooser.counts noted about plan workers c.loop-rest.gathered
+    (subst (λ left. Gathers g.C.Chooser.name g.C.Chooser.counts noted about plan workers left c.loop-rest.gathered) none (c.loop-rest.invariant.so_far noted about plan workers are))

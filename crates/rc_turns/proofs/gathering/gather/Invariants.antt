@@ -1,4 +1,4 @@
-use Rattle.std.proofs.Common.{◌≡◌, List, length}
+use Rattle.std.proofs.Common.{◌≡◌, Bool, List, length}
 use Rattle.std.specs.List.{AllByRecursion}
 use Rattle.rc_play_model.specs.About.{About}
 use Rattle.rc_play_model.specs.Plan.{Plan}
@@ -12,8 +12,8 @@ invariant-loop-rest g l =
       own : AllByRecursion (IsOwn l.claims.table) l.rest.items;
       pass : l.gathered.pass.table ≡ l.claims.table;
       so_far :
-          (about : About) (plan : Plan) (workers : List (Worker g.row.C.Denot)) → AreTurns g.C.Chooser.name g.C.Chooser.counts about plan workers l.fn.turns.items →
-          Gathers g.C.Chooser.name g.C.Chooser.counts about plan workers l.rest.items l.gathered;
+          (noted : Bool) (about : About) (plan : Plan) (workers : List (Worker g.row.C.Denot)) → AreTurns g.C.Chooser.name g.C.Chooser.counts noted about plan workers l.fn.turns.items →
+          Gathers g.C.Chooser.name g.C.Chooser.counts noted about plan workers l.rest.items l.gathered;
     }
 
 abbrev pub decreases-loop-rest : goal.decreases-loop-rest

@@ -9,7 +9,7 @@ returns-clause-number g c =
 
 pub returns-clause-is : goal.returns-clause-is
 returns-clause-is g c =
-    is_record c.args.about.now.value (plan_seen c.args.plan.now.value) c.args.number c.record_of.result c.record_of.ensures.is c.record_of.ensures.each
+    is_record c.args.noted c.args.about.now.value (plan_seen c.args.plan.now.value) c.args.number c.record_of.result c.record_of.ensures.is c.record_of.ensures.each c.record_of.ensures.noted
 
 pub returns-clause-rise : goal.returns-clause-rise
 returns-clause-rise g c =

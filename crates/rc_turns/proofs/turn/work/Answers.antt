@@ -11,7 +11,7 @@ returns g c =
     let same : c.args.claims.now.count ≡ length plan.matches = c.requires.count ∙ sym (length-map stored.matches.items deal_seen) in
     let is = c.loop-number.invariant in
     let none = c.in_default.ensures.none in
-    worked c.args.about.now.value plan c.args.pass.now c.loop-number.pass c.claim.new.pass
+    worked c.args.noted c.args.about.now.value plan c.args.pass.now c.loop-number.pass c.claim.new.pass
     (g.C.Chooser.name c.args.chooser.now) (g.C.Chooser.name c.loop-number.chooser)
     (g.C.Chooser.counts c.args.chooser.now) (g.C.Chooser.counts c.loop-number.chooser) c.loop-number.records.items none.0
     (is.own ∙ sym c.requires.own) is.holders is.numbers

@@ -11,7 +11,7 @@ invariant-loop-number g l =
       holders : l.pass.holders ≡ l.fn.pass.holders;
       counted : All (λ n. n < l.claims.count) l.pass.numbers;
       numbers : l.pass.numbers ≡ map number_of l.records.items;
-      are : AllByRecursion (IsRecordIn l.about.value (plan_seen l.plan.value)) l.records.items;
+      are : AllByRecursion (IsRecordIn l.noted l.about.value (plan_seen l.plan.value)) l.records.items;
       served : g.C.Chooser.serves l.chooser l.about.value;
       named : g.C.Chooser.name l.chooser ≡ g.C.Chooser.name l.fn.chooser;
       rise : Rise (asked_by_all l.about.value (plan_seen l.plan.value) (map number_of l.records.items)) (g.C.Chooser.counts l.fn.chooser) (g.C.Chooser.counts l.chooser);

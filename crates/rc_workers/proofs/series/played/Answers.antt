@@ -1,8 +1,10 @@
 use Rattle.std.proofs.Common.{◌<◌, ◌≤◌, length, map, sym, ap, ◌∙◌, subst, arith}
+use Rattle.rc_play_model.specs.House.{standings_of}
 use Rattle.rc_rules.specs.Plan.{plan_seen}
 use Rattle.rc_cache.specs.Memos.{shared_counts}
-use Rattle.rc_records.specs.Series.{looks_of}
+use Rattle.rc_records.specs.Series.{looks_of, played_seen}
 use Rattle.rc_turns.specs.Gathered.{RiseTogether}
+use Rattle.rc_records.proofs.NamedLemmas.{all_told}
 use Rattle.rc_workers.proofs.LaneLemmas.{idle_count, all_looked, all_answered, some_missed}
 use Rattle.rc_workers.proofs.series.played.Goals as goal
 
@@ -52,3 +54,24 @@ returns-clause-missed g c =
     let keeps = c.close-totals.ensures.keeps.1 in
     subst (λ t. 0 < t.looks → t.hits < t.looks) (sym c.in-Ok-told.ensures.totals)
     (some_missed c.close-totals.result.looks c.close-totals.result.hits c.close-totals.result.keeps (omega (arith, looked, answered, hits, keeps)) c.close-totals.ensures.unkept)
+
+pub returns-clause-matches : goal.returns-clause-matches
+returns-clause-matches g c =
+    let about = c.args.about.now.value in
+    let plan = plan_seen c.args.plan.now.value in
+    (all_told about plan c.args.noted c.in-Ok-play_shared.played.0.items c.in-Ok-told.series.named c.in-Ok-play_shared.ensures.records
+    c.in-Ok-play_shared.ensures.noted c.in-Ok-told.ensures.matches (c.in-Ok-told.ensures.standings ∙ ap (λ p. standings_of (plan_seen p) (map played_seen c.in-Ok-play_shared.played.0.items)) c.deref-2.ensures) c.in-Ok-told.ensures.bounds).0
+
+pub returns-clause-standings : goal.returns-clause-standings
+returns-clause-standings g c =
+    let about = c.args.about.now.value in
+    let plan = plan_seen c.args.plan.now.value in
+    (all_told about plan c.args.noted c.in-Ok-play_shared.played.0.items c.in-Ok-told.series.named c.in-Ok-play_shared.ensures.records
+    c.in-Ok-play_shared.ensures.noted c.in-Ok-told.ensures.matches (c.in-Ok-told.ensures.standings ∙ ap (λ p. standings_of (plan_seen p) (map played_seen c.in-Ok-play_shared.played.0.items)) c.deref-2.ensures) c.in-Ok-told.ensures.bounds).1
+
+pub returns-clause-named : goal.returns-clause-named
+returns-clause-named g c =
+    let about = c.args.about.now.value in
+    let plan = plan_seen c.args.plan.now.value in
+    (all_told about plan c.args.noted c.in-Ok-play_shared.played.0.items c.in-Ok-told.series.named c.in-Ok-play_shared.ensures.records
+    c.in-Ok-play_shared.ensures.noted c.in-Ok-told.ensures.matches (c.in-Ok-told.ensures.standings ∙ ap (λ p. standings_of (plan_seen p) (map played_seen c.in-Ok-play_shared.played.0.items)) c.deref-2.ensures) c.in-Ok-told.ensures.bounds).2
