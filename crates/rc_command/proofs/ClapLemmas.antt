@@ -1,47 +1,199 @@
--- What `clap` makes of words that are options: their texts.
-use Rattle.std.proofs.Common.{◌≡◌, ℕ, Bool, true, false, List, [], ◌∷◌, ◌++◌, Option, Some, None, codes, refl, ◌==◌, ◌&&◌, ◌||◌, ◌∙◌, ap, ap₂, fold, if◌then◌else◌, is_some, bytes_eq, inl, inr, sym, subst}
+-- What `clap` makes of words that are options: their texts. The reader goes over the words, and stands behind each option at
+-- rows of the options before.
+use Rattle.std.proofs.Common.{◌≡◌, ℕ, Bool, true, false, not, List, [], ◌∷◌, ◌++◌, map, Option, Some, None, codes, refl, ◌==◌, ◌&&◌, ◌||◌, ◌∙◌, ap, ap₂, fold, if◌then◌else◌, is_some, bytes_eq, inl, inr, sym, subst}
 use Rattle.std.specs.Option.{option_map_or}
 use Rattle.std.specs.List.{list_all}
-use Rattle.std.proofs.lemmas.Option.{none-some}
-use Rattle.std.proofs.lemmas.Bool.{cases_Bool, eqb-true, false≢true}
+use Rattle.std.specs.Prelude.{find, option_and_then, slice_get}
+use Rattle.std.proofs.lemmas.List.{append-nil, append_assoc, map-append}
 use Rattle.clap.specs.Lexer.{long_of, short_of}
-use Rattle.clap.specs.Walk.{Rule, Walk, Held, first_of, finished, walk_from, walked, after_step, plain_word, word_met, long_or_other, short_or_plain, trailing, option, nothing_held}
-use Rattle.clap.specs.Simple.{Shape, built, entered, is_simple, matches_of}
-use Rattle.clap.specs.Takes.{takes, turn_passes, walk_passes, word_passes, flag_word_passes, bundle_passes, entered_passes, settle_passes, default_passes, is_valid, step_passes}
+use Rattle.clap.specs.Walk.{Rule, Row, Walk, Held, first_of, finished, walk_from, walked, after_step, plain_word, word_met, long_or_other, short_or_plain, trailing, option, idle, nothing_held, at_row, used, settled_rows, has_row, with_default, reading_by, arg_by_id, arg_by_long, reacted, settled, more_values, used_by_id}
+use Rattle.clap.specs.Walk as walk_step
+use Rattle.clap.specs.Simple.{Shape, built, entered, filled, is_simple, matches_of}
+use Rattle.clap.specs.Takes.{takes, turn_passes, walk_passes, word_passes, flag_word_passes, bundle_passes, entered_passes, settle_passes, use_passes, react_passes, default_passes, is_valid, step_passes}
+use Rattle.clap.specs.declared.parser.matches.ValueSource.TheVariants.{CommandLine}
 use Rattle.clap.proofs.OnLiterals.{clap_on_literals}
-use Rattle.rc_model.specs.Literal.{natural, is_digit}
-use Rattle.rc_command.specs.Reader.{options_app}
-use Rattle.rc_command.specs.Words.{IsOption, AreOptions, HasNumber}
+use Rattle.rc_command.specs.Reader.{options_app, option_rule}
+use Rattle.rc_command.specs.declared.option.OptionName.{OptionName}
+use Rattle.rc_command.specs.declared.option.OptionName.TheVariants.{Workers, Cache, Format}
+use Rattle.rc_command.specs.declared.reader.Playing.{Playing}
+use Rattle.rc_command.specs.declared.reader.Playing.TheVariants.{Play, Bench}
+use Rattle.rc_command.specs.Words.{Setting, AreSettings, AreOnce, name_of, is_same, text_in}
+use Rattle.rc_command.proofs.SettingLemmas.{Has, Suits, AllSuit, AreNew, all_suit, are_new, not_there}
 
 abbrev Text : Type 0
 Text = List ℕ
 
--- the reader takes the words, and finds these texts
-abbrev pub Reads : Text → List Text → Option Text → Option Text → Type 0
-Reads command words workers cache = (takes (options_app command) words ≡ true)
-    × (first_of (codes "workers") (matches_of (options_app command) words) ≡ workers)
-    × (first_of (codes "cache") (matches_of (options_app command) words) ≡ cache)
-
 -- the reader as it is built, and what it reads of its options
-abbrev shape : Text → Shape
-shape command = (built (options_app command)).top
+abbrev shape : Playing → Shape
+shape playing = (built (options_app playing)).top
+
+abbrev rule : OptionName → Rule
+rule name = filled (option_rule (name_of name))
+
+by_id : (playing : Playing) (name : OptionName) → Has playing name → arg_by_id (shape playing).rules (name_of name) ≡ Some (rule name)
+by_id Play Workers has = refl
+by_id Play Cache has = refl
+by_id Play Format has = refl
+by_id Bench Workers has = refl
+by_id Bench Cache has = refl
+by_id Bench Format has = absurd has
 
 -- the words lead the reader from one state to another, and none is refused
-abbrev Leads : Text → Walk → List Text → Walk → Type 0
-Leads command from words to =
-    (fold (walked (shape command).rules []) from words ≡ to) × (walk_passes (shape command) [] from words ≡ true)
+abbrev Leads : Playing → Walk → List Text → Walk → Type 0
+Leads playing from words to =
+    (fold (walked (shape playing).rules []) from words ≡ to) × (walk_passes (shape playing) [] from words ≡ true)
 
-stays : (command : Text) (w : Walk) → Leads command w [] w
+stays : (playing : Playing) (w : Walk) → Leads playing w [] w
 unfolding clap_on_literals
-stays command w = (refl, refl)
+stays playing w = (refl, refl)
 
-goes : (command : Text) (w next to : Walk) (word : Text) (rest : List Text) → walked (shape command).rules [] w word ≡ next
-    → turn_passes (shape command) [] w word ≡ true → Leads command next rest to → Leads command w (word ∷ rest) to
+goes : (playing : Playing) (w between to : Walk) (word : Text) (rest : List Text) → walked (shape playing).rules [] w word ≡ between
+    → turn_passes (shape playing) [] w word ≡ true → Leads playing between rest to → Leads playing w (word ∷ rest) to
 unfolding walk_passes
-goes command w next to word rest e passes leads = (
-  ap (λ x. fold (walked (shape command).rules []) x rest) e ∙ leads.0,
-  ap₂ (λ x y. x && walk_passes (shape command) [] y rest) passes e ∙ leads.1,
+goes playing w between to word rest e passes leads = (
+  ap (λ x. fold (walked (shape playing).rules []) x rest) e ∙ leads.0,
+  ap₂ (λ x y. x && walk_passes (shape playing) [] y rest) passes e ∙ leads.1,
 )
+
+-- the row of an option that is done
+abbrev row : Setting → Row
+row setting = record {
+  id = name_of setting.name;
+  values = setting.text ∷ [];
+  count = None;
+  source = Some CommandLine;
+  reading = reading_by (rule setting.name);
+}
+
+-- no row is of an option that isn't named
+no_row : (settings : List Setting) (name : OptionName) → text_in settings name ≡ None → has_row (name_of name) (map row settings) ≡ false
+no_row [] name none = refl
+no_row (setting ∷ settings) name none =
+    let split = not_there setting settings name none in
+    ap (λ b. b || has_row (name_of name) (map row settings)) split.0 ∙ no_row settings name split.1
+
+new_row : (settings : List Setting) (name : OptionName) (change : Row → List Row) (missing : List Row) → text_in settings name ≡ None
+    → at_row (name_of name) change missing (map row settings) ≡ map row settings ++ missing
+new_row [] name change missing none = refl
+new_row (setting ∷ settings) name change missing none =
+    let split = not_there setting settings name none in
+    ap (λ b. if b then change (row setting) ++ map row settings else row setting ∷ at_row (name_of name) change missing (map row settings)) split.0
+    ∙ ap (λ x. row setting ∷ x) (new_row settings name change missing split.1)
+
+-- what the first use of an option leaves
+used_new : (settings : List Setting) (setting : Setting) → text_in settings setting.name ≡ None
+    → used (rule setting.name) (setting.text ∷ []) (map row settings) ≡ map row (settings ++ setting ∷ [])
+used_new settings setting none =
+    let change = more_values CommandLine (setting.text ∷ []) in
+    ap (at_row (name_of setting.name) change (row setting ∷ [])) (new_row settings setting.name (λ _. []) [] none ∙ append-nil (map row settings))
+    ∙ new_row settings setting.name change (row setting ∷ []) none ∙ sym (map-append row settings (setting ∷ []))
+
+-- the first use of an option passes
+use_new : (settings : List Setting) (setting : Setting) → text_in settings setting.name ≡ None
+    → use_passes false (rule setting.name) (setting.text ∷ []) (map row settings) ≡ true
+use_new settings setting none = ap (λ b. (not b || false) && true) (no_row settings setting.name none)
+
+-- where the reader stands behind options: the last one may still wait for its end
+abbrev pending : Option Setting → Option (Text × List Text)
+pending None = None
+pending (Some setting) = Some (name_of setting.name, setting.text ∷ [])
+
+abbrev held_at : List Setting → Option Setting → Held
+held_at done last = record { rows = map row done; pending = pending last; skip = 0 }
+
+abbrev at : List Setting → Option Setting → Walk
+at done last = walk_from (held_at done last)
+
+-- all options that stand before
+abbrev all_of : List Setting → Option Setting → List Setting
+all_of done None = done
+all_of done (Some setting) = done ++ setting ∷ []
+
+abbrev IsAt : Playing → List Setting → Option Setting → Type 0
+IsAt playing done None = Unit {0}
+IsAt playing done (Some setting) = (text_in done setting.name ≡ None) × Has playing setting.name
+
+settles : (playing : Playing) (done : List Setting) (last : Option Setting) → IsAt playing done last
+    → settled_rows (shape playing).rules (pending last) (map row done) ≡ map row (all_of done last)
+settles playing done None stands = refl
+settles playing done (Some setting) (none, has) =
+    ap (λ x. used_by_id x (setting.text ∷ []) (map row done)) (by_id playing setting.name has) ∙ used_new done setting none
+
+settling_passes : (playing : Playing) (done : List Setting) (last : Option Setting) → IsAt playing done last
+    → settle_passes (shape playing).rules false (held_at done last) ≡ true
+settling_passes playing done None stands = refl
+settling_passes playing done (Some setting) (none, has) =
+    ap (λ x. option_map_or (λ a. use_passes false a (setting.text ∷ []) (map row done)) x true) (by_id playing setting.name has) ∙ use_new done setting none
+
+-- an option in one word
+abbrev joined : OptionName → Text → Text
+joined name text = codes "--" ++ name_of name ++ codes "=" ++ text
+
+joined_leads : (playing : Playing) (name : OptionName) (text : Text) (h : Held) → Has playing name
+    → walked (shape playing).rules [] (walk_from h) (joined name text) ≡ walk_from (reacted (shape playing).rules (rule name) (text ∷ []) h)
+unfolding walked
+joined_leads Play Workers text h has = refl
+joined_leads Play Cache text h has = refl
+joined_leads Play Format text h has = refl
+joined_leads Bench Workers text h has = refl
+joined_leads Bench Cache text h has = refl
+joined_leads Bench Format text h has = absurd has
+
+joined_passes : (playing : Playing) (name : OptionName) (text : Text) (h : Held) → Has playing name
+    → turn_passes (shape playing) [] (walk_from h) (joined name text) ≡ (react_passes (shape playing).rules false (rule name) (text ∷ []) h && true)
+joined_passes Play Workers text h has = refl
+joined_passes Play Cache text h has = refl
+joined_passes Play Format text h has = refl
+joined_passes Bench Workers text h has = refl
+joined_passes Bench Cache text h has = refl
+joined_passes Bench Format text h has = absurd has
+
+joined_goes : (playing : Playing) (done : List Setting) (last : Option Setting) (setting : Setting) (rest : List Text) (to : Walk) → IsAt playing done last
+    → text_in (all_of done last) setting.name ≡ None → Has playing setting.name → Leads playing (at (all_of done last ++ setting ∷ []) None) rest to
+    → Leads playing (at done last) (joined setting.name setting.text ∷ rest) to
+joined_goes playing done last setting rest to stands none has leads =
+    goes playing (at done last) (at (all_of done last ++ setting ∷ []) None) to (joined setting.name setting.text) rest
+    (joined_leads playing setting.name setting.text (held_at done last) has
+    ∙ ap (λ x. walk_from (record { rows = used (rule setting.name) (setting.text ∷ []) x; pending = None; skip = 0 })) (settles playing done last stands)
+    ∙ ap (λ x. walk_from (record { rows = x; pending = None; skip = 0 })) (used_new (all_of done last) setting none))
+    (joined_passes playing setting.name setting.text (held_at done last) has
+    ∙ ap₂ (λ x y. (x && use_passes false (rule setting.name) (setting.text ∷ []) y) && true) (settling_passes playing done last stands) (settles playing done last stands)
+    ∙ ap (λ x. x && true) (use_new (all_of done last) setting none))
+    leads
+
+-- an option in two words
+abbrev flag : OptionName → Text
+flag name = codes "--" ++ name_of name
+
+-- the reader waits for the text of an option
+abbrev waiting : List Row → OptionName → Walk
+waiting rows name = record {
+  held = record { rows = rows; pending = Some (name_of name, []); skip = 0 };
+  waiting = option (name_of name);
+  position = 1;
+  is_trailing = false;
+  stopped = None;
+}
+
+flag_leads : (playing : Playing) (name : OptionName) (rows : List Row) (last : Option (Text × List Text)) → Has playing name
+    → walked (shape playing).rules [] (walk_from (record { rows = rows; pending = last; skip = 0 })) (flag name)
+    ≡ waiting (settled_rows (shape playing).rules last rows) name
+unfolding walked
+flag_leads Play Workers rows last has = refl
+flag_leads Play Cache rows last has = refl
+flag_leads Play Format rows last has = refl
+flag_leads Bench Workers rows last has = refl
+flag_leads Bench Cache rows last has = refl
+flag_leads Bench Format rows last has = absurd has
+
+flag_passes : (playing : Playing) (name : OptionName) (h : Held) → Has playing name
+    → turn_passes (shape playing) [] (walk_from h) (flag name) ≡ (settle_passes (shape playing).rules false h && true)
+flag_passes Play Workers h has = refl
+flag_passes Play Cache h has = refl
+flag_passes Play Format h has = refl
+flag_passes Bench Workers h has = refl
+flag_passes Bench Cache h has = refl
+flag_passes Bench Format h has = absurd has
 
 -- a word that begins with no `-` is no flag
 no_dashes : (b : ℕ) (bs : Text) → (b == 45) ≡ false → bytes_eq (b ∷ bs) (45 ∷ 45 ∷ []) ≡ false
@@ -54,9 +206,6 @@ no_short : (b : ℕ) (bs : Text) → (b == 45) ≡ false → short_of (b ∷ bs)
 no_short b bs e = rw e refl
 
 -- such a word is the text of the option that waits for one
-abbrev waiting_at : Held → Text → Walk
-waiting_at held id = record { held = held; waiting = option id; position = 1; is_trailing = false; stopped = None }
-
 is_met : (rules : List Rule) (held : Held) (id : Text) (b : ℕ) (bs : Text) → (b == 45) ≡ false
     → word_met rules [] false (option id) 1 (b ∷ bs) held ≡ plain_word rules (option id) (b ∷ bs) held
 is_met rules held id b bs e =
@@ -65,12 +214,6 @@ is_met rules held id b bs e =
     ∙ ap (λ x. long_or_other rules (option id) word x held) (no_long b bs e)
     ∙ ap (λ x. short_or_plain rules (option id) word x held) (no_short b bs e)
 
--- the state behind it
-abbrev behind_text : Text → Held → Text → Text → Walk
-behind_text command held id word =
-    let met = plain_word (shape command).rules (option id) word held in
-    after_step (shape command).rules word (waiting_at held id) met.0 met.1
-
 text_passes : (s : Shape) (held : Held) (id : Text) (b : ℕ) (bs : Text) → (b == 45) ≡ false
     → word_passes s [] false (option id) (b ∷ bs) held ≡ true
 text_passes s held id b bs e =
@@ -78,212 +221,160 @@ text_passes s held id b bs e =
     ap₂ (λ x y. x || flag_word_passes s.rules s.args_override_self y word held) (no_dashes b bs e) (no_long b bs e)
     ∙ ap (λ x. option_map_or (λ flags. bundle_passes s.rules s.args_override_self flags held) x true) (no_short b bs e)
 
--- an option in two words
-pair_leads : (command : Text) (w to : Walk) (held : Held) (id flag : Text) (b : ℕ) (bs : Text) (rest : List Text) → (b == 45) ≡ false
-    → walked (shape command).rules [] w flag ≡ waiting_at held id → turn_passes (shape command) [] w flag ≡ true
-    → Leads command (behind_text command held id (b ∷ bs)) rest to → Leads command w (flag ∷ (b ∷ bs) ∷ rest) to
+-- the state behind it
+text_taken : (playing : Playing) (name : OptionName) (rows : List Row) (word : Text) → Has playing name
+    → plain_word (shape playing).rules (option (name_of name)) word (waiting rows name).held
+    ≡ (record { rows = rows; pending = Some (name_of name, word ∷ []); skip = 0 }, walk_step.next idle)
+text_taken Play Workers rows word has = refl
+text_taken Play Cache rows word has = refl
+text_taken Play Format rows word has = refl
+text_taken Bench Workers rows word has = refl
+text_taken Bench Cache rows word has = refl
+text_taken Bench Format rows word has = absurd has
+
+text_goes : (playing : Playing) (name : OptionName) (rows : List Row) (b : ℕ) (bs : Text) (rest : List Text) (to : Walk) → (b == 45) ≡ false → Has playing name
+    → Leads playing (walk_from (record { rows = rows; pending = Some (name_of name, (b ∷ bs) ∷ []); skip = 0 })) rest to
+    → Leads playing (waiting rows name) ((b ∷ bs) ∷ rest) to
 unfolding walked
-pair_leads command w to held id flag b bs rest e waits passes leads =
-    let rules = (shape command).rules in
-    let met = is_met rules held id b bs e in
-    goes command w (waiting_at held id) to flag ((b ∷ bs) ∷ rest) waits passes (
-    goes command (waiting_at held id) (behind_text command held id (b ∷ bs)) to (b ∷ bs) rest
-    (ap (λ x. after_step rules (b ∷ bs) (waiting_at held id) x.0 x.1) met)
-    (ap₂ (λ x y. x && step_passes (shape command) 1 y.0 y.1) (text_passes (shape command) held id b bs e) met) leads)
+text_goes playing name rows b bs rest to e has leads =
+    let rules = (shape playing).rules in
+    let word = b ∷ bs in
+    let met = is_met rules (waiting rows name).held (name_of name) b bs e ∙ text_taken playing name rows word has in
+    goes playing (waiting rows name) (walk_from (record { rows = rows; pending = Some (name_of name, word ∷ []); skip = 0 })) to word rest
+    (ap (λ x. after_step rules word (waiting rows name) x.0 x.1) met)
+    (ap₂ (λ x y. x && step_passes (shape playing) 1 y.0 y.1) (text_passes (shape playing) (waiting rows name).held (name_of name) b bs e) met)
+    leads
+
+pair_goes : (playing : Playing) (done : List Setting) (last : Option Setting) (name : OptionName) (b : ℕ) (bs : Text) (rest : List Text) (to : Walk)
+    → IsAt playing done last → (b == 45) ≡ false → Has playing name
+    → Leads playing (at (all_of done last) (Some (record { name = name; text = b ∷ bs }))) rest to
+    → Leads playing (at done last) (flag name ∷ (b ∷ bs) ∷ rest) to
+pair_goes playing done last name b bs rest to stands e has leads =
+    goes playing (at done last) (waiting (map row (all_of done last)) name) to (flag name) ((b ∷ bs) ∷ rest)
+    (flag_leads playing name (map row done) (pending last) has ∙ ap (λ x. waiting x name) (settles playing done last stands))
+    (flag_passes playing name (held_at done last) has ∙ ap (λ x. x && true) (settling_passes playing done last stands))
+    (text_goes playing name (map row (all_of done last)) b bs rest to e has leads)
+
+pair_leads : (playing : Playing) (done : List Setting) (last : Option Setting) (name : OptionName) (text : Text) (rest : List Text) (to : Walk)
+    → IsAt playing done last → Suits playing name (Some text) → Leads playing (at (all_of done last) (Some (record { name = name; text = text }))) rest to
+    → Leads playing (at done last) (flag name ∷ text ∷ rest) to
+pair_leads playing done last name [] rest to stands suits leads = absurd suits
+pair_leads playing done last name (b ∷ bs) rest to stands (plain, has) leads = pair_goes playing done last name b bs rest to stands plain has leads
+
+had : (playing : Playing) (name : OptionName) (text : Text) → Suits playing name (Some text) → Has playing name
+had playing name [] suits = absurd suits
+had playing name (b ∷ bs) suits = suits.1
+
+-- the words lead to where all their options stand before
+record Reached (playing : Playing) (done : List Setting) (last : Option Setting) (settings : List Setting) (words : List Text) : Type 0 where
+  before : List Setting
+  end : Option Setting
+  stands : IsAt playing before end
+  leads : Leads playing (at done last) words (at before end)
+  all : all_of before end ≡ all_of done last ++ settings
+
+reaches : (playing : Playing) (done : List Setting) (last : Option Setting) (settings : List Setting) (words : List Text) → IsAt playing done last
+    → AreNew (all_of done last) settings → AllSuit playing settings → AreSettings settings words → Reached playing done last settings words
+reaches playing done last [] words stands new suit are = record {
+  before = done;
+  end = last;
+  stands = stands;
+  leads = subst (λ x. Leads playing (at done last) x (at done last)) (sym are) (stays playing (at done last));
+  all = sym (append-nil (all_of done last));
+}
+reaches playing done last (setting ∷ settings) words stands (none, new) (suits, suit) (back, (front, inl is, split), are) =
+    let has = had playing setting.name setting.text suits in
+    let found = reaches playing (all_of done last) (Some setting) settings back (none, has) new suit are in
+    record {
+      before = found.before;
+      end = found.end;
+      stands = found.stands;
+      leads = subst (λ x. Leads playing (at done last) x (at found.before found.end)) (sym (split ∙ ap (λ x. x ++ back) is))
+          (pair_leads playing done last setting.name setting.text back (at found.before found.end) stands suits found.leads);
+      all = found.all ∙ append_assoc (all_of done last) (setting ∷ []) settings;
+    }
+reaches playing done last (setting ∷ settings) words stands (none, new) (suits, suit) (back, (front, inr is, split), are) =
+    let has = had playing setting.name setting.text suits in
+    let found = reaches playing (all_of done last ++ setting ∷ []) None settings back tt new suit are in
+    record {
+      before = found.before;
+      end = found.end;
+      stands = found.stands;
+      leads = subst (λ x. Leads playing (at done last) x (at found.before found.end)) (sym (split ∙ ap (λ x. x ++ back) is))
+          (joined_goes playing done last setting back (at found.before found.end) stands none has found.leads);
+      all = found.all ∙ append_assoc (all_of done last) (setting ∷ []) settings;
+    }
+
+-- what is read of rows
+text_found : (settings : List Setting) (name : OptionName) → first_of (name_of name) (map row settings) ≡ text_in settings name
+text_found [] name = refl
+text_found (setting ∷ settings) name =
+    by_cases (is_same setting.name name) ∙ ap (λ x. if is_same setting.name name then Some setting.text else x) (text_found settings name)
+  where
+    by_cases : (b : Bool) → option_and_then (λ r. slice_get r.values 0) (if b then Some (row setting) else find (λ r. bytes_eq r.id (name_of name)) (map row settings))
+        ≡ (if b then Some setting.text else first_of (name_of name) (map row settings))
+    by_cases true = refl
+    by_cases false = refl
+
+-- no option has a default
+same_either : {T : Type 0} (b : Bool) (x : T) → (if b then x else x) ≡ x
+same_either true x = refl
+same_either false x = refl
+
+no_defaults : (playing : Playing) (rows : List Row) → fold with_default rows (shape playing).rules ≡ rows
+no_defaults Play rows =
+    let workers = same_either (has_row (codes "workers") rows) rows in
+    let cache = same_either (has_row (codes "cache") rows) rows in
+    ap (λ x. with_default (with_default x (rule Cache)) (rule Format)) workers ∙ ap (λ x. with_default x (rule Format)) cache
+    ∙ same_either (has_row (codes "format") rows) rows
+no_defaults Bench rows =
+    ap (λ x. with_default x (rule Cache)) (same_either (has_row (codes "workers") rows) rows) ∙ same_either (has_row (codes "cache") rows) rows
+
+rows_at_end : (playing : Playing) (done : List Setting) (last : Option Setting) → IsAt playing done last
+    → finished (shape playing).rules (held_at done last) ≡ map row (all_of done last)
+rows_at_end playing done last stands =
+    no_defaults playing (settled_rows (shape playing).rules (pending last) (map row done)) ∙ settles playing done last stands
 
 -- what the end of a walk comes to
-abbrev end_passes : Text → Walk → Bool → Bool
-end_passes command end passes =
-    let a = built (options_app command) in
-    is_simple (options_app command) && (entered_passes a end.stopped && (passes
+abbrev end_passes : Playing → Walk → Bool → Bool
+end_passes playing end passes =
+    let a = built (options_app playing) in
+    is_simple (options_app playing) && (entered_passes a end.stopped && (passes
     && (settle_passes a.top.rules a.top.args_override_self end.held
     && (list_all default_passes a.top.rules && is_valid a.top (finished a.top.rules end.held) (is_some (entered a end.stopped))))))
 
-reads : (command : Text) (words : List Text) (end : Walk) (workers cache : Option Text) → Leads command (walk_from nothing_held) words end
-    → end_passes command end true ≡ true → first_of (codes "workers") (finished (shape command).rules end.held) ≡ workers
-    → first_of (codes "cache") (finished (shape command).rules end.held) ≡ cache → Reads command words workers cache
-reads command words end workers cache leads passes worker_text cache_text = (
-  ap₂ (end_passes command) leads.0 leads.1 ∙ passes,
-  ap (λ x. first_of (codes "workers") (finished (shape command).rules x.held)) leads.0 ∙ worker_text,
-  ap (λ x. first_of (codes "cache") (finished (shape command).rules x.held)) leads.0 ∙ cache_text,
+end_settles : (playing : Playing) (h : Held) → end_passes playing (walk_from h) true ≡ (settle_passes (shape playing).rules false h && true)
+end_settles Play h = refl
+end_settles Bench h = refl
+
+-- the reader takes the words, and finds these texts
+abbrev pub Reads : Playing → List Text → (OptionName → Option Text) → Type 0
+Reads playing words texts = (takes (options_app playing) words ≡ true)
+    × ((name : OptionName) → first_of (name_of name) (matches_of (options_app playing) words) ≡ texts name)
+
+reads : (playing : Playing) (settings : List Setting) (words : List Text) → Reached playing [] None settings words → Reads playing words (text_in settings)
+reads playing settings words reached = (
+  taken playing words ∙ ap₂ (end_passes playing) reached.leads.0 reached.leads.1 ∙ end_settles playing (held_at reached.before reached.end)
+      ∙ ap (λ x. x && true) (settling_passes playing reached.before reached.end reached.stands),
+  λ name. ap (first_of (name_of name)) (matched playing words ∙ ap (λ x. finished (shape playing).rules x.held) reached.leads.0
+      ∙ rows_at_end playing reached.before reached.end reached.stands ∙ ap (map row) reached.all) ∙ text_found settings name,
 )
+  where
+    taken : (playing : Playing) (words : List Text) → takes (options_app playing) words
+        ≡ end_passes playing (fold (walked (shape playing).rules []) (walk_from nothing_held) words) (walk_passes (shape playing) [] (walk_from nothing_held) words)
+    taken Play words = refl
+    taken Bench words = refl
 
--- the states behind an option in one word and in two
-abbrev start : Walk
-start = walk_from nothing_held
+    matched : (playing : Playing) (words : List Text) → matches_of (options_app playing) words
+        ≡ finished (shape playing).rules (fold (walked (shape playing).rules []) (walk_from nothing_held) words).held
+    matched Play words = refl
+    matched Bench words = refl
 
-abbrev behind_word : Text → Walk → Text → Walk
-behind_word command from word = walked (shape command).rules [] from word
+pub is_simple_reader : (playing : Playing) → is_simple (options_app playing) ≡ true
+is_simple_reader Play = refl
+is_simple_reader Bench = refl
 
-abbrev behind_pair : Text → Walk → Text → Text → Text → Walk
-behind_pair command from flag id word = behind_text command (behind_word command from flag).held id word
-
--- each list of words that are options
-none_named : (command : Text) → Reads command [] None None
-unfolding clap_on_literals
-none_named command = (refl, refl, refl)
-
-abbrev workers_head : Text
-workers_head = codes "--workers="
-
-abbrev cache_head : Text
-cache_head = codes "--cache="
-
-workers_joined : (command n : Text) → Reads command ((workers_head ++ n) ∷ []) (Some n) None
-unfolding clap_on_literals
-workers_joined command n = (refl, refl, refl)
-
-cache_joined : (command n : Text) → Reads command ((cache_head ++ n) ∷ []) None (Some n)
-unfolding clap_on_literals
-cache_joined command n = (refl, refl, refl)
-
-both_joined : (command n m : Text) → Reads command ((workers_head ++ n) ∷ (cache_head ++ m) ∷ []) (Some n) (Some m)
-unfolding clap_on_literals
-both_joined command n m = (refl, refl, refl)
-
-both_joined_back : (command n m : Text) → Reads command ((cache_head ++ m) ∷ (workers_head ++ n) ∷ []) (Some n) (Some m)
-unfolding clap_on_literals
-both_joined_back command n m = (refl, refl, refl)
-
-workers_apart : (command : Text) (b : ℕ) (bs : Text)
-    → (b == 45) ≡ false → Reads command (codes "--workers" ∷ (b ∷ bs) ∷ []) (Some (b ∷ bs)) None
-unfolding clap_on_literals
-workers_apart command b bs e =
-    reads command (codes "--workers" ∷ (b ∷ bs) ∷ []) _ _ _
-    (pair_leads command start _ (behind_word command start (codes "--workers")).held (codes "workers") (codes "--workers") b bs [] e refl refl
-    (stays command _)) refl refl refl
-
-cache_apart : (command : Text) (d : ℕ) (ds : Text)
-    → (d == 45) ≡ false → Reads command (codes "--cache" ∷ (d ∷ ds) ∷ []) None (Some (d ∷ ds))
-unfolding clap_on_literals
-cache_apart command d ds f =
-    reads command (codes "--cache" ∷ (d ∷ ds) ∷ []) _ _ _
-    (pair_leads command start _ (behind_word command start (codes "--cache")).held (codes "cache") (codes "--cache") d ds [] f refl refl
-    (stays command _)) refl refl refl
-
-joined_apart : (command : Text) (n : Text) (d : ℕ) (ds : Text)
-    → (d == 45) ≡ false → Reads command ((workers_head ++ n) ∷ codes "--cache" ∷ (d ∷ ds) ∷ []) (Some n) (Some (d ∷ ds))
-unfolding clap_on_literals
-joined_apart command n d ds f =
-    reads command ((workers_head ++ n) ∷ codes "--cache" ∷ (d ∷ ds) ∷ []) _ _ _
-    (goes command start (behind_word command start (workers_head ++ n)) _ (workers_head ++ n) (codes "--cache" ∷ (d ∷ ds) ∷ []) refl refl
-    (pair_leads command (behind_word command start (workers_head ++ n)) _ (behind_word command (behind_word command start (workers_head ++ n)) (codes "--cache")).held (codes "cache") (codes "--cache") d ds [] f refl refl
-    (stays command _))) refl refl refl
-
-apart_joined : (command : Text) (b : ℕ) (bs : Text) (m : Text)
-    → (b == 45) ≡ false → Reads command (codes "--workers" ∷ (b ∷ bs) ∷ (cache_head ++ m) ∷ []) (Some (b ∷ bs)) (Some m)
-unfolding clap_on_literals
-apart_joined command b bs m e =
-    reads command (codes "--workers" ∷ (b ∷ bs) ∷ (cache_head ++ m) ∷ []) _ _ _
-    (pair_leads command start _ (behind_word command start (codes "--workers")).held (codes "workers") (codes "--workers") b bs ((cache_head ++ m) ∷ []) e refl refl
-    (goes command (behind_pair command start (codes "--workers") (codes "workers") (b ∷ bs)) (behind_word command (behind_pair command start (codes "--workers") (codes "workers") (b ∷ bs)) (cache_head ++ m)) _ (cache_head ++ m) [] refl refl
-    (stays command _))) refl refl refl
-
-both_apart : (command : Text) (b : ℕ) (bs : Text) (d : ℕ) (ds : Text)
-    → (b == 45) ≡ false → (d == 45) ≡ false → Reads command (codes "--workers" ∷ (b ∷ bs) ∷ codes "--cache" ∷ (d ∷ ds) ∷ []) (Some (b ∷ bs)) (Some (d ∷ ds))
-unfolding clap_on_literals
-both_apart command b bs d ds e f =
-    reads command (codes "--workers" ∷ (b ∷ bs) ∷ codes "--cache" ∷ (d ∷ ds) ∷ []) _ _ _
-    (pair_leads command start _ (behind_word command start (codes "--workers")).held (codes "workers") (codes "--workers") b bs (codes "--cache" ∷ (d ∷ ds) ∷ []) e refl refl
-    (pair_leads command (behind_pair command start (codes "--workers") (codes "workers") (b ∷ bs)) _ (behind_word command (behind_pair command start (codes "--workers") (codes "workers") (b ∷ bs)) (codes "--cache")).held (codes "cache") (codes "--cache") d ds [] f refl refl
-    (stays command _))) refl refl refl
-
-joined_apart_back : (command : Text) (m : Text) (b : ℕ) (bs : Text)
-    → (b == 45) ≡ false → Reads command ((cache_head ++ m) ∷ codes "--workers" ∷ (b ∷ bs) ∷ []) (Some (b ∷ bs)) (Some m)
-unfolding clap_on_literals
-joined_apart_back command m b bs e =
-    reads command ((cache_head ++ m) ∷ codes "--workers" ∷ (b ∷ bs) ∷ []) _ _ _
-    (goes command start (behind_word command start (cache_head ++ m)) _ (cache_head ++ m) (codes "--workers" ∷ (b ∷ bs) ∷ []) refl refl
-    (pair_leads command (behind_word command start (cache_head ++ m)) _ (behind_word command (behind_word command start (cache_head ++ m)) (codes "--workers")).held (codes "workers") (codes "--workers") b bs [] e refl refl
-    (stays command _))) refl refl refl
-
-apart_joined_back : (command : Text) (d : ℕ) (ds : Text) (n : Text)
-    → (d == 45) ≡ false → Reads command (codes "--cache" ∷ (d ∷ ds) ∷ (workers_head ++ n) ∷ []) (Some n) (Some (d ∷ ds))
-unfolding clap_on_literals
-apart_joined_back command d ds n f =
-    reads command (codes "--cache" ∷ (d ∷ ds) ∷ (workers_head ++ n) ∷ []) _ _ _
-    (pair_leads command start _ (behind_word command start (codes "--cache")).held (codes "cache") (codes "--cache") d ds ((workers_head ++ n) ∷ []) f refl refl
-    (goes command (behind_pair command start (codes "--cache") (codes "cache") (d ∷ ds)) (behind_word command (behind_pair command start (codes "--cache") (codes "cache") (d ∷ ds)) (workers_head ++ n)) _ (workers_head ++ n) [] refl refl
-    (stays command _))) refl refl refl
-
-both_apart_back : (command : Text) (d : ℕ) (ds : Text) (b : ℕ) (bs : Text)
-    → (d == 45) ≡ false → (b == 45) ≡ false → Reads command (codes "--cache" ∷ (d ∷ ds) ∷ codes "--workers" ∷ (b ∷ bs) ∷ []) (Some (b ∷ bs)) (Some (d ∷ ds))
-unfolding clap_on_literals
-both_apart_back command d ds b bs f e =
-    reads command (codes "--cache" ∷ (d ∷ ds) ∷ codes "--workers" ∷ (b ∷ bs) ∷ []) _ _ _
-    (pair_leads command start _ (behind_word command start (codes "--cache")).held (codes "cache") (codes "--cache") d ds (codes "--workers" ∷ (b ∷ bs) ∷ []) f refl refl
-    (pair_leads command (behind_pair command start (codes "--cache") (codes "cache") (d ∷ ds)) _ (behind_word command (behind_pair command start (codes "--cache") (codes "cache") (d ∷ ds)) (codes "--workers")).held (codes "workers") (codes "--workers") b bs [] e refl refl
-    (stays command _))) refl refl refl
-
--- a text that begins with no `-`
-abbrev pub IsPlain : Option Text → Type 0
-IsPlain None = Unit {0}
-IsPlain (Some []) = ⊥
-IsPlain (Some (b ∷ bs)) = (b == 45) ≡ false
-
-pub is_simple_reader : (command : Text) → is_simple (options_app command) ≡ true
-is_simple_reader command = refl
-
--- the texts of options, each of which begins with no `-`
-workers_read : (command : Text) (n : Option Text) (words : List Text) → IsOption (codes "workers") n words → IsPlain n → Reads command words n None
-workers_read command None words is plain = rw is (none_named command)
-workers_read command (Some []) words is plain = absurd plain
-workers_read command (Some (b ∷ bs)) words (inl is) plain = rw is (workers_apart command b bs plain)
-workers_read command (Some (b ∷ bs)) words (inr is) plain = rw is (workers_joined command (b ∷ bs))
-
-cache_read : (command : Text) (m : Option Text) (words : List Text) → IsOption (codes "cache") m words → IsPlain m → Reads command words None m
-cache_read command None words is plain = rw is (none_named command)
-cache_read command (Some []) words is plain = absurd plain
-cache_read command (Some (d ∷ ds)) words (inl is) plain = rw is (cache_apart command d ds plain)
-cache_read command (Some (d ∷ ds)) words (inr is) plain = rw is (cache_joined command (d ∷ ds))
-
-pub without_end : (words : List Text) → words ++ [] ≡ words
-without_end [] = refl
-without_end (word ∷ words) = ap (λ x. word ∷ x) (without_end words)
-
-in_order : (command : Text) (n m : Option Text) (front back : List Text) → IsOption (codes "workers") n front → IsOption (codes "cache") m back
-    → IsPlain n → IsPlain m → Reads command (front ++ back) n m
-in_order command None m front back is next_is plain later = rw is (cache_read command m back next_is later)
-in_order command n None front back is next_is plain later =
-    rw next_is (subst (λ x. Reads command x n None) (sym (without_end front)) (workers_read command n front is plain))
-in_order command (Some []) m front back is next_is plain later = absurd plain
-in_order command n (Some []) front back is next_is plain later = absurd later
-in_order command (Some (b ∷ bs)) (Some (d ∷ ds)) front back (inl is) (inl next_is) plain later = rw (is, next_is) (both_apart command b bs d ds plain later)
-in_order command (Some (b ∷ bs)) (Some (d ∷ ds)) front back (inl is) (inr next_is) plain later = rw (is, next_is) (apart_joined command b bs (d ∷ ds) plain)
-in_order command (Some (b ∷ bs)) (Some (d ∷ ds)) front back (inr is) (inl next_is) plain later = rw (is, next_is) (joined_apart command (b ∷ bs) d ds later)
-in_order command (Some (b ∷ bs)) (Some (d ∷ ds)) front back (inr is) (inr next_is) plain later = rw (is, next_is) (both_joined command (b ∷ bs) (d ∷ ds))
-
-in_back_order : (command : Text) (n m : Option Text) (front back : List Text) → IsOption (codes "cache") m front → IsOption (codes "workers") n back
-    → IsPlain n → IsPlain m → Reads command (front ++ back) n m
-in_back_order command n None front back is next_is plain later = rw is (workers_read command n back next_is plain)
-in_back_order command None m front back is next_is plain later =
-    rw next_is (subst (λ x. Reads command x None m) (sym (without_end front)) (cache_read command m front is later))
-in_back_order command (Some []) m front back is next_is plain later = absurd plain
-in_back_order command n (Some []) front back is next_is plain later = absurd later
-in_back_order command (Some (b ∷ bs)) (Some (d ∷ ds)) front back (inl is) (inl next_is) plain later = rw (is, next_is) (both_apart_back command d ds b bs later plain)
-in_back_order command (Some (b ∷ bs)) (Some (d ∷ ds)) front back (inl is) (inr next_is) plain later = rw (is, next_is) (apart_joined_back command d ds (b ∷ bs) later)
-in_back_order command (Some (b ∷ bs)) (Some (d ∷ ds)) front back (inr is) (inl next_is) plain later = rw (is, next_is) (joined_apart_back command (d ∷ ds) b bs plain)
-in_back_order command (Some (b ∷ bs)) (Some (d ∷ ds)) front back (inr is) (inr next_is) plain later = rw (is, next_is) (both_joined_back command (b ∷ bs) (d ∷ ds))
-
-pub options_read : (command : Text) (n m : Option Text) (words : List Text) → AreOptions n m words → IsPlain n → IsPlain m → Reads command words n m
-options_read command n m words (inl (front, back, is, next_is, split)) plain later = rw split (in_order command n m front back is next_is plain later)
-options_read command n m words (inr (front, back, is, next_is, split)) plain later = rw split (in_back_order command n m front back is next_is plain later)
-
--- a text that spells a number begins with no `-`
-spells_none : (fits starts rest : Bool) (value n : ℕ) → starts ≡ false
-    → (if fits && (starts && rest) then Some value else None) ≡ Some n → ⊥
-spells_none false starts rest value n e spelled = none-some n spelled
-spells_none true false rest value n e spelled = none-some n spelled
-spells_none true true rest value n e spelled = false≢true (sym e)
-
-plain_number : (text : Text) (n : ℕ) → natural text ≡ Some n → IsPlain (Some text)
-plain_number [] n spelled = absurd (none-some n spelled)
-plain_number (b ∷ bs) n spelled =
-    elim (cases_Bool (b == 45)) [
-      | inl hyphen ↦ absurd (spells_none _ _ _ _ n (ap is_digit (eqb-true b 45 hyphen)) spelled)
-      | inr other ↦ other
-    ]
-
-pub plain_option : (usual most : ℕ) (text : Option Text) (n : ℕ) → HasNumber usual most text n → IsPlain text
-plain_option usual most None n has = tt
-plain_option usual most (Some text) n (short, spelled, least, greatest) = plain_number text n spelled
+pub options_read : (playing : Playing) (settings : List Setting) (words : List Text) → AreSettings settings words → AreOnce settings
+    → ((name : OptionName) → Suits playing name (text_in settings name)) → Reads playing words (text_in settings)
+options_read playing settings words are once suits =
+    reads playing settings words (reaches playing [] None settings words tt (are_new settings once) (all_suit playing settings once suits) are)

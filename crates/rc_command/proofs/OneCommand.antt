@@ -1,96 +1,89 @@
 -- Words are one command at most: the command that words are is the one that is read off them from left to right.
-use Rattle.std.proofs.Common.{◌≡◌, ℕ, List, [], ◌∷◌, ◌++◌, drop, codes, refl, ap, ap₂, sym, ◌∙◌, Option, Some, None, inl, inr, if◌then◌else◌, bytes_eq, slice_index, ◌==◌}
+use Rattle.std.proofs.Common.{◌≡◌, ℕ, zero, suc, ◌<◌, ◌≤◌, List, [], ◌∷◌, ◌++◌, drop, length, codes, refl, ap, ap₂, sym, subst, ◌∙◌, arith, Option, Some, None, inl, inr, if◌then◌else◌, bytes_eq, slice_index, ◌==◌}
 use Rattle.std.specs.Prelude.{unwrap_or}
 use Rattle.rc_model.specs.Literal.{natural}
-use Rattle.rc_command.specs.Words.{name_of, IsOption, AreInOrder, AreOptions, HasNumber, HasOptions}
+use Rattle.rc_command.specs.Words.{Setting, IsFirst, AreSettings, HasFormat, HasNumber, HasOptions, number_of, text_in}
 use Rattle.rc_command.specs.Command.{IsCommand}
 use Rattle.rc_command.specs.declared.option.OptionName.{OptionName}
-use Rattle.rc_command.specs.declared.option.OptionName.TheVariants.{Workers, Cache}
+use Rattle.rc_command.specs.declared.option.OptionName.TheVariants.{Workers, Cache, Format}
+use Rattle.rc_command.specs.declared.options.Format.{Format as TextFormat}
+use Rattle.rc_command.specs.declared.options.Format.TheVariants.{Plain, Named}
 use Rattle.rc_command.specs.declared.options.Options.{Options}
+use Rattle.rc_command.specs.declared.reader.Playing.{Playing}
+use Rattle.rc_command.specs.declared.reader.Playing.TheVariants as playing
 use Rattle.rc_command.specs.declared.command.Command.{Command}
-use Rattle.rc_command.specs.declared.command.Command.TheVariants.{Play, Check, Sheet, Bench}
+use Rattle.rc_command.specs.declared.command.Command.TheVariants.{Play, Check, Sheet, Bench, Migrate}
 use Rattle.rc_command.proofs.WordLemmas.{first_of, behind_first}
-use Rattle.rc_command.proofs.ClapLemmas.{without_end}
 
 abbrev Text : Type 0
 Text = List ℕ
 
--- an option, its text, and the words behind it
-record Setting : Type 0 where
-  name : OptionName
-  text : Text
+-- an option that words begin with, and the words behind it
+record First : Type 0 where
+  setting : Setting
   rest : List Text
 
--- the option that stands first in words that begin with one. Other words may give anything here, so that one letter of a
--- word that holds its text, the `w` of `--workers=`, tells which option it is
-abbrev first_setting : List Text → Option Setting
-first_setting [] = None
-first_setting (word ∷ words) =
-    if bytes_eq word (codes "--workers") then Some (record { name = Workers; text = first_of words; rest = behind_first words })
-    else if bytes_eq word (codes "--cache") then Some (record { name = Cache; text = first_of words; rest = behind_first words })
-    else if slice_index word 2 == 119 then Some (record { name = Workers; text = drop 10 word; rest = words })
-    else Some (record { name = Cache; text = drop 8 word; rest = words })
+-- Words that begin with no option may give anything here, so that one letter of a word that holds its text, the `w` of
+-- `--workers=`, tells which option it is.
+abbrev first_in : List Text → Option First
+first_in [] = None
+first_in (word ∷ words) =
+    if bytes_eq word (codes "--workers") then Some (record { setting = record { name = Workers; text = first_of words }; rest = behind_first words })
+    else if bytes_eq word (codes "--cache") then Some (record { setting = record { name = Cache; text = first_of words }; rest = behind_first words })
+    else if bytes_eq word (codes "--format") then Some (record { setting = record { name = Format; text = first_of words }; rest = behind_first words })
+    else if slice_index word 2 == 119 then Some (record { setting = record { name = Workers; text = drop 10 word }; rest = words })
+    else if slice_index word 2 == 99 then Some (record { setting = record { name = Cache; text = drop 8 word }; rest = words })
+    else Some (record { setting = record { name = Format; text = drop 9 word }; rest = words })
 
-first_is : (name : OptionName) (text : Text) (front back : List Text) → IsOption (name_of name) (Some text) front
-    → first_setting (front ++ back) ≡ Some (record { name = name; text = text; rest = back })
-first_is Workers text front back (inl is) = ap (λ x. first_setting (x ++ back)) is
-first_is Workers text front back (inr is) = ap (λ x. first_setting (x ++ back)) is
-first_is Cache text front back (inl is) = ap (λ x. first_setting (x ++ back)) is
-first_is Cache text front back (inr is) = ap (λ x. first_setting (x ++ back)) is
+first_is : (name : OptionName) (text : Text) (words back : List Text) → IsFirst name (Some text) words back
+    → first_in words ≡ Some (record { setting = record { name = name; text = text }; rest = back })
+first_is Workers text words back (front, inl is, split) = ap first_in split ∙ ap (λ x. first_in (x ++ back)) is
+first_is Workers text words back (front, inr is, split) = ap first_in split ∙ ap (λ x. first_in (x ++ back)) is
+first_is Cache text words back (front, inl is, split) = ap first_in split ∙ ap (λ x. first_in (x ++ back)) is
+first_is Cache text words back (front, inr is, split) = ap first_in split ∙ ap (λ x. first_in (x ++ back)) is
+first_is Format text words back (front, inl is, split) = ap first_in split ∙ ap (λ x. first_in (x ++ back)) is
+first_is Format text words back (front, inr is, split) = ap first_in split ∙ ap (λ x. first_in (x ++ back)) is
 
--- the texts of the two options in words that name each at most once: of `--workers`, and of `--cache`
-abbrev Texts : Type 0
-Texts = Option Text × Option Text
+-- words begin with one option at most
+abbrev name_at : Option First → OptionName
+name_at None = Workers
+name_at (Some first) = first.setting.name
 
-abbrev beside : OptionName → Text → Option Text → Texts
-beside Workers text other = (Some text, other)
-beside Cache text other = (other, Some text)
+abbrev rest_at : Option First → List Text
+rest_at None = []
+rest_at (Some first) = first.rest
 
-abbrev text_of : Option Setting → Option Text
-text_of None = None
-text_of (Some setting) = Some setting.text
+pub one_first : (name other : OptionName) (text other_text : Option Text) (words back other_back : List Text) → IsFirst name text words back
+    → IsFirst other other_text words other_back → (name ≡ other) × (back ≡ other_back)
+one_first name other None other_text words back other_back first other_first = absurd first
+one_first name other (Some text) None words back other_back first other_first = absurd other_first
+one_first name other (Some text) (Some other_text) words back other_back first other_first =
+    let same = sym (first_is name text words back first) ∙ first_is other other_text words other_back other_first in
+    (ap name_at same, ap rest_at same)
 
-abbrev texts_of : Option Setting → Texts
-texts_of None = (None, None)
-texts_of (Some setting) = beside setting.name setting.text (text_of (first_setting setting.rest))
+-- so many options at the front of words
+abbrev behind_first_in : Option First → (List Text → List Setting) → List Setting
+behind_first_in None next = []
+behind_first_in (Some first) next = first.setting ∷ next first.rest
 
-abbrev texts_in : List Text → Texts
-texts_in words = texts_of (first_setting words)
+abbrev settings_from : ℕ → List Text → List Setting
+settings_from zero words = []
+settings_from (suc n) words = behind_first_in (first_in words) (settings_from n)
 
-text_is : (name : OptionName) (text : Option Text) (words : List Text) → IsOption (name_of name) text words
-    → text_of (first_setting words) ≡ text
-text_is name None words is = ap (λ x. text_of (first_setting x)) is
-text_is name (Some text) words is =
-    ap (λ x. text_of (first_setting x)) (sym (without_end words)) ∙ ap text_of (first_is name text words [] is)
+none_in_none : (n : ℕ) → settings_from n [] ≡ []
+none_in_none zero = refl
+none_in_none (suc n) = refl
 
--- the texts of two options, one behind the other
-abbrev told : OptionName → Option Text → OptionName → Option Text → Texts
-told name None later None = (None, None)
-told name None later (Some text) = beside later text None
-told name (Some text) later later_text = beside name text later_text
+pub longer : (name : OptionName) (text : Text) (words back : List Text) → IsFirst name (Some text) words back → length back < length words
+longer name text words back (front, inl is, split) = subst (λ x. length back < length x) (sym (split ∙ ap (λ x. x ++ back) is)) (omega arith)
+longer name text words back (front, inr is, split) = subst (λ x. length back < length x) (sym (split ∙ ap (λ x. x ++ back) is)) (omega arith)
 
-in_order : (name later : OptionName) (text later_text : Option Text) (words : List Text)
-    → AreInOrder (name_of name) text (name_of later) later_text words → texts_in words ≡ told name text later later_text
-in_order name later None None words (front, back, is, later_is, split) =
-    ap texts_in split ∙ ap₂ (λ x y. texts_in (x ++ y)) is later_is
-in_order name later None (Some text) words (front, back, is, later_is, split) =
-    ap texts_in (split ∙ ap (λ x. x ++ back) is ∙ sym (without_end back)) ∙ ap texts_of (first_is later text back [] later_is)
-in_order name later (Some text) later_text words (front, back, is, later_is, split) =
-    ap texts_in split ∙ ap texts_of (first_is name text front back is) ∙ ap (beside name text) (text_is later later_text back later_is)
-
-workers_told : (workers cache : Option Text) → told Workers workers Cache cache ≡ (workers, cache)
-workers_told None None = refl
-workers_told None (Some text) = refl
-workers_told (Some text) cache = refl
-
-cache_told : (workers cache : Option Text) → told Cache cache Workers workers ≡ (workers, cache)
-cache_told None None = refl
-cache_told (Some text) None = refl
-cache_told workers (Some text) = refl
-
-texts_are : (workers cache : Option Text) (words : List Text) → AreOptions workers cache words → texts_in words ≡ (workers, cache)
-texts_are workers cache words (inl are) = in_order Workers Cache workers cache words are ∙ workers_told workers cache
-texts_are workers cache words (inr are) = in_order Cache Workers cache workers words are ∙ cache_told workers cache
+settings_are : (settings : List Setting) (words : List Text) (n : ℕ) → AreSettings settings words → length words ≤ n → settings_from n words ≡ settings
+settings_are [] words n are few = ap (settings_from n) are ∙ none_in_none n
+settings_are (setting ∷ settings) words zero (back, first, are) few = absurd (omega (arith, longer setting.name setting.text words back first))
+settings_are (setting ∷ settings) words (suc n) (back, first, are) few =
+    ap (λ x. behind_first_in x (settings_from n)) (first_is setting.name setting.text words back first)
+    ∙ ap (λ x. setting ∷ x) (settings_are settings back n are (omega (arith, longer setting.name setting.text words back first)))
 
 -- the numbers that these texts spell
 abbrev number_in : ℕ → Option Text → ℕ
@@ -101,32 +94,59 @@ number_is : (usual most : ℕ) (text : Option Text) (n : ℕ) → HasNumber usua
 number_is usual most None n is = is
 number_is usual most (Some text) n (short, spelled, least, greatest) = sym (ap (λ x. unwrap_or x usual) spelled)
 
-abbrev options_with : ℕ → ℕ → Options
-options_with workers cache = record { workers = workers; cache = cache }
+abbrev format_by : ℕ → TextFormat
+format_by n = if n == 2 then Named else Plain
 
-abbrev options_from : Texts → Options
-options_from (workers, cache) = options_with (number_in 1 workers) (number_in 1024 cache)
+format_back : (format : TextFormat) → format ≡ format_by (number_of format)
+format_back Plain = refl
+format_back Named = refl
 
-options_are : (words : List Text) (options : Options) → HasOptions words options → options ≡ options_from (texts_in words)
-options_are words options (workers, cache, (are, workers_is, cache_is)) =
-    ap₂ options_with (number_is 1 64 workers options.workers workers_is) (number_is 1024 65536 cache options.cache cache_is)
-    ∙ ap options_from (sym (texts_are workers cache words are))
+abbrev format_in : Playing → Option Text → TextFormat
+format_in playing.Play text = format_by (number_in 1 text)
+format_in playing.Bench text = Plain
+
+format_is : (kind : Playing) (text : Option Text) (format : TextFormat) → HasFormat kind text format → format ≡ format_in kind text
+format_is playing.Play text format has = format_back format ∙ ap format_by (number_is 1 2 text (number_of format) has)
+format_is playing.Bench text format has = has.1
+
+abbrev options_from : Playing → List Setting → Options
+options_from kind settings = record {
+  workers = number_in 1 (text_in settings Workers);
+  cache = number_in 1024 (text_in settings Cache);
+  format = format_in kind (text_in settings Format);
+}
+
+abbrev options_in : Playing → List Text → Options
+options_in kind words = options_from kind (settings_from (length words) words)
+
+options_are : (kind : Playing) (words : List Text) (options : Options) → HasOptions kind words options → options ≡ options_in kind words
+options_are kind words options (texts, ((settings, are, once, told), workers, cache, format)) =
+    same (number_is 1 64 (texts Workers) options.workers workers ∙ ap (number_in 1) (sym (told Workers)))
+    (number_is 1024 65536 (texts Cache) options.cache cache ∙ ap (number_in 1024) (sym (told Cache)))
+    (format_is kind (texts Format) options.format format ∙ ap (format_in kind) (sym (told Format)))
+    ∙ ap (options_from kind) (sym (settings_are settings words (length words) are (omega arith)))
+  where
+    same : {workers workers' cache cache' : ℕ} {format format' : TextFormat} → workers ≡ workers' → cache ≡ cache' → format ≡ format'
+        → ◌≡◌ {A = Options} (record { workers = workers; cache = cache; format = format }) (record { workers = workers'; cache = cache'; format = format' })
+    same a b c = λ i. record { workers = a i; cache = b i; format = c i }
 
 -- the command that words are, where they are one. Other words may give anything here too
 abbrev command_in : List Text → Command
 command_in [] = Check
 command_in (name ∷ words) =
-    if bytes_eq name (codes "play") then Play (options_from (texts_in words))
-    else if bytes_eq name (codes "bench") then Bench (unwrap_or (natural (first_of words)) 1) (options_from (texts_in (behind_first words)))
+    if bytes_eq name (codes "play") then Play (options_in playing.Play words)
+    else if bytes_eq name (codes "bench") then Bench (unwrap_or (natural (first_of words)) 1) (options_in playing.Bench (behind_first words))
     else if bytes_eq name (codes "sheet") then Sheet
+    else if bytes_eq name (codes "migrate") then Migrate
     else Check
 
 command_is : (words : List Text) (command : Command) → IsCommand words command → command ≡ command_in words
-command_is words (Play options) (rest, is, has) = ap Play (options_are rest options has) ∙ sym (ap command_in is)
+command_is words (Play options) (rest, is, has) = ap Play (options_are playing.Play rest options has) ∙ sym (ap command_in is)
 command_is words Check is = sym (ap command_in is)
 command_is words Sheet is = sym (ap command_in is)
+command_is words Migrate is = sym (ap command_in is)
 command_is words (Bench number options) (later, is, (text, rest, split, (short, spelled, least, greatest), has)) =
-    ap₂ Bench (sym (ap (λ x. unwrap_or x 1) spelled)) (options_are rest options has)
+    ap₂ Bench (sym (ap (λ x. unwrap_or x 1) spelled)) (options_are playing.Bench rest options has)
     ∙ sym (ap command_in (is ∙ ap (λ x. codes "bench" ∷ x) split))
 
 pub one_command : (words : List Text) (command other : Command) → IsCommand words command → IsCommand words other → other ≡ command

@@ -1,12 +1,13 @@
 -- Lists of words, and the commands that they are.
-use Rattle.std.proofs.Common.{◌≡◌, ℕ, ◌≤◌, ◌-◌, List, [], ◌∷◌, map, take, drop, length, get_or, codes, refl, ap, sym, subst, ◌∙◌, arith, Option, Some, None, String, string_bytes, slice_index, Global, IfNone, IsSomeAnd, ◌==◌, false}
+use Rattle.std.proofs.Common.{◌≡◌, ℕ, ◌≤◌, ◌-◌, List, [], ◌∷◌, map, take, drop, length, get_or, codes, refl, ap, sym, subst, ◌∙◌, arith, Option, Some, None, String, string_bytes, slice_index, Global, IfNone, IfSome, IsSomeAnd, ◌==◌, false}
 use Rattle.std.proofs.lemmas.List.{take_rest}
 use Rattle.std.proofs.lemmas.Bool.{eq-eqb, false≢true}
 use Rattle.rc_command.specs.Words.{HasOptions}
 use Rattle.rc_command.specs.Command.{IsCommand, IsBench}
 use Rattle.rc_command.specs.declared.options.Options.{Options}
+use Rattle.rc_command.specs.declared.reader.Playing.TheVariants as playing
 use Rattle.rc_command.specs.declared.command.Command.{Command}
-use Rattle.rc_command.specs.declared.command.Command.TheVariants.{Play, Check, Sheet, Bench}
+use Rattle.rc_command.specs.declared.command.Command.TheVariants.{Play, Check, Sheet, Bench, Migrate}
 
 abbrev Text : Type 0
 Text = List ℕ
@@ -43,6 +44,11 @@ split_two (first ∷ second ∷ words) word value some is next_is =
     ∙ ap (λ x. string_bytes word ∷ string_bytes x ∷ bytes_of words) (sym next_is)
     ∙ ap (λ x. string_bytes word ∷ string_bytes value ∷ bytes_of x) (sym (take_rest (first ∷ second ∷ words) 2))
 
+-- what is there has what follows from what it has
+pub some_weaker : {T : Type 0} {P Q : T → Type 0} (found : Option T) → ((x : T) → P x → Q x) → IfSome found P → IfSome found Q
+some_weaker None f holds = tt
+some_weaker (Some x) f holds = f x holds
+
 -- where one thing is out of the question, so is what it follows from
 pub none_weaker : {T P Q : Type 0} (found : Option T) → (P → Q) → IfNone found P → IfNone found Q
 none_weaker None f holds = f holds
@@ -61,11 +67,12 @@ differ name mine other rest later apart named is =
     false≢true (sym apart ∙ eq-eqb (slice_index mine 0) (slice_index other 0)
     (ap (λ x. slice_index x 0) (sym named) ∙ ap (λ x. slice_index (first_of x) 0) is))
 
-pub no_play : (name : Text) (rest : List Text) → name ≡ codes "play" → ((options : Options) → HasOptions rest options → ⊥)
+pub no_play : (name : Text) (rest : List Text) → name ≡ codes "play" → ((options : Options) → HasOptions playing.Play rest options → ⊥)
     → (command : Command) → IsCommand (name ∷ rest) command → ⊥
-no_play name rest named none (Play options) (later, is, has) = none options (subst (λ x. HasOptions x options) (sym (ap behind_first is)) has)
+no_play name rest named none (Play options) (later, is, has) = none options (subst (λ x. HasOptions playing.Play x options) (sym (ap behind_first is)) has)
 no_play name rest named none Check is = differ name (codes "play") (codes "check") rest [] refl named is
 no_play name rest named none Sheet is = differ name (codes "play") (codes "sheet") rest [] refl named is
+no_play name rest named none Migrate is = differ name (codes "play") (codes "migrate") rest [] refl named is
 no_play name rest named none (Bench number options) (later, is, has) = differ name (codes "play") (codes "bench") rest later refl named is
 
 pub no_bench : (name : Text) (rest : List Text) → name ≡ codes "bench" → ((number : ℕ) (options : Options) → IsBench rest number options → ⊥)
@@ -74,9 +81,10 @@ no_bench name rest named none (Bench number options) (later, is, has) =
     none number options (subst (λ x. IsBench x number options) (sym (ap behind_first is)) has)
 no_bench name rest named none Check is = differ name (codes "bench") (codes "check") rest [] refl named is
 no_bench name rest named none Sheet is = differ name (codes "bench") (codes "sheet") rest [] refl named is
+no_bench name rest named none Migrate is = differ name (codes "bench") (codes "migrate") rest [] refl named is
 no_bench name rest named none (Play options) (later, is, has) = differ name (codes "bench") (codes "play") rest later refl named is
 
-pub no_options : (words : List (String Global)) → ((options : Options) → HasOptions (bytes_of (take (length words - 1) (drop 1 words))) options → ⊥)
+pub no_options : (words : List (String Global)) → ((options : Options) → HasOptions playing.Bench (bytes_of (take (length words - 1) (drop 1 words))) options → ⊥)
     → (number : ℕ) (options : Options) → IsBench (bytes_of words) number options → ⊥
 no_options words none number options (text, rest, is, spelled, has) =
-    none options (subst (λ x. HasOptions x options) (sym (behind_one words ∙ ap behind_first is)) has)
+    none options (subst (λ x. HasOptions playing.Bench x options) (sym (behind_one words ∙ ap behind_first is)) has)

@@ -3,10 +3,12 @@ ghost use Rattle.std.specs.Prelude.{◌≡◌, ◌∷◌, ℕ, map, codes, strin
 ghost use Rattle.rc_command.specs.Words.{HasOptions};
 ghost use Rattle.rc_command.specs.declared.options.Options.{Options};
 ghost use Rattle.rc_command.specs.declared.command.Command.{Command};
+ghost use Rattle.rc_command.specs.declared.reader.Playing.TheVariants as playing;
 ghost use Rattle.rc_command.specs.Command.{IsCommand, IsBench, options_of};
 
 use crate::number::number_of;
 use crate::options::{Options, options_of};
+use crate::reader::Playing;
 use rc_deck::Memory;
 use rc_names::limits::MOST_IN_BENCH;
 use std::alloc::Global;
@@ -22,6 +24,8 @@ pub enum Command {
     Sheet,
     /// Plays so many matches of the game of the bench, 1 to 1,000.
     Bench { number: u16, options: Options },
+    /// Writes a transcript in format 2.
+    Migrate,
 }
 
 impl Command {
@@ -34,6 +38,7 @@ impl Command {
             Command::Check => Options::usual(),
             Command::Sheet => Options::usual(),
             Command::Bench { options, .. } => *options,
+            Command::Migrate => Options::usual(),
         }
     }
 }
@@ -63,6 +68,7 @@ fn command_named(alloc: Global, name: &String, rest: &[String]) -> Result<Option
         "bench" => bench_of(alloc, rest),
         "check" if rest.is_empty() => Ok(Some(Command::Check)),
         "sheet" if rest.is_empty() => Ok(Some(Command::Sheet)),
+        "migrate" if rest.is_empty() => Ok(Some(Command::Migrate)),
         _ => Ok(None),
     }
 }
@@ -70,9 +76,9 @@ fn command_named(alloc: Global, name: &String, rest: &[String]) -> Result<Option
 /// `play` with these words behind it.
 fn play_of(alloc: Global, rest: &[String]) -> Result<Option<Command>, Memory>
     ensures some { IfOk result (λ found. IfSome found (IsCommand (codes "play" ∷ map string_bytes rest.now))) }
-    ensures none { IfOk result (λ found. IfNone found ((options : Options) → HasOptions (map string_bytes rest.now) options → ⊥)) }
+    ensures none { IfOk result (λ found. IfNone found ((options : Options) → HasOptions playing.Play (map string_bytes rest.now) options → ⊥)) }
 {
-    match options_of(alloc, "play", rest) {
+    match options_of(alloc, Playing::Play, rest) {
         Ok(Some(options)) => Ok(Some(Command::Play(options))),
         Ok(None) => Ok(None),
         Err(fail) => Err(fail),
@@ -95,10 +101,10 @@ fn bench_of(alloc: Global, rest: &[String]) -> Result<Option<Command>, Memory>
 
 /// `bench` with its number and these words behind it.
 fn numbered_bench(alloc: Global, number: u16, rest: &[String]) -> Result<Option<Command>, Memory>
-    ensures some { IfOk result (λ found. IfSome found (λ command. (options : Options) × (command ≡ Command.Bench number options) × HasOptions (map string_bytes rest.now) options)) }
-    ensures none { IfOk result (λ found. IfNone found ((options : Options) → HasOptions (map string_bytes rest.now) options → ⊥)) }
+    ensures some { IfOk result (λ found. IfSome found (λ command. (options : Options) × (command ≡ Command.Bench number options) × HasOptions playing.Bench (map string_bytes rest.now) options)) }
+    ensures none { IfOk result (λ found. IfNone found ((options : Options) → HasOptions playing.Bench (map string_bytes rest.now) options → ⊥)) }
 {
-    match options_of(alloc, "bench", rest) {
+    match options_of(alloc, Playing::Bench, rest) {
         Ok(Some(options)) => Ok(Some(Command::Bench { number, options })),
         Ok(None) => Ok(None),
         Err(fail) => Err(fail),

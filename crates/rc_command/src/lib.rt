@@ -7,7 +7,8 @@ mod number;
 mod option;
 mod options;
 mod reader;
+mod settings;
 
 pub use command::{Command, command_of};
 pub use laws::words_are_one_command;
-pub use options::Options;
+pub use options::{Format, Options};

@@ -1,51 +1,73 @@
 //! The texts of options, read by `clap`.
-ghost use Rattle.std.specs.Prelude.{◌≡◌, false, map, string_bytes, option_map, IfOk, IsSomeAnd};
-ghost use Rattle.clap.specs.Words.{app_of, with_rule};
+ghost use Rattle.std.specs.Prelude.{◌≡◌, false, map, string_bytes, IfOk, IsSomeAnd};
+ghost use Rattle.clap.specs.Words.{app_of, with_rule, first_value};
+ghost use Rattle.clap.specs.Matches.{found_of};
 ghost use Rattle.clap.specs.Walk.{rule_of};
 ghost use Rattle.rc_command.specs.declared.options.Options.{Options};
-ghost use Rattle.rc_command.specs.Words.{GivesOptions, HasOptions};
-ghost use Rattle.rc_command.specs.Reader.{bare_app, option_rule, options_app};
+ghost use Rattle.rc_command.specs.Words.{GivesOptions, HasOptions, name_of, text_of};
+ghost use Rattle.rc_command.specs.Reader.{bare_app, option_rule, options_app, players_app};
 
+use crate::settings::Texts;
 use clap::error::ErrorKind;
-use clap::{Arg, ArgAction};
+use clap::{Arg, ArgAction, ArgMatches};
 use rc_deck::Memory;
 use std::alloc::{AllocError, Global};
 
-/// The texts of the options, as far as they are named.
-#[derive(Clone, Copy)]
-pub(crate) struct Texts<'a> {
-    pub(crate) workers: Option<&'a str>,
-    pub(crate) cache: Option<&'a str>,
+/// A command that plays, and so has options.
+#[derive(Clone, Copy, Debug, PartialEq, Eq)]
+pub(crate) enum Playing {
+    Play,
+    Bench,
 }
 
 /// The texts that the words behind a command's name and number give to options. Where these words are options and nothing else,
 /// there are such texts. Other words may have some too.
 pub(crate) fn texts_of<'a>(
     alloc: Global,
-    command: &'a str,
+    playing: Playing,
     words: &'a [String],
 ) -> Result<Option<Texts<'a>>, Memory>
-    ensures { IfOk result (λ found. (options : Options) → HasOptions (map string_bytes words.now) options
-        → IsSomeAnd found (λ texts. GivesOptions (option_map (λ s. s.now) texts.workers) (option_map (λ s. s.now) texts.cache)
-        (map string_bytes words.now) options)) }
+    ensures { IfOk result (λ found. (options : Options) → HasOptions playing (map string_bytes words.now) options
+        → IsSomeAnd found (λ texts. GivesOptions playing (text_of texts) (map string_bytes words.now) options)) }
 {
-    let reader = match reader_of(alloc, command) {
+    let reader = match reader_of(alloc, playing) {
         Ok(reader) => reader,
         Err(_) => return Err(Memory),
     };
     match reader.try_get_matches_from(words) {
-        Ok(matches) => Ok(Some(Texts {
-            workers: matches.get_str("workers"),
-            cache: matches.get_str("cache"),
-        })),
+        Ok(matches) => Ok(Some(texts_in(&matches))),
         Err(error) if error.kind() == ErrorKind::OutOfMemory => Err(Memory),
         Err(_) => Ok(None),
     }
 }
 
-/// A reader of the two options, each with one text, and of nothing else.
-fn reader_of<'a>(alloc: Global, command: &'a str) -> Result<clap::Command<'a>, AllocError>
-    ensures { IfOk result (λ reader. app_of reader ≡ options_app command.now) }
+/// The texts that were read.
+fn texts_in<'a>(matches: &ArgMatches<'a>) -> Texts<'a>
+    ensures { (name : _) → text_of result name ≡ first_value (found_of matches.now) (name_of name) }
+{
+    Texts {
+        workers: matches.get_str("workers"),
+        cache: matches.get_str("cache"),
+        format: matches.get_str("format"),
+    }
+}
+
+/// A reader of the command's options, each with one text, and of nothing else.
+fn reader_of<'a>(alloc: Global, playing: Playing) -> Result<clap::Command<'a>, AllocError>
+    ensures { IfOk result (λ reader. app_of reader ≡ options_app playing) }
+{
+    match playing {
+        Playing::Play => {
+            let reader = players_reader(alloc, "play")?;
+            with_option(alloc, reader, "format")
+        }
+        Playing::Bench => players_reader(alloc, "bench"),
+    }
+}
+
+/// A reader of the options that say who plays.
+fn players_reader<'a>(alloc: Global, command: &'a str) -> Result<clap::Command<'a>, AllocError>
+    ensures { IfOk result (λ reader. app_of reader ≡ players_app command.now) }
 {
     let reader = with_option(alloc, bare_reader(alloc, command), "workers")?;
     with_option(alloc, reader, "cache")

@@ -1,5 +1,10 @@
-use Rattle.rc_command.proofs.WordLemmas.{none_weaker, of_some, of_none}
+use Rattle.rc_command.specs.Words.{text_of}
+use Rattle.rc_command.proofs.WordLemmas.{some_weaker, none_weaker, of_some, of_none}
 use Rattle.rc_command.proofs.options.options_of.Goals as goal
+
+pub returns-in-Ok-Some-clause-some : goal.returns-in-Ok-Some-clause-some
+returns-in-Ok-Some-clause-some c =
+    some_weaker c.options_with.result (λ options given. (text_of c.in-Ok-Some.texts, given)) c.options_with.ensures.some
 
 pub returns-in-Ok-Some-clause-none : goal.returns-in-Ok-Some-clause-none
 returns-in-Ok-Some-clause-none c =
