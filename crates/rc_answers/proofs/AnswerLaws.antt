@@ -19,8 +19,10 @@ use Rattle.rc_answers.specs.declared.answer.Answer.{Answer as Stored}
 use Rattle.rc_answers.specs.declared.answer.Answer.TheVariants.{Text, Refused}
 use Rattle.rc_command.specs.declared.options.Options.{Options}
 use Rattle.rc_answers.specs.declared.task.Task.{Task}
-use Rattle.rc_answers.specs.declared.task.Task.TheVariants.{Play, Check, Sheet as PrintsSheet}
-use Rattle.rc_answers.specs.AcceptedPlan.{IsBehind, IsFaultyBehind, IsPlanFaulty}
+use Rattle.rc_answers.specs.declared.task.Task.TheVariants.{Play, Check, Sheet as PrintsSheet, Migrate}
+use Rattle.rc_answers.specs.declared.transcript.Judging.{Judging}
+use Rattle.rc_answers.specs.declared.transcript.Judging.TheVariants as judging
+use Rattle.rc_answers.specs.AcceptedPlan.{HasPlanReadFault, IsBehind, IsFaultyBehind, IsPlanFaulty}
 use Rattle.rc_answers.specs.declared.refusal.Refusal.{Refusal}
 use Rattle.rc_answers.specs.declared.refusal.Refusal.TheVariants as refusal
 use Rattle.rc_answers.specs.declared.status.SourceKind.{SourceKind}
@@ -31,7 +33,7 @@ use Rattle.rc_answers.specs.Accepted.{HasFirstFault}
 use Rattle.rc_answers.specs.Task.{wanted}
 use Rattle.rc_answers.specs.Reading.{Reading, IsAcceptedWith}
 use Rattle.rc_answers.specs.Note.{note_line}
-use Rattle.rc_answers.specs.Answer.{Answer, text, refused, seen, playouts_of, AreAlike, IsAnswered, HasPlanRefusal, HasAnswer, form_faulty, sheet_faulty, plan_faulty, accepted, IsAnswerTo, IsJudged, IsPlanRefusal, IsSheetText}
+use Rattle.rc_answers.specs.Answer.{Answer, text, refused, seen, playouts_of, AreAlike, IsAnswered, HasPlanRefusal, HasAnswer, form_faulty, sheet_faulty, plan_faulty, accepted, IsAnswerTo, IsJudged, IsPlanRefusal, IsSheetText, IsTranscribed, task_of}
 use Rattle.rc_answers.proofs.OneAnswer.{alike_answers}
 use Rattle.rc_answers.proofs.Options.{some_is}
 
@@ -113,36 +115,53 @@ sheet_answer source lists rest sheet (Text bytes note) spelled is printed =
     accepted_answer PrintsSheet source lists rest sheet (seen (Text bytes note) 0) spelled is (λ form others first. same)
 sheet_answer source lists rest sheet (Refused refusal) spelled is printed = absurd printed
 
--- a transcript that is judged
-judged_so : (source : List ℕ) (lists : List Tree) (rest : ℕ) (sheet : Sheet) (plan : Plan) (answer : Stored)
-    → Spelled source (wanted Check) lists rest → IsAcceptedWith (λ other _. other ≡ sheet) lists → IsBehind sheet.players lists plan
-    → IsJudged (about_of sheet plan.turns) plan (drop rest source) answer → IsAnswerTo Check source answer
-judged_so source lists rest sheet plan answer spelled is behind judged =
-    accepted_answer Check source lists rest sheet (seen answer 0) spelled is (λ form others same. (plan, behind form others same, judged))
+-- What is answered to the transcript behind an accepted sheet and plan is the answer.
+pub transcript_accepted : (asked : Judging) (source : List ℕ) (lists : List Tree) (rest : ℕ) (sheet : Sheet) (answer : Answer)
+    → Spelled source 2 lists rest → IsAcceptedWith (λ other _. other ≡ sheet) lists
+    → ((form : Tree) (others : List Tree) → lists ≡ form ∷ others → IsTranscribed asked source sheet others rest answer)
+    → HasAnswer (task_of asked) source answer
+transcript_accepted judging.Check source lists rest sheet answer spelled is has = accepted_answer Check source lists rest sheet answer spelled is has
+transcript_accepted judging.Migrate source lists rest sheet answer spelled is has = accepted_answer Migrate source lists rest sheet answer spelled is has
 
-pub judged_answers : (source : List ℕ) (lists : List Tree) (rest : ℕ) (sheet : Sheet) (plan : Plan) {E : Type 0} (result : Result Stored E)
-    → Spelled source (wanted Check) lists rest → IsAcceptedWith (λ other _. other ≡ sheet) lists → IsBehind sheet.players lists plan
-    → IfOk result (IsJudged (about_of sheet plan.turns) plan (drop rest source)) → IfOk result (IsAnswerTo Check source)
-judged_answers source lists rest sheet plan (Err error) spelled is behind judged = tt
-judged_answers source lists rest sheet plan (Ok answer) spelled is behind judged = judged_so source lists rest sheet plan answer spelled is behind judged
+-- and the first fault of the plan, as it is read, refuses it
+pub plan_refused : (asked : Judging) (source : List ℕ) (lists : List Tree) (rest : ℕ) (sheet : Sheet) (kind : PlanKind) (at : ℕ)
+    → Spelled source 2 lists rest → IsAcceptedWith (λ other _. other ≡ sheet) lists
+    → ((form : Tree) (others : List Tree) → lists ≡ form ∷ others → HasPlanReadFault sheet.players others rest kind at)
+    → HasAnswer (task_of asked) source (refused (refusal.Plan kind at))
+plan_refused judging.Check source lists rest sheet kind at spelled is has = plan_answer Check source lists rest sheet kind at spelled is has
+plan_refused judging.Migrate source lists rest sheet kind at spelled is has = plan_answer Migrate source lists rest sheet kind at spelled is has
+
+-- a transcript that is judged
+judged_so : (asked : Judging) (source : List ℕ) (lists : List Tree) (rest : ℕ) (sheet : Sheet) (plan : Plan) (answer : Stored)
+    → Spelled source 2 lists rest → IsAcceptedWith (λ other _. other ≡ sheet) lists → IsBehind sheet.players lists plan
+    → IsJudged asked (about_of sheet plan.turns) plan (drop rest source) answer → IsAnswerTo (task_of asked) source answer
+judged_so asked source lists rest sheet plan answer spelled is behind judged =
+    transcript_accepted asked source lists rest sheet (seen answer 0) spelled is (λ form others same. (plan, behind form others same, judged))
+
+pub judged_answers : (asked : Judging) (source : List ℕ) (lists : List Tree) (rest : ℕ) (sheet : Sheet) (plan : Plan) {E : Type 0} (result : Result Stored E)
+    → Spelled source 2 lists rest → IsAcceptedWith (λ other _. other ≡ sheet) lists → IsBehind sheet.players lists plan
+    → IfOk result (IsJudged asked (about_of sheet plan.turns) plan (drop rest source)) → IfOk result (IsAnswerTo (task_of asked) source)
+judged_answers asked source lists rest sheet plan (Err error) spelled is behind judged = tt
+judged_answers asked source lists rest sheet plan (Ok answer) spelled is behind judged =
+    judged_so asked source lists rest sheet plan answer spelled is behind judged
 
 -- A plan that fails as it is read is refused for its first fault.
-unread_answer : (source : List ℕ) (lists : List Tree) (rest : ℕ) (sheet : Sheet) (fail : PlanFail) (answer : Stored)
-    → Spelled source (wanted Check) lists rest → IsAcceptedWith (λ other _. other ≡ sheet) lists
+unread_answer : (asked : Judging) (source : List ℕ) (lists : List Tree) (rest : ℕ) (sheet : Sheet) (fail : PlanFail) (answer : Stored)
+    → Spelled source 2 lists rest → IsAcceptedWith (λ other _. other ≡ sheet) lists
     → IfPlanFault fail (λ fault. IsFaultyBehind sheet.players lists rest fault.kind fault.at) → IsPlanRefusal fail answer
-    → IsAnswerTo Check source answer
-unread_answer source lists rest sheet fails.Memory answer spelled is fault refusal_so = absurd refusal_so
-unread_answer source lists rest sheet (fails.Fault found) answer spelled is fault refusal_so =
-    refusal_is Check source (refusal.Plan found.kind found.at) answer refusal_so
-    (plan_answer Check source lists rest sheet found.kind found.at spelled is fault)
+    → IsAnswerTo (task_of asked) source answer
+unread_answer asked source lists rest sheet fails.Memory answer spelled is fault refusal_so = absurd refusal_so
+unread_answer asked source lists rest sheet (fails.Fault found) answer spelled is fault refusal_so =
+    refusal_is (task_of asked) source (refusal.Plan found.kind found.at) answer refusal_so
+    (plan_refused asked source lists rest sheet found.kind found.at spelled is fault)
 
-pub unread_answers : (source : List ℕ) (lists : List Tree) (rest : ℕ) (sheet : Sheet) (fail : PlanFail) {E : Type 0} (result : Result Stored E)
-    → Spelled source (wanted Check) lists rest → IsAcceptedWith (λ other _. other ≡ sheet) lists
+pub unread_answers : (asked : Judging) (source : List ℕ) (lists : List Tree) (rest : ℕ) (sheet : Sheet) (fail : PlanFail) {E : Type 0} (result : Result Stored E)
+    → Spelled source 2 lists rest → IsAcceptedWith (λ other _. other ≡ sheet) lists
     → IfPlanFault fail (λ fault. IsFaultyBehind sheet.players lists rest fault.kind fault.at)
-    → IfOk result (IsPlanRefusal fail) → IfOk result (IsAnswerTo Check source)
-unread_answers source lists rest sheet fail (Err error) spelled is fault refusal_so = tt
-unread_answers source lists rest sheet fail (Ok answer) spelled is fault refusal_so =
-    unread_answer source lists rest sheet fail answer spelled is fault refusal_so
+    → IfOk result (IsPlanRefusal fail) → IfOk result (IsAnswerTo (task_of asked) source)
+unread_answers asked source lists rest sheet fail (Err error) spelled is fault refusal_so = tt
+unread_answers asked source lists rest sheet fail (Ok answer) spelled is fault refusal_so =
+    unread_answer asked source lists rest sheet fail answer spelled is fault refusal_so
 
 -- A plan that fails is refused for its first fault.
 pub failed_answer : (options : Options) (source : List ℕ) (lists : List Tree) (rest : ℕ) (sheet : Sheet) (fail : PlanFail) (answer : Stored)

@@ -1,10 +1,12 @@
 pub mod AcceptedLaws
 pub mod AnswerLaws
 pub mod BenchLaws
+pub mod Cards
 pub mod Exits
 pub mod FirstFaults
 pub mod OneAnswer
 pub mod OneReading
+pub mod Notes
 pub mod Options
 pub mod PlanLaws
 pub mod PlayedLaws
@@ -13,3 +15,4 @@ pub mod PlaysLaw
 pub mod PlaysLemmas
 pub mod PrintedTwice
 pub mod SomeAnswer
+pub mod Verdicts

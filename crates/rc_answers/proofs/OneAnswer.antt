@@ -4,18 +4,21 @@ use Rattle.rc_model.specs.Tree.{Tree}
 use Rattle.rc_sheet_model.specs.Sheet as sheets
 use Rattle.rc_play_model.specs.About.{About, about_of}
 use Rattle.rc_play_model.specs.Plan.{Plan}
-use Rattle.rc_play_model.specs.Keyed.{keyed_house}
 use Rattle.rc_redraw.specs.Asking.{Key}
 use Rattle.rc_records.specs.Series.{looks_of}
-use Rattle.rc_text_model.specs.Reading.{read_text}
+use Rattle.rc_text_model.specs.PlayedLaws.{house_in}
 use Rattle.rc_command.specs.declared.options.Options.{Options}
+use Rattle.rc_command.specs.declared.options.Format.{Format}
+use Rattle.rc_command.specs.Words.{is_named}
 use Rattle.rc_answers.specs.declared.task.Task.{Task}
-use Rattle.rc_answers.specs.declared.task.Task.TheVariants.{Play, Check, Sheet}
+use Rattle.rc_answers.specs.declared.task.Task.TheVariants.{Play, Check, Sheet, Migrate}
+use Rattle.rc_answers.specs.declared.transcript.Judging.{Judging}
+use Rattle.rc_answers.specs.declared.transcript.Judging.TheVariants as judging
 use Rattle.rc_answers.specs.declared.refusal.Refusal.TheVariants as refusal
 use Rattle.rc_answers.specs.Task.{wanted}
 use Rattle.rc_answers.specs.Reading.{Reading, HasSheetFault, IsAcceptedWith}
 use Rattle.rc_answers.specs.Players.{AreHits, alone, shared}
-use Rattle.rc_answers.specs.Answer.{Answer, text, refused, house_played, text_judged, AreAlike, IsAlone, IsAnswered, HasPlanRefusal, HasAnswer, form_faulty, sheet_faulty, plan_faulty, accepted}
+use Rattle.rc_answers.specs.Answer.{Answer, text, refused, house_played, transcript_answer, AreAlike, IsAlone, IsAnswered, IsTranscribed, HasPlanRefusal, HasAnswer, form_faulty, sheet_faulty, plan_faulty, accepted}
 use Rattle.rc_answers.proofs.AcceptedLaws.{one_sheet_fault, accepted_no_fault, both_accepted}
 use Rattle.rc_answers.proofs.OneReading.{one_reading, read_has_no_fault, one_form_fault}
 use Rattle.rc_answers.proofs.PlanLaws.{accepted_no_plan_fault, one_plan_fault, one_accepted_plan, read_no_fault, one_read_fault, one_read_plan}
@@ -43,6 +46,13 @@ one_number options looks found other few (alone one is) (alone one' is') = is' �
 one_number options looks found other few (alone one is) (shared many most some) = absurd (omega (arith, few, many))
 one_number options looks found other few (shared many most some) has = absurd (omega (arith, few, many))
 
+-- a transcript has one answer
+one_transcribed : (asked : Judging) (source : List ℕ) (sheet : sheets.Sheet) (others : List Tree) (rest : ℕ) (answer other : Answer)
+    → IsTranscribed asked source sheet others rest answer → IsTranscribed asked source sheet others rest other → other ≡ answer
+one_transcribed asked source sheet others rest answer other has has' =
+    let same = one_read_plan sheet.players others has.0 has'.0 has.1 has'.1 in
+    has'.2 ∙ ap (λ plan. transcript_answer asked (about_of sheet plan.turns) plan (drop rest source)) same ∙ sym has.2
+
 -- of an accepted sheet one worker has one answer
 one_accepted : (task : Task) (source : List ℕ) (sheet : sheets.Sheet) (others : List Tree) (rest : ℕ) (answer other : Answer) → IsAlone task
     → IsAnswered task source sheet others rest answer → IsAnswered task source sheet others rest other → other ≡ answer
@@ -52,10 +62,9 @@ one_accepted (Play options) source sheet others rest answer other few has has' =
     let found = one_number options (looks has.0) has.2.0 has'.2.0 few has.2.1 (subst (λ plan. AreHits options (looks plan) has'.2.0) same has'.2.1) in
     has'.2.2 ∙ ap (λ plan. house_played options (about_of sheet plan.turns) plan has'.2.0) same
     ∙ ap (house_played options (about_of sheet has.0.turns) has.0) found ∙ sym has.2.2
-one_accepted Check source sheet others rest answer other few has has' =
-    let same = one_read_plan sheet.players others has.0 has'.0 has.1 has'.1 in
-    has'.2 ∙ ap (λ plan. text_judged (about_of sheet plan.turns) plan (read_text (drop rest source))) same ∙ sym has.2
+one_accepted Check source sheet others rest answer other few has has' = one_transcribed judging.Check source sheet others rest answer other has has'
 one_accepted Sheet source sheet others rest answer other few has has' = has' ∙ sym has
+one_accepted Migrate source sheet others rest answer other few has has' = one_transcribed judging.Migrate source sheet others rest answer other has has'
 
 -- an answer is alike to itself
 pub alike_itself : (answer : Answer) → AreAlike answer answer
@@ -80,6 +89,8 @@ alike_accepted Check source sheet others rest answer other has has' =
     subst (AreAlike answer) (sym (one_accepted Check source sheet others rest answer other tt has has')) (alike_itself answer)
 alike_accepted Sheet source sheet others rest answer other has has' =
     subst (AreAlike answer) (sym (one_accepted Sheet source sheet others rest answer other tt has has')) (alike_itself answer)
+alike_accepted Migrate source sheet others rest answer other has has' =
+    subst (AreAlike answer) (sym (one_accepted Migrate source sheet others rest answer other tt has has')) (alike_itself answer)
 
 -- a plan with a fault isn't accepted
 no_plan_fault : (task : Task) (source : List ℕ) (sheet : sheets.Sheet) (others : List Tree) (rest : ℕ) (answer : Answer) (kind : _) (at : ℕ)
@@ -88,6 +99,7 @@ no_plan_fault (Play options) source sheet others rest answer kind at has fault =
     accepted_no_plan_fault source sheet.players others rest has.0 kind at has.1 fault
 no_plan_fault Check source sheet others rest answer kind at has fault = read_no_fault sheet.players others rest has.0 kind at has.1 fault
 no_plan_fault Sheet source sheet others rest answer kind at has fault = fault
+no_plan_fault Migrate source sheet others rest answer kind at has fault = read_no_fault sheet.players others rest has.0 kind at has.1 fault
 
 -- a plan has one first fault
 one_plan_refusal : (task : Task) (source : List ℕ) (sheet : sheets.Sheet) (others : List Tree) (rest : ℕ) (kind other : _) (at offset : ℕ)
@@ -98,6 +110,8 @@ one_plan_refusal (Play options) source sheet others rest kind other at offset ha
 one_plan_refusal Check source sheet others rest kind other at offset has has' =
     one_read_fault sheet.players others rest kind other at offset has has'
 one_plan_refusal Sheet source sheet others rest kind other at offset has has' = absurd has
+one_plan_refusal Migrate source sheet others rest kind other at offset has has' =
+    one_read_fault sheet.players others rest kind other at offset has has'
 
 -- a sheet that is accepted has no fault
 no_sheet_fault : (P : sheets.Sheet → List Tree → Type 0) (task : Task) (source : List ℕ) (kind : _) (at : ℕ)
@@ -175,26 +189,28 @@ alike_answers task source answer other has has' =
 
 -- the text of an accepted sheet and plan, whoever plays
 played_text : (options : Options) (source : List ℕ) (sheet : sheets.Sheet) (others : List Tree) (rest : ℕ) (bytes note : List ℕ) (playouts : ℕ)
-    (is : IsAnswered (Play options) source sheet others rest (text bytes note playouts)) → bytes ≡ keyed_house (about_of sheet is.0.turns) is.0
+    (is : IsAnswered (Play options) source sheet others rest (text bytes note playouts))
+    → bytes ≡ house_in (is_named options.format) (about_of sheet is.0.turns) is.0
 played_text options source sheet others rest bytes note playouts is = let same = is.2.2 in cc
 
 -- a text that is answered
-text_accepted : (options : Options) (source bytes note : List ℕ) (playouts : ℕ) → HasAnswer (Play options) source (text bytes note playouts)
+pub text_accepted : (options : Options) (source bytes note : List ℕ) (playouts : ℕ) → HasAnswer (Play options) source (text bytes note playouts)
     → (read : Reading source 2) × IsAcceptedWith (λ sheet others. IsAnswered (Play options) source sheet others read.rest (text bytes note playouts)) read.lists
 text_accepted options source bytes note playouts (form_faulty kind at has is) = absurd cc
 text_accepted options source bytes note playouts (sheet_faulty read kind at has is) = absurd cc
 text_accepted options source bytes note playouts (plan_faulty read kind at has is) = absurd cc
 text_accepted options source bytes note playouts (accepted read has) = (read, has)
 
-pub same_texts : (options others : Options) (source bytes bytes' note note' : List ℕ) (playouts playouts' : ℕ)
+pub same_texts : (options others : Options) (source bytes bytes' note note' : List ℕ) (playouts playouts' : ℕ) → options.format ≡ others.format
     → HasAnswer (Play options) source (text bytes note playouts) → HasAnswer (Play others) source (text bytes' note' playouts')
     → bytes ≡ bytes'
-same_texts options others source bytes bytes' note note' playouts playouts' has has' =
+same_texts options others source bytes bytes' note note' playouts playouts' format has has' =
     let mine = text_accepted options source bytes note playouts has in
     let own = text_accepted others source bytes' note' playouts' has' in
     let both = both_accepted mine.0.lists mine.1
     (accepted_of (λ sheet lists rest. IsAnswered (Play others) source sheet lists rest (text bytes' note' playouts')) source 2 mine.0 own.0 own.1) in
     let same = one_accepted_plan source both.0.players both.1 mine.0.rest both.2.0 both.3.0 both.2.1 both.3.1 in
     played_text options source both.0 both.1 mine.0.rest bytes note playouts both.2
+    ∙ ap (λ (format : Format). house_in (is_named format) (about_of both.0 both.2.0.turns) both.2.0) format
     ∙ sym (played_text others source both.0 both.1 mine.0.rest bytes' note' playouts' both.3
-    ∙ ap (λ plan. keyed_house (about_of both.0 plan.turns) plan) same)
+    ∙ ap (λ plan. house_in (is_named others.format) (about_of both.0 plan.turns) plan) same)

@@ -4,8 +4,8 @@ use Rattle.rc_model.specs.Tree.{Tree}
 use Rattle.rc_sheet_model.specs.Sheet.{Sheet}
 use Rattle.rc_play_model.specs.About.{about_of}
 use Rattle.rc_play_model.specs.Plan.{Plan}
-use Rattle.rc_play_model.specs.Keyed.{keyed_house}
-use Rattle.rc_command.specs.declared.options.Options.{Options}
+use Rattle.rc_text_model.specs.PlayedLaws.{house_in}
+use Rattle.rc_command.specs.Words.{is_named}
 use Rattle.rc_answers.specs.declared.task.Task.TheVariants.{Play}
 use Rattle.rc_answers.specs.Reading.{IsAcceptedWith}
 use Rattle.rc_answers.specs.Answer.{text, IsAnswered, form_faulty, sheet_faulty, plan_faulty, accepted}
@@ -23,11 +23,12 @@ written_played options source bytes note playouts (plan_faulty read kind at has 
 written_played options source bytes note playouts (accepted read has) = (read, by read.lists has)
   where
     by : (lists : List Tree) → IsAcceptedWith (λ sheet others. IsAnswered (Play options) source sheet others read.rest (text bytes note playouts)) lists
-        → IsAcceptedWith (TellsPlaysBehind source read.rest bytes) lists
+        → IsAcceptedWith (TellsPlaysBehind (is_named options.format) source read.rest bytes) lists
     by [] has = absurd has
     by (form ∷ others) has =
         let sheet : Sheet = has.0 in
         let plan : Plan = has.2.0 in
-        let house : List ℕ = keyed_house (about_of sheet plan.turns) plan in
+        let named = is_named options.format in
+        let house : List ℕ = house_in named (about_of sheet plan.turns) plan in
         let written = same_bytes bytes house note _ playouts _ has.2.2.2 in
-        (sheet, has.1, (plan, has.2.1, subst (TellsPlays sheet plan) (sym written) (house_tells sheet plan has.1.of_form.well has.1.sight)))
+        (sheet, has.1, (plan, has.2.1, subst (TellsPlays named sheet plan) (sym written) (house_tells sheet plan has.1.of_form.well has.1.sight named)))

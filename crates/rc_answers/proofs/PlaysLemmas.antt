@@ -1,5 +1,5 @@
 -- Each match of an accepted sheet and plan is a play that the sheet allows, and its picks are its strategies'.
-use Rattle.std.proofs.Common.{◌≡◌, ℕ, zero, suc, ◌+◌, ◌<◌, ◌≤◌, nat_lt, List, [], ◌∷◌, length, slice_get, Option, Some, None, refl, sym, ap, ◌∙◌, subst, arith}
+use Rattle.std.proofs.Common.{◌≡◌, ℕ, Bool, zero, suc, ◌+◌, ◌<◌, ◌≤◌, nat_lt, List, [], ◌∷◌, length, slice_get, Option, Some, None, refl, sym, ap, ◌∙◌, subst, arith}
 use Rattle.std.specs.List.{filter_map, range_with_len}
 use Rattle.rc_model.specs.Transcript.{Ending, done, limit, Record}
 use Rattle.rc_sheet_model.specs.Sheet.{Sheet}
@@ -14,7 +14,7 @@ use Rattle.rc_play_model.specs.Stop.{Stopped, stop_of}
 use Rattle.rc_play_model.specs.Decision.{choose}
 use Rattle.rc_play_model.specs.Play.{Played, from_stop, stop_behind, follow, reached, stop_for, items_of}
 use Rattle.rc_play_model.specs.Scores.{record_of}
-use Rattle.rc_play_model.specs.Keyed.{choice_of, dealing_of, keyed_play, keyed_match, keyed_house}
+use Rattle.rc_play_model.specs.Keyed.{choice_of, dealing_of, keyed_play, keyed_match}
 use Rattle.rc_play_model.proofs.FitLemmas.{keyed_leads}
 use Rattle.rc_play_model.proofs.FollowLemmas.{mapped}
 use Rattle.rc_play_model.proofs.FrontLemmas.{front_reached}
@@ -25,7 +25,7 @@ use Rattle.rc_play_model.proofs.StopFacts.{stops_there}
 use Rattle.rc_play_model.proofs.TurnLemmas.{turns_within}
 use Rattle.rc_text_model.specs.HouseText.{HouseText}
 use Rattle.rc_text_model.specs.Legal.{IsRecordOfPlay, AreRecords}
-use Rattle.rc_text_model.specs.PlayedLaws.{played_text}
+use Rattle.rc_text_model.specs.PlayedLaws.{played_text, house_in}
 use Rattle.rc_text_model.proofs.PlayedLemmas.{played_legal}
 use Rattle.rc_answers.specs.Plays.{HasEnded, IsPlayedOut, TellsPlays}
 
@@ -147,8 +147,8 @@ module _ (sheet : Sheet) (plan : Plan) (well : IsWellFormed sheet) (sight : IsIn
       )
 
   -- so the house text tells plays
-  pub house_tells : TellsPlays sheet plan (keyed_house about plan)
-  house_tells =
+  pub house_tells : (named : Bool) → TellsPlays named sheet plan (house_in named about plan)
+  house_tells named =
       record {
         told = played_text about plan;
         written = refl;

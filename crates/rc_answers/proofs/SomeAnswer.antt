@@ -15,13 +15,14 @@ use Rattle.rc_form.proofs.AtomsAreRead.{of_atoms-first}
 use Rattle.rc_form.proofs.TopLists.{fits-first}
 use Rattle.rc_sheet.proofs.Accepted.{has_sheet}
 use Rattle.rc_play_model.specs.About.{about_of}
-use Rattle.rc_text_model.specs.Reading.{read_text}
 use Rattle.rc_redraw.specs.Asking.{Key}
 use Rattle.rc_cache.specs.Hits.{hits}
 use Rattle.rc_records.specs.Series.{looks_of}
 use Rattle.rc_command.specs.declared.options.Options.{Options}
 use Rattle.rc_answers.specs.declared.task.Task.{Task}
-use Rattle.rc_answers.specs.declared.task.Task.TheVariants.{Play, Check, Sheet}
+use Rattle.rc_answers.specs.declared.task.Task.TheVariants.{Play, Check, Sheet, Migrate}
+use Rattle.rc_answers.specs.declared.transcript.Judging.{Judging}
+use Rattle.rc_answers.specs.declared.transcript.Judging.TheVariants as judging
 use Rattle.rc_answers.specs.declared.refusal.Refusal.TheVariants as refusal
 use Rattle.rc_answers.specs.declared.status.SourceKind.TheVariants.{Shape, Unseen}
 use Rattle.rc_answers.specs.Status.{source_kind, sheet_kind}
@@ -30,10 +31,10 @@ use Rattle.rc_answers.specs.AcceptedPlan.{HasPlanFault, HasPlanReadFault, IsPlan
 use Rattle.rc_answers.specs.Task.{wanted}
 use Rattle.rc_answers.specs.Reading.{IsAcceptedWith}
 use Rattle.rc_answers.specs.Players.{AreHits, alone, shared}
-use Rattle.rc_answers.specs.Answer.{Answer, text, refused, house_played, text_judged, HasAnswer, form_faulty}
+use Rattle.rc_answers.specs.Answer.{Answer, text, refused, house_played, transcript_answer, HasAnswer, form_faulty, task_of}
 use Rattle.rc_answers.proofs.AcceptedLaws.{in_sight_or_not}
 use Rattle.rc_answers.proofs.FirstFaults.{first_found}
-use Rattle.rc_answers.proofs.AnswerLaws.{missing_answer, refused_answer, first_accepted, accepted_answer, plan_answer}
+use Rattle.rc_answers.proofs.AnswerLaws.{missing_answer, refused_answer, first_accepted, accepted_answer, plan_answer, transcript_accepted, plan_refused}
 use Rattle.rc_answers.proofs.PlanLaws.{IsPlanOrFault, plan_or_fault, IsReadOrFault, read_or_fault}
 
 -- so many looks may hit
@@ -48,16 +49,10 @@ some_hits options looks = by (cases_lt 1 options.workers)
 abbrev SomeAnswer : Task → List ℕ → Type 0
 SomeAnswer task source = (answer : Answer) × HasAnswer task source answer
 
--- a source that is read, with a sheet that is accepted
-accepted : (task : Task) (source : List ℕ) (form : Tree) (others : List Tree) (rest : ℕ) (sheet : sheets.Sheet)
-    → Spelled source (wanted task) (form ∷ others) rest → IsAccepted form sheet → SomeAnswer task source
-accepted Sheet source form others rest sheet spelled is =
-    let answer = text (line (printed_sheet sheet)) [] 0 in (
-      answer,
-      accepted_answer Sheet source (form ∷ others) rest sheet answer spelled
-          (first_accepted (form ∷ others) form others sheet refl is) (λ form others same. refl),
-    )
-accepted Check source form others rest sheet spelled is =
+-- a source that is read, with a sheet that is accepted and a transcript
+transcribed : (asked : Judging) (source : List ℕ) (form : Tree) (others : List Tree) (rest : ℕ) (sheet : sheets.Sheet)
+    → Spelled source 2 (form ∷ others) rest → IsAccepted form sheet → SomeAnswer (task_of asked) source
+transcribed asked source form others rest sheet spelled is =
     by_plan (read_or_fault sheet.players others rest is.of_form.well.limits.some_players is.of_form.well.limits.players)
   where
     behind : (first : Tree) (more : List Tree) → form ∷ others ≡ first ∷ more → others ≡ more
@@ -66,18 +61,30 @@ accepted Check source form others rest sheet spelled is =
     sheet_is : IsAcceptedWith (λ other _. other ≡ sheet) (form ∷ others)
     sheet_is = first_accepted (form ∷ others) form others sheet refl is
 
-    by_plan : IsReadOrFault sheet.players others rest → SomeAnswer Check source
+    by_plan : IsReadOrFault sheet.players others rest → SomeAnswer (task_of asked) source
     by_plan (inl plan) =
-        let answer = text_judged (about_of sheet plan.0.turns) plan.0 (read_text (drop rest source)) in (
+        let answer = transcript_answer asked (about_of sheet plan.0.turns) plan.0 (drop rest source) in (
           answer,
-          accepted_answer Check source (form ∷ others) rest sheet answer spelled sheet_is
+          transcript_accepted asked source (form ∷ others) rest sheet answer spelled sheet_is
               (λ first more same. (plan.0, subst (λ others. IsPlanRead sheet.players others plan.0) (behind first more same) plan.1, refl)),
         )
     by_plan (inr fault) = (
       refused (refusal.Plan fault.0 fault.1),
-      plan_answer Check source (form ∷ others) rest sheet fault.0 fault.1 spelled sheet_is
+      plan_refused asked source (form ∷ others) rest sheet fault.0 fault.1 spelled sheet_is
           (λ first more same. subst (λ others. HasPlanReadFault sheet.players others rest fault.0 fault.1) (behind first more same) fault.2),
     )
+
+-- and with a sheet that is accepted
+accepted : (task : Task) (source : List ℕ) (form : Tree) (others : List Tree) (rest : ℕ) (sheet : sheets.Sheet)
+    → Spelled source (wanted task) (form ∷ others) rest → IsAccepted form sheet → SomeAnswer task source
+accepted Sheet source form others rest sheet spelled is =
+    let answer = text (line (printed_sheet sheet)) [] 0 in (
+      answer,
+      accepted_answer Sheet source (form ∷ others) rest sheet answer spelled
+          (first_accepted (form ∷ others) form others sheet refl is) (λ form others same. refl),
+    )
+accepted Check source form others rest sheet spelled is = transcribed judging.Check source form others rest sheet spelled is
+accepted Migrate source form others rest sheet spelled is = transcribed judging.Migrate source form others rest sheet spelled is
 accepted (Play options) source form others rest sheet spelled is =
     by_plan (plan_or_fault source sheet.players others rest is.of_form.well.limits.some_players is.of_form.well.limits.players)
   where

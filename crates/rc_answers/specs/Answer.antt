@@ -1,14 +1,16 @@
 -- What a command answers to its source. HasAnswer is the relation that holds of each source and its answers: exactly one, but that the
 -- note may tell one number of hits or another where several workers play. What an accepted sheet is answered, and with a plan, is
 -- IsAnswered. IsPrepared is what the program makes of a source before anybody plays.
-use Rattle.std.specs.Prelude.{◌≡◌, ◌≤◌, ℕ, List, [], length, drop, codes, Option, Some, None, Result, Ok, Err}
+use Rattle.std.specs.Prelude.{◌≡◌, ◌≤◌, ℕ, Bool, true, List, [], length, drop, codes, Option, Some, None, is_some, Result, Ok, Err}
 use Rattle.rc_model.specs.Transcript.{line}
 use Rattle.rc_model.specs.Tree.{Tree}
 use Rattle.rc_play_model.specs.About.{About, about_of}
 use Rattle.rc_play_model.specs.Plan.{Plan}
-use Rattle.rc_play_model.specs.Keyed.{keyed_house, dealing_of}
-use Rattle.rc_text_model.specs.HouseText.{HouseText}
-use Rattle.rc_text_model.specs.Reading.{read_text}
+use Rattle.rc_play_model.specs.Keyed.{dealing_of}
+use Rattle.rc_text_model.specs.Fields.{behind}
+use Rattle.rc_text_model.specs.HouseText.{HouseText, NamedText, text_in}
+use Rattle.rc_text_model.specs.PlayedLaws.{format_by, house_in, told_in}
+use Rattle.rc_text_model.specs.Reading.{read_in}
 use Rattle.rc_text_model.specs.Why.{Illegal}
 use Rattle.rc_text_model.specs.Judged.{first_illegal}
 use Rattle.rc_records.specs.Series.{looks_of}
@@ -19,14 +21,17 @@ use Rattle.rc_plan_model.specs.declared.fault.PlanKind.{PlanKind}
 use Rattle.rc_rules.specs.Plan.{plan_seen}
 use Rattle.rc_plan.specs.declared.fail.PlanFail.{PlanFail}
 use Rattle.rc_command.specs.declared.options.Options.{Options}
+use Rattle.rc_command.specs.Words.{is_named}
 use Rattle.rc_plan.specs.declared.fail.PlanFail.TheVariants as fails
 use Rattle.rc_answers.specs.declared.task.Task.{Task}
-use Rattle.rc_answers.specs.declared.task.Task.TheVariants.{Play, Check, Sheet}
+use Rattle.rc_answers.specs.declared.task.Task.TheVariants.{Play, Check, Sheet, Migrate}
 use Rattle.rc_answers.specs.declared.refusal.Refusal.{Refusal}
 use Rattle.rc_answers.specs.declared.refusal.Refusal.TheVariants as refusal
 use Rattle.rc_answers.specs.declared.status.SourceKind.{SourceKind}
 use Rattle.rc_answers.specs.declared.answer.Answer.{Answer as Stored}
 use Rattle.rc_answers.specs.declared.answer.Answer.TheVariants as stored
+use Rattle.rc_answers.specs.declared.transcript.Judging.{Judging}
+use Rattle.rc_answers.specs.declared.transcript.Judging.TheVariants as judging
 use Rattle.rc_answers.specs.declared.answer.Prepared.{Prepared}
 use Rattle.rc_answers.specs.declared.answer.Prepared.TheVariants.{Answered, Playing}
 use Rattle.rc_answers.specs.Task.{wanted}
@@ -42,41 +47,75 @@ pub data Answer : Type 0 where
   text : (bytes note : List ℕ) (playouts : ℕ) → Answer
   refused : (refusal : Refusal) → Answer
 
--- The house text of a plan: the plays of all matches in order, and the standings. It is keyed_house of rc_play_model, a definition that
--- knows of no book and no worker, so it is the same whoever plays, and whatever the book has. Options have a part in the note and in the
--- playouts alone: the note tells how many looks there were, and how many of them hit.
+-- The house text of a plan in the format that the options name: the plays of all matches in order, and the standings. It is house_in of
+-- rc_text_model, a definition that knows of no book and no worker, so it is the same whoever plays, and whatever the book has. All other
+-- options have a part in the note and in the playouts alone: the note tells how many looks there were, and how many of them hit.
 abbrev pub house_played : Options → About → Plan → ℕ → Answer
 house_played options about plan found =
-    text (keyed_house about plan) (looks_line (length (looks_of about plan)) found) (counted_playouts options (looks_of about plan))
+    text (house_in (is_named options.format) about plan) (looks_line (length (looks_of about plan)) found)
+    (counted_playouts options (looks_of about plan))
 
 abbrev pub IsPlayed : Options → About → Plan → Answer → Type 0
 IsPlayed options about plan answer =
     (found : ℕ) × AreHits options (looks_of about plan) found × (answer ≡ house_played options about plan found)
 
--- The verdict on a transcript: that it is legal, or its first illegal line and why.
-abbrev pub verdict : Option Illegal → Answer
-verdict None = text (line (codes "legal")) [] 0
-verdict (Some illegal) = refused (refusal.Illegal illegal.line (why_told illegal.why))
+-- A transcript that begins with this line tells what items bind.
+abbrev pub tells_bounds : List ℕ → Bool
+tells_bounds bytes = is_some (behind (codes "house 2\n") bytes)
 
--- The answer to a transcript, as it is read: the verdict, or its first line outside the grammar.
-abbrev pub text_judged : About → Plan → Result HouseText ℕ → Answer
-text_judged about plan (Err at) = refused (refusal.Text at)
-text_judged about plan (Ok told) = verdict (first_illegal about dealing_of plan told)
+-- that a transcript is legal
+abbrev pub called_legal : Answer
+called_legal = text (line (codes "legal")) [] 0
+
+-- a transcript with what its items bind
+abbrev pub migrated : About → Plan → HouseText → Answer
+migrated about plan told = text (text_in (format_by true about) (told_in true about plan told)) [] 0
+
+-- The answer to a legal transcript, of `check` and of `migrate`.
+abbrev pub legal_answer : Judging → About → Plan → HouseText → Answer
+legal_answer judging.Check about plan told = called_legal
+legal_answer judging.Migrate about plan told = migrated about plan told
+
+-- The answer to a transcript that is judged: its first illegal line and why, or what is answered to a legal one.
+abbrev pub judged_as : (legal : Answer) → Option Illegal → Answer
+judged_as legal None = legal
+judged_as legal (Some illegal) = refused (refusal.Illegal illegal.line (why_told illegal.why))
+
+-- The answer to a transcript as it is read, with the bounds of items or without them: its first line outside the grammar, or as it is
+-- judged.
+abbrev pub read_answer : Judging → (named : Bool) → About → Plan → Result NamedText ℕ → Answer
+read_answer asked named about plan (Err at) = refused (refusal.Text at)
+read_answer asked named about plan (Ok told) =
+    judged_as (legal_answer asked about plan told.text) (first_illegal about dealing_of plan (length (format_by named about).head) told)
+
+abbrev pub answer_in : Judging → (named : Bool) → About → Plan → List ℕ → Answer
+answer_in asked named about plan bytes = read_answer asked named about plan (read_in (format_by named about) bytes)
+
+-- The answer to a transcript, which is read in the format that its first line names.
+abbrev pub transcript_answer : Judging → About → Plan → List ℕ → Answer
+transcript_answer asked about plan bytes = answer_in asked (tells_bounds bytes) about plan bytes
+
+-- The plan is accepted, and this is the answer to the transcript behind it. `check` and `migrate` refuse the same transcripts.
+abbrev pub IsTranscribed : Judging → List ℕ → sheet.Sheet → List Tree → ℕ → Answer → Type 0
+IsTranscribed asked source sheet others rest answer =
+    (plan : Plan) × IsPlanRead sheet.players others plan
+    × (answer ≡ transcript_answer asked (about_of sheet plan.turns) plan (drop rest source))
 
 -- What a command answers where the sheet is accepted, with these lists behind it and the rest that begins here, and where the plan is
 -- accepted too, if the command reads one.
 abbrev pub IsAnswered : Task → List ℕ → sheet.Sheet → List Tree → ℕ → Answer → Type 0
 IsAnswered (Play options) source sheet others rest answer =
     (plan : Plan) × IsPlanAccepted source sheet.players others rest plan × IsPlayed options (about_of sheet plan.turns) plan answer
-IsAnswered Check source sheet others rest answer =
-    (plan : Plan) × IsPlanRead sheet.players others plan × (answer ≡ text_judged (about_of sheet plan.turns) plan (read_text (drop rest source)))
+IsAnswered Check source sheet others rest answer = IsTranscribed judging.Check source sheet others rest answer
 IsAnswered Sheet source sheet others rest answer = answer ≡ text (line (printed_sheet sheet)) [] 0
+IsAnswered Migrate source sheet others rest answer = IsTranscribed judging.Migrate source sheet others rest answer
 
 -- The plan's first fault, where the command reads a plan.
 abbrev pub HasPlanRefusal : Task → List ℕ → sheet.Sheet → List Tree → ℕ → PlanKind → ℕ → Type 0
 HasPlanRefusal (Play options) source sheet others rest kind at = HasPlanFault source sheet.players others rest kind at
 HasPlanRefusal Check source sheet others rest kind at = HasPlanReadFault sheet.players others rest kind at
 HasPlanRefusal Sheet source sheet others rest kind at = ⊥
+HasPlanRefusal Migrate source sheet others rest kind at = HasPlanReadFault sheet.players others rest kind at
 
 -- The command has this answer to its source.
 pub data HasAnswer (task : Task) (source : List ℕ) (answer : Answer) : Type 0 where
@@ -115,6 +154,7 @@ abbrev pub IsAlone : Task → Type 0
 IsAlone (Play options) = options.workers ≤ 1
 IsAlone Check = Unit {0}
 IsAlone Sheet = Unit {0}
+IsAlone Migrate = Unit {0}
 
 -- the answer that a value of the program stands for, where it took so many playouts
 abbrev pub seen : Stored → ℕ → Answer
@@ -136,6 +176,7 @@ IsGameOf (Play options) source sheet plan =
     (answer : Answer) → IsPlayed options (about_of sheet plan.turns) plan answer → HasAnswer (Play options) source answer
 IsGameOf Check source sheet plan = ⊥
 IsGameOf Sheet source sheet plan = ⊥
+IsGameOf Migrate source sheet plan = ⊥
 
 -- What a command makes of its source before anybody plays: its answer, or the sheet and the plan that are to be played.
 abbrev pub IsPrepared : Task → List ℕ → Prepared → Type 0
@@ -147,9 +188,21 @@ abbrev pub IsSheetText : sheet.Sheet → Stored → Type 0
 IsSheetText sheet (stored.Text bytes note) = (bytes.items ≡ line (printed_sheet sheet)) × (note ≡ Nothing)
 IsSheetText sheet (stored.Refused refusal) = ⊥
 
--- the answer to a transcript that a value of the program stands for, which takes no playouts
-abbrev pub IsJudged : About → Plan → List ℕ → Stored → Type 0
-IsJudged about plan bytes answer = seen answer 0 ≡ text_judged about plan (read_text bytes)
+-- The answer to a transcript that a value of the program stands for, which takes no playouts: as it is read, by its bytes, and by its
+-- bytes in the format that they begin with.
+abbrev pub IsReadAnswer : Judging → (named : Bool) → About → Plan → Result NamedText ℕ → Stored → Type 0
+IsReadAnswer asked named about plan told answer = seen answer 0 ≡ read_answer asked named about plan told
+
+abbrev pub IsAnswerIn : Judging → (named : Bool) → About → Plan → List ℕ → Stored → Type 0
+IsAnswerIn asked named about plan bytes answer = IsReadAnswer asked named about plan (read_in (format_by named about) bytes) answer
+
+abbrev pub IsJudged : Judging → About → Plan → List ℕ → Stored → Type 0
+IsJudged asked about plan bytes answer = IsAnswerIn asked (tells_bounds bytes) about plan bytes answer
+
+-- the command that judges transcripts so
+abbrev pub task_of : Judging → Task
+task_of judging.Check = Check
+task_of judging.Migrate = Migrate
 
 -- the refusal where the plan fails so: its first fault, and none where memory ran out
 abbrev pub IsPlanRefusal : PlanFail → Stored → Type 0

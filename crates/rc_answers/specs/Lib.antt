@@ -3,6 +3,7 @@ pub mod AcceptedPlan
 pub mod Answer
 pub mod Bench
 pub mod Laws
+pub mod Legend
 pub mod Note
 pub mod Players
 pub mod PlayedLaws

@@ -1,6 +1,6 @@
 -- What stands in the text that `play` writes, match by match: each match is a play that the sheet allows for its seeded shuffles, up to
 -- its end or the turn limit, and each choice is its strategy's function of its seat's view and of the seed of the seats.
-use Rattle.std.specs.Prelude.{◌≡◌, ℕ, ◌<◌, ◌≤◌, List, [], take, length, slice_get, Some}
+use Rattle.std.specs.Prelude.{◌≡◌, ℕ, Bool, ◌<◌, ◌≤◌, List, [], take, length, slice_get, Some}
 use Rattle.rc_model.specs.Tree.{Tree}
 use Rattle.rc_model.specs.Transcript.{Pick, Ending, done, limit, Record}
 use Rattle.rc_sheet_model.specs.Sheet.{Sheet}
@@ -11,9 +11,11 @@ use Rattle.rc_play_model.specs.Stop.{Stopped}
 use Rattle.rc_play_model.specs.Play.{items_of, pick_at}
 use Rattle.rc_play_model.specs.View.{view_of}
 use Rattle.rc_play_model.specs.Keyed.{choice_of, dealing_of, reached_in}
-use Rattle.rc_text_model.specs.HouseText.{HouseText, text_of}
+use Rattle.rc_text_model.specs.HouseText.{HouseText, text_in}
 use Rattle.rc_text_model.specs.Legal.{IsLegal, IsRecordOfPlay}
+use Rattle.rc_text_model.specs.PlayedLaws.{format_by, told_in}
 use Rattle.rc_command.specs.declared.options.Options.{Options}
+use Rattle.rc_command.specs.Words.{is_named}
 use Rattle.rc_answers.specs.declared.task.Task.TheVariants.{Play}
 use Rattle.rc_answers.specs.AcceptedPlan.{IsPlanAccepted}
 use Rattle.rc_answers.specs.Reading.{Reading, IsAcceptedWith}
@@ -52,26 +54,26 @@ pub record IsPlayedOut (about : About) (plan : Plan) (m : ℕ) (r : Record) : Ty
   -- each pick is its strategy's
   pub chosen : (n : ℕ) → n < length r.picks → IsChosen about plan m r.picks n
 
--- These bytes tell the matches of a plan for a sheet, each with its record, and how the strategies stand behind them.
-pub record TellsPlays (sheet : Sheet) (plan : Plan) (bytes : List ℕ) : Type 0 where
+-- These bytes tell the matches of a plan for a sheet in a format, each with its record, and how the strategies stand behind them.
+pub record TellsPlays (named : Bool) (sheet : Sheet) (plan : Plan) (bytes : List ℕ) : Type 0 where
   pub told : HouseText
-  pub written : bytes ≡ text_of told
+  pub written : bytes ≡ text_in (format_by named (about_of sheet plan.turns)) (told_in named (about_of sheet plan.turns) plan told)
   -- there is a record for each match, and the standings are those that the records make
   pub legal : IsLegal (about_of sheet plan.turns) dealing_of plan told
   pub played : (m : ℕ) → m < length plan.matches →
       (r : Record) × (slice_get told.matches m ≡ Some r) × IsPlayedOut (about_of sheet plan.turns) plan m r
 
 -- behind this sheet the source has a plan that is accepted, and these bytes tell its matches
-abbrev pub TellsPlaysBehind : List ℕ → ℕ → List ℕ → Sheet → List Tree → Type 0
-TellsPlaysBehind source rest bytes sheet others =
-    (plan : Plan) × IsPlanAccepted source sheet.players others rest plan × TellsPlays sheet plan bytes
+abbrev pub TellsPlaysBehind : (named : Bool) → List ℕ → ℕ → List ℕ → Sheet → List Tree → Type 0
+TellsPlaysBehind named source rest bytes sheet others =
+    (plan : Plan) × IsPlanAccepted source sheet.players others rest plan × TellsPlays named sheet plan bytes
 
 -- the source is read as a sheet and a plan that are accepted, and these bytes tell the plan's matches
-abbrev pub TellsPlaysOf : List ℕ → List ℕ → Type 0
-TellsPlaysOf source bytes = (read : Reading source 2) × IsAcceptedWith (TellsPlaysBehind source read.rest bytes) read.lists
+abbrev pub TellsPlaysOf : (named : Bool) → List ℕ → List ℕ → Type 0
+TellsPlaysOf named source bytes = (read : Reading source 2) × IsAcceptedWith (TellsPlaysBehind named source read.rest bytes) read.lists
 
--- What `play` writes for a source tells plays, with however many workers and however large a book.
+-- What `play` writes for a source tells plays in the format that is named, with however many workers and however large a book.
 abbrev pub WrittenIsPlayed : Type 0
 WrittenIsPlayed =
     (options : Options) (source bytes note : List ℕ) (playouts : ℕ) → HasAnswer (Play options) source (text bytes note playouts) →
-    TellsPlaysOf source bytes
+    TellsPlaysOf (is_named options.format) source bytes

@@ -11,7 +11,7 @@ use Rattle.rc_plan_model.specs.declared.fault.PlanKind.{PlanKind}
 use Rattle.rc_plan_model.specs.declared.fault.PlanKind.TheVariants as plan
 use Rattle.rc_judge.specs.declared.verdict.Why.{Why}
 use Rattle.rc_judge.specs.declared.verdict.Why.TheVariants as whys
-use Rattle.rc_text_model.specs.Why.{Why as PureWhy, by_match, by_shuffle, by_seat, by_menu, by_item, by_end, by_score, by_standing}
+use Rattle.rc_text_model.specs.Why.{Why as PureWhy, by_match, by_shuffle, by_seat, by_menu, by_item, by_name, by_end, by_score, by_standing}
 use Rattle.rc_answers.specs.declared.refusal.Refusal.{Refusal}
 use Rattle.rc_answers.specs.declared.refusal.Refusal.TheVariants as refusal
 use Rattle.rc_answers.specs.declared.status.SourceKind.{SourceKind}
@@ -52,6 +52,7 @@ why_name whys.Shuffle = codes "Shuffle"
 why_name whys.Seat = codes "Seat"
 why_name whys.Menu = codes "Menu"
 why_name whys.Item = codes "Item"
+why_name whys.Named = codes "Named"
 why_name whys.End = codes "End"
 why_name whys.Score = codes "Score"
 why_name whys.Standing = codes "Standing"
@@ -63,6 +64,7 @@ why_told by_shuffle = whys.Shuffle
 why_told by_seat = whys.Seat
 why_told by_menu = whys.Menu
 why_told by_item = whys.Item
+why_told by_name = whys.Named
 why_told by_end = whys.End
 why_told by_score = whys.Score
 why_told by_standing = whys.Standing
@@ -122,4 +124,4 @@ line_of Memory = line (codes "no memory")
 line_of ReadFault = line (codes "read fault")
 line_of WriteFault = line (codes "write fault")
 line_of TooLong = line (codes "too long")
-line_of Usage = line (codes "usage: cardhouse play, check, sheet or bench")
+line_of Usage = line (codes "usage: cardhouse play, check, sheet, bench or migrate")

@@ -1,17 +1,10 @@
 //! What a command answers to the bytes of its source, or what is to be played before it can.
-ghost use Rattle.std.specs.Prelude.{◌≡◌, ◌≤◌, length, None, IfOk, All};
+ghost use Rattle.std.specs.Prelude.{◌≡◌, ◌≤◌, length, IfOk, All};
 ghost use Rattle.rc_model.specs.Placed.{IsPlaced};
 ghost use Rattle.rc_model.specs.Spelled.{Spelled};
 ghost use Rattle.rc_model.specs.Limits.{longest_text};
 ghost use Rattle.rc_form.specs.Form.{tree_of, trees_of, IsPrintable};
 ghost use Rattle.rc_form.specs.SameForm.{IsOfAtoms};
-ghost use Rattle.rc_plan_model.specs.Limits.{IsWithinLimits};
-ghost use Rattle.rc_play_model.specs.About.{about_of};
-ghost use Rattle.rc_play_model.specs.Keyed.{dealing_of};
-ghost use Rattle.rc_text_model.specs.HouseText.{IsHouseText, lines_of};
-ghost use Rattle.rc_text.specs.House.{house_seen};
-ghost use Rattle.rc_text_model.specs.Judged.{first_illegal};
-ghost use Rattle.rc_rules.specs.Plan.{plan_seen};
 ghost use Rattle.rc_answers.specs.declared.refusal.Refusal.TheVariants as refusal;
 ghost use Rattle.rc_answers.specs.declared.status.SourceKind.TheVariants.{Shape};
 ghost use Rattle.rc_answers.specs.Status.{source_kind};
@@ -20,7 +13,7 @@ ghost use Rattle.rc_answers.specs.declared.task.Task.TheVariants as task;
 ghost use Rattle.rc_answers.specs.Task.{wanted};
 ghost use Rattle.rc_answers.specs.Reading.{IsAcceptedWith};
 ghost use Rattle.rc_answers.specs.declared.answer.Answer.TheVariants as stored;
-ghost use Rattle.rc_answers.specs.Answer.{IsAnswerTo, IsJudged, IsPlanRefusal, IsPrepared, IsSheetText, seen, verdict};
+ghost use Rattle.rc_answers.specs.Answer.{IsAnswerTo, IsPlanRefusal, IsPrepared, IsSheetText, task_of};
 
 use crate::accepting::{SourceFail, accept};
 use crate::note::Note;
@@ -29,14 +22,12 @@ use crate::printing::print_line;
 use crate::refusal::Refusal;
 use crate::status::SourceKind;
 use crate::task::Task;
+use crate::transcript::{Judging, judged_answer};
 use rc_deck::Memory;
 use rc_flow::Checked;
 use rc_form::{FormFail, FormFault, Forms, read_forms};
-use rc_judge::{Verdict, judge};
 use rc_plan::PlanFail;
-use rc_records::shared_about;
 use rc_rules::Plan;
-use rc_text::{HouseText, TextFail, read_house};
 use std::alloc::Global;
 
 /// What a command answers to its source.
@@ -141,8 +132,15 @@ fn prepare_sheet(
 {
     match task {
         Task::Play(_) => prepare_play(alloc, source, forms, checked),
-        Task::Check => Ok(Prepared::Answered(check_answer(alloc, source, forms, checked)?)),
+        Task::Check => {
+            let answer = transcript_answer(alloc, Judging::Check, source, forms, checked)?;
+            Ok(Prepared::Answered(answer))
+        }
         Task::Sheet => Ok(Prepared::Answered(sheet_answer(alloc, &checked)?)),
+        Task::Migrate => {
+            let answer = transcript_answer(alloc, Judging::Migrate, source, forms, checked)?;
+            Ok(Prepared::Answered(answer))
+        }
     }
 }
 
@@ -167,9 +165,10 @@ fn prepare_play(
     }
 }
 
-/// The answer of `check` to a source with these forms, of which the first is accepted as this sheet.
-fn check_answer(
+/// The answer of `check` or `migrate` to a source with these forms, of which the first is accepted as this sheet.
+fn transcript_answer(
     alloc: Global,
+    asked: Judging,
     source: &[u8],
     forms: &Forms,
     checked: Checked,
@@ -179,61 +178,13 @@ fn check_answer(
     requires read { Spelled source.now 2 (trees_of forms.now.list.items) forms.now.rest }
     requires placed { All (λ form. IsPlaced (length source.now) (tree_of form)) forms.now.list.items }
     requires accepted { IsAcceptedWith (λ sheet _. sheet ≡ checked) (trees_of forms.now.list.items) }
-    ensures { IfOk result (IsAnswerTo task.Check source.now) }
+    ensures { IfOk result (IsAnswerTo (task_of asked) source.now) }
 {
     let players = checked.sheet().players;
     match plan_behind(alloc, forms, players) {
-        Ok(plan) => judged_answer(alloc, checked, &plan, &source[forms.rest..]),
+        Ok(plan) => judged_answer(alloc, asked, checked, &plan, &source[forms.rest..]),
         Err(fail) => plan_failed(fail),
     }
-}
-
-/// The answer of `check` to this transcript where the sheet and the plan are accepted.
-fn judged_answer(
-    alloc: Global,
-    checked: Checked,
-    plan: &Plan,
-    bytes: &[u8],
-) -> Result<Answer, Memory>
-    requires short { length bytes.now ≤ longest_text }
-    requires within { IsWithinLimits (plan_seen plan.now) }
-    requires seats { length (plan_seen plan.now).strategies ≡ checked.players }
-    ensures { IfOk result (IsJudged (about_of checked plan.now.turns) (plan_seen plan.now) bytes.now) }
-{
-    match read_house(alloc, bytes) {
-        Ok(text) => verdict_answer(alloc, checked, plan, &text),
-        Err(TextFail::Fault { line }) => Ok(Answer::Refused(Refusal::Text { line })),
-        Err(TextFail::Memory) => Err(Memory),
-    }
-}
-
-/// The verdict on a house text.
-fn verdict_answer(
-    alloc: Global,
-    checked: Checked,
-    plan: &Plan,
-    text: &HouseText,
-) -> Result<Answer, Memory>
-    requires within { IsWithinLimits (plan_seen plan.now) }
-    requires seats { length (plan_seen plan.now).strategies ≡ checked.players }
-    requires text { IsHouseText (house_seen text.now) }
-    requires few { length (lines_of (house_seen text.now)) ≤ longest_text }
-    ensures { IfOk result (λ answer. seen answer 0
-        ≡ verdict (first_illegal (about_of checked plan.now.turns) dealing_of (plan_seen plan.now) (house_seen text.now))) }
-{
-    let about = shared_about(alloc, checked, plan.turns)?;
-    match judge(alloc, &about, plan, text)? {
-        Verdict::Legal => legal_answer(alloc),
-        Verdict::Illegal { line, why } => Ok(Answer::Refused(Refusal::Illegal { line, why })),
-    }
-}
-
-/// The answer to a legal transcript.
-fn legal_answer(alloc: Global) -> Result<Answer, Memory>
-    ensures { IfOk result (λ answer. seen answer 0 ≡ verdict None) }
-{
-    let text = Vec::from_slice(alloc, b"legal\n")?;
-    Ok(Answer::Text(text, Note::Nothing))
 }
 
 /// The answer of `sheet` where this sheet is accepted.

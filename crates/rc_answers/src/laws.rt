@@ -1,6 +1,6 @@
 //! Laws of what commands answer. No function here does anything: its contract is the law.
 ghost use Rattle.rc_answers.specs.Laws.{AnswersAreAlike, OneAnswer, PrintedAgain, SomeAnswer, TextsAreTheSame};
-ghost use Rattle.rc_answers.specs.PlayedLaws.{PlayedIsAnsweredLegal, PlayedIsChecked, PlayedIsLegal};
+ghost use Rattle.rc_answers.specs.PlayedLaws.{PlayedIsAnsweredLegal, PlayedIsChecked, PlayedIsLegal, PlayedIsMigrated};
 ghost use Rattle.rc_answers.specs.Plays.{WrittenIsPlayed};
 
 /// A command has at most one answer to a source, where one worker runs it.
@@ -18,7 +18,7 @@ pub fn some_answer()
     ensures { SomeAnswer }
 {}
 
-/// What is written of the matches of a source is the same however many workers play, and however much is remembered.
+/// What is written of the matches of a source in one format is the same however many workers play, and however much is remembered.
 pub fn texts_are_the_same()
     ensures { TextsAreTheSame }
 {}
@@ -34,6 +34,12 @@ pub fn what_is_played_is_judged_legal()
     ensures legal { PlayedIsLegal }
     ensures answered { PlayedIsAnsweredLegal }
     ensures checked { PlayedIsChecked }
+{}
+
+/// To a source with what `play` writes for it behind it in a new line, in either format, `migrate` answers what `play` writes for that
+/// source in format 2.
+pub fn what_is_played_is_migrated()
+    ensures { PlayedIsMigrated }
 {}
 
 /// What `play` writes for a source tells each match of its plan: a play that the sheet allows for its seeded shuffles, up to its end or

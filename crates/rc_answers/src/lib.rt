@@ -1,12 +1,13 @@
-//! What the commands answer: `play` plays a sheet by a plan, `check` judges a transcript of such plays, `sheet` prints a sheet, and
-//! `bench` plays a game of its own. Here a source is answered without ports, as far as nobody has to play for it, with why it is
-//! refused, the statuses that commands end with, and the laws of answers.
+//! What the commands answer: `play` plays a sheet by a plan, `check` judges a transcript of such plays, `migrate` tells one in format 2,
+//! `sheet` prints a sheet, and `bench` plays a game of its own. Here a source is answered without ports, as far as nobody has to play for
+//! it, with why it is refused, the statuses that commands end with, and the laws of answers.
 #![tactic(auto)]
 
 mod accepting;
 mod answer;
 mod benching;
 mod laws;
+mod naming;
 mod note;
 mod planning;
 mod printing;
@@ -14,13 +15,16 @@ mod refusal;
 mod status;
 mod table_examples;
 mod task;
+mod transcript;
 
 pub use answer::{Answer, Game, Prepared, prepare};
 pub use benching::bench_game;
 pub use laws::{
     a_printed_sheet_is_printed_again, answers_are_alike, one_answer, some_answer,
-    texts_are_the_same, what_is_played_is_judged_legal, what_is_written_is_played,
+    texts_are_the_same, what_is_played_is_judged_legal, what_is_played_is_migrated,
+    what_is_written_is_played,
 };
+pub use naming::legend_for;
 pub use note::Note;
 pub use refusal::Refusal;
 pub use status::{SourceKind, Status};

@@ -95,6 +95,7 @@ fn why_name(why: Why) -> &'static str
         Why::Seat => "Seat",
         Why::Menu => "Menu",
         Why::Item => "Item",
+        Why::Named => "Named",
         Why::End => "End",
         Why::Score => "Score",
         Why::Standing => "Standing",
@@ -195,7 +196,7 @@ impl Status {
             Status::ReadFault => fixed_line("read fault\n"),
             Status::WriteFault => fixed_line("write fault\n"),
             Status::TooLong => fixed_line("too long\n"),
-            Status::Usage => fixed_line("usage: cardhouse play, check, sheet or bench\n"),
+            Status::Usage => fixed_line("usage: cardhouse play, check, sheet, bench or migrate\n"),
         }
     }
 }

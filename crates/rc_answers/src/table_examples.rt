@@ -5,7 +5,7 @@ ghost use Rattle.rc_command.specs.declared.options.Options.{Options};
 ghost use Rattle.rc_answers.specs.declared.task.Task.TheVariants as task;
 ghost use Rattle.rc_answers.specs.declared.status.SourceKind.TheVariants.{Unseen, NoCards};
 ghost use Rattle.rc_plan_model.specs.declared.fault.PlanKind.TheVariants.{TooLarge};
-ghost use Rattle.rc_judge.specs.declared.verdict.Why.TheVariants.{Menu};
+ghost use Rattle.rc_judge.specs.declared.verdict.Why.TheVariants.{Menu, Named};
 ghost use Rattle.rc_answers.specs.declared.status.Status.TheVariants as ending;
 ghost use Rattle.rc_answers.specs.declared.note.Note.TheVariants.{Nothing, Looks};
 ghost use Rattle.rc_answers.specs.Task.{limit_of, wanted};
@@ -34,19 +34,22 @@ pub fn lines_of_statuses()
     ensures plan { line_of (ending.Plan TooLarge 463) ≡ codes "plan TooLarge 463\n" }
     ensures text { line_of (ending.Text 8) ≡ codes "text 8\n" }
     ensures illegal { line_of (ending.Illegal 3 Menu) ≡ codes "illegal 3 Menu\n" }
+    ensures misnamed { line_of (ending.Illegal 7 Named) ≡ codes "illegal 7 Named\n" }
     ensures memory { line_of ending.Memory ≡ codes "no memory\n" }
     ensures read_fault { line_of ending.ReadFault ≡ codes "read fault\n" }
     ensures write_fault { line_of ending.WriteFault ≡ codes "write fault\n" }
     ensures too_long { line_of ending.TooLong ≡ codes "too long\n" }
-    ensures usage { line_of ending.Usage ≡ codes "usage: cardhouse play, check, sheet or bench\n" }
+    ensures usage { line_of ending.Usage ≡ codes "usage: cardhouse play, check, sheet, bench or migrate\n" }
 {}
 
 /// How much a command reads, and what it notes.
 pub fn sources_of_tasks()
     ensures play_reads { (options : Options) → wanted (task.Play options) ≡ 2 }
     ensures check_reads { wanted task.Check ≡ 2 }
+    ensures migrate_reads { wanted task.Migrate ≡ 2 }
     ensures sheet_reads { wanted task.Sheet ≡ 1 }
-    ensures check_takes { limit_of task.Check ≡ 8388608 }
+    ensures check_takes { limit_of task.Check ≡ 33554432 }
+    ensures migrate_takes { limit_of task.Migrate ≡ 33554432 }
     ensures note { note_line (Looks 600 12) ≡ codes "cache looks 600 hits 12\n" }
     ensures no_note { note_line Nothing ≡ [] }
 {}

@@ -16,6 +16,8 @@ pub enum Task {
     Check,
     /// Prints a sheet.
     Sheet,
+    /// Tells a transcript of a sheet and a plan in format 2.
+    Migrate,
 }
 
 impl Task {
@@ -27,6 +29,7 @@ impl Task {
             Task::Play(_) => 2,
             Task::Check => 2,
             Task::Sheet => 1,
+            Task::Migrate => 2,
         }
     }
 
@@ -39,6 +42,7 @@ impl Task {
             Task::Play(_) => LONGEST_SOURCE,
             Task::Check => LONGEST_TEXT,
             Task::Sheet => LONGEST_SOURCE,
+            Task::Migrate => LONGEST_TEXT,
         }
     }
 }

@@ -1,11 +1,9 @@
 -- How words ended, from what their command did.
-use Rattle.std.proofs.Common.{◌≡◌, ◌<◌, ◌≤◌, ◌⊎◌, ℕ, Bool, true, false, List, Option, Some, None, inl, inr, refl, sym, subst, ◌∙◌, arith}
+use Rattle.std.proofs.Common.{◌≡◌, ◌<◌, ◌≤◌, ◌⊎◌, ℕ, Bool, true, false, List, inl, inr, refl, sym, subst, ◌∙◌, arith}
 use Rattle.std.proofs.lemmas.Bool.{cases_lt}
-use Rattle.rc_command.specs.Words.{GivesOptions, HasNumber, usual_options}
 use Rattle.rc_command.specs.Command.{IsCommand, options_of, workers_of}
-use Rattle.rc_command.specs.declared.options.Options.{Options}
 use Rattle.rc_command.specs.declared.command.Command.{Command}
-use Rattle.rc_command.specs.declared.command.Command.TheVariants.{Play, Check, Sheet, Bench}
+use Rattle.rc_command.proofs.Within.{command_within}
 use Rattle.rc_answers.specs.declared.status.Status.{Status}
 use Rattle.rc_answers.specs.declared.status.Status.TheVariants.{Usage}
 use Rattle.rc_answers.specs.Status.{line_of}
@@ -14,26 +12,11 @@ use Rattle.rc_answers.specs.Players.{AreWithin, CanPlay}
 use Rattle.rc_house.specs.Running.{NamesNone, no_command, too_many, unread}
 use Rattle.rc_house.specs.Ends.{Runs, Rests, RefusesMany, ended_by, Ending, Ends, alone, shared, usage, no_memory}
 
--- an option's number is within its limits
-number_within : (text : Option (List ℕ)) (usual most n : ℕ) → 1 ≤ usual → usual ≤ most → HasNumber usual most text n → (1 ≤ n) × (n ≤ most)
-number_within None usual most n some few has = (omega (arith, some, has), omega (arith, few, has))
-number_within (Some text) usual most n some few has = (has.2, has.3)
-
-given_within : (workers cache : Option (List ℕ)) (words : List (List ℕ)) (options : Options) → GivesOptions workers cache words options → AreWithin options
-given_within workers cache words options has =
-    let own = number_within workers 1 64 options.workers (omega arith) (omega arith) has.1 in
-    let totals = number_within cache 1024 65536 options.cache (omega arith) (omega arith) has.2 in
-    record { some_workers = own.0; workers = own.1; some_cache = totals.0; cache = totals.1 }
-
-usual_within : AreWithin usual_options
-usual_within = record { some_workers = omega arith; workers = omega arith; some_cache = omega arith; cache = omega arith }
-
 -- the options of each command are within their limits
 pub options_within : (words : List (List ℕ)) (command : Command) → IsCommand words command → AreWithin (options_of command)
-options_within words (Play options) is = let has = is.2 in given_within has.0 has.1 is.0 options has.2
-options_within words Check is = usual_within
-options_within words Sheet is = usual_within
-options_within words (Bench number options) is = let bench = is.2 in let has = bench.4 in given_within has.0 has.1 bench.1 options has.2
+options_within words command is =
+    let within = command_within words command is in
+    record { some_workers = within.0; workers = within.1; some_cache = within.2; cache = within.3 }
 
 -- a command has one worker, or more
 one_or_more : (words : List (List ℕ)) (command : Command) → IsCommand words command → (workers_of command ≡ 1) ⊎ (1 < workers_of command)

@@ -1,18 +1,11 @@
 -- How the outcome of a command follows from what its parts did.
-use Rattle.std.proofs.Common.{◌≡◌, ◌≢◌, ◌<◌, ◌≤◌, ◌+◌, ◌⊎◌, ◌↔◌, ℕ, List, [], ◌∷◌, ◌++◌, length, drop, length-append, Option, Some, None, IfSome, Result, Ok, Err, inl, inr, refl, sym, ◌∙◌, ap, subst, arith}
+use Rattle.std.proofs.Common.{◌≡◌, ◌≢◌, ◌<◌, ◌≤◌, ◌+◌, ◌⊎◌, ◌↔◌, ℕ, List, [], ◌++◌, length, length-append, Option, Some, None, IfSome, Result, Ok, Err, inl, inr, refl, sym, ◌∙◌, ap, subst, arith}
 use Rattle.std.proofs.lemmas.Bool.{cases_lt}
 use Rattle.std.proofs.lemmas.List.{append-nil}
-use Rattle.rc_model.specs.Tree.{Tree}
 use Rattle.rc_sheet_model.specs.Sheet.{Sheet}
-use Rattle.rc_play_model.specs.About.{About, about_of}
 use Rattle.rc_play_model.specs.Plan.{Plan}
-use Rattle.rc_play_model.specs.Keyed.{dealing_of}
+use Rattle.rc_command.specs.Words.{is_named}
 use Rattle.rc_rules.specs.Plan.{plan_seen}
-use Rattle.rc_text_model.specs.HouseText.{HouseText}
-use Rattle.rc_text_model.specs.Reading.{read_text}
-use Rattle.rc_text_model.specs.Why.{Illegal}
-use Rattle.rc_text_model.specs.Judged.{first_illegal}
-use Rattle.rc_records.specs.Series.{looks_of}
 use Rattle.rc_outside.specs.Source.{Gave, IsAtEnd, longest_read}
 use Rattle.rc_outside.specs.declared.errors.ReadFail.{ReadFail}
 use Rattle.rc_outside.specs.declared.errors.ReadFail.TheVariants as fails
@@ -29,14 +22,14 @@ use Rattle.rc_answers.specs.declared.answer.Prepared.{Prepared}
 use Rattle.rc_answers.specs.declared.answer.Prepared.TheVariants.{Answered, Playing}
 use Rattle.rc_answers.specs.Task.{IsNoteOf, limit_of}
 use Rattle.rc_answers.specs.Note.{note_line}
-use Rattle.rc_answers.specs.Answer.{Answer, text, refused, seen, text_judged, verdict, AreAlike, IsAnswered, HasAnswer, form_faulty, sheet_faulty, plan_faulty, accepted, IsGameOf, IsPrepared}
+use Rattle.rc_answers.specs.Answer.{Answer, text, refused, seen, AreAlike, HasAnswer, IsGameOf, IsPrepared}
 use Rattle.rc_answers.specs.Status.{refusal_status, read_status}
 use Rattle.rc_house.specs.Port.{Port, Ports, port, HasFailed, IsSteady, Supplied, Received, Delivers}
 use Rattle.rc_house.specs.Outcome.{GaveTooMuch, Answers, IsTextWith, CountedFew, Refuses, Outcome, written, refusing, no_memory, read_failed, too_long, text_failed, note_failed, NoPortFailed, Succeeds, status_of}
 use Rattle.rc_house.specs.Ends.{WritesPlays, Performs}
 use Rattle.rc_answers.specs.Plays.{TellsPlaysOf}
-use Rattle.rc_answers.specs.Reading.{IsAcceptedWith}
 use Rattle.rc_house.specs.Running.{HasNoteOf, ReadsGame, ReadsNone, ReadsPrepared, AnswersSource, Concludes}
+use Rattle.rc_answers.proofs.Notes.{note_of_text}
 use Rattle.rc_answers.proofs.OneAnswer.{alike_answers}
 use Rattle.rc_answers.proofs.PlaysLaw.{written_played}
 
@@ -67,35 +60,7 @@ answers_with before after task answer P answers here = by before.told answers
     by None answers = tt
     by (Some source) answers = (answers.0, answers.1, answers.2, answers.3, subst P (sym answers.4) here)
 
--- nothing is noted where a transcript is legal
-verdict_note : (found : Option Illegal) (bytes note : List ℕ) (playouts : ℕ) → verdict found ≡ text bytes note playouts → note ≡ []
-verdict_note None bytes note playouts same = cc
-verdict_note (Some illegal) bytes note playouts same = absurd cc
-
-judged_note : (about : About) (plan : Plan) (read : Result HouseText ℕ) (bytes note : List ℕ) (playouts : ℕ) → text_judged about plan read ≡ text bytes note playouts → note ≡ []
-judged_note about plan (Err line) bytes note playouts same = absurd cc
-judged_note about plan (Ok told) bytes note playouts same = verdict_note (first_illegal about dealing_of plan told) bytes note playouts same
-
--- what is answered for an accepted sheet is noted as the command notes
-note_of_sheet : (task : Task) (source : List ℕ) (sheet : Sheet) (others : List Tree) (rest : ℕ) (bytes note : List ℕ) (playouts : ℕ)
-    → IsAnswered task source sheet others rest (text bytes note playouts) → IsNoteOf task note
-note_of_sheet (Play options) source sheet others rest bytes note playouts has =
-    let same = has.2.2 in (length (looks_of (about_of sheet has.0.turns) has.0), has.2.0, cc)
-note_of_sheet named.Check source sheet others rest bytes note playouts has = judged_note (about_of sheet has.0.turns) has.0 (read_text (drop rest source)) bytes note playouts (sym has.2)
-note_of_sheet named.Sheet source sheet others rest bytes note playouts has = cc
-
--- and so is what is answered to a source
-note_of_text : (task : Task) (source bytes note : List ℕ) (playouts : ℕ) → HasAnswer task source (text bytes note playouts) → IsNoteOf task note
-note_of_text task source bytes note playouts (form_faulty kind at has is) = absurd cc
-note_of_text task source bytes note playouts (sheet_faulty read kind at has is) = absurd cc
-note_of_text task source bytes note playouts (plan_faulty read kind at has is) = absurd cc
-note_of_text task source bytes note playouts (accepted read has) = by read.lists has
-  where
-    by : (lists : List Tree) → IsAcceptedWith (λ sheet others. IsAnswered task source sheet others read.rest (text bytes note playouts)) lists
-        → IsNoteOf task note
-    by [] is = absurd is
-    by (form ∷ others) is = note_of_sheet task source is.0 others read.rest bytes note playouts is.2
-
+-- the note of an answer is one of the command's
 note_answered : (task : Task) (source : List ℕ) (answer : Stored) (playouts : ℕ) → HasAnswer task source (seen answer playouts) → HasNoteOf task answer
 note_answered task source (Text bytes note) playouts has = note_of_text task source bytes.items (note_line note) playouts has
 note_answered task source (Refused refusal) playouts has = tt
@@ -108,6 +73,7 @@ reads_game told after faults faults' (Play options) bytes sheet plan given end f
     answers_given told after faults faults' (Play options) bytes answer given end few (is answer played)
 reads_game told after faults faults' named.Check bytes sheet plan given end few is = is
 reads_game told after faults faults' named.Sheet bytes sheet plan given end few is = is
+reads_game told after faults faults' named.Migrate bytes sheet plan given end few is = is
 
 -- what a command makes of the bytes that a source gave to its end
 pub reads_prepared : (told after : Option (List ℕ)) (faults faults' : ℕ) (task : Task) (bytes : List ℕ) (prepared : Prepared)
@@ -290,10 +256,11 @@ writes_plays : (task : Task) (before after : Ports) (steps steps' : ℕ) (status
     → WritesPlays task before after status
 writes_plays named.Check before after steps steps' status ends = tt
 writes_plays named.Sheet before after steps steps' status ends = tt
+writes_plays named.Migrate before after steps steps' status ends = tt
 writes_plays (Play options) before after steps steps' status (written is note noted answers took steady quiet) = λ done. by before.source.told answers
   where
     by : (told : Option (List ℕ)) → Answers (port told before.source.faults) after.source (Play options) (IsTextWith note steps steps' (Received before.out after.out))
-        → IfSome told (λ source. (bytes : List ℕ) × Received before.out after.out bytes × TellsPlaysOf source bytes)
+        → IfSome told (λ source. (bytes : List ℕ) × Received before.out after.out bytes × TellsPlaysOf (is_named options.format) source bytes)
     by None answers = tt
     by (Some source) answers =
         let is = answers.4 in

@@ -1,23 +1,30 @@
 -- How the answers of commands that have matches played come about.
-use Rattle.std.proofs.Common.{◌≡◌, ◌<◌, ◌≤◌, ◌+◌, inr, ℕ, List, length, map, Option, Some, None, Result, Ok, Err, IfOk, Vec, refl, sym, subst, ap, ◌∙◌, arith}
+use Rattle.std.proofs.Common.{◌≡◌, ◌<◌, ◌≤◌, ◌+◌, inr, ℕ, List, length, map, Option, Some, None, Result, Ok, Err, IfOk, OnOk, Vec, refl, sym, subst, ap, ◌∙◌, arith}
 use Rattle.std.specs.Prelude.{nat_lt, if◌then◌else◌}
 use Rattle.std.proofs.lemmas.Bool.{lt-ltb}
 use Rattle.std.specs.Global.{Global}
-use Rattle.rc_model.specs.Transcript.{house_text}
 use Rattle.rc_sheet_model.specs.Sheet.{Sheet}
 use Rattle.rc_play_model.specs.About.{About, about_of}
 use Rattle.rc_play_model.specs.House.{standings_of}
-use Rattle.rc_play_model.specs.Keyed.{keyed_house}
+use Rattle.rc_play_model.specs.Shape.{shape_of}
 use Rattle.rc_play_model.specs.Plan.{Plan}
 use Rattle.rc_cache.specs.Hits.{hits, cost}
 use Rattle.rc_trick.specs.Bench.{bench_plan, bench_text}
-use Rattle.rc_records.specs.Series.{looks_of, matches_of}
+use Rattle.rc_records.specs.Series.{IsTold, looks_of, matches_of}
 use Rattle.rc_records.specs.declared.series.Series.{Series}
 use Rattle.rc_rules.specs.Plan.{plan_seen}
 use Rattle.rc_rules.specs.Record.{record_seen, standing_seen}
-use Rattle.rc_text.specs.House.{text_of}
+use Rattle.rc_text.specs.House.{named_seen}
+use Rattle.rc_text_model.specs.HouseText.{NamedText as PureNamed, naming, text_in, text_of}
+use Rattle.rc_text_model.specs.Naming.{legend_of}
+use Rattle.rc_text_model.specs.PlayedLaws.{house_in, played_text}
+use Rattle.rc_text_model.specs.Reading.{lines_in}
+use Rattle.rc_text_model.proofs.SameTexts.{text_same}
 use Rattle.rc_trick.specs.Trick.{IsTrickGame}
+use Rattle.rc_command.specs.declared.options.Format.{Format}
+use Rattle.rc_command.specs.declared.options.Format.TheVariants.{Plain, Named}
 use Rattle.rc_command.specs.declared.options.Options.{Options}
+use Rattle.rc_command.specs.Words.{is_named}
 use Rattle.rc_command.specs.Command.{options_of}
 use Rattle.rc_command.specs.declared.command.Command.{Command}
 use Rattle.rc_command.specs.declared.command.Command.TheVariants as command
@@ -30,16 +37,17 @@ use Rattle.rc_answers.specs.declared.note.Note.TheVariants.{Looks}
 use Rattle.rc_answers.specs.declared.status.Status.{Status}
 use Rattle.rc_answers.specs.declared.status.Status.TheVariants.{Memory}
 use Rattle.rc_answers.specs.declared.task.Task.{Task}
-use Rattle.rc_answers.specs.declared.task.Task.TheVariants.{Play, Check, Sheet as PrintsSheet}
+use Rattle.rc_answers.specs.declared.task.Task.TheVariants.{Play, Check, Sheet as PrintsSheet, Migrate}
 use Rattle.rc_answers.specs.Answer.{Answer, text, house_played, playouts_of, seen, IsGame}
 use Rattle.rc_answers.specs.Bench.{IsBenchAnswer}
+use Rattle.rc_answers.specs.Legend.{HasLegend}
 use Rattle.rc_house.specs.Bench.{BenchOutcome, summary, no_memory as bench_no_memory}
 use Rattle.rc_house.specs.Ends.{Runs}
 use Rattle.rc_answers.specs.Note.{looks_line, note_line}
 use Rattle.rc_house.specs.Outcome.{Answers, CountedFew}
 use Rattle.rc_answers.specs.Players.{AreHits, alone, shared, counted_playouts}
 use Rattle.rc_house.specs.Port.{Port, Ports, port, IsSteady}
-use Rattle.rc_house.specs.Running.{ReadsAnswer, ReadsGame, IsSeriesOf, TellsOf, PreparesCommand, AnswersBench, AnswersSource, AnswersCommand, Concludes}
+use Rattle.rc_house.specs.Running.{ReadsAnswer, ReadsGame, IsSeriesOf, TellsOf, series_text, PreparesCommand, AnswersBench, AnswersSource, AnswersCommand, Concludes}
 use Rattle.rc_answers.proofs.AnswerLaws.{counted_few}
 use Rattle.rc_answers.proofs.BenchLaws.{summary_is, few_steps}
 use Rattle.rc_house.proofs.OutcomeLemmas.{concluded, performed}
@@ -61,32 +69,41 @@ few_counted options before after sheet plan steps steps' reads few =
     let answer = house_played options about plan hits.0 in
     few_of options answer before.told before.faults after steps steps' (reads answer (hits.0, hits.1, refl)) few
 
+-- the house text of a series is that of its plan, in either format
+house_told : (format : Format) (sheet : Sheet) (plan : Plan) (series : Series) (legend : List ℕ) → HasLegend format sheet legend
+    → IsTold (is_named format) (about_of sheet plan.turns) plan series.named
+    → series_text format (lines_in legend).0 series ≡ house_in (is_named format) (about_of sheet plan.turns) plan
+house_told Plain sheet plan series legend has told =
+    ap (λ (named : PureNamed). text_of named.text) told.told ∙ text_same (played_text (about_of sheet plan.turns) plan)
+house_told Named sheet plan series legend has told =
+    ap (λ (lines : List (List ℕ) × List ℕ). text_in (naming lines.0) (named_seen series.named)) has
+    ∙ ap (text_in (naming (legend_of sheet (shape_of sheet)))) told.told
+
 -- what `play` tells of a series
-house_answers : (options : Options) (before after : Port) (sheet : Sheet) (plan : Plan) (steps steps' : ℕ) (series : Series) (bytes : Vec ℕ Global) (note : Note)
+house_answers : (options : Options) (before after : Port) (sheet : Sheet) (plan : Plan) (steps steps' : ℕ) (series : Series) (legend : List ℕ) (bytes : Vec ℕ Global) (note : Note)
     → IsSteady before after → ReadsGame (Play options) before after sheet plan → IsSeriesOf options (about_of sheet plan.turns) plan steps steps' series
-    → bytes.items ≡ text_of series.text → note ≡ Looks series.totals.looks series.totals.hits
+    → HasLegend options.format sheet legend → bytes.items ≡ series_text options.format (lines_in legend).0 series
+    → note ≡ Looks series.totals.looks series.totals.hits
     → AnswersSource (Play options) before after steps steps' (Ok (Text bytes note))
-house_answers options before after sheet plan steps steps' series bytes note steady reads is written noted =
+house_answers options before after sheet plan steps steps' series legend bytes note steady reads is has written noted =
     let about = about_of sheet plan.turns in
     let playouts = counted_playouts options (looks_of about plan) in
-    let wrote : bytes.items ≡ keyed_house about plan =
-    written
-    ∙ ap (λ records. house_text records (map standing_seen series.text.standings.items)) is.matches
-    ∙ ap (house_text (matches_of about plan)) is.standings in
+    let house = house_in (is_named options.format) about plan in
+    let wrote : bytes.items ≡ house = written ∙ house_told options.format sheet plan series legend has is.named in
     let told : seen (Text bytes note) playouts ≡ house_played options about plan series.totals.hits =
     ap (λ bytes. text bytes (note_line note) playouts) wrote
-    ∙ ap (λ note. text (keyed_house about plan) (note_line note) playouts) noted
-    ∙ ap (λ looks. text (keyed_house about plan) (looks_line looks series.totals.hits) playouts) is.looks in
+    ∙ ap (λ note. text house (note_line note) playouts) noted
+    ∙ ap (λ looks. text house (looks_line looks series.totals.hits) playouts) is.looks in
     (playouts, (reads (seen (Text bytes note) playouts) (series.totals.hits, is.hits, told), (series.totals.looks, series.totals.hits, ap note_line noted), steady), is.counted)
 
 -- what `bench` tells of it
 bench_answers : (options : Options) (number : ℕ) (sheet : Sheet) (plan : Plan) (steps steps' : ℕ) (series : Series) (bytes : Vec ℕ Global) (note : Note)
     → IsTrickGame sheet → plan ≡ bench_plan number → IsSeriesOf options (about_of sheet plan.turns) plan steps steps' series
-    → bytes.items ≡ bench_text number (map record_seen series.text.matches.items) (map standing_seen series.text.standings.items)
+    → bytes.items ≡ bench_text number (map record_seen series.named.text.matches.items) (map standing_seen series.named.text.standings.items)
     → note ≡ Looks series.totals.looks series.totals.hits → AnswersBench options number steps steps' (Ok (Text bytes note))
 bench_answers options number sheet plan steps steps' series bytes note game planned is wrote noted =
-    let records = map record_seen series.text.matches.items in
-    let standings = map standing_seen series.text.standings.items in
+    let records = map record_seen series.named.text.matches.items in
+    let standings = map standing_seen series.named.text.standings.items in
     let playouts = counted_playouts options (looks_of (about_of sheet plan.turns) plan) in
     let benched =
     summary_is options number sheet plan records standings bytes.items series.totals.looks series.totals.hits planned is.matches is.standings is.looks is.hits wrote in
@@ -103,6 +120,7 @@ module _ (before after : Port) where
   answered (command.Play options) steps answer is = unplayed (Play options) steps answer is
   answered command.Check steps answer is = unplayed Check steps answer is
   answered command.Sheet steps answer is = unplayed PrintsSheet steps answer is
+  answered command.Migrate steps answer is = unplayed Migrate steps answer is
   answered (command.Bench number options) steps answer is = absurd is.1
 
   -- what it has played is the game of a sheet and a plan
@@ -111,19 +129,22 @@ module _ (before after : Port) where
   game_prepared (command.Play options) game prepared = prepared.0
   game_prepared command.Check game prepared = prepared.0
   game_prepared command.Sheet game prepared = prepared.0
+  game_prepared command.Migrate game prepared = prepared.0
   game_prepared (command.Bench number options) game prepared = let made = prepared.1 in made.0
 
   -- what it tells of the matches that were played for it
-  pub told : (called : Command) (game : Game) (steps steps' : ℕ) (series : Series) (answer : Stored)
+  pub told : (called : Command) (game : Game) (steps steps' : ℕ) (series : Series) (legend : List ℕ) (answer : Stored)
       → PreparesCommand called before after (Playing game)
       → IsSeriesOf (options_of called) (about_of game.checked game.plan.turns) (plan_seen game.plan) steps steps' series
-      → TellsOf called series answer → AnswersCommand called before after steps steps' (Ok answer)
-  told called game steps steps' series (Refused refusal) prepared is tells = absurd tells
-  told (command.Play options) game steps steps' series (Text bytes note) prepared is tells =
-      house_answers options before after game.checked (plan_seen game.plan) steps steps' series bytes note prepared.3 prepared.1 is tells.0 tells.1
-  told command.Check game steps steps' series (Text bytes note) prepared is tells = absurd prepared.1
-  told command.Sheet game steps steps' series (Text bytes note) prepared is tells = absurd prepared.1
-  told (command.Bench number options) game steps steps' series (Text bytes note) prepared is tells =
+      → HasLegend (options_of called).format game.checked legend → TellsOf called (lines_in legend).0 series answer
+      → AnswersCommand called before after steps steps' (Ok answer)
+  told called game steps steps' series legend (Refused refusal) prepared is has tells = absurd tells
+  told (command.Play options) game steps steps' series legend (Text bytes note) prepared is has tells =
+      house_answers options before after game.checked (plan_seen game.plan) steps steps' series legend bytes note prepared.3 prepared.1 is has tells.0 tells.1
+  told command.Check game steps steps' series legend (Text bytes note) prepared is has tells = absurd prepared.1
+  told command.Sheet game steps steps' series legend (Text bytes note) prepared is has tells = absurd prepared.1
+  told command.Migrate game steps steps' series legend (Text bytes note) prepared is has tells = absurd prepared.1
+  told (command.Bench number options) game steps steps' series legend (Text bytes note) prepared is has tells =
       let made = prepared.1 in
       (prepared.0, bench_answers options number game.checked (plan_seen game.plan) steps steps' series bytes note made.1 made.3 is tells.0 tells.1)
 
@@ -135,6 +156,7 @@ module _ (before after : Port) where
       inr (is, prepared.2, few_counted options before after game.checked (plan_seen game.plan) steps steps' prepared.1 few, prepared.3)
   lacking command.Check game steps steps' status prepared few is = absurd prepared.1
   lacking command.Sheet game steps steps' status prepared few is = absurd prepared.1
+  lacking command.Migrate game steps steps' status prepared few is = absurd prepared.1
   lacking (command.Bench number options) game steps steps' status prepared few is =
       let made = prepared.1 in
       (prepared.0, (is, λ answer benched. few_steps options number game.checked (plan_seen game.plan) steps steps' answer made.3 made.2 benched few))
@@ -146,28 +168,50 @@ module _ (before after : Port) where
       let counted = is.counted in lacking called game steps steps' status prepared (omega (arith, counted)) lacks
 
 -- options of so many workers, with a book of so many totals
-abbrev pub options_with : ℕ → ℕ → Options
-options_with workers cache = record { workers = workers; cache = cache }
+abbrev pub options_with : ℕ → ℕ → Format → Options
+options_with workers cache format = record { workers = workers; cache = cache; format = format }
 
 -- the options are those of one worker
-pub are_of_one : (options told : Options) → options ≡ told → told.workers ≡ 1 → options_with 1 options.cache ≡ told
+pub are_of_one : (options told : Options) → options ≡ told → told.workers ≡ 1 → options_with 1 options.cache options.format ≡ told
 are_of_one options told same one =
     let own : options.workers ≡ 1 = ap (λ (options : Options). options.workers) same ∙ one in
-    ap (λ workers. options_with workers options.cache) (sym own) ∙ same
+    ap (λ workers. options_with workers options.cache options.format) (sym own) ∙ same
 
 -- what one worker plays is a series by the options of one
-pub played_alone : (options told : Options) (about : About) (plan : Plan) (steps steps' : ℕ) (series : Series) → options ≡ told → told.workers ≡ 1
-    → map record_seen series.text.matches.items ≡ matches_of about plan
-    → map standing_seen series.text.standings.items ≡ standings_of plan (matches_of about plan)
+played_alone : (options told : Options) (about : About) (plan : Plan) (steps steps' : ℕ) (series : Series) → options ≡ told → told.workers ≡ 1
+    → map record_seen series.named.text.matches.items ≡ matches_of about plan
+    → map standing_seen series.named.text.standings.items ≡ standings_of plan (matches_of about plan)
+    → IsTold (is_named options.format) about plan series.named
     → (series.totals.capacity ≡ options.cache) × (series.totals.lanes ≡ 1)
     → series.totals.looks ≡ length (looks_of about plan)
     → series.totals.hits ≡ hits (looks_of about plan) options.cache
     → steps' ≡ steps + cost (looks_of about plan) options.cache
     → IsSeriesOf told about plan steps steps' series
-played_alone options told about plan steps steps' series same one matches standings book looks found counted =
-    let by_one : IsSeriesOf (options_with 1 options.cache) about plan steps steps' series =
-    record { matches = matches; standings = standings; book = book; looks = looks; hits = alone (omega arith) found; counted = counted } in
+played_alone options told about plan steps steps' series same one matches standings named book looks found counted =
+    let by_one : IsSeriesOf (options_with 1 options.cache options.format) about plan steps steps' series =
+    record {
+      matches = matches;
+      standings = standings;
+      named = named;
+      book = book;
+      looks = looks;
+      hits = alone (omega arith) found;
+      counted = counted;
+    } in
     subst (λ options. IsSeriesOf options about plan steps steps' series) (are_of_one options told same one) by_one
+
+pub played_by_one : (options told : Options) (about : About) (plan : Plan) (steps steps' : ℕ) {E : Type 0} (result : Result Series E) → options ≡ told → told.workers ≡ 1
+    → IfOk result (λ series. map record_seen series.named.text.matches.items ≡ matches_of about plan)
+    → IfOk result (λ series. map standing_seen series.named.text.standings.items ≡ standings_of plan (matches_of about plan))
+    → IfOk result (λ series. IsTold (is_named options.format) about plan series.named)
+    → IfOk result (λ series. (series.totals.capacity ≡ options.cache) × (series.totals.lanes ≡ 1))
+    → IfOk result (λ series. series.totals.looks ≡ length (looks_of about plan))
+    → IfOk result (λ series. series.totals.hits ≡ hits (looks_of about plan) options.cache)
+    → OnOk result (steps' ≡ steps + cost (looks_of about plan) options.cache)
+    → IfOk result (IsSeriesOf told about plan steps steps')
+played_by_one options told about plan steps steps' (Err fail) same one matches standings named book looks found counted = tt
+played_by_one options told about plan steps steps' (Ok series) same one matches standings named book looks found counted =
+    played_alone options told about plan steps steps' series same one matches standings named book looks found counted
 
 -- of what several workers play no playout is counted
 several_count : (workers missed : ℕ) → 1 < workers → 0 ≡ 0 + (if nat_lt 1 workers then 0 else missed)
@@ -183,18 +227,20 @@ several_hits options about plan series several looked found missed =
 
 -- what they play is a series by their options
 pub played_together : (options : Options) (about : About) (plan : Plan) {E : Type 0} (result : Result Series E) → 1 < options.workers
-    → IfOk result (λ series. map record_seen series.text.matches.items ≡ matches_of about plan)
-    → IfOk result (λ series. map standing_seen series.text.standings.items ≡ standings_of plan (matches_of about plan))
+    → IfOk result (λ series. map record_seen series.named.text.matches.items ≡ matches_of about plan)
+    → IfOk result (λ series. map standing_seen series.named.text.standings.items ≡ standings_of plan (matches_of about plan))
+    → IfOk result (λ series. IsTold (is_named options.format) about plan series.named)
     → IfOk result (λ series. (series.totals.capacity ≡ options.cache) × (series.totals.lanes ≡ options.workers))
     → IfOk result (λ series. series.totals.looks ≡ length (looks_of about plan))
     → IfOk result (λ series. series.totals.hits ≤ series.totals.looks)
     → IfOk result (λ series. 0 < series.totals.looks → series.totals.hits < series.totals.looks)
     → IfOk result (IsSeriesOf options about plan 0 0)
-played_together options about plan (Err fail) several matches standings book looks found missed = tt
-played_together options about plan (Ok series) several matches standings book looks found missed =
+played_together options about plan (Err fail) several matches standings named book looks found missed = tt
+played_together options about plan (Ok series) several matches standings named book looks found missed =
     record {
       matches = matches;
       standings = standings;
+      named = named;
       book = book;
       looks = looks;
       hits = several_hits options about plan series several looks found missed;
@@ -221,5 +267,7 @@ runs_so command.Check before after steps steps' answered status is ends =
     performed Check before after steps steps' status (concluded Check before after steps steps' answered status is ends)
 runs_so command.Sheet before after steps steps' answered status is ends =
     performed PrintsSheet before after steps steps' status (concluded PrintsSheet before after steps steps' answered status is ends)
+runs_so command.Migrate before after steps steps' answered status is ends =
+    performed Migrate before after steps steps' status (concluded Migrate before after steps steps' answered status is ends)
 runs_so (command.Bench number options) before after steps steps' answered status is ends =
     (is.0, bench_concluded options number before after steps steps' answered status is.1 ends)

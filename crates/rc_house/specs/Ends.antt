@@ -3,7 +3,8 @@
 use Rattle.std.specs.Prelude.{◌≡◌, ◌<◌, ℕ, Bool, true, false, List, IfSome}
 use Rattle.rc_command.specs.Command.{IsCommand, workers_of}
 use Rattle.rc_command.specs.declared.command.Command.{Command}
-use Rattle.rc_command.specs.declared.command.Command.TheVariants.{Play, Check, Sheet, Bench}
+use Rattle.rc_command.specs.declared.command.Command.TheVariants.{Play, Check, Sheet, Bench, Migrate}
+use Rattle.rc_command.specs.Words.{is_named}
 use Rattle.rc_answers.specs.declared.status.Status.{Status}
 use Rattle.rc_answers.specs.declared.status.Status.TheVariants as ending
 use Rattle.rc_answers.specs.declared.task.Task.{Task}
@@ -13,14 +14,17 @@ use Rattle.rc_house.specs.Bench.{BenchOutcome}
 use Rattle.rc_house.specs.Outcome.{Outcome, Succeeds, Refuses}
 use Rattle.rc_house.specs.Port.{Ports, Received, NoCountFell}
 
--- Where `play` is done and its source tells its bytes, `out` has received a text that tells plays: each match is one that the accepted
--- sheet allows for its seeded shuffles, up to its end or the turn limit, with choices by views and seeds (Plays.antt of rc_answers).
+-- Where `play` is done and its source tells its bytes, `out` has received a text that tells plays in the format that is named: each match
+-- is one that the accepted sheet allows for its seeded shuffles, up to its end or the turn limit, with choices by views and seeds
+-- (Plays.antt of rc_answers).
 abbrev pub WritesPlays : Task → Ports → Ports → Status → Type 0
 WritesPlays (task.Play options) before after status =
     status ≡ ending.Done →
-    IfSome before.source.told (λ source. (bytes : List ℕ) × Received before.out after.out bytes × TellsPlaysOf source bytes)
+    IfSome before.source.told (λ source. (bytes : List ℕ) × Received before.out after.out bytes
+    × TellsPlaysOf (is_named options.format) source bytes)
 WritesPlays task.Check before after status = Unit {0}
 WritesPlays task.Sheet before after status = Unit {0}
+WritesPlays task.Migrate before after status = Unit {0}
 
 -- A source was read and answered.
 pub record Performs (task : Task) (before after : Ports) (steps steps' : ℕ) (status : Status) : Type 0 where
@@ -35,6 +39,7 @@ Runs Check before after steps steps' status = Performs task.Check before after s
 Runs Sheet before after steps steps' status = Performs task.Sheet before after steps steps' status
 Runs (Bench number options) before after steps steps' status =
     (after.source ≡ before.source) × BenchOutcome options number before after steps steps' status
+Runs Migrate before after steps steps' status = Performs task.Migrate before after steps steps' status
 
 -- No command was run: nothing was read, written or counted, and the status's line was noted.
 pub record Rests (status : Status) (before after : Ports) (steps steps' : ℕ) : Type 0 where

@@ -4,20 +4,24 @@ use Rattle.std.specs.Prelude.{◌≡◌, ◌≤◌, ◌⊎◌, ℕ, ◌+◌, Boo
 use Rattle.rc_play_model.specs.About.{About, about_of}
 use Rattle.rc_play_model.specs.House.{standings_of}
 use Rattle.rc_play_model.specs.Plan.{Plan}
-use Rattle.rc_records.specs.Series.{looks_of, matches_of}
+use Rattle.rc_records.specs.Series.{IsTold, looks_of, matches_of}
 use Rattle.rc_records.specs.declared.series.Series.{Series}
 use Rattle.rc_rules.specs.Plan.{plan_seen}
 use Rattle.rc_rules.specs.Record.{record_seen, standing_seen}
 use Rattle.rc_trick.specs.Bench.{bench_plan, bench_text}
 use Rattle.rc_sheet_model.specs.Sheet.{Sheet}
-use Rattle.rc_text.specs.House.{text_of}
+use Rattle.rc_text.specs.House.{text_of, named_seen}
+use Rattle.rc_text_model.specs.HouseText.{naming, text_in}
 use Rattle.rc_trick.specs.Trick.{IsTrickGame}
 use Rattle.rc_command.specs.Command.{IsCommand, workers_of}
 use Rattle.rc_command.specs.declared.command.Command.{Command}
 use Rattle.rc_command.specs.declared.command.Command.TheVariants as command
+use Rattle.rc_command.specs.declared.options.Format.{Format}
+use Rattle.rc_command.specs.declared.options.Format.TheVariants.{Plain, Named}
 use Rattle.rc_command.specs.declared.options.Options.{Options}
+use Rattle.rc_command.specs.Words.{is_named}
 use Rattle.rc_answers.specs.declared.task.Task.{Task}
-use Rattle.rc_answers.specs.declared.task.Task.TheVariants.{Play, Check, Sheet as PrintsSheet}
+use Rattle.rc_answers.specs.declared.task.Task.TheVariants.{Play, Check, Sheet as PrintsSheet, Migrate}
 use Rattle.rc_answers.specs.declared.answer.Answer.{Answer as Stored}
 use Rattle.rc_answers.specs.declared.answer.Answer.TheVariants as stored
 use Rattle.rc_answers.specs.declared.answer.Prepared.{Prepared}
@@ -50,6 +54,7 @@ ReadsGame (Play options) before after sheet plan =
     (answer : Answer) → IsPlayed options (about_of sheet plan.turns) plan answer → Answers before after (Play options) (λ other. other ≡ answer)
 ReadsGame Check before after sheet plan = ⊥
 ReadsGame PrintsSheet before after sheet plan = ⊥
+ReadsGame Migrate before after sheet plan = ⊥
 
 abbrev pub ReadsPrepared : Task → Port → Port → Prepared → Type 0
 ReadsPrepared task before after (Answered answer) = ReadsAnswer task before after 0 answer
@@ -67,8 +72,9 @@ ReadsNone task before after status =
 
 -- The matches of a sheet and a plan were played as the options say, and so many playouts were counted for them.
 pub record IsSeriesOf (options : Options) (about : About) (plan : Plan) (steps steps' : ℕ) (series : Series) : Type 0 where
-  pub matches : map record_seen series.text.matches.items ≡ matches_of about plan
-  pub standings : map standing_seen series.text.standings.items ≡ standings_of plan (matches_of about plan)
+  pub matches : map record_seen series.named.text.matches.items ≡ matches_of about plan
+  pub standings : map standing_seen series.named.text.standings.items ≡ standings_of plan (matches_of about plan)
+  pub named : IsTold (is_named options.format) about plan series.named
   pub book : (series.totals.capacity ≡ options.cache) × (series.totals.lanes ≡ options.workers)
   pub looks : series.totals.looks ≡ length (looks_of about plan)
   pub hits : AreHits options (looks_of about plan) series.totals.hits
@@ -79,18 +85,25 @@ abbrev pub ArePlayedBy : Options → Series → Type 0
 ArePlayedBy options series =
     (about : About) × (plan : Plan) × (steps : ℕ) × (steps' : ℕ) × IsSeriesOf options about plan steps steps' series
 
+-- The house text of a series in a format, which has a legend of these lines if it tells what items bind.
+abbrev pub series_text : Format → List (List ℕ) → Series → List ℕ
+series_text Plain legend series = text_of series.named.text
+series_text Named legend series = text_in (naming legend) (named_seen series.named)
+
 -- What a command tells of the matches of a series: their house text, or the summary of the bench.
-abbrev pub told_of : Command → Series → List ℕ
-told_of (command.Play options) series = text_of series.text
-told_of command.Check series = text_of series.text
-told_of command.Sheet series = text_of series.text
-told_of (command.Bench number options) series =
-    bench_text number (map record_seen series.text.matches.items) (map standing_seen series.text.standings.items)
+abbrev pub told_of : Command → List (List ℕ) → Series → List ℕ
+told_of (command.Play options) legend series = series_text options.format legend series
+told_of command.Check legend series = text_of series.named.text
+told_of command.Sheet legend series = text_of series.named.text
+told_of (command.Bench number options) legend series =
+    bench_text number (map record_seen series.named.text.matches.items) (map standing_seen series.named.text.standings.items)
+told_of command.Migrate legend series = text_of series.named.text
 
 -- and with it how their looks went
-abbrev pub TellsOf : Command → Series → Stored → Type 0
-TellsOf called series (stored.Text bytes note) = (bytes.items ≡ told_of called series) × (note ≡ Looks series.totals.looks series.totals.hits)
-TellsOf called series (stored.Refused refusal) = ⊥
+abbrev pub TellsOf : Command → List (List ℕ) → Series → Stored → Type 0
+TellsOf called legend series (stored.Text bytes note) =
+    (bytes.items ≡ told_of called legend series) × (note ≡ Looks series.totals.looks series.totals.hits)
+TellsOf called legend series (stored.Refused refusal) = ⊥
 
 -- This is the command's answer to its source, and as many steps were counted as it takes playouts; or this is why there is none.
 abbrev pub AnswersSource : Task → Port → Port → ℕ → ℕ → Result Stored Status → Type 0
@@ -112,12 +125,14 @@ abbrev pub PreparesCommand : Command → Port → Port → Prepared → Type 0
 PreparesCommand (command.Play options) before after prepared = ReadsPrepared (Play options) before after prepared
 PreparesCommand command.Check before after prepared = ReadsPrepared Check before after prepared
 PreparesCommand command.Sheet before after prepared = ReadsPrepared PrintsSheet before after prepared
+PreparesCommand command.Migrate before after prepared = ReadsPrepared Migrate before after prepared
 PreparesCommand (command.Bench number options) before after prepared = (after ≡ before) × PreparesBench number prepared
 
 abbrev pub PreparesNone : Command → Port → Port → Status → Type 0
 PreparesNone (command.Play options) before after status = ReadsNone (Play options) before after status
 PreparesNone command.Check before after status = ReadsNone Check before after status
 PreparesNone command.Sheet before after status = ReadsNone PrintsSheet before after status
+PreparesNone command.Migrate before after status = ReadsNone Migrate before after status
 PreparesNone (command.Bench number options) before after status = (after ≡ before) × (status ≡ ending.Memory)
 
 -- This is what `bench` answers with so many matches, and as many steps were counted as it takes playouts; or there was no memory.
@@ -133,6 +148,7 @@ abbrev pub AnswersCommand : Command → Port → Port → ℕ → ℕ → Result
 AnswersCommand (command.Play options) before after steps steps' answered = AnswersSource (Play options) before after steps steps' answered
 AnswersCommand command.Check before after steps steps' answered = AnswersSource Check before after steps steps' answered
 AnswersCommand command.Sheet before after steps steps' answered = AnswersSource PrintsSheet before after steps steps' answered
+AnswersCommand command.Migrate before after steps steps' answered = AnswersSource Migrate before after steps steps' answered
 AnswersCommand (command.Bench number options) before after steps steps' answered =
     (after ≡ before) × AnswersBench options number steps steps' answered
 

@@ -8,7 +8,8 @@ pub use handing::refuse;
 pub use rc_answers::{
     Refusal, SourceKind, Status, a_printed_sheet_is_printed_again, answers_are_alike,
     codes_of_statuses, lines_of_statuses, one_answer, some_answer, sources_of_tasks,
-    texts_are_the_same, what_is_played_is_judged_legal, what_is_written_is_played,
+    texts_are_the_same, what_is_played_is_judged_legal, what_is_played_is_migrated,
+    what_is_written_is_played,
 };
 pub use rc_judge::Why;
 pub use rc_plan::{PlanFail, PlanFault, PlanKind, plan_of};

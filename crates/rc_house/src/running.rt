@@ -1,32 +1,37 @@
 //! The calls that a program makes: they run a command from its words to its end.
-ghost use Rattle.std.specs.Prelude.{◌≡◌, ◌<◌, ◌≤◌, ℕ, List, map, string_bytes, IfOk, IfErr};
+ghost use Rattle.std.specs.Prelude.{◌≡◌, ◌<◌, ◌≤◌, ◌+◌, ℕ, List, [], map, true, string_bytes, IfOk, IfErr};
 ghost use Rattle.rc_play_model.specs.About.{about_of};
 ghost use Rattle.rc_play_model.specs.MatchLaws.{AlikeSamePicks};
 ghost use Rattle.rc_rules.specs.Plan.{plan_seen};
+ghost use Rattle.rc_text.specs.House.{Fits};
+ghost use Rattle.rc_text_model.specs.Reading.{lines_in};
 ghost use Rattle.rc_command.specs.Command.{IsCommand, options_of, workers_of};
+ghost use Rattle.rc_command.specs.Words.{is_named};
 ghost use Rattle.rc_answers.specs.declared.note.Note.TheVariants.{Looks};
 ghost use Rattle.rc_answers.specs.Answer.{IsGame};
 ghost use Rattle.rc_house.specs.Ends.{Ends, RefusesMany, Runs};
 ghost use Rattle.rc_answers.specs.Laws.{TextsAreTheSame};
-ghost use Rattle.rc_answers.specs.PlayedLaws.{PlayedIsChecked};
+ghost use Rattle.rc_answers.specs.PlayedLaws.{PlayedIsChecked, PlayedIsMigrated};
 ghost use Rattle.rc_answers.specs.Plays.{WrittenIsPlayed};
-ghost use Rattle.rc_answers.specs.Players.{CanPlay};
+ghost use Rattle.rc_answers.specs.Players.{CanPlay, counted_playouts};
+ghost use Rattle.rc_records.specs.Series.{looks_of};
 ghost use Rattle.rc_house.specs.Port.{moment, port};
-ghost use Rattle.rc_house.specs.Running.{AnswersCommand, ArePlayedBy, IsSeriesOf, NamesNone, PreparesCommand, PreparesNone, ReadsNone, ReadsPrepared, TellsOf, told_of};
+ghost use Rattle.rc_house.specs.Running.{AnswersCommand, ArePlayedBy, IsSeriesOf, NamesNone, PreparesCommand, PreparesNone, ReadsNone, ReadsPrepared, TellsOf, series_text, told_of};
 
 use crate::handing::{conclude, refuse};
 use rc_answers::{
-    Answer, Game, Note, Prepared, Status, Task, bench_game, prepare, texts_are_the_same,
-    what_is_played_is_judged_legal, what_is_written_is_played,
+    Answer, Game, Note, Prepared, Status, Task, bench_game, legend_for, prepare,
+    texts_are_the_same, what_is_played_is_judged_legal, what_is_played_is_migrated,
+    what_is_written_is_played,
 };
-use rc_command::{Command, Options, command_of};
+use rc_command::{Command, Format, Options, command_of};
 use rc_deck::Memory;
 use rc_outside::{Gate, Sink, Source, read_all};
 use rc_play_model::alike_decisions_have_one_item;
 use rc_records::Series;
 use rc_series::series_of;
 use rc_steps::Steps;
-use rc_text::write_house;
+use rc_text::{write_house, write_named};
 use rc_trick::summary;
 use rc_workers::series_by_workers;
 use std::alloc::Global;
@@ -62,27 +67,58 @@ fn prepare_command<S: Source>(
         Command::Check => read_prepared(alloc, Task::Check, source),
         Command::Sheet => read_prepared(alloc, Task::Sheet, source),
         Command::Bench { number, .. } => Ok(Prepared::Playing(bench_game(alloc, number)?)),
+        Command::Migrate => read_prepared(alloc, Task::Migrate, source),
     }
 }
 
-/// The text that tells of the matches that were played for a command. Memory may run out.
-fn told_text(alloc: Global, command: Command, series: &Series) -> Result<Vec<u8>, Memory>
-    ensures { IfOk result (λ bytes. bytes.items ≡ told_of command series.now) }
+/// The text that tells of the matches that were played for a command, with this legend if it tells what items bind. Memory may run out.
+fn told_text(
+    alloc: Global,
+    command: Command,
+    legend: &[u8],
+    series: &Series,
+) -> Result<Vec<u8>, Memory>
+    requires legend { (lines_in legend.now).1 ≡ [] }
+    requires fits { is_named (options_of command).format ≡ true → Fits series.now.named }
+    ensures { IfOk result (λ bytes. bytes.items ≡ told_of command (lines_in legend.now).0 series.now) }
 {
+    let text = &series.named.text;
     match command {
-        Command::Bench { number, .. } => {
-            summary(alloc, number, &series.text.matches, &series.text.standings)
-        }
-        Command::Play(_) | Command::Check | Command::Sheet => write_house(alloc, &series.text),
+        Command::Bench { number, .. } => summary(alloc, number, &text.matches, &text.standings),
+        Command::Play(options) => series_text(alloc, options.format, legend, series),
+        Command::Check | Command::Sheet | Command::Migrate => write_house(alloc, text),
+    }
+}
+
+/// The house text of these matches in a format, with this legend if it tells what items bind. Memory may run out.
+fn series_text(
+    alloc: Global,
+    format: Format,
+    legend: &[u8],
+    series: &Series,
+) -> Result<Vec<u8>, Memory>
+    requires legend { (lines_in legend.now).1 ≡ [] }
+    requires fits { is_named format ≡ true → Fits series.now.named }
+    ensures { IfOk result (λ bytes. bytes.items ≡ series_text format (lines_in legend.now).0 series.now) }
+{
+    match format {
+        Format::Plain => write_house(alloc, &series.named.text),
+        Format::Named => write_named(alloc, legend, &series.named),
     }
 }
 
 /// What a command answers where these matches were played for it, as its options say. Memory may run out.
-fn played_answer(alloc: Global, command: Command, series: &Series) -> Result<Answer, Memory>
+fn played_answer(
+    alloc: Global,
+    command: Command,
+    legend: &[u8],
+    series: &Series,
+) -> Result<Answer, Memory>
+    requires legend { (lines_in legend.now).1 ≡ [] }
     requires played { ArePlayedBy (options_of command) series.now }
-    ensures { IfOk result (TellsOf command series.now) }
+    ensures { IfOk result (TellsOf command (lines_in legend.now).0 series.now) }
 {
-    let text = told_text(alloc, command, series)?;
+    let text = told_text(alloc, command, legend, series)?;
     Ok(Answer::Text(text, note_of(series)))
 }
 
@@ -94,6 +130,25 @@ fn note_of(series: &Series) -> Note
         looks: series.totals.looks(),
         hits: series.totals.hits(),
     }
+}
+
+/// The matches of a game, as one worker plays them for a command, who waits for nobody. Memory may run out; then no more steps were
+/// counted than the whole call counts.
+fn play_alone<L: Ledger>(
+    alloc: Global,
+    command: Command,
+    game: Game,
+    steps: &mut Steps<L>,
+) -> Result<Series, Memory>
+    requires named { (words : List (List ℕ)) × IsCommand words command }
+    requires alone { workers_of command ≡ 1 }
+    requires game { IsGame game.checked (plan_seen game.plan) }
+    ensures series { IfOk result (IsSeriesOf (options_of command) (about_of game.checked game.plan.turns) (plan_seen game.plan) steps.old steps.new) }
+    ensures few { steps.new ≤ steps.old + counted_playouts (options_of command) (looks_of (about_of game.checked game.plan.turns) (plan_seen game.plan)) }
+{
+    let Game { checked, plan } = game;
+    let Options { cache, format, .. } = command.options();
+    series_of(alloc, checked, plan, format.is_named(), cache, steps)
 }
 
 /// What a command answers that one worker runs, who waits for nobody, or the status that it ends with.
@@ -112,9 +167,9 @@ fn answer_alone<S: Source, L: Ledger>(
     match prepare_command(alloc, command, source)? {
         Prepared::Answered(answer) => Ok(answer),
         Prepared::Playing(game) => {
-            let Game { checked, plan } = game;
-            let series = series_of(alloc, checked, plan, command.options().cache, steps)?;
-            let answer = played_answer(alloc, command, &series)?;
+            let legend = legend_for(alloc, command.options().format, &game.checked)?;
+            let series = play_alone(alloc, command, game, steps)?;
+            let answer = played_answer(alloc, command, &legend, &series)?;
             Ok(answer)
         }
     }
@@ -135,8 +190,13 @@ fn play_together<R: Threads + Wait + Sync, G: Gate>(
     ensures { IfOk result (IsSeriesOf (options_of command) (about_of game.checked game.plan.turns) (plan_seen game.plan) 0 0) }
 {
     let Game { checked, plan } = game;
-    let Options { workers, cache } = command.options();
-    series_by_workers(rt, alloc, checked, plan, workers, cache, gate)
+    let Options {
+        workers,
+        cache,
+        format,
+    } = command.options();
+    let noted = format.is_named();
+    series_by_workers(rt, alloc, checked, plan, noted, workers, cache, gate)
 }
 
 /// What a command answers that several workers run, over one book, or the status that it ends with. Each calls the gate before it plays
@@ -157,8 +217,9 @@ fn answer_together<R: Threads + Wait + Sync, S: Source, G: Gate>(
     match prepare_command(alloc, command, source)? {
         Prepared::Answered(answer) => Ok(answer),
         Prepared::Playing(game) => {
+            let legend = legend_for(alloc, command.options().format, &game.checked)?;
             let series = play_together(alloc, rt, command, game, gate)?;
-            let answer = played_answer(alloc, command, &series)?;
+            let answer = played_answer(alloc, command, &legend, &series)?;
             Ok(answer)
         }
     }
@@ -203,10 +264,11 @@ fn command_for(alloc: Global, words: &[String], several: bool) -> Result<Command
 /// Runs a command with one worker; where its words name more, they are none of a command's. It waits for nobody and always
 /// returns. Each playout is a step. The other clauses hand on laws and refuse no body. `alike`: in what is played, two decisions of
 /// one seat with one strategy and one seed of the seats, at states that are alike to that seat, have the same item, in whatever
-/// matches of that sheet and turn limit they stand. `same`: what is written to a source is the same whoever plays. `legal`: what
-/// `play` writes for a source, `check` answers to be legal behind that source. `plays`: in what `play` writes, each match is a play that
-/// the sheet allows for its seeded shuffles, up to its end or the turn limit, and each choice is its strategy's function of its seat's
-/// view and of the seed of the seats.
+/// matches of that sheet and turn limit they stand. `same`: what is written to a source in one format is the same whoever plays.
+/// `legal`: what `play` writes for a source, in either format, `check` answers to be legal behind that source. `migrated`: to the same
+/// `migrate` answers what `play` writes in format 2. `plays`: in what `play` writes, each match is a play that the sheet allows for its
+/// seeded shuffles, up to its end or the turn limit, and each choice is its strategy's function of its seat's view and of the seed of
+/// the seats.
 pub fn run_alone<S: Source, O: Sink, N: Sink, L: Ledger>(
     alloc: Global,
     words: &[String],
@@ -222,11 +284,13 @@ pub fn run_alone<S: Source, O: Sink, N: Sink, L: Ledger>(
     ensures alike { AlikeSamePicks }
     ensures same { TextsAreTheSame }
     ensures legal { PlayedIsChecked }
+    ensures migrated { PlayedIsMigrated }
     ensures plays { WrittenIsPlayed }
 {
     alike_decisions_have_one_item();
     texts_are_the_same();
     what_is_played_is_judged_legal();
+    what_is_played_is_migrated();
     what_is_written_is_played();
     match command_for(alloc, words, false) {
         Ok(command) => {
@@ -238,7 +302,8 @@ pub fn run_alone<S: Source, O: Sink, N: Sink, L: Ledger>(
 }
 
 /// Runs a command. It may wait for workers, and what it promises holds if it returns. Where words name several workers, these play the
-/// matches at one time, and each calls the gate before it plays one. `alike`, `same`, `legal` and `plays` are those of `run_alone`.
+/// matches at one time, and each calls the gate before it plays one. `alike`, `same`, `legal`, `migrated` and `plays` are those of
+/// `run_alone`.
 pub fn run<R: Threads + Wait + Sync, S: Source, O: Sink, N: Sink, G: Gate>(
     alloc: Global,
     rt: &R,
@@ -255,11 +320,13 @@ pub fn run<R: Threads + Wait + Sync, S: Source, O: Sink, N: Sink, G: Gate>(
     ensures alike { AlikeSamePicks }
     ensures same { TextsAreTheSame }
     ensures legal { PlayedIsChecked }
+    ensures migrated { PlayedIsMigrated }
     ensures plays { WrittenIsPlayed }
 {
     alike_decisions_have_one_item();
     texts_are_the_same();
     what_is_played_is_judged_legal();
+    what_is_played_is_migrated();
     what_is_written_is_played();
     match command_for(alloc, words, true) {
         Ok(command) if command.options().workers == 1 => {

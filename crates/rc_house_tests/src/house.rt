@@ -14,7 +14,7 @@ const PLAYED: End<'static> = End {
 const USAGE: End<'static> = End {
     status: Status::Usage,
     written: b"",
-    noted: b"usage: cardhouse play, check, sheet or bench\n",
+    noted: b"usage: cardhouse play, check, sheet, bench or migrate\n",
 };
 
 const READ_FAULT: End<'static> = End {
@@ -54,7 +54,7 @@ fn a_source_in_pieces_is_played_unless_a_read_fails(rt: HostRuntime) -> Result<(
 }
 
 /// Words that are no command's. The last ones name more than one worker.
-const WORDS: [&[&str]; 15] = [
+const WORDS: [&[&str]; 18] = [
     &[],
     &[""],
     &["Play"],
@@ -63,11 +63,14 @@ const WORDS: [&[&str]; 15] = [
     &["play", "play"],
     &["sheet", "play"],
     &["check", "x"],
+    &["migrate", "x"],
     &["bench"],
     &["bench", "0"],
     &["play", "--workers", "0"],
     &["play", "--cache", "70000"],
+    &["play", "--format=3"],
     &["play", "--workers=1", "--workers", "1"],
+    &["bench", "5", "--format=1"],
     &["play", "--workers", "2"],
     &["bench", "5", "--workers=64"],
 ];

@@ -5,9 +5,6 @@ use Rattle.rc_answers.proofs.answer.prepare_sheet.Goals as goal
 pub returns-in-Play : goal.returns-in-Play
 returns-in-Play c = rw c.in-Play.is (c.prepare_play.ensures _)
 
-pub returns-in_ok-check_answer-in-Check : goal.returns-in_ok-check_answer-in-Check
-returns-in_ok-check_answer-in-Check c = rw c.in-Check.is c.in_ok-check_answer-in-Check.ensures
-
 pub returns-in_ok-sheet_answer-in-Sheet : goal.returns-in_ok-sheet_answer-in-Sheet
 returns-in_ok-sheet_answer-in-Sheet c =
     let forms = c.args.forms.now in
@@ -15,3 +12,9 @@ returns-in_ok-sheet_answer-in-Sheet c =
     rw c.in-Sheet.is
     (sheet_answer c.args.source.now (trees_of forms.list.items) forms.rest c.args.checked c.in_ok-sheet_answer-in-Sheet.field-0
     read c.requires.accepted c.in_ok-sheet_answer-in-Sheet.ensures)
+
+pub returns-in_ok-answer-in-Check : goal.returns-in_ok-answer-in-Check
+returns-in_ok-answer-in-Check c = rw c.in-Check.is c.in_ok-answer-in-Check.ensures
+
+pub returns-in_ok-answer-in-Migrate : goal.returns-in_ok-answer-in-Migrate
+returns-in_ok-answer-in-Migrate c = rw c.in-Migrate.is c.in_ok-answer-in-Migrate.ensures

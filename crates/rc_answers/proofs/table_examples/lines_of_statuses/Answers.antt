@@ -21,3 +21,7 @@ returns-clause-text c = refl
 pub returns-clause-illegal : goal.returns-clause-illegal
 unfolding digits
 returns-clause-illegal c = refl
+
+pub returns-clause-misnamed : goal.returns-clause-misnamed
+unfolding digits
+returns-clause-misnamed c = refl

@@ -9,7 +9,7 @@ use Rattle.rc_rules.specs.Plan.{plan_seen}
 use Rattle.rc_answers.specs.AcceptedPlan.{IsBehind, IsFaultyBehind}
 use Rattle.rc_answers.specs.Answer.{IsJudged}
 use Rattle.rc_answers.proofs.AnswerLaws.{judged_answers, unread_answers}
-use Rattle.rc_answers.proofs.answer.check_answer.Goals as goal
+use Rattle.rc_answers.proofs.answer.transcript_answer.Goals as goal
 
 pub plan_behind-requires-clause-placed : goal.plan_behind-requires-clause-placed
 plan_behind-requires-clause-placed c =
@@ -25,9 +25,9 @@ returns-in-Ok c =
     let forms = c.args.forms.now in
     let plan = plan_seen c.in-Ok.plan in
     let behind = subst (λ sheet. IsBehind sheet.players (trees_of forms.list.items) plan) c.sheet.ensures.same c.in-Ok.ensures.behind in
-    judged_answers c.args.source.now (trees_of forms.list.items) forms.rest c.args.checked plan c.judged_answer.result
+    judged_answers c.args.asked c.args.source.now (trees_of forms.list.items) forms.rest c.args.checked plan c.judged_answer.result
     c.requires.read c.requires.accepted behind
-    (subst (λ bytes. IfOk c.judged_answer.result (IsJudged (about_of c.args.checked c.in-Ok.plan.turns) plan bytes))
+    (subst (λ bytes. IfOk c.judged_answer.result (IsJudged c.args.asked (about_of c.args.checked c.in-Ok.plan.turns) plan bytes))
     (take_rest c.args.source.now forms.rest) c.judged_answer.ensures)
 
 pub returns-in-Err : goal.returns-in-Err
@@ -36,5 +36,5 @@ returns-in-Err c =
     let faulty =
     subst (λ sheet. IfPlanFault c.in-Err.fail (λ fault. IsFaultyBehind sheet.players (trees_of forms.list.items) forms.rest fault.kind fault.at))
     c.sheet.ensures.same c.in-Err.ensures.fault in
-    unread_answers c.args.source.now (trees_of forms.list.items) forms.rest c.args.checked c.in-Err.fail c.plan_failed.result
+    unread_answers c.args.asked c.args.source.now (trees_of forms.list.items) forms.rest c.args.checked c.in-Err.fail c.plan_failed.result
     c.requires.read c.requires.accepted faulty c.plan_failed.ensures
