@@ -3,7 +3,7 @@
 import re
 import tempfile
 import unittest
-from dataclasses import dataclass, field
+from dataclasses import dataclass, field, replace
 from pathlib import Path
 
 from agreeing.cases import Case, case_of, likeness, with_a_slip
@@ -14,13 +14,19 @@ from agreeing.forms import in_lines, plain, strewn
 from agreeing.program import PROGRAM, End, Program
 from agreeing.reading import reading_of
 from agreeing.running import Tally, keep
-from agreeing.transcripts import count, looks_of, spoiled
+from agreeing.transcripts import OTHERS, OUTSIDE, count, looks_of, mangled, spoiled, spoiled_legend, spoiled_marks, unnamed
 from built import Built
 from faults.tokens import end_of, gap_end, tokens
+from second.commands import command_of
+from second.running import ended
 
 CASES = 60
 DEEPEST, LONGEST = 64, 64
 ROOT = Path(__file__).resolve().parent.parent
+FIRST = ROOT / "examples/first.sheet"
+
+# The third match is the first once more.
+SEATS = b"(plan (seats (rollout 2 1) (script 1)) (matches (0 7) (0 7) (0 7)) (turns 100))\n"
 
 SHEET = b"(game ..)\n"
 PLAN = b"(plan (seats (rollout 2 1) ; (random 3)\n(script 1)) (matches (from 5 7 2)) (turns 9))\n"
@@ -44,35 +50,27 @@ standing 1 strategy 0 points 4
 standing 2 strategy 1 points 0
 """
 
+# The same in format 2.
+NAMED = b"house 2\nface 0 RANK 1\nface 2 RANK 2\n" + TEXT.removeprefix(b"house 1\n")
+for line, marks in ((b"0 0 0 2", b" p1 c0"), (b"0 0 0 1", b" g2"), (b"1 0 0 1", b" c2")):
+    NAMED = NAMED.replace(b"choose " + line, b"choose " + line + marks)
 
 Ends = dict[tuple[str, ...], End]
 
 
 @dataclass
 class Told:
-    """A program that ends as it is told, by its words. Without that it plays `TEXT`, and judges as the program does."""
+    """A program that ends as it is told, by its words. Without that it ends as the second reading does."""
 
     ends: Ends = field(default_factory=dict)
 
     def run(self, words: tuple[str, ...], source: bytes, _: int = 0) -> End:
         if words in self.ends:
             return self.ends[words]
-        if words == ("check",):
-            return End(0, b"legal\n", b"") if source.endswith(TEXT) else End(4, b"", self.why(source.removeprefix(SHEET + PLAN)))
-        if words == ("sheet",):
-            return End(0, SHEET, b"")
-        return End(0, TEXT, b"cache looks 2 hits 1\n")
-
-    def why(self, text: bytes) -> bytes:
-        """The line that differs, with the reason that its kind has."""
-        if not text:
-            return b"text 1\n"
-        line = first_difference(text, TEXT)
-        head, *numbers = TEXT.splitlines()[line - 1].split()
-        whys = {b"match": b"Match", b"shuffles": b"Shuffle", b"end": b"End", b"score": b"Score", b"standing": b"Standing"}
-        seat, _, _, size = text.splitlines()[line - 1].split()[1:] if head == b"choose" else [b""] * 4
-        why = whys.get(head) or (b"Seat" if seat != numbers[0] else b"Menu" if size != numbers[3] else b"Item")
-        return b"illegal %d %s\n" % (line, why)
+        command = command_of(list(words))
+        assert command
+        end = ended(command, source)
+        return End(end.status, end.text.encode(), end.note.encode())
 
 
 class Forms(unittest.TestCase):
@@ -178,12 +176,55 @@ class Transcripts(unittest.TestCase):
         self.assertEqual(found["illegal 16 Standing\n"], "standing 1 strategy 0 points 5")
         self.assertNotIn("illegal 4 Item\n", found)
 
+    def test_without_names(self) -> None:
+        self.assertEqual(unnamed(NAMED), TEXT)
+
+    def test_spoiled_lines_of_format_2(self) -> None:
+        for seed in range(200):
+            if told := spoiled(NAMED, Chance(seed)):
+                self.assertIn(f" {first_difference(told[0], NAMED)} ", told[1].decode())
+
+    def test_spoiled_marks(self) -> None:
+        found: dict[bytes, set[bytes]] = {}
+        for seed in range(600):
+            if told := spoiled_marks(NAMED, Chance(seed)):
+                line = first_difference(told[0], NAMED)
+                self.assertIn(told[1], (b"illegal %d Named\n" % line, b"text %d\n" % line))
+                found.setdefault(told[1], set()).add(told[0].split(b"\n")[line - 1])
+        self.assertLessEqual({b"choose 0 0 0 2 c0 p1", b"choose 0 0 0 2 p1", b"choose 0 0 0 2 c0"}, found[b"illegal 5 Named\n"])
+        self.assertTrue(any(line.startswith(b"choose 1 0 1 256 ") for line in found[b"illegal 6 Named\n"]))
+        self.assertLessEqual({b"choose 0 0 0 2 p1 c512", b"choose 0 0 0 2 k0 c0"}, found[b"text 5\n"])
+        self.assertTrue(any(line.count(b" ") == 9 for line in found[b"text 5\n"]))
+        self.assertIsNone(spoiled_marks(b"house 2\nface 0 RANK 1\n", Chance(1)))
+
+    def test_marks_that_differ_are_in_the_grammar_or_outside(self) -> None:
+        mark = rb"p[0-7]|[cg](?:\d|[1-9]\d|[1-4]\d\d|50\d|51[01])"
+        for seed in range(200):
+            for spoil in OTHERS:
+                others = spoil([b"p7", b"c511", b"g30"], Chance(seed)) or []
+                self.assertTrue(len(others) < 5 and all(re.fullmatch(mark, it) for it in others), others)
+            for spoil in OUTSIDE:
+                others = spoil([b"p7", b"c511"], Chance(seed)) or []
+                self.assertFalse(len(others) < 5 and all(re.fullmatch(mark, it) for it in others), others)
+
+    def test_spoiled_legends(self) -> None:
+        found = {told: text for text, told in (spoiled_legend(NAMED, Chance(seed)) for seed in range(100))}
+        self.assertEqual({*found}, {b"text 2\n", b"text 3\n", b"text 4\n"})
+        for told, text in found.items():
+            if not text.startswith(b"house 1"):
+                self.assertEqual(told, b"text %d\n" % first_difference(text, NAMED))
+
+    def test_mangled_texts(self) -> None:
+        texts = {mangled(NAMED, Chance(seed)) for seed in range(300)}
+        self.assertGreater(len(texts), 200)
+        self.assertLess(len([text for text in texts if text.startswith(b"house 2\n")]), len(texts))
+
     def test_the_first_line_that_differs(self) -> None:
         self.assertEqual([first_difference(b"a\nb\n", it) for it in (b"x\nb\n", b"a\nc\n", b"a\n", b"a\nb\nc\n")], [1, 2, 2, 3])
 
 
 class Runs(unittest.TestCase):
-    case = Case(1, 2, SHEET, PLAN)
+    case = Case(1, 2, FIRST.read_bytes(), SEATS)
 
     def result(self, ends: Ends, other: Ends | None = None) -> Result:
         return Comparing(Told(ends), None if other is None else Told(other)).result(self.case)  # type: ignore[arg-type]
@@ -191,41 +232,71 @@ class Runs(unittest.TestCase):
     def said(self, ends: Ends, other: Ends | None = None) -> list[str]:
         result = self.result(ends, other)
         self.assertIs(result.kind, Kind.ACCEPTED)
-        return result.disagreements
+        return [text.split(" ended")[0] for text in result.disagreements]
+
+    def end(self, *words: str) -> End:
+        return Told().run(words, self.case.source())
 
     def test_runs_that_agree(self) -> None:
         result = self.result({}, {})
         self.assertEqual(result.disagreements, [])
-        self.assertEqual((result.matches, result.choices, result.shuffles, result.looks, result.hits), (2, 5, 1, 2, 1))
+        self.assertEqual((result.matches, result.choices, result.shuffles, result.looks, result.hits), (3, 12, 0, 6, 2))
 
     def test_another_text(self) -> None:
-        note = b"cache looks 2 hits 1\n"
         for words in (("play", "--cache", "1"), ("play", "--cache", "65536")):
-            (said,) = self.said({words: End(0, TEXT + b"standing\n", note)})
+            end = self.end(*words)
+            (said,) = self.result({words: replace(end, text=end.text + b"standing\n")}).disagreements
             self.assertIn(f"play with room for {words[2]} ended", said)
-            self.assertIn("they differ from line 18 on", said)
+            self.assertIn(f"they differ from line {end.text.count(10) + 1} on", said)
 
     def test_other_looks_and_hits(self) -> None:
-        self.assertEqual(len(self.said({("play",): End(0, TEXT, b"cache looks 3 hits 1\n")})), 3)
-        self.assertEqual(len(self.said({("play", "--cache", "1"): End(0, TEXT, b"cache looks 2 hits 2\n")})), 1)
-        self.assertEqual(len(self.said({("play",): End(0, TEXT, b"cache looks\n")})), 1)
+        end = self.end("play")
+        said = self.result({("play",): replace(end, note=b"cache looks 7 hits 2\n")}).disagreements
+        self.assertIn("play notes b'cache looks 7 hits 2\\n' of 6 decisions of seats that roll out", said)
+        (said,) = self.result({("play", "--cache", "1"): replace(end, note=b"cache looks 6 hits 3\n")}).disagreements
+        self.assertIn("with more room there are fewer hits, or looks differ", said)
+        (said,) = self.result({("play",): replace(end, note=b"cache looks\n")}).disagreements
+        self.assertIn("play ended with", said)
 
     def test_the_judge(self) -> None:
-        self.assertEqual(len(self.said({("check",): End(0, b"legal\n", b"")})), 1)
-        self.assertEqual(len(self.said({("check",): End(4, b"", b"illegal 3 Menu\n")})), 2)
+        said = self.said({("check",): End(0, b"legal\n", b"")})
+        self.assertTrue(said and all(it.startswith("check of a transcript that is spoiled") for it in said))
+        said = self.said({("check",): End(4, b"", b"illegal 3 Menu\n")})
+        self.assertEqual(said[:2], ["check of the transcript"] * 2)
+
+    def test_format_2(self) -> None:
+        words = ("play", "--format", "2")
+        named, what = self.end(*words), "play in format 2, without its names,"
+        other = named.text.replace(b"choose 0 0 0 2 c3", b"choose 0 0 0 2 c2")
+        self.assertIn("migrate of format 1", self.said({words: replace(named, text=other)}))
+        self.assertIn(what, self.said({words: replace(named, text=named.text.replace(b"end done 8", b"end done 9"))}))
+        self.assertEqual(self.said({words: End(2, b"", b"usage: ..\n")}), ["play in format 2"])
+        (said,) = self.result({words: replace(named, note=b"cache looks 6 hits 1\n")}).disagreements
+        self.assertIn("play in format 2 notes", said)
+
+    def test_migrated_texts(self) -> None:
+        said = self.said({("migrate",): End(0, self.end("play").text, b"")})
+        self.assertEqual(said[:2], ["migrate of format 1", "migrate of format 2"])
+        self.assertTrue(all(it.startswith("migrate of a transcript that is spoiled") for it in said[2:]))
+        said = self.result({("migrate",): End(0, self.end("play", "--format", "2").text, b"x\n")}).disagreements
+        self.assertIn("migrate of format 2 notes b'x\\n'", said)
 
     def test_a_sheet_that_is_printed_badly(self) -> None:
-        self.assertEqual(len(self.said({("sheet",): End(1, b"", b"sheet Shape 0\n")})), 1)
+        self.assertEqual(len(self.said({("sheet",): End(1, b"", b"sheet Shape 0\n")})), 2)
 
     def test_another_program(self) -> None:
         said = self.said({}, {("play",): End(0, b"house 1\n", b""), ("sheet",): End(0, b"(game)\n", b"")})
-        self.assertEqual([text.split(" ended")[0] for text in said], ["play of the other program", "sheet of the other program"])
+        self.assertEqual(said, ["play of the other program", "sheet of the other program"])
+        words = ("play", "--format", "2")
+        self.assertEqual(self.said({}, {words: End(0, b"house 2\n", b"")}), ["play of the other program in format 2"])
+        self.assertEqual(self.said({}, {words: End(2, b"", b"usage: cardhouse play, check, sheet or bench\n")}), [])
         refused = End(1, b"", b"sheet Unseen 7\n")
-        self.assertEqual(len(self.result({("play",): refused, ("check",): refused}, {}).disagreements), 1)
+        ends = dict.fromkeys((("play",), ("check",), ("migrate",)), refused)
+        self.assertEqual(len(self.result(ends, {}).disagreements), 1)
 
     def test_refusals(self) -> None:
         def result(end: End) -> tuple[Kind, str, int]:
-            got = self.result({("play",): end, ("check",): end}, {("play",): end})
+            got = self.result(dict.fromkeys((("play",), ("check",), ("migrate",)), end), {("play",): end})
             return got.kind, got.why, len(got.disagreements)
 
         self.assertEqual(result(End(1, b"", b"sheet Unseen 7\n")), (Kind.REFUSED, "Unseen", 0))
@@ -234,7 +305,7 @@ class Runs(unittest.TestCase):
         self.assertEqual(result(End(1, b"", b"sheet Unseen 7\nsheet Unseen 7\n")), (Kind.REFUSED, "", 1))
         self.assertEqual(result(End(-11, b"", b"")), (Kind.REFUSED, "", 1))
         self.assertEqual(result(End(1, b"", b"sheet Unseen 9999\n")), (Kind.REFUSED, "Unseen", 1))
-        self.assertEqual(len(self.result({("play",): End(3, b"", b"plan Turns 9\n")}).disagreements), 1)
+        self.assertEqual(len(self.result({("play",): End(3, b"", b"plan Turns 9\n")}).disagreements), 2)
         self.assertEqual(len(self.result({("play",): End(3, b"", b"plan Rest 9\n")}).disagreements), 0)
         self.assertEqual(result(End(5, b"", b"no memory\n")), (Kind.DROPPED, "", 0))
 
@@ -248,7 +319,7 @@ class Runs(unittest.TestCase):
             keep(Path(folder) / "kept", self.case, result)
             kept = {file.name: file.read_bytes() for file in (Path(folder) / "kept").iterdir()}
         self.assertEqual(sorted(kept), ["1-2.plan", "1-2.said", "1-2.sheet"])
-        self.assertEqual((kept["1-2.sheet"], kept["1-2.plan"]), (SHEET, PLAN))
+        self.assertEqual((kept["1-2.sheet"], kept["1-2.plan"]), (self.case.sheet, self.case.plan))
 
 
 class Read(unittest.TestCase):
@@ -258,36 +329,56 @@ class Read(unittest.TestCase):
     text = (ROOT / "examples/first.transcript").read_bytes()
     printed = (ROOT / "examples/first.printed").read_bytes()
 
-    def said(self, text: bytes, printed: bytes, hits: int) -> list[str]:
+    def said(self, text: bytes, printed: bytes, hits: int, named: bytes | None = None) -> list[str]:
         program = Told({("sheet",): End(0, printed, b"")})
-        reading = reading_of(self.case, text, 60)
+        right = program.run(("play", "--format", "2"), self.case.source())
+        played = Played(self.case, End(0, text, b""), 0, hits, right if named is None else replace(right, text=named))
+        texts = [text, played.named.text]
+        reading = reading_of(self.case, texts, 60)
         assert reading
         comparing = Comparing(program, reads=True)  # type: ignore[arg-type]
-        return list(comparing.of_reading(Played(self.case, End(0, text, b""), 0, hits), {1024: hits}, reading))
+        return list(comparing.of_reading(played, {1024: hits}, reading, texts))
 
     def test_an_example(self) -> None:
         self.assertEqual(self.said(self.text, self.printed, 0), [])
 
-    def test_sheets_that_are_refused(self) -> None:
-        def said(note: bytes) -> int:
-            end = End(1, b"", note)
-            comparing = Comparing(Told({("play",): end, ("check",): end}), reads=True)  # type: ignore[arg-type]
-            result = comparing.result(Case(1, 2, b"(game (setup (create players 9)) (do x) (scoring max 0))", b""))
+    def test_texts_that_are_refused(self) -> None:
+        def said(note: bytes, status: int, plan: bytes) -> int:
+            end = End(status, b"", note)
+            ends = dict.fromkeys((("play",), ("check",), ("migrate",)), end)
+            comparing = Comparing(Told(ends), reads=True)  # type: ignore[arg-type]
+            players = b"9" if status == 1 else b"2"
+            result = comparing.result(Case(1, 2, self.case.sheet.replace(b"players 2", b"players " + players), plan))
             self.assertIs(result.kind, Kind.REFUSED)
             return len(result.disagreements)
 
-        self.assertEqual(said(b"sheet Number 29\n"), 0)
-        self.assertEqual(said(b"sheet Shape 37\n"), 1)
-        self.assertEqual(said(b"sheet BadByte 29\n"), 0)
+        at = self.case.sheet.index(b"players 2") + 8
+        self.assertEqual(said(b"sheet Number %d\n" % at, 1, SEATS), 0)
+        self.assertEqual(said(b"sheet Shape %d\n" % at, 1, SEATS), 1)
+        length = len(self.case.sheet)
+        self.assertEqual(said(b"plan Seats %d\n" % (length + 6), 3, SEATS.replace(b"(script 1)", b"")), 0)
+        self.assertEqual(said(b"plan Turns %d\n" % (length + 6), 3, SEATS.replace(b"(script 1)", b"")), 1)
+        self.assertEqual(said(b"plan Shape %d\n" % length, 3, b"(plan (seats))"), 0)
 
     def test_what_differs(self) -> None:
-        self.assertEqual(len(self.said(self.text.replace(b"end done 8", b"end done 9"), self.printed, 0)), 2)
+        other = self.text.replace(b"end done 8", b"end done 9")
+        self.assertEqual(len(self.said(other, self.printed, 0)), 1)
         self.assertEqual(len(self.said(self.text, self.printed[1:], 0)), 1)
         self.assertEqual(len(self.said(self.text, self.printed, 1)), 1)
+        self.assertEqual(len(self.said(self.text, self.printed, 0, b"house 2\n")), 1)
+
+    def test_what_is_migrated(self) -> None:
+        program = Told({("migrate",): End(0, self.text, b""), ("check",): End(4, b"", b"text 1\n")})
+        reading = reading_of(self.case, [self.text], 60)
+        assert reading
+        named = Told().run(("play", "--format", "2"), self.case.source())
+        played = Played(self.case, End(0, self.text, b""), 0, 0, named)
+        said = list(Comparing(program, reads=True).of_reading(played, {1024: 0}, reading, [self.text]))  # type: ignore[arg-type]
+        self.assertEqual([it.split(" ended")[0] for it in said], ["migrate", "check"])
 
     def test_what_takes_too_long(self) -> None:
         plan = b"(plan (seats (rollout 1000 1) (rollout 1000 1)) (matches (from 1 1 4096)) (turns 9))"
-        self.assertIsNone(reading_of(Case(1, 2, self.case.sheet, plan), b"", 0.2))
+        self.assertIsNone(reading_of(Case(1, 2, self.case.sheet, plan), [], 0.2))
 
 
 class OfProgram(Built):

@@ -104,9 +104,9 @@ class Sheets(InFolder):
 
     def test_faults_of_plans(self) -> None:
         cases = self.cases("[f]\n(@)\n", "[f: plan Seats]\n^a\n[f: play Stray]\n^b\n[f: no fault of plan]\nc\n")
-        self.assertEqual(cases, [(("play",), "(a)", "plan Seats at 1"), (("check",), "(a)", "plan Seats at 1"),
-                                 (("play",), "(b)", "play Stray at 1"), (("check",), "(b)", "play Stray at 1"),
-                                 (("play",), "(c)", "no fault of plan"), (("check",), "(c)", "text 1")])
+        plan, sheet = ([((word,), f"({part})", f"{told} at 1") for word in ("play", "check", "migrate")]
+                       for part, told in (("a", "plan Seats"), ("b", "play Stray")))
+        self.assertEqual(cases, [*plan, *sheet, (("play",), "(c)", "no fault of plan"), (("check",), "(c)", "text 1")])
 
     def test_what_follows_a_plan_is_a_fault_for_play_alone(self) -> None:
         cases = self.cases("[f]\n(@)\n", "[f: plan Rest]\n^a\n")
@@ -144,7 +144,14 @@ class Plays(InFolder):
         cases = self.plays("[one]\na: 1\nb: {2 x}\n> house 1\n[two]\na: ^2\nNumber\n")
         self.assertEqual({source for _, source, _ in cases[:3]}, {"(game 1 xx)"})
         self.assertEqual(cases[3], (("check",), "(game 1 xx)\nhouse 1\n", "legal"))
-        self.assertEqual(cases[4:], [((word,), "(game 2 xx)", "Number at 6") for word in ("sheet", "play", "check")])
+        self.assertEqual(cases[4:], [((word,), "(game 2 xx)", "Number at 6") for word in ("sheet", "play", "check", "migrate")])
+
+    def test_lines_of_format_2(self) -> None:
+        cases = self.plays("[one]\na: 1\nb: 2\n> house 2\n> face 0\n--cache 1: looks 3 hits 0\n")
+        options = ((), ("--cache", "1"), ("--workers", "2"), ("--workers", "4"))
+        self.assertEqual([words for words, _, _ in cases[:4]], [("play", "--format", "2", *its) for its in options])
+        text = "(game 1 2)\nhouse 2\nface 0\n"
+        self.assertEqual([it[:2] for it in cases[4:]], [(("check",), text), (("migrate",), text)])
 
     def test_lines_that_are_left_out(self) -> None:
         cases = self.plays("[one]\na: 1\nb: 2\n> house 1\n> ..\n")
@@ -179,7 +186,7 @@ class Plays(InFolder):
         self.assertEqual(self.plays("[one]\na: 1\nb: 2\ntoo long\n"), [(("play",), "(game 1 2)", "too long")])
         self.assertEqual(
             self.plays("[one]\na: ^1\nb: 2\nplan Seats\n"),
-            [((command,), "(game 1 2)", "plan Seats at 6") for command in ("play", "check")],
+            [((command,), "(game 1 2)", "plan Seats at 6") for command in ("play", "check", "migrate")],
         )
 
     def test_mistakes(self) -> None:
@@ -205,11 +212,21 @@ class Texts(InFolder):
 
     def test_what_is_expected(self) -> None:
         cases = list(read_texts(self.write("a.texts", "[one]\nlegal\n[two]\n1: b\ntext 1\n"), "(s)", "a\n"))
-        self.assertEqual([case.source for case in cases], ["(s)\na\n", "(s)\nb\n"])
+        self.assertEqual([case.source for case in cases], ["(s)\na\n", "(s)\nb\n", "(s)\nb\n"])
+        self.assertEqual([case.words for case in cases], [("check",), ("check",), ("migrate",)])
         self.assertTrue(cases[0].is_met(End(0, "legal\n", "")))
+        self.assertTrue(cases[2].is_met(End(4, "", "text 1\n")))
         self.assertTrue(cases[1].is_met(End(4, "", "text 1\n")))
         self.assertFalse(cases[1].is_met(End(4, "legal\n", "text 1\n")))
         self.mistake("what is expected of a text", lambda: list(read_texts(self.write("b.texts", "[one]\n1: x\n"), "", "")))
+
+    def test_what_migrate_writes(self) -> None:
+        cases = list(read_texts(self.write("a.texts", "[one]\n1: b\nlegal\n> c\n> d\n"), "(s)", "a\n"))
+        self.assertEqual([(case.words, case.source) for case in cases], [((word,), "(s)\nb\n") for word in ("check", "migrate")])
+        self.assertTrue(cases[1].is_met(End(0, "c\nd\n", "")))
+        self.assertFalse(cases[1].is_met(End(0, "b\n", "")))
+        cases = list(read_texts(self.write("a.texts", "[one]\n1+ ; more\nlegal\n"), "(s)", "house 2\na\n"))
+        self.assertTrue(cases[1].is_met(End(0, "house 2\na\n", "")))
 
 
 class Pages(InFolder):
@@ -228,7 +245,7 @@ class Pages(InFolder):
         )
         cases = [(case.source, case.expected) for case in read_page(page, self.FRAMES)]
         self.assertEqual(cases, [("<(y)>", "no fault of shape"), ("1 (a)", "Shape at 2"), ("2 (create a)", "Twice at 2"),
-                                 ("3 (b)", "Unknown at 3"), *[("4 (c)", "plan Seats at 3")] * 2])
+                                 ("3 (b)", "Unknown at 3"), *[("4 (c)", "plan Seats at 3")] * 3])
 
     def test_where_a_part_stands(self) -> None:
         self.assertEqual(frame_of("second", "EFFECT, LINE or ITEM", "(choice (do))"), "second ITEM")
@@ -373,6 +390,10 @@ class Tricks(unittest.TestCase):
         self.assertEqual(text[1], "match 0 deal 1 seats 1000")
         self.assertEqual(text[26:28], ["shuffles 1", "end done 54"])
         self.assertEqual(sum(int(line.split()[-1]) for line in text if line.startswith("standing")), 24)
+        named = tricks.transcript(tricks.in_a_row(1, 1000, 2), named=True).splitlines()
+        self.assertEqual((named[0], named[1], named[35]), ("house 2", "face 0 RANK 3 SUIT C", "face 34 RANK A SUIT H"))
+        self.assertEqual([line.split(" c")[0] for line in named[36:]], text[1:])
+        self.assertEqual(len({line.split()[5] for line in named[37:61]}), 24)
         self.assertTrue(tricks.summary(2).startswith("bench 2\nmatches 2\ndecisions 48\nlimits 0\nstanding 1 "))
 
     def test_what_is_seen(self) -> None:
@@ -414,8 +435,8 @@ class Book(unittest.TestCase):
 class Lengths(unittest.TestCase):
     def test_sources_are_as_long_as_they_may_be_or_longer_by_a_byte(self) -> None:
         cases = [(len(case.source) - LIMIT, case.expected) for case in read_longest(FIRST)]
-        self.assertEqual([more for more, _ in cases], [0, 1, 0, 1, 0])
-        self.assertEqual([expected for more, expected in cases if more], ["too long", "too long"])
+        self.assertEqual([more for more, _ in cases], [0, 1, 1, 0, 1, 0])
+        self.assertEqual([expected for more, expected in cases if more], ["too long"] * 3)
 
     def test_a_first_choice_is_made_again(self) -> None:
         text = ["house 1", "match 0 deal 0 seats 0", "choose 0 0 1 2", "end done 8", *["score 0 0 0"] * 2, *["standing"] * 2]
@@ -440,10 +461,11 @@ class SideBySide(InFolder):
         self.assertEqual(self.met("(plan (seats (script) (rollout 4 9)))"), [True, True, False, False])
 
     def test_plays_with_a_whole_text(self) -> None:
-        first, others = "[one]\na: 1\nb: 2\n> house 1\n> end done 0\n", "[two]\n> house 1\n> ..\n[three]\na: ^2\nNumber\n"
+        first = "[one]\na: 1\nb: 2\n> house 1\n> end done 0\n[more]\nb: 3\n> house 2\n> face 0 A B\n> end done 0\n"
+        others = "[two]\n> house 1\n> ..\n[three]\na: ^2\nNumber\n"
         plays = read_plays(self.write("a.plays", first + others), Plays.SOURCE)
         cases = [(case.source, case.expected) for case in side_by_side.of_plays(plays, self.folder)]
-        self.assertEqual(cases, [("(game 1 2)", "that 1 stops agree")])
+        self.assertEqual(cases, [("(game 1 2)", "that 1 stops agree"), ("(game 1 3)", "that 1 stops agree")])
 
     def test_examples_with_a_plan(self) -> None:
         for name, text in (("a.sheet", "(game)\n"), ("a.plan", "(plan)\n"), ("a.transcript", self.TEXT), ("b.sheet", "(")):

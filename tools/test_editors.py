@@ -1,4 +1,4 @@
-"""Tests of the files for editors: their words are those of the grammar, a sample is coloured as it should be, what ships stays as it is
+"""Tests of the files for editors: their words are those of the grammars, a sample is coloured as it should be, what ships stays as it is
 indented, faults are found, and snippets are of the language."""
 
 import json
@@ -13,6 +13,7 @@ from built import PROGRAM, ROOT, skip_unless_built
 from linting.running import findings
 from linting.trees import placed, read_lists, read_sheet
 from started import run
+from tables.grammar import FACE_LINE, NAMED_LINES
 
 VIM = ROOT / "editors/vim"
 VSCODE = ROOT / "editors/vscode"
@@ -29,6 +30,17 @@ SHEET = """(game ; a comment (game
 """
 PLAN = "(plan (seats (rollout 20 7) (script)) ;7\n(matches (from 1 x1 2)))\n"
 
+TEXT = """house 2
+face 0 RANK 7 end p0
+face 31 SUIT match
+match 4095 deal 7 seats 70
+choose 0 1 2 3 p7 c511 g0
+end done 9
+score 0 -10 2
+standing 1 strategy 0 points 2
+c0 7choose
+"""
+
 # What is coloured as what, in order: an atom or a comment, and the class.
 SHEET_COLOURS = [
     ("game", "Word"), ("; a comment (game", "Comment"),
@@ -43,6 +55,15 @@ PLAN_COLOURS = [
     (";7", "Comment"), ("matches", "Word"), ("from", "Word"), ("1", "Number"), ("2", "Number"),
 ]  # fmt: skip
 
+TEXT_COLOURS = [
+    ("house", "Word"), ("2", "Number"), ("face 0 RANK 7 end p0", "Face"), ("face 31 SUIT match", "Face"),
+    ("match", "Word"), ("4095", "Number"), ("deal", "Part"), ("7", "Number"), ("seats", "Part"), ("70", "Number"),
+    ("choose", "Word"), ("0", "Number"), ("1", "Number"), ("2", "Number"), ("3", "Number"),
+    ("p7", "Mark"), ("c511", "Mark"), ("g0", "Mark"), ("end", "Word"), ("done", "Part"), ("9", "Number"),
+    ("score", "Word"), ("0", "Number"), ("-10", "Number"), ("2", "Number"),
+    ("standing", "Word"), ("1", "Number"), ("strategy", "Part"), ("0", "Number"), ("points", "Part"), ("2", "Number"),
+]  # fmt: skip
+
 SCOPES = {
     "comment.line.semicolon": "Comment",
     "variable.other": "Variable",
@@ -52,6 +73,9 @@ SCOPES = {
     "keyword.operator": "Sign",
     "support.function": "Strategy",
 }
+
+# Those of transcripts that are called otherwise.
+TEXT_SCOPES = {"string.unquoted": "Face", "variable.other": "Mark", "support.function": "Part"}
 
 
 def sheet_words() -> list[str]:
@@ -86,6 +110,16 @@ class Words(unittest.TestCase):
         self.assertEqual(len(sheet_words()), 62)
         self.assertEqual(vim_words("cardsheet"), sheet_words())
         self.assertEqual(vscode_words("cardsheet"), sheet_words())
+
+    def test_of_transcripts(self) -> None:
+        lines = [*NAMED_LINES.values(), FACE_LINE]
+        words = {word for line in lines for word in re.findall(r"[a-z]+", line)} | {"done", "limit"}
+        vim, vscode = (
+            (VIM / "syntax/cardtranscript.vim").read_text("ascii"), (VSCODE / "syntaxes/cardtranscript.tmLanguage.json").read_text("ascii"),
+        )  # fmt: skip
+        for text, begins in ((vim, r"%\("), (vscode, r"\(\?:")):
+            rows = re.findall(rf"{begins}([a-z|]{{9,}})\)", text)
+            self.assertEqual({word for row in rows for word in row.split("|")} | {"face"}, words)
 
     def test_of_plans(self) -> None:
         self.assertEqual(plan_words(), ["from", "matches", "plan", "random", "rollout", "script", "seats", "turns"])
@@ -131,7 +165,7 @@ class Colours(InFolder):
             if last == (name, int(row), int(column) - 1):
                 runs[-1] = (runs[-1][0] + character, runs[-1][1])
             else:
-                runs.append((character, re.sub("card(sheet|plan)", "", name)))
+                runs.append((character, re.sub("card(sheet|plan|transcript)", "", name)))
             last = (name, int(row), int(column))
         return runs
 
@@ -160,17 +194,20 @@ class Colours(InFolder):
         given = json.dumps([grammar(name), text])
         ran = run(["node", "-e", script], given, seconds=60, text=True)
         ran.check_returncode()
-        return [(run, SCOPES[scope.rpartition(".")[0]]) for run, scope in json.loads(ran.stdout)]
+        scopes = SCOPES | (TEXT_SCOPES if name == "cardtranscript" else {})
+        return [(run, scopes[scope.rpartition(".")[0]]) for run, scope in json.loads(ran.stdout)]
 
     @unittest.skipUnless(shutil.which("vim"), "no Vim on the path")
     def test_vim(self) -> None:
         self.assertEqual(self.vim_colours("a.sheet", SHEET), SHEET_COLOURS)
         self.assertEqual(self.vim_colours("a.plan", PLAN), PLAN_COLOURS)
+        self.assertEqual(self.vim_colours("a.transcript", TEXT), TEXT_COLOURS)
 
     @unittest.skipUnless(shutil.which("node"), "no Node.js on the path")
     def test_vscode(self) -> None:
         self.assertEqual(self.node_colours("cardsheet", SHEET), SHEET_COLOURS)
         self.assertEqual(self.node_colours("cardplan", PLAN), PLAN_COLOURS)
+        self.assertEqual(self.node_colours("cardtranscript", TEXT), TEXT_COLOURS)
 
 
 @unittest.skipUnless(shutil.which("vim"), "no Vim on the path")
@@ -251,7 +288,7 @@ def contributed() -> dict[str, Any]:
 class Extension(unittest.TestCase):
     def test_its_files_are_there(self) -> None:
         for entry in contributed()["languages"]:
-            self.assertTrue((VSCODE / entry["configuration"]).is_file())
+            self.assertTrue("configuration" not in entry or (VSCODE / entry["configuration"]).is_file())
         for entry in contributed()["grammars"]:
             told = json.loads((VSCODE / entry["path"]).read_text("ascii"))
             self.assertEqual(told["scopeName"], entry["scopeName"])

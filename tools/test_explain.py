@@ -17,6 +17,7 @@ from faults import kinds
 from faults.explaining import explanation
 from faults.forms import FORMS, MEANINGS, forms_of, forms_with, is_fixed, is_plural, meant_behind, parts_of
 from faults.places import picture, place_of, shown
+from faults.sources import File
 from faults.tokens import end_of, lists_around, rest_of
 from scripted import SECONDS, Scripted
 from started import run
@@ -29,6 +30,30 @@ GAME = SHEET.format("", "(stage player (end (= (game sto N) 1)) (choice (do (inc
 PLAN = "(plan (seats (script)) (matches (0 0)) (turns 9))\n"
 # One round and one decision are two turns.
 TEXT = "house 1\nmatch 0 deal 0 seats 0\nchoose 0 0 0 1\nend done 2\nscore 0 0 0\nstanding 1 strategy 0 points 0\n"
+NAMED_TEXT = TEXT.replace("house 1\n", "house 2\nface 0 R A\n")
+
+# Two players take cards of four of each other, or a group of cards. Seat 0 is to take item 3: of player 1 the second card.
+TAKING = """(game (setup (create players 2) (create deck (game hloc S) (deck (R (A B C (D (T (X Y))))))))
+(do (repeat 2 (all player 'P (move (top (game hloc S)) (top ('P vloc H))))) (move (top (game hloc S)) (top (game vloc H2))))
+(stage player (end (= (game sto N) 1)) (do (inc (game sto N) 1))
+(choice (any player 'P (any ('P vloc H) 'C (do (forget 'C)))) (any (partition (game vloc H2) R) 'G (do (forget (top 'G))))))
+(scoring max 0)) (plan (seats (script 3) (script)) (matches (0 0)) (turns 9))
+"""
+TAKEN = """\
+house 2
+face 0 R A
+face 1 R B
+face 2 R C
+face 3 R D T X
+face 4 R D T Y
+match 0 deal 0 seats 0
+choose 0 0 3 5 p1 c1
+end done 2
+score 0 0 1
+score 1 0 1
+standing 1 strategy 0 points 1
+standing 1 strategy 1 points 1
+"""
 
 
 @dataclass(frozen=True)
@@ -98,6 +123,7 @@ TEXTS = [
     ("illegal 3 Seat", altered(3, "choose 0 1 0 1"), "choose 0 1 0 1"),
     ("illegal 3 Menu", altered(3, "choose 0 0 0 2"), "choose 0 0 0 2"),
     ("illegal 3 Item", altered(3, "choose 0 0 1 1"), "choose 0 0 1 1"),
+    ("illegal 4 Named", NAMED_TEXT.replace("0 1\n", "0 1 c0\n"), "choose 0 0 0 1 c0"),
     ("illegal 4 End", altered(4, "end done 3"), "end done 3"),
     ("illegal 5 Score", altered(5, "score 0 1 0"), "score 0 1 0"),
     ("illegal 6 Standing", altered(6, "standing 1 strategy 0 points 1"), "standing 1 strategy 0 points 1"),
@@ -146,6 +172,61 @@ class Explanations(unittest.TestCase):
                     self.assertIn("where the text ends", said[0])
                 else:
                     self.assertEqual(said[1:3], [f"    {line}", "    ^"])
+
+    def named(self, note: str, *replaced: str) -> str:
+        """What is said of a transcript whose line of this note was replaced by these."""
+        lines, number = TAKEN.splitlines(), int(note.split()[1])
+        lines[number - 1 : number] = replaced
+        said = explanation(note, (TAKING + "".join(f"{it}\n" for it in lines)).encode(), ["check"], (File("a", 0),))
+        return said[0].partition(": ")[2].partition(": ")[2]
+
+    def test_what_an_item_takes(self) -> None:
+        right = "Here belong `p1 c1`: `p1`, player 1; `c1`, the card B. The line "
+        for marks, told in (
+            (" p1 c2", "tells `p1 c2`: `c2` is the card C."),
+            (" p0 c3", "tells `p0 c3`: `p0` is player 0; `c3` is the card D X."),
+            (" c1 p1", "tells `c1 p1`."),
+            (" p7 g4 c9 p1", "tells `p7 g4 c9 p1`: `p7` is player 7, who isn't there; `g4` is a group that begins with the card D Y; `c9` is "
+             "no face of this sheet."),
+            ("", "has no mark."),
+        ):  # fmt: skip
+            self.assertEqual(self.named("illegal 8 Named", f"choose 0 0 3 5{marks}"), right + told)
+        right = "Here belongs `g0`: `g0`, a group that begins with the card A. The line tells `c0`: `c0` is the card A."
+        self.assertEqual(self.named("illegal 8 Named", "choose 0 0 4 5 c0"), right)
+
+    def test_where_the_play_is_another(self) -> None:
+        self.assertEqual(self.named("illegal 8 Named", "choose 0 0 5 6 c0"), kinds.ILLEGAL["Named"])
+        self.assertEqual(self.named("illegal 9 Named", "choose 0 0 0 5 c0"), kinds.ILLEGAL["Named"])
+
+    def test_lines_that_no_transcript_has(self) -> None:
+        for note, line, said in (
+            ("text 1", "house 3", kinds.FIRST_LINE),
+            ("text 1", "house 2 ", kinds.FIRST_LINE),
+            ("text 3", "face 1 R", kinds.LEGEND.format("face 1 R B")),
+            ("text 6", "match 0 deal 0 seats 0", kinds.LEGEND.format("face 4 R D T Y")),
+            ("text 7", "face 5 R E", kinds.FACE_TOO_MANY.format(5)),
+            ("text 9", "face 5 R E", kinds.FACE_TOO_MANY.format(5)),
+            ("text 8", "choose 0 0 3 5 p1 c512", kinds.MARKS),
+            ("text 8", "choose 0 0 3 5 p1  c1", kinds.MARKS),
+            ("text 8", "choose 0 0 3", kinds.GRAMMAR),
+            ("text 9", "end done", kinds.GRAMMAR),
+        ):
+            self.assertEqual(self.named(note, line), said)
+
+    def test_lines_of_format_2_in_a_text_of_format_1(self) -> None:
+        def said(line: str) -> str:
+            text = altered(3, line)
+            return " ".join(explanation("text 3", (BEFORE_TEXT + text).encode(), ["check"])[3:])
+
+        self.assertEqual(said("choose 0 0 0 1 c0"), kinds.MARKS_IN_PLAIN)
+        self.assertEqual(said("face 0 R A"), kinds.FACE_IN_PLAIN)
+        self.assertEqual(said("choose 0 0 0 1 "), kinds.GRAMMAR)
+
+    def test_a_text_that_ends_in_its_legend(self) -> None:
+        said = explanation("text 3", (BEFORE_TEXT + "house 2\nface 0 R A\n").encode(), ["check"])
+        self.assertIn("where the text ends", said[0])
+        said = explanation("text 2", (BEFORE_TEXT + "house 2\n").encode(), ["check"])
+        self.assertIn("`face 0 R A`", " ".join(said))
 
     def test_standings_that_are_missing(self) -> None:
         text = "".join(f"{line}\n" for line in TEXT.splitlines()[:5])

@@ -55,7 +55,7 @@ class Places(unittest.TestCase):
     def test_lines_of_a_transcript(self) -> None:
         for note, begin in (
             ("illegal 2 Match", "a.text:4:1: line 2 of the transcript, in match 0: The matches are"),
-            ("text 1", "a.text:3:1: line 1 of the transcript: No transcript has this line here"),
+            ("text 1", "a.text:3:1: line 1 of the transcript: A transcript begins with the line `house 1`"),
             ("text 4", "a.text:6:1: line 4 of the transcript, where the text ends: more lines are to follow. No transcript"),
         ):
             said = explanation(note, SOURCE, ["check"], FILES)
@@ -71,6 +71,8 @@ class Words(unittest.TestCase):
         for words, kept, names in (
             ("play first.sheet first.plan", "play", "first.sheet first.plan"),
             ("play --workers 2 first.sheet --cache=7 first.plan", "play --workers 2 --cache=7", "first.sheet first.plan"),
+            ("play --format 2 first.sheet first.plan --format=1", "play --format 2 --format=1", "first.sheet first.plan"),
+            ("migrate first.sheet first.plan first.transcript", "migrate", "first.sheet first.plan first.transcript"),
             ("sheet first.sheet", "sheet", "first.sheet"),
             ("play --workers check", "play --workers check", ""),
             ("play 7 -h --help", "play 7 -h --help", ""),

@@ -23,6 +23,8 @@ from pieces.program import Program, digest
 from pieces.running import main
 from pieces.splitting import MAKEFILE
 from pieces.whole import merge
+from second.playing import played
+from second.sources import lists_of
 from tables.ending import Refused
 
 COMMAND = ROOT / "tools/series"
@@ -205,6 +207,41 @@ class Programs(unittest.TestCase):
         with self.assertRaises(Refused) as caught:
             self.program("exit 127")
         self.assertEqual(caught.exception.status, 127)
+
+
+class Named(unittest.TestCase):
+    """A series in format 2, which the second reading plays."""
+
+    PLAN = "(plan (seats (random 1) (script 2)) (matches (from 1 5 7)) (turns 40))\n"
+
+    def setUp(self) -> None:
+        folder = tempfile.TemporaryDirectory()
+        self.addCleanup(folder.cleanup)
+        self.root = Path(folder.name)
+        (self.root / "series.plan").write_text(self.PLAN)
+
+    def ran(self, *words: object) -> str:
+        end = ran(*words, CARDHOUSE=str(ROOT / "bench/second"))
+        self.assertEqual((end.returncode, end.stderr), (0, ""))
+        return end.stdout
+
+    def test_the_pieces_are_the_whole(self) -> None:
+        folder, text = self.root / "whole", played(*lists_of(SHEET.read_bytes() + self.PLAN.encode(), 2)[0], named=True)[0]
+        self.ran("split", folder, SHEET, self.root / "series.plan", "--size", 4, "--format", 2)
+        for number in (0, 1):
+            self.ran("run", folder, number)
+        self.assertTrue((folder / "1.transcript").read_text().startswith("house 2\nface 0 "))
+        self.assertEqual(self.ran("merge", folder), text)
+        self.assertEqual(self.ran("table", folder), table_of(text))
+        self.assertIn("all are the same", self.ran("again", folder, 1))
+
+    def test_where_nothing_is_said_it_is_format_1(self) -> None:
+        self.ran("split", self.root / "whole", SHEET, self.root / "series.plan")
+        kept = json.loads((self.root / "whole/series.json").read_text())
+        self.assertEqual(kept.pop("format"), 1)
+        # What was split before there were two formats.
+        (self.root / "whole/series.json").write_text(json.dumps(kept))
+        self.assertEqual(Series(self.root / "whole").split.format, 1)
 
 
 class Housed(Built):

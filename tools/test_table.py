@@ -42,6 +42,28 @@ standing 1 strategy 0 points 4
 standing 2 strategy 1 points 0
 """
 
+# The same in format 2, by a sheet with three faces of its four cards.
+NAMED = """\
+house 2
+face 0 RANK A
+face 1 RANK 2 SUIT -
+face 3 RANK 007
+match 0 deal 5 seats 7
+choose 0 0 0 2
+choose 1 0 1 2 p7 c511 g0 c3
+end done 4
+score 0 3 2
+score 1 1 0
+match 1 deal 6 seats 8
+choose 0 0 0 1 c1
+shuffles 3
+end limit 8
+score 0 1 0
+score 1 4 2
+standing 1 strategy 0 points 4
+standing 2 strategy 1 points 0
+"""
+
 # In match 1 strategy 1 sits in seat 0. Two numbers a and b have the mean (a + b) / 2 with the error |a - b| / 2.
 TABLE = """\
 2 matches, 1 ended by the turn limit
@@ -63,9 +85,9 @@ def match_of(number: int, points: tuple[int, ...], deal: int = 0) -> Match:
     return Match(number, deal, 0, "done", 0, 0, 0, (0,) * len(points), points)
 
 
-def replaced(number: int, *lines: str) -> str:
+def replaced(number: int, *lines: str, text: str = TEXT) -> str:
     """The text with a line replaced by these."""
-    kept = TEXT.splitlines()
+    kept = text.splitlines()
     kept[number - 1 : number] = lines
     return "".join(f"{line}\n" for line in kept)
 
@@ -118,13 +140,15 @@ class Numbers(unittest.TestCase):
         self.assertEqual(told, RANGES)
 
 
-class Texts(unittest.TestCase):
+class Refusing(unittest.TestCase):
     def fault(self, text: str) -> str:
         with self.assertRaises(Refused) as caught:
             Reader("a", text.encode("latin-1")).matches()
         self.assertEqual(caught.exception.status, 4)
         return str(caught.exception)
 
+
+class Texts(Refusing):
     def test_matches(self) -> None:
         first, second = Reader("a", TEXT.encode()).matches()
         self.assertEqual(first, Match(0, 5, 7, "done", 4, 2, 0, (3, 1), (2, 0)))
@@ -137,21 +161,22 @@ class Texts(unittest.TestCase):
 
     def test_faults_of_the_grammar_are_where_the_judge_has_them(self) -> None:
         count = 0
-        for folder in ("transcript", "transcript-of-two"):
+        for folder in ("transcript", "transcript-of-two", "transcript-of-named"):
             lines = (ROOT / "cases" / folder / "text").read_text("ascii").splitlines()
+            legend = [f"{line}\n".encode() for line in lines if line.startswith("face ")] or None
             for group in read_groups(ROOT / "cases" / folder / "lines.texts"):
                 with self.subTest(group.heading.place()):
                     changed, expected = altered(group, lines)
                     told = re.fullmatch(r"text (\d+)", expected)
                     text = "".join(f"{line}\n" for line in changed).encode("ascii")
-                    fault = first_fault(text[gap_end(text, 0) :])
+                    fault = first_fault(text[gap_end(text, 0) :], legend)
                     self.assertEqual(fault, int(told[1]) if told else None)
                     count += 1
         self.assertGreater(count, 50)
 
     def test_no_line_of_a_transcript(self) -> None:
         self.assertEqual(self.fault(""), "a:1: no transcript has this line here")
-        self.assertEqual(self.fault("house 2\n"), "a:1: no transcript has this line here")
+        self.assertEqual(self.fault("house 3\n"), "a:1: no transcript has this line here")
         self.assertEqual(self.fault(replaced(4, "choose 1 0 01 2")), "a:4: no transcript has this line here")
         self.assertEqual(self.fault(replaced(9, "choose 0 0 0 1\r")), "a:9: no transcript has this line here")
         self.assertEqual(self.fault("".join(TEXT.splitlines(keepends=True)[:13])), "a:14: no transcript has this line here")
@@ -165,6 +190,45 @@ class Texts(unittest.TestCase):
         self.assertEqual(self.fault(replaced(6, "score 0 3 1")), "a:14: 'standing 1 strategy 0 points 3' is to stand here")
         self.assertEqual(self.fault(replaced(15)), "a:15: 'standing 2 strategy 1 points 0' is to stand here")
         self.assertIn("a:16: nothing", self.fault(replaced(15, *["standing 2 strategy 1 points 0"] * 2)))
+
+
+class Named(Refusing):
+    """Texts of format 2."""
+
+    def test_matches(self) -> None:
+        self.assertEqual(Reader("a", NAMED.encode()).matches(), Reader("a", TEXT.encode()).matches())
+
+    def test_marks(self) -> None:
+        for line in ("p0", "c0 c0 c0 c0", "g511", "p7 p0"):
+            self.assertIsNone(first_fault(replaced(6, f"choose 0 0 0 2 {line}", text=NAMED).encode()))
+        for line in ("p8", "c512", "g512", "c00", "c01", "c", "k0", "C0", "c-0", "c0 ", " c0", "p0 p0 p0 p0 p0", "0", "c0,"):
+            self.assertEqual(first_fault(replaced(6, f"choose 0 0 0 2 {line}", text=NAMED).encode()), 6, line)
+        self.assertEqual(self.fault(replaced(3, "choose 0 0 0 2 c0")), "a:3: no transcript has this line here")
+
+    def test_legends_of_any_sheet(self) -> None:
+        for line in ("face 0", "face 0 RANK", "face 1 RANK A", "face 0 RANK A SUIT", "face 0 'R A", "face 0 RANK (A)", "face 00 R A"):
+            self.assertEqual(self.fault(replaced(2, line, text=NAMED)), "a:2: no transcript has this line here")
+        for line in ("face 0 RANK A", "face 512 RANK A", f"face 1 RANK {'x' * 65}", "face 1  RANK A", "face 1 RANK A "):
+            self.assertEqual(self.fault(replaced(3, line, text=NAMED)), "a:3: no transcript has this line here")
+        for line in ("face 2 RANK 007", "face 511 RANK 007", "face 3 - :"):
+            self.assertIsNone(first_fault(replaced(4, line, text=NAMED).encode()))
+
+    def test_a_legend_is_there_and_stands_first(self) -> None:
+        self.assertEqual(self.fault("house 2\n"), "a:2: no transcript has this line here")
+        self.assertEqual(self.fault(TEXT.replace("house 1", "house 2")), "a:2: no transcript has this line here")
+        self.assertEqual(self.fault(NAMED.replace("house 2", "house 1")), "a:2: no transcript has this line here")
+        self.assertEqual(self.fault(replaced(6, "face 4 RANK 8", text=NAMED)), "a:6: no transcript has this line here")
+        self.assertEqual(self.fault("house 2\nface 0 RANK A\n"), "a:3: no transcript has this line here")
+        self.assertEqual(self.fault("house 2\nface 0 RANK A"), "a:2: no transcript has this line here")
+        self.assertEqual(self.fault("house 2 \n"), "a:1: no transcript has this line here")
+
+    def test_the_legend_of_a_sheet(self) -> None:
+        legend = [f"{line}\n".encode() for line in NAMED.splitlines()[1:4]]
+        self.assertIsNone(first_fault(NAMED.encode(), legend))
+        self.assertEqual(first_fault(NAMED.encode(), [*legend, b"face 4 RANK 8\n"]), 5)
+        self.assertEqual(first_fault(NAMED.encode(), legend[:2]), 4)
+        self.assertEqual(first_fault(replaced(3, text=NAMED).encode(), legend), 3)
+        self.assertEqual(first_fault(b"house 2\nface 0 RANK A\n", legend), 3)
 
 
 class Tables(unittest.TestCase):
@@ -236,6 +300,7 @@ class Commands(unittest.TestCase):
     def test_files_and_standard_input(self) -> None:
         self.assertEqual(self.ran(self.file), (0, TABLE, ""))
         self.assertEqual(self.ran(given=TEXT), (0, TABLE, ""))
+        self.assertEqual(self.ran(given=NAMED), (0, TABLE, ""))
         status, written, _ = self.ran(self.file, "--csv", self.file)
         self.assertEqual((status, len(written.splitlines())), (0, 5))
 

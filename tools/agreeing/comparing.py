@@ -2,26 +2,28 @@
 
 import re
 from collections.abc import Iterator
-from dataclasses import dataclass, field
+from dataclasses import dataclass, field, replace
 from enum import Enum
 
 from agreeing.cases import Case, chance_of
 from agreeing.chance import Chance
 from agreeing.program import End, Program
 from agreeing.reading import Reading, reading_of
-from agreeing.transcripts import count, looks_of, spoiled
-from second.refusing import FAULTS, sheet_fault
+from agreeing.transcripts import count, looks_of, mangled, spoiled, spoiled_legend, spoiled_marks, unnamed
+from second.running import refusal
 from second.strategies import hits_of
 
 NOTE = re.compile(rb"cache looks (\d+) hits (\d+)\n")
 REFUSED = re.compile(rb"(?:sheet|plan) (\w+) (\d+)\n")
-REFUSED_SHEET, REFUSED_PLAN = REFUSALS = 1, 3
+REFUSALS = 1, 3
 
 # How many seconds of a processor the first run of a case may take, and the second reading. Other runs have more.
 FIRST_SECONDS = 4
 READING_SECONDS = 5
 
-PLAY, CHECK, SHEET = ("play",), ("check",), ("sheet",)
+PLAY, CHECK, SHEET, MIGRATE = ("play",), ("check",), ("sheet",), ("migrate",)
+NAMED = ("--format", "2")
+USAGE = 2
 LEGAL = End(0, b"legal\n", b"")
 ROOM, LARGEST = 1024, 65_536
 
@@ -49,12 +51,13 @@ class Result:
 
 @dataclass(frozen=True)
 class Played:
-    """A case that was played by one worker: how the first run ended, and what was noted of it."""
+    """A case that was played by one worker: how the first run ended, and what was noted of it; and how it ended in format 2."""
 
     case: Case
     end: End
     looks: int
     hits: int
+    named: End
 
 
 class Comparing:
@@ -75,7 +78,10 @@ class Comparing:
         noted = NOTE.fullmatch(first.note)
         if not noted:
             return Result(Kind.ACCEPTED, disagreements=[f"play ended with {first}"])
-        return self.accepted(Played(case, first, int(noted[1]), int(noted[2])))
+        named = self.program.run((*PLAY, *NAMED), case.source())
+        if named.status or not named.text.startswith(b"house 2\nface 0 "):
+            return Result(Kind.ACCEPTED, disagreements=[f"play in format 2 ended with {named}"])
+        return self.accepted(Played(case, first, int(noted[1]), int(noted[2]), named))
 
     def refused(self, case: Case, first: End) -> Result:
         """A refusal is one line with a place in the source. `check` and the other program say the same; but what stands behind the
@@ -85,12 +91,15 @@ class Comparing:
         if not told or first.text or first.status not in REFUSALS or int(told[2]) > len(case.source()):
             result.disagreements.append(f"play ended with {first}")
         if result.why != "Rest":
-            result.disagreements += differing("check", self.program.run(CHECK, case.source()), first)
+            for words in (CHECK, MIGRATE):
+                result.disagreements += differing(words[0], self.program.run(words, case.source()), first)
         if self.other:
             result.disagreements += differing("play of the other program", self.other.run(PLAY, case.source()), first)
-        if self.reads and result.why in FAULTS and first.status == REFUSED_SHEET:
+        if self.reads:
             result.read = 1
-            result.disagreements += differing("the second reading", refusal(sheet_fault(case.source())), first)
+            read = refusal("play", case.source())
+            end = End(read.status, b"", read.note.encode()) if read else End(0, b"", b"")
+            result.disagreements += differing("the second reading", end, first)
         return result
 
     def accepted(self, it: Played) -> Result:
@@ -98,11 +107,14 @@ class Comparing:
         text, by_room = it.end.text, {ROOM: it.hits}
         counts = (count(text, head) for head in (b"match", b"choose", b"shuffles"))
         result = Result(Kind.ACCEPTED, "", *counts, it.looks, it.hits)
-        for said in (self.rooms(it, by_room), self.workers(it, by_room), self.judged(it), self.printed(it), self.of_other(it)):
+        for said in (
+            self.rooms(it, by_room), self.workers(it, by_room), self.named(it), self.judged(it), self.printed(it), self.of_other(it),
+        ):  # fmt: skip
             result.disagreements += said
-        if self.reads and (reading := reading_of(it.case, text, READING_SECONDS)):
+        texts = self.texts(it)
+        if self.reads and (reading := reading_of(it.case, texts, READING_SECONDS)):
             result.read = 1
-            result.disagreements += self.of_reading(it, by_room, reading)
+            result.disagreements += self.of_reading(it, by_room, reading, texts)
         return result
 
     def rooms(self, it: Played, by_room: dict[int, int]) -> Iterator[str]:
@@ -128,16 +140,37 @@ class Comparing:
             if not 0 <= noted_hits(end, it.looks) <= max(by_room.values()):
                 yield f"{' '.join(words)} notes {end.note!r}, and one worker {it.end.note!r}"
 
+    def named(self, it: Played) -> Iterator[str]:
+        """In format 2 the same is played, with the same note, also by several workers. Either text is migrated to that of format 2."""
+        yield from differing("play in format 2, without its names,", replace(it.named, text=unnamed(it.named.text)), it.end)
+        if it.named.note != it.end.note:
+            yield f"play in format 2 notes {it.named.note!r}, and in format 1 {it.end.note!r}"
+        workers = (*PLAY, *NAMED, "--workers", str(options_of(it, "named").randint(2, 4)))
+        yield from differing(" ".join(workers), self.program.run(workers, it.case.source()), it.named)
+        for number, text in enumerate((it.end.text, it.named.text), 1):
+            end = self.program.run(MIGRATE, it.case.source() + text)
+            yield from differing(f"migrate of format {number}", end, replace(it.named, note=b""))
+            if end.note:
+                yield f"migrate of format {number} notes {end.note!r}"
+
     def judged(self, it: Played) -> Iterator[str]:
-        """The transcript is legal, and with a line spoiled it is illegal at this line."""
-        end = self.program.run(CHECK, it.case.source() + it.end.text)
-        if end != LEGAL:
-            yield f"check of the transcript ended with {end}"
-        told = spoiled(it.end.text, options_of(it, "spoiled"))
-        if told:
-            end = self.program.run(CHECK, it.case.source() + told[0])
-            if end != End(4, b"", told[1]):
-                yield f"check of a transcript that is spoiled, and so {told[1]!r}, ended with {end}"
+        """The transcript is legal in either format, and with a line spoiled it is refused at this line."""
+        for text in (it.end.text, it.named.text):
+            end = self.program.run(CHECK, it.case.source() + text)
+            if end != LEGAL:
+                yield f"check of the transcript ended with {end}"
+        chance, named = options_of(it, "spoiled"), it.named.text
+        tries = (spoiled(it.end.text, chance), spoiled(named, chance), spoiled_marks(named, chance), spoiled_legend(named, chance))
+        for words in (CHECK, MIGRATE):
+            for text, told in filter(None, tries):
+                end = self.program.run(words, it.case.source() + text)
+                if end != End(4, b"", told):
+                    yield f"{words[0]} of a transcript that is spoiled, and so {told!r}, ended with {end}"
+
+    def texts(self, it: Played) -> list[bytes]:
+        """The transcript in both formats, and some that are changed by chance."""
+        chance = options_of(it, "mangled")
+        return [it.end.text, it.named.text, *(mangled(text, chance) for text in (it.end.text, it.named.text, it.named.text))]
 
     def printed(self, it: Played) -> Iterator[str]:
         """The printed sheet is printed as itself, and played as the sheet."""
@@ -152,26 +185,28 @@ class Comparing:
         if self.other:
             yield from differing("play of the other program", self.other.run(PLAY, it.case.source()), it.end)
             yield from differing("check of the other program", self.other.run(CHECK, it.case.source() + it.end.text), LEGAL)
+            named = self.other.run((*PLAY, *NAMED), it.case.source())
+            # An older build may know one format alone.
+            if named.status != USAGE:
+                yield from differing("play of the other program in format 2", named, it.named)
             ours, theirs = (program.run(SHEET, it.case.sheet) for program in (self.program, self.other))
             yield from differing("sheet of the other program", theirs, ours)
 
-    def of_reading(self, it: Played, by_room: dict[int, int], reading: Reading) -> Iterator[str]:
-        """The second reading accepts the sheet and has the same transcript, which is legal, the same printed sheet, and the same hits in
-        each room."""
+    def of_reading(self, it: Played, by_room: dict[int, int], reading: Reading, texts: list[bytes]) -> Iterator[str]:
+        """The second reading accepts the sheet and has the same transcript in both formats, the same printed sheet, and the same hits in
+        each room; it migrates these texts as the program does, and judges them so."""
         if reading.fault:
             yield f"the second reading refuses the sheet for {reading.fault}"
         yield from differing("the second reading", End(0, reading.text, b""), it.end)
-        if not reading.is_legal:
-            yield "the transcript is illegal by the second reading"
+        yield from differing("the second reading in format 2", End(0, reading.named, b""), it.named)
         yield from differing("sheet", self.program.run(SHEET, it.case.sheet), End(0, reading.sheet, b""))
+        for text, wanted in zip(texts, reading.migrated):
+            source = it.case.source() + text
+            yield from differing("migrate", self.program.run(MIGRATE, source), wanted)
+            yield from differing("check", self.program.run(CHECK, source), wanted if wanted.status else LEGAL)
         hits = {room: hits_of(reading.asks, room) for room in by_room}
         if hits != by_room or len(reading.asks) != it.looks:
             yield f"by room {by_room} of {it.looks} looks hit, and by the second reading {hits} of {len(reading.asks)}"
-
-
-def refusal(fault: tuple[str, int] | None) -> End:
-    """How a program ends that refuses a sheet for this fault, if there is one."""
-    return End(REFUSED_SHEET, b"", b"sheet %s %d\n" % (fault[0].encode(), fault[1])) if fault else End(0, b"", b"")
 
 
 def options_of(it: Played, what: object = "options") -> Chance:

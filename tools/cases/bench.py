@@ -8,7 +8,7 @@ from cases import tricks
 from cases.notes import any_hits, is_note
 from cases.rows import ROOT, Row
 from cases.running import Case, End
-from cases.texts import judged_case
+from cases.texts import judged_case, migrated_cases
 
 TRICKS = ROOT / "bench/tricks.sheet"
 
@@ -60,14 +60,16 @@ def is_bench(number: int) -> Callable[[End], bool]:
     return is_so
 
 
-def play_of(row: Row, source: str, seeds: tricks.Seeds, entries: int = ENTRIES, workers: int = 1) -> Case:
+def play_of(row: Row, source: str, seeds: tricks.Seeds, entries: int = ENTRIES, workers: int = 1, format: int = 1) -> Case:
     """The case of a source with these matches."""
     what = f"what {len(seeds)} matches of the trick game come to by its rules, with {entries} entries and {workers} workers"
 
     def is_played(end: End) -> bool:
-        return (end.status, end.out) == (0, tricks.transcript(seeds)) and is_note(note_of(seeds, entries, workers), end.notes)
+        text = tricks.transcript(seeds, named=format == 2)
+        return (end.status, end.out) == (0, text) and is_note(note_of(seeds, entries, workers), end.notes)
 
-    return Case(row, ("play", f"--cache={entries}", f"--workers={workers}"), source, what, is_played)
+    words = ("play", f"--cache={entries}", f"--workers={workers}", *(("--format=2",) if format == 2 else ()))
+    return Case(row, words, source, what, is_played)
 
 
 def bench_of(row: Row, number: int, options: tuple[str, ...]) -> Case:
@@ -77,17 +79,22 @@ def bench_of(row: Row, number: int, options: tuple[str, ...]) -> Case:
 
 
 def read_bench(file: Path) -> Iterator[Case]:
-    """The cases of the sheet with two plans, of which the text of one is judged too, and those of the bench."""
+    """The cases of the sheet with two plans, of which the text of one is judged and migrated too, and those of the bench."""
     row, sheet = Row(file, 1, "the trick game"), file.read_text("ascii")
     seeds = tricks.in_a_row(1, 1000, MATCHES)
     in_a_row = sheet + PLAN.format(f"(from 1 1000 {MATCHES})")
     again = sheet + PLAN.format(" ".join(f"({deal} {seed})" for deal, seed in AGAIN))
     yield play_of(row, in_a_row, seeds)
-    yield judged_case(row, in_a_row, tricks.transcript(seeds), "legal")
+    plain, named = tricks.transcript(seeds), tricks.transcript(seeds, named=True)
+    for text in (plain, named):
+        yield judged_case(row, in_a_row, text, "legal")
+        yield from migrated_cases(row, in_a_row, text, "legal", named)
+    yield play_of(row, in_a_row, seeds, format=2)
     yield bench_of(row, MATCHES, ())
     for entries in FOUND:
         yield play_of(row, again, AGAIN, entries)
     for workers in WORKERS:
         yield play_of(row, in_a_row, seeds, workers=workers)
+        yield play_of(row, in_a_row, seeds, workers=workers, format=2)
         yield play_of(row, again, AGAIN, 60, workers)
         yield bench_of(row, MATCHES, ("--workers", str(workers)))

@@ -1,4 +1,4 @@
-"""The cases of the longest sources that `check` takes, and of sources with a byte more."""
+"""The cases of the longest sources that `check` and `migrate` take, and of sources with a byte more."""
 
 from collections.abc import Iterator
 from pathlib import Path
@@ -12,7 +12,7 @@ from cases.tricks import text_of
 FIRST = ROOT / "examples/first.sheet"
 
 # The bytes of the longest source.
-LIMIT = 8_388_608
+LIMIT = 33_554_432
 
 # Of the lines of a transcript, those of its one match that stand before the choices, and those behind them.
 BEFORE, BEHIND = 2, 5
@@ -27,9 +27,9 @@ def lengthened(lines: list[str], room: int) -> list[str]:
     return [*begin, *[again + "0"] * longer, *[again] * (number - longer), *end]
 
 
-def too_long(row: Row, source: str) -> Case:
+def too_long(row: Row, source: str, command: str = "check") -> Case:
     end = End(REFUSALS["too long"], "", "too long\n")
-    return Case(row, ("check",), source, "too long", ends_as(end))
+    return Case(row, (command,), source, "too long", ends_as(end))
 
 
 def read_longest(file: Path) -> Iterator[Case]:
@@ -43,7 +43,8 @@ def read_longest(file: Path) -> Iterator[Case]:
     row = Row(file, 1, "a comment before the transcript")
     comment = ";".ljust(room - len(f"\n{text}"), "x")
     yield judged_case(row, f"{before}\n{comment}", text, "legal")
-    yield too_long(row, f"{before}\n{comment}x\n{text}")
+    for command in ("check", "migrate"):
+        yield too_long(row, f"{before}\n{comment}x\n{text}", command)
 
     text = text_of(lengthened(lines, room))
     row = Row(file, 1, "a transcript with many lines")

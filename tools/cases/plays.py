@@ -9,10 +9,13 @@ from cases.expected import KINDS, REFUSALS, REFUSED, TOLD
 from cases.notes import NO_LOOKS, any_hits, is_note
 from cases.rows import Group, Row, copied, marked, read_groups, unescaped
 from cases.running import Case, End, ends_as, fault_case, told_cases
-from cases.texts import judged_case
+from cases.texts import NAMED, judged_case, migrated_cases
 
 # What is noted, and behind which options.
 NOTED = re.compile(r"(?:(?P<options>--.+): )?looks (?P<looks>\d+) hits (?P<hits>\d+|\*)")
+
+# The options of a play whose lines are those of format 2.
+FORMAT = ("--format", "2")
 
 # How many workers play each play, beside one.
 WORKERS = (2, 4)
@@ -62,7 +65,7 @@ def play_cases(heading: Row, text: str, play: Play) -> Iterator[Case]:
     if text.count("^") != wanted:
         raise heading.mistake(f"a play where {first} is expected has {wanted} of the marker '^', and not {text.count('^')}")
     if first in KINDS:
-        for command in ("sheet", "play", "check"):
+        for command in ("sheet", "play", "check", "migrate"):
             yield fault_case(heading, command, source, (first, at))
     elif first in TOLD:
         yield from told_cases(heading, source, at, first)
@@ -84,12 +87,15 @@ def played_case(heading: Row, source: str, expected: list[str], options: tuple[s
 def played_cases(heading: Row, source: str, play: Play) -> Iterator[Case]:
     """The cases of a source that is played, also by several workers, and that of its transcript, if it is known as a whole, which
     is legal."""
+    text = "".join(f"{line}\n" for line in play.expected)
+    format = FORMAT if text.startswith(NAMED) else ()
     for options, note in play.notes.items():
-        yield played_case(heading, source, play.expected, options, note)
+        yield played_case(heading, source, play.expected, (*format, *options), note)
     for workers in WORKERS:
-        yield played_case(heading, source, play.expected, ("--workers", str(workers)), any_hits(play.notes[()]))
+        yield played_case(heading, source, play.expected, (*format, "--workers", str(workers)), any_hits(play.notes[()]))
     if ".." not in play.expected:
-        yield judged_case(heading, source, "".join(f"{line}\n" for line in play.expected), "legal")
+        yield judged_case(heading, source, text, "legal")
+        yield from migrated_cases(heading, source, text, "legal")
 
 
 def read_plays(file: Path, source: str) -> Iterator[Case]:

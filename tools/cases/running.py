@@ -81,11 +81,11 @@ def fault_case(row: Row, command: str, source: str, fault: tuple[str, int]) -> C
 
 
 def told_cases(row: Row, source: str, at: int, expected: str) -> Iterator[Case]:
-    """The cases of a source of which `play` and `check` tell a fault, of its plan or of its sheet. What follows the plan is a
-    fault for `play` alone."""
+    """The cases of a source of which `play`, `check` and `migrate` tell a fault, of its plan or of its sheet. What follows the plan is
+    a fault for `play` alone."""
     what, kind = expected.split()
     told = End.plan_fault if what == "plan" else End.fault
-    for command in ("play",) if kind == "Rest" else ("play", "check"):
+    for command in ("play",) if kind == "Rest" else ("play", "check", "migrate"):
         yield Case(row, (command,), source, f"{expected} at {at}", lambda end: told(end) == (kind, at))
     if kind == "Rest":
         yield untold_case(row, source)

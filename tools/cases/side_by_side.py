@@ -43,8 +43,8 @@ def of_plays(cases: Iterable[Case], program: Path) -> Iterator[Case]:
     """The cases of the plays whose text is known as a whole: it stands behind the source where it is judged."""
     for case in cases:
         if case.row.file.suffix == ".plays" and case.expected == "legal":
-            source, _, text = case.source.rpartition("\nhouse 1\n")
-            yield paired_case(case.row, source, text, program)
+            begin = max(case.source.rfind(f"\nhouse {format}\n") for format in (1, 2))
+            yield paired_case(case.row, case.source[:begin], case.source[begin:], program)
 
 
 def of_examples(folder: Path, program: Path) -> Iterator[Case]:

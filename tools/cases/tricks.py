@@ -192,25 +192,27 @@ def asked(table: Table, strategy: int, seed: int) -> list[Key]:
 
 @dataclass(frozen=True)
 class Match:
-    """The lines of a match that was played, its looks, and the points of each strategy."""
+    """The lines of a match that was played, the card of each choice, its looks, and the points of each strategy."""
 
     lines: list[str]
+    cards: list[int]
     looks: list[Key]
     points: list[int]
 
 
 def played(number: int, deal: int, seed: int) -> Match:
-    table, looks = dealt(deal), []
+    table, cards, looks = dealt(deal), [], []
     lines = [f"match {number} deal {deal} seats {seed}"]
     while not table.is_over():
         strategy = (table.mover + number) % SEATS
         looks += asked(table, strategy, seed)
         item = chosen(table, strategy, seed)
+        cards.append(table.menu()[item])
         lines.append(f"choose {table.mover} 0 {item} {len(table.menu())}")
         table.play(item)
     lines += ["shuffles 1", f"end done {table.turn}"]
     lines += [f"score {seat} {int(seat == table.last)} {table.points(seat)}" for seat in range(SEATS)]
-    return Match(lines, looks, [table.points((strategy - number) % SEATS) for strategy in range(SEATS)])
+    return Match(lines, cards, looks, [table.points((strategy - number) % SEATS) for strategy in range(SEATS)])
 
 
 def in_a_row(deal: int, seed: int, count: int) -> Seeds:
@@ -238,10 +240,23 @@ def text_of(lines: list[str]) -> str:
     return "".join(f"{line}\n" for line in lines)
 
 
-def transcript(seeds: Seeds) -> str:
-    """What `play` writes of these matches."""
+def legend() -> list[str]:
+    """A line for each card, since all are different."""
+    ranks = ["A" if worth(card) == 11 else str(worth(card)) for card in range(CARDS)]
+    return [f"face {card} RANK {rank} SUIT {'CDHS'[suit(card)]}" for card, rank in enumerate(ranks)]
+
+
+def named_lines(match: Match) -> list[str]:
+    """The lines of a match with the card that each choice took."""
+    cards = iter(match.cards)
+    return [f"{line} c{next(cards)}" if line.startswith("choose ") else line for line in match.lines]
+
+
+def transcript(seeds: Seeds, named: bool = False) -> str:
+    """What `play` writes of these matches, in format 2 where it is to name cards."""
     of = matches(seeds)
-    return text_of(["house 1", *(line for match in of for line in match.lines), *standings(of)])
+    head = ["house 2", *legend()] if named else ["house 1"]
+    return text_of([*head, *(line for match in of for line in (named_lines(match) if named else match.lines)), *standings(of)])
 
 
 def summary(number: int) -> str:

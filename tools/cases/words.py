@@ -9,7 +9,7 @@ from cases.bench import MATCHES, ends_as_bench, is_bench
 from cases.rows import Row, numbered_lines
 from cases.running import Case, End, ends_as
 
-USAGE = End(2, "", "usage: cardhouse play, check, sheet or bench\n")
+USAGE = End(2, "", "usage: cardhouse play, check, sheet, bench or migrate\n")
 NO_SHEET = End(1, "", "sheet Shape 0\n")
 
 
@@ -35,9 +35,9 @@ def run_of(row: Row, words: tuple[str, ...], expected: str) -> tuple[tuple[str, 
     """The words that are run, the source, what is expected, and whether an end is so."""
     if expected == "usage":
         return words, "", f"usage of {words}", ends_as(USAGE)
-    if expected in ("check", "sheet"):
+    if expected in ("check", "sheet", "migrate"):
         return words, "", f"the command {expected}", ends_as(NO_SHEET)
-    command = re.fullmatch(r"(?:play|bench (?P<number>\d+)) workers \d+ cache (?P<entries>\d+)", expected)
+    command = re.fullmatch(r"(?:play|bench (?P<number>\d+)) workers \d+ cache (?P<entries>\d+)(?: format [12])?", expected)
     if not command:
         raise row.mistake(f"'{expected}' is no command with its numbers, nor usage")
     number = int(command["number"] or 0)

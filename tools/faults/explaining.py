@@ -8,6 +8,7 @@ from collections.abc import Callable
 from faults import kinds
 from faults.doubts import doubt_about, sentence_on_doubt
 from faults.forms import MEANINGS, is_fixed
+from faults.naming import on_grammar, on_marks
 from faults.parts import Part
 from faults.places import line_at, picture, place_of
 from faults.sources import File, Source
@@ -21,7 +22,8 @@ def explanation(note: str, text: bytes, words: list[str], files: tuple[File, ...
     source = Source(text, files)
     readings: list[tuple[str, Callable[[re.Match[str]], list[str]]]] = [
         (r"(sheet|plan) (\w+) (\d+)", lambda told: on_part(told[1], told[2], int(told[3]), source)),
-        (r"text (\d+)", lambda told: on_line(int(told[1]), kinds.GRAMMAR, source)),
+        (r"text (\d+)", lambda told: on_line(int(told[1]), on_grammar(text, int(told[1])), source)),
+        (r"illegal (\d+) Named", lambda told: on_line(int(told[1]), on_marks(text, int(told[1])), source)),
         (r"illegal (\d+) (\w+)", lambda told: on_line(int(told[1]), kinds.ILLEGAL.get(told[2]), source)),
         (r"(usage): .*", lambda told: on_words(words)),
         (r"(.+)", lambda told: wrapped(kinds.WHOLE.get(told[1]))),

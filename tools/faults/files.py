@@ -5,13 +5,18 @@ import os
 from faults.sources import File
 
 # What the files behind a command hold, in their order.
-TEXTS = {"play": ("sheet", "plan"), "check": ("sheet", "plan", "transcript"), "sheet": ("sheet",)}
+TEXTS = {
+    "play": ("sheet", "plan"),
+    "check": ("sheet", "plan", "transcript"),
+    "sheet": ("sheet",),
+    "migrate": ("sheet", "plan", "transcript"),
+}
 
 # The options behind which a number stands.
-OPTIONS = ("--workers", "--cache")
+OPTIONS = ("--workers", "--cache", "--format")
 
 # The most bytes that a command reads. Of a longer file one byte more is taken, so that the program refuses it.
-LONGEST = 8388608
+LONGEST = 33554432
 
 USAGE_FAULT, READ_FAULT = 2, 6
 

@@ -60,11 +60,20 @@ PLAN = {
     "Rest": "Nothing stands behind the plan but white space and comments: take out what begins here.",
 }
 
-# A line of a transcript that no text has at that place.
+# A line of a transcript that no text has at that place. Of some more exact sentences are known.
 GRAMMAR = (
     "No transcript has this line here: its words, numbers and single blanks are to be just as `play` writes them, and "
     "every line ends with a line feed."
 )
+FIRST_LINE = "A transcript begins with the line `house 1`, or with `house 2` where it tells which cards were taken, and nothing beside it."
+MARKS_IN_PLAIN = "Marks of what an item takes belong to format 2: its first line is `house 2`, and the legend stands behind it."
+FACE_IN_PLAIN = "A legend belongs to format 2, whose first line is `house 2`."
+MARKS = (
+    "Behind the size stand at most four marks of what the item takes, each after one blank: `p` with a player, 0 to 7; `c` for a "
+    "card or `g` for a group of cards, with the number of a face, 0 to 511, without a zero before it."
+)
+LEGEND = "Behind `house 2` the legend tells the face of each card once, in the order of the deck: here belongs `{}`."
+FACE_TOO_MANY = "The legend stands behind `house 2` alone, and has a line for each face of the sheet, which are {} in all."
 
 ILLEGAL = {
     "Match": (
@@ -74,6 +83,10 @@ ILLEGAL = {
     "Seat": "Another seat, or another choice of the sheet, is to decide here.",
     "Menu": "Another number of items is offered here: the last number of the line is to be the size of the menu.",
     "Item": "There is no such item in the menu: items are counted from 0, so the item has to be below the size.",
+    "Named": (
+        "The marks are to tell what this item takes, from the outermost variable on: `p` with a player; `c` with the face of a card; "
+        "`g` with the face of the first card of a group."
+    ),
     "End": (
         "The match stands elsewhere here: a decision is to come before this line, or none may come, or the word or the "
         "turn count of the line `end` is another."
@@ -89,7 +102,7 @@ ILLEGAL = {
 # Lines that point nowhere.
 WHOLE = {
     "too long": (
-        "The source is too long: `play` and `sheet` take 1048576 bytes at most, and `check` takes 8388608; take out "
+        "The source is too long: `play` and `sheet` take 1048576 bytes at most, and `check` and `migrate` take 33554432; take out "
         "comments, or list fewer matches."
     ),
     "no memory": (
@@ -100,9 +113,9 @@ WHOLE = {
         "Not all could be written: look whether the disk is full, or whether the program that reads the output ended."
     ),
     "usage": (
-        "These words are no command: write `play`, `check` or `sheet`, or `bench N` with N from 1 to 1000; `play` and "
-        "`bench` take `--workers N` (1 to 64) and `--cache N` (1 to 65536) behind that. The other commands are `lint`, "
-        "`table` and `series`."
+        "These words are no command: write `play`, `check`, `sheet` or `migrate`, or `bench N` with N from 1 to 1000; `play` and "
+        "`bench` take `--workers N` (1 to 64) and `--cache N` (1 to 65536) behind that, and `play` takes `--format N` (1 or 2). "
+        "The other commands are `lint`, `table` and `series`."
     ),
 }
 

@@ -26,7 +26,7 @@ class Piece:
 @dataclass(frozen=True)
 class Split:
     """What is kept in series.json: digests of the sheet, of the plan as it was given and of the program; the commit and the kit;
-    whether each deal is played several times; and the pieces."""
+    whether each deal is played several times; the pieces; and the format of their transcripts."""
 
     sheet: str
     plan: str
@@ -35,6 +35,7 @@ class Split:
     kit: str | None
     duplicate: bool
     pieces: list[Piece]
+    format: int = 1
 
 
 @dataclass(frozen=True)

@@ -34,7 +34,7 @@ def play(series: Series, number: int, source: bytes) -> None:
     """Plays a piece by the program of the series, whatever is there of it already."""
     program = Program()
     refuse_other(series, program)
-    played = program.play(source)
+    played = program.play(source, series.split.format)
     refuse_other(series, program)
     host, seconds = os.uname().nodename, round(played.seconds, 1)
     plan, program_digest = series.piece(number).plan, series.split.program
@@ -64,7 +64,7 @@ def is_same(series: Series, number: int, program: Program) -> bool:
     fault = series.fault(number)
     if fault:
         raise Refused(TEXT, f"piece {number} {fault}")
-    before, now = read(series.file(number, "transcript")), program.play(series.source(number)).text
+    before, now = read(series.file(number, "transcript")), program.play(series.source(number), series.split.format).text
     how = "is the same to the byte" if now == before else f"differs from line {line_of(before, now)} on"
     print(f"piece {number} {how}", flush=True)
     return now == before

@@ -57,10 +57,10 @@ class Program:
     def missing(self, error: OSError) -> Refused:
         return Refused(NOT_BUILT, f"{self.file}: {error.strerror}")
 
-    def play(self, source: bytes) -> Played:
+    def play(self, source: bytes, format: int) -> Played:
         """Plays a sheet and a plan, and has the transcript judged, which is to be legal."""
         began = time.monotonic()
-        played = self.call(["play"], source)
+        played = self.call(["play"] if format == 1 else ["play", "--format", str(format)], source)
         if played.returncode:
             raise refusal(played)
         self.judge(source, played.stdout)

@@ -27,6 +27,7 @@ def parser() -> argparse.ArgumentParser:
     sizes = of_split.add_mutually_exclusive_group()
     sizes.add_argument("--size", type=positive(int), metavar="N", help="a piece has at most N matches")
     sizes.add_argument("--seconds", type=positive(float), metavar="S", help="a piece takes about S seconds here")
+    of_split.add_argument("--format", type=int, choices=(1, 2), default=1, help="the format of the transcripts, 1 where nothing is said")
     of_split.add_argument("--duplicate", action="store_true", help="each deal is played with each strategy in each seat")
     add(commands, "run", "plays and judges piece K, if that isn't done", "DIR").add_argument("piece", type=int, metavar="K")
     of_again = add(commands, "again", "plays pieces once more, and says whether they are the same", "DIR")
@@ -61,7 +62,7 @@ def positive(kind: Callable[[str], float]) -> Callable[[str], float]:
 def command_of(told: argparse.Namespace) -> None:
     """Does what the words say."""
     if told.command == "split":
-        split(told.dir, sources_of(told.sheet, told.plan, told.duplicate), told.size, told.seconds)
+        split(told.dir, sources_of(told.sheet, told.plan, told.duplicate), told.size, told.seconds, told.format)
     elif told.command == "run":
         run(told.dir, told.piece)
     elif told.command == "again":

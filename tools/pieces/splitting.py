@@ -34,14 +34,14 @@ table: all
 """
 
 
-def split(folder: Path, sources: Sources, size: int | None, seconds: float | None) -> None:
+def split(folder: Path, sources: Sources, size: int | None, seconds: float | None, format: int) -> None:
     """Splits a series. Nothing is written where the sheet or the plan is refused."""
     program, plan = Program(), sources.plan
     sources.accept(program, min(size_of(plan, plan.most()), plan.matches()))
-    wanted = size or (matches_in(seconds, program, sources) if seconds else plan.most())
+    wanted = size or (matches_in(seconds, program, sources, format) if seconds else plan.most())
     pieces = pieces_of(sources, size_of(plan, wanted))
     digests = digest(sources.sheet), digest(plan.text), program.digest()
-    write(folder, sources, Split(*digests, commit(), kit(), plan.duplicate, pieces))
+    write(folder, sources, Split(*digests, commit(), kit(), plan.duplicate, pieces, format))
     told = f"{len(pieces)} pieces" if len(pieces) > 1 else "1 piece"
     print(f"{told} of at most {pieces[0].matches} matches: `make -C {shlex.quote(str(folder))} -j 4` plays four at a time")
 
@@ -59,13 +59,13 @@ def pieces_of(sources: Sources, size: int) -> list[Piece]:
     return pieces
 
 
-def matches_in(seconds: float, program: Program, sources: Sources) -> int:
+def matches_in(seconds: float, program: Program, sources: Sources, format: int) -> int:
     """About how many matches are played and judged in so many seconds here, but at least one for each seat. The first matches are
     played for it, ever more of them until that takes long enough to tell."""
     players, most = len(sources.plan.strategies), min(sources.plan.most(), sources.plan.matches())
     count = min(players, most)
     while True:
-        took = program.play(sources.part(0, count)).seconds
+        took = program.play(sources.part(0, count), format).seconds
         if took >= TRIAL or count == most:
             return max(players, int(seconds / took * count))
         count = min(2 * count, most)

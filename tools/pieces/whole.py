@@ -7,6 +7,7 @@ from pathlib import Path
 from pieces.folder import Series, read
 from pieces.program import Program
 from tables.ending import TEXT, Refused
+from tables.grammar import end_of_head
 from tables.house import Match, Reader, standings
 
 # How many pieces are named where several are wrong.
@@ -52,13 +53,14 @@ def merge(folder: Path) -> None:
     if count > plan.most():
         raise Refused(TEXT, f"no text has the {count} matches of the series: with {plan.turns} turns it has at most {plan.most()}")
     matches = matches_of(series)
-    parts = [renumbered(read(series.file(number, "transcript")), piece.begin) for number, piece in enumerate(series.pieces)]
-    text = b"house 1\n" + b"".join(parts) + "".join(standings(matches)).encode()
+    texts = [read(series.file(number, "transcript")) for number in range(len(series.pieces))]
+    parts = [renumbered(text, piece.begin) for text, piece in zip(texts, series.pieces)]
+    text = texts[0][: end_of_head(texts[0])] + b"".join(parts) + "".join(standings(matches)).encode()
     Program().judge(series.sheet() + b"\n" + plan.part(0, count), text)
     sys.stdout.buffer.write(text)
 
 
 def renumbered(text: bytes, begin: int) -> bytes:
     """The lines of the matches of a house text, which are numbered from this number on."""
-    body = text[text.index(b"\n") + 1 : text.index(b"\nstanding ") + 1]
+    body = text[end_of_head(text) : text.index(b"\nstanding ") + 1]
     return re.sub(rb"^match (\d+)", lambda found: b"match %d" % (begin + int(found[1])), body, flags=re.MULTILINE)

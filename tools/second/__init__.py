@@ -1,5 +1,5 @@
 """A second reading of the rules of play, in Python and slow, for `bench/agree` to compare what the program writes with.
 
-It refuses sheets too, but neither texts whose lists can't be read nor plans, and follows docs/LANGUAGE.md; it shares nothing with
-the program.
+It has all commands, refuses what the program refuses, and follows docs/LANGUAGE.md and docs/FORMATS.md; it shares nothing with the
+program. The grammar of transcripts is that of tables.
 """

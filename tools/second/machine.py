@@ -3,7 +3,7 @@
 from collections.abc import Callable, Iterator
 from dataclasses import dataclass
 from itertools import islice
-from typing import Any
+from typing import Any, NamedTuple
 
 from second.effects import Effects
 from second.expressions import GROUP, Bound, Meaning, Scope, bound_by, number_of
@@ -13,8 +13,15 @@ from second.worlds import PLAYER, Frame, State
 MOST_ITEMS = 256
 SELF = "'SELF"
 
-# What a chosen item does, and what its variables stand for.
-Item = tuple[Meaning, Bound]
+
+class Item(NamedTuple):
+    """What an item does if it is chosen, what its variables stand for, and the sorts of these, from outside to inside."""
+
+    effects: Meaning
+    bound: Bound
+    sorts: tuple[str, ...]
+
+
 Offers = Callable[[State, Bound], Iterator[Item]]
 
 
@@ -96,10 +103,11 @@ class Machine(Effects):
             return self.any(form, scope)
         test = self.test(form[1], scope) if form[0] == "if" else lambda state, bound: True
         effects = self.effects(form[2:] if form[0] == "if" else form[1:], scope)
+        sorts = tuple(sort for _, sort in scope.values())
 
         def offer(state: State, bound: Bound) -> Iterator[Item]:
             if test(state, bound):
-                yield effects, bound
+                yield Item(effects, bound, sorts)
 
         return offer
 
@@ -178,11 +186,11 @@ class Machine(Effects):
 
     def apply(self, state: State, decision: Decision, item: int) -> None:
         """Does what an item of the menu does."""
-        effects, bound = decision.menu[item]
+        chosen = decision.menu[item]
         state.turn += 1
         state.made[decision.seat] += 1
         state.left = state.left[1]
-        effects(state, bound)
+        chosen.effects(state, chosen.bound)
 
     # Ends
 

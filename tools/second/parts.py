@@ -1,5 +1,6 @@
 """The parts of a sheet with the places where they begin, for what refuses it."""
 
+from collections.abc import Iterator
 from dataclasses import dataclass
 
 from faults.tokens import tokens
@@ -36,21 +37,25 @@ class Part:
         return [self.text, *(word for part in self.parts for word in part.words())]
 
 
-def first_list(source: bytes) -> Part | None:
-    """The first list of a text, if it ends."""
+def top_lists(source: bytes) -> Iterator[Part]:
+    """The lists of a text that stand in no other, as far as they end and nothing else stands between them."""
     open_lists: list[tuple[int, list[Part]]] = []
     for token in tokens(source):
         if token.text == "(":
             open_lists.append((token.at, []))
         elif not open_lists:
-            return None
+            return
         elif token.text == ")":
             begin, parts = open_lists.pop()
             whole = Part("(", begin, tuple(parts))
-            if not open_lists:
-                return whole
-            open_lists[-1][1].append(whole)
+            if open_lists:
+                open_lists[-1][1].append(whole)
+            else:
+                yield whole
         else:
             open_lists[-1][1].append(Part(token.text, token.at))
-    return None
 
+
+def first_list(source: bytes) -> Part | None:
+    """The first list of a text, if it ends."""
+    return next(top_lists(source), None)

@@ -1,11 +1,11 @@
-"""House texts, as `play` writes them: the matches that they tell."""
+"""House texts of both formats, as `play` writes them: the matches that they tell."""
 
 import re
 from collections.abc import Iterator
 from typing import NamedTuple
 
 from tables.ending import TEXT, Refused
-from tables.grammar import FIRST, MATCH, SCORE, STANDING, first_fault
+from tables.grammar import SCORE, STANDING, end_of_head, first_fault, format_of
 
 NO_LINE = "no transcript has this line here"
 
@@ -38,9 +38,9 @@ class Reader:
     def matches(self) -> list[Match]:
         """All matches of the text."""
         found: list[Match] = []
-        first = FIRST.match(self.text)
-        self.at = first.end() if first else 0
-        while block := MATCH.match(self.text, self.at):
+        form = format_of(self.text)
+        self.at = end_of_head(self.text)
+        while block := form.match.match(self.text, self.at):
             found.append(self.match(block, found))
             self.at = block.end()
         fault = first_fault(self.text) if not found or not STANDING.match(self.text, self.at) else None
