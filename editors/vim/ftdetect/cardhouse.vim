@@ -1,3 +1,4 @@
-" Sheets and plans of cardhouse, by the names of their files.
+" Sheets, plans and transcripts of cardhouse, by the names of their files.
 autocmd BufNewFile,BufRead *.sheet setfiletype cardsheet
 autocmd BufNewFile,BufRead *.plan setfiletype cardplan
+autocmd BufNewFile,BufRead *.transcript,*.named setfiletype cardtranscript
