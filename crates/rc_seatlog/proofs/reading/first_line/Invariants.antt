@@ -1,0 +1,13 @@
+use Rattle.std.proofs.Common.{◌≤◌, ◌-◌, length, take}
+use Rattle.rc_text_model.specs.HouseText.{IsOneLine}
+use Rattle.rc_seatlog.proofs.reading.first_line.Given as goal
+
+abbrev pub invariant-loop-at : goal.invariant-loop-at
+invariant-loop-at l =
+    record {
+      one : IsOneLine (take l.at l.bytes);
+      inside : l.at ≤ length l.bytes;
+    }
+
+abbrev pub decreases-loop-at : goal.decreases-loop-at
+decreases-loop-at l = length l.bytes - l.at

@@ -1,0 +1,99 @@
+//! The parts of a line: words, and numbers in their one spelling. rc_text has the same for house texts, where they are
+//! private.
+ghost use Rattle.std.specs.Prelude.{◌≡◌, ◌<◌, ◌≤◌, ◌^◌, IfSome};
+ghost use Rattle.rc_model.specs.Clamp.{largest_number};
+ghost use Rattle.rc_model.specs.Literal.{is_digit};
+ghost use Rattle.rc_text_model.specs.Fields.{behind, digits_to, number_to, number, counted, integer};
+ghost use Rattle.rc_seatlog.specs.Finds.{Finds};
+
+use rc_names::limits;
+
+/// The largest number of a game. The least one is as far below 0.
+const LARGEST_NUMBER: u64 = limits::LARGEST_NUMBER as u64;
+
+/// The bytes behind a word.
+pub fn behind<'a>(word: &[u8], bytes: &'a [u8]) -> Option<&'a [u8]>
+    ensures { Finds (λ rest. rest.now) result (behind word.now bytes.now) }
+{
+    bytes.strip_prefix(word)
+}
+
+/// A number of at most `most` behind a word, and the bytes behind it.
+pub fn number<'a>(word: &[u8], most: u64, bytes: &'a [u8]) -> Option<(u64, &'a [u8])>
+    requires small { most < 2 ^ 60 }
+    ensures found { Finds (λ x. (x.0, x.1.now)) result (number word.now most bytes.now) }
+    ensures within { IfSome result (λ x. x.0 ≤ most) }
+{
+    let rest = behind(word, bytes)?;
+    number_to(most, rest)
+}
+
+/// A number of 1 to `most` behind a word, and the bytes behind it.
+pub fn counted<'a>(word: &[u8], most: u64, bytes: &'a [u8]) -> Option<(u64, &'a [u8])>
+    requires small { most < 2 ^ 60 }
+    ensures found { Finds (λ x. (x.0, x.1.now)) result (counted word.now most bytes.now) }
+    ensures within { IfSome result (λ x. x.0 ≤ most) }
+{
+    let (n, rest) = number(word, most, bytes)?;
+    if n < 1 {
+        return None;
+    }
+    Some((n, rest))
+}
+
+/// A number of a game behind a word, with `-` before it where it is below 0, and the bytes behind it.
+pub fn integer<'a>(word: &[u8], bytes: &'a [u8]) -> Option<(i64, &'a [u8])>
+    ensures { Finds (λ x. (x.0, x.1.now)) result (integer word.now largest_number bytes.now) }
+{
+    let rest = behind(word, bytes)?;
+    match rest {
+        [b'-', digits @ ..] => {
+            let (n, rest) = number_to(LARGEST_NUMBER, digits)?;
+            if n < 1 {
+                return None;
+            }
+            Some((-(n as i64), rest))
+        }
+        _ => {
+            let (n, rest) = number_to(LARGEST_NUMBER, rest)?;
+            Some((n as i64, rest))
+        }
+    }
+}
+
+/// A number of at most `most`, and the bytes behind it. Behind a `0` no further digit belongs to it.
+fn number_to(most: u64, bytes: &[u8]) -> Option<(u64, &[u8])>
+    requires small { most < 2 ^ 60 }
+    ensures found { Finds (λ x. (x.0, x.1.now)) result (number_to most bytes.now) }
+    ensures within { IfSome result (λ x. x.0 ≤ most) }
+{
+    match bytes {
+        [b'0', rest @ ..] => Some((0, rest)),
+        [first, ..] if is_digit(*first) => digits_to(most, bytes),
+        _ => None,
+    }
+}
+
+/// The number of the digits that come first, if it is at most `most`, and the bytes behind them.
+fn digits_to(most: u64, bytes: &[u8]) -> Option<(u64, &[u8])>
+    requires small { most < 2 ^ 60 }
+    ensures found { Finds (λ x. (x.0, x.1.now)) result (digits_to most 0 bytes.now) }
+    ensures within { IfSome result (λ x. x.0 ≤ most) }
+{
+    let mut n = 0;
+    let mut at = 0;
+    while at < bytes.len() && is_digit(bytes[at]) {
+        n = n * 10 + u64::from(bytes[at] - b'0');
+        if n > most {
+            return None;
+        }
+        at += 1;
+    }
+    Some((n, &bytes[at..]))
+}
+
+fn is_digit(byte: u8) -> bool
+    ensures { result ≡ is_digit byte }
+{
+    b'0' <= byte && byte <= b'9'
+}

@@ -1,0 +1,15 @@
+//! Seat logs: what a seat saw at each decision of a match. They are written and read.
+#![tactic(auto)]
+
+mod fields;
+mod lines;
+mod places;
+mod reading;
+mod told;
+mod views;
+mod write;
+
+pub use reading::{LogFail, read_log};
+pub use told::LogText;
+pub use views::views_of;
+pub use write::write_log;
