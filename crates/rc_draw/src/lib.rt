@@ -13,7 +13,9 @@ mod word;
 ghost use Rattle.std.specs.Prelude.{◌≡◌, ◌<◌, ◌≤◌, length};
 ghost use Rattle.std.specs.List.Sorted.{IsPermutation};
 ghost use Rattle.rc_model.specs.Limits.{most_cards};
+ghost use Rattle.rc_model.specs.Numbers.{below};
 ghost use Rattle.rc_play_model.specs.Draws as draws;
+ghost use Rattle.rc_play_model.specs.Table.{taken};
 
 use crate::word::{WORDS, first_word};
 pub use purpose::Purpose;
@@ -72,4 +74,15 @@ pub fn shuffle_by(key: &[u8; 32], list: &mut [u16])
         list.swap(at, z - 1);
         z -= 1;
     }
+}
+
+/// Puts a list of at most 512 items into the order of the key of these numbers.
+pub fn put_in_order(a: u64, b: u64, c: u64, d: u64, list: &mut [u16])
+    requires few { length list.old ≤ most_cards }
+    ensures taken { list.new ≡ taken (draws.keyed.order a b c d (length list.old)) list.old }
+    ensures order { IsPermutation (below (length list.old)) (draws.keyed.order a b c d (length list.old)) }
+{
+    keys_pick_and_permute();
+    let key = key32(a, b, c, d);
+    shuffle_by(&key, list);
 }

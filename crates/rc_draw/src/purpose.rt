@@ -17,6 +17,10 @@ pub enum Purpose {
     PlayoutPick,
     /// The shuffles in its playouts.
     PlayoutShuffle,
+    /// The deals that are drawn anew for its searches.
+    SearchRedraw,
+    /// The shuffles in its searches.
+    SearchShuffle,
 }
 
 impl Purpose {
@@ -29,6 +33,8 @@ impl Purpose {
             Purpose::Redraw => 3,
             Purpose::PlayoutPick => 4,
             Purpose::PlayoutShuffle => 5,
+            Purpose::SearchRedraw => 6,
+            Purpose::SearchShuffle => 7,
         };
         PURPOSES * seat as u64 + number
     }

@@ -70,10 +70,6 @@ abbrev pub Finds : {X : Type 0} → Result X Halt → Option PureIllegal → Typ
 Finds (Ok x) told = told ≡ None
 Finds (Err halt) told = IsFound halt told
 
--- a play at a stop
-abbrev pub stands_at : Stop → Config → ℕ → Stopped ℕ
-stands_at stop config shuffles = record { stop = stop_seen stop; config = config; dealer = shuffles }
-
 -- how many lines a record has
 abbrev pub lines_in : MatchRecord → ℕ
 lines_in r = length (record_lines (record_seen r))

@@ -1,25 +1,24 @@
 //! The play of a match, as its record tells it.
 ghost use Rattle.std.specs.Prelude.{◌≡◌, ℕ, ◌+◌, ◌++◌, ◌<◌, ◌≤◌, ◌^◌, [], true, false, length, map, Some, IfOk, OnOk};
 ghost use Rattle.rc_play_model.specs.Step.{start, Config};
-ghost use Rattle.rc_play_model.specs.Play.{stop_behind};
-ghost use Rattle.rc_play_model.specs.Decision.{choose};
 ghost use Rattle.rc_play_model.specs.Plan.{Plan as PurePlan, deal_at};
 ghost use Rattle.rc_text_model.specs.HouseText.{shuffles_told};
 ghost use Rattle.rc_play_model.specs.Keyed.{dealing_of};
 ghost use Rattle.rc_text_model.specs.Along as along;
 ghost use Rattle.rc_text_model.specs.Judged.{play_after};
-ghost use Rattle.rc_rules.specs.Control.{stop_seen};
+ghost use Rattle.rc_rules.specs.Control.{stop_seen, stands_at};
 ghost use Rattle.rc_rules.specs.Plan.{plan_seen};
 ghost use Rattle.rc_rules.specs.Record.{pick_seen, score_seen, record_seen};
-ghost use Rattle.rc_rules.specs.Machine.{StandsAtDecision, StandsWhereItStops, menu_here};
-ghost use Rattle.rc_judge.specs.Seen.{Judges, stands_at, lines_in};
+ghost use Rattle.rc_rules.specs.Machine.{StandsWhereItStops};
+ghost use Rattle.rc_judge.specs.Seen.{Judges, lines_in};
 
 use crate::margin::Margin;
 use crate::rows::{ending_row, opening_row, scored_row, shuffled_row, stopped_row};
 use crate::verdict::{Halt, on_row};
-use rc_deck::Memory;
 use rc_plain::PlainMachine;
-use rc_rules::{About, Machine, MatchDealer, MatchRecord, Pick, Plan, Score, Stop, rank_points};
+use rc_rules::{
+    About, Machine, MatchDealer, MatchRecord, Pick, Plan, Score, Stop, go_on, rank_points,
+};
 use std::alloc::Global;
 
 /// Judges the lines of match `number` of a plan, from its match line on. Answers the line behind them.
@@ -114,23 +113,6 @@ fn picks_along<M: Machine, N: Margin>(
         line += 1;
     }
     Ok((line, stop))
-}
-
-// Takes an item at a decision, and goes on to the stop behind it.
-fn go_on<M: Machine>(machine: &mut M, dealer: &mut MatchDealer, item: u16) -> Result<Stop, Memory>
-    requires fresh { M.spent machine.old ≡ false }
-    requires decision { StandsAtDecision (M.about machine.old) (M.config machine.old) }
-    requires offered { item < length (menu_here (M.about machine.old) (M.config machine.old)) }
-    ensures leads { IfOk result (λ stop.
-        stop_behind (M.about machine.old) (dealing_of dealer.old.deal) (choose (M.about machine.old) (dealing_of dealer.old.deal) dealer.old.count item (M.config machine.old))
-        ≡ Some (stands_at stop (M.config machine.new) dealer.new.count)) }
-    ensures stands { IfOk result (λ stop. StandsWhereItStops (M.about machine.new) (stop_seen stop) (M.config machine.new)) }
-    ensures fresh { OnOk result (M.spent machine.new ≡ false) }
-    ensures same { M.about machine.new ≡ M.about machine.old }
-    ensures dealing { dealing_of dealer.new.deal ≡ dealing_of dealer.old.deal }
-{
-    machine.apply(item, dealer)?;
-    machine.advance(dealer)
 }
 
 // Judges what a record tells behind its choices, where the play stands at this stop and so many lists were shuffled. Answers the line

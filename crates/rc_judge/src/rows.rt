@@ -6,11 +6,11 @@ ghost use Rattle.rc_play_model.specs.Scores as play;
 ghost use Rattle.rc_play_model.specs.About.{About as PureAbout};
 ghost use Rattle.rc_text_model.specs.Rows as rows;
 ghost use Rattle.rc_text_model.specs.Why.{by_standing};
-ghost use Rattle.rc_rules.specs.Control.{stop_seen};
+ghost use Rattle.rc_rules.specs.Control.{stop_seen, stands_at};
 ghost use Rattle.rc_rules.specs.Plan.{plan_seen};
 ghost use Rattle.rc_rules.specs.Record.{pick_seen, ending_seen, score_seen, standing_seen};
 ghost use Rattle.rc_rules.specs.Machine.{StandsAtDecision, StandsWhereItStops, Decides, menu_here};
-ghost use Rattle.rc_judge.specs.Seen.{row_seen, stands_at};
+ghost use Rattle.rc_judge.specs.Seen.{row_seen};
 
 use crate::verdict::Why;
 use arrayvec::ArrayVec;

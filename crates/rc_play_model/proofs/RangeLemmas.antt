@@ -48,7 +48,7 @@ some_team [] some = some
 some_team (team ∷ teams) some = omega arith
 
 module _ (sheet : Sheet) (some : 1 ≤ sheet.players) where
-  team_within_of : (o : Option Teams) → AreTeams sheet.players o → (n : ℕ) → n < sheet.players → team_in o n < team_count sheet o
+  pub team_within_of : (o : Option Teams) → AreTeams sheet.players o → (n : ℕ) → n < sheet.players → team_in o n < team_count sheet o
   team_within_of None is n lt = lt
   team_within_of (Some teams) is n lt =
       let counts : ℕ → ℕ = λ player. count_by (nat_eq player) (flat_map (λ team. team) teams) in

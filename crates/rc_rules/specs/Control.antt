@@ -1,7 +1,8 @@
 -- Controls and stops as the definitions of play have them.
-use Rattle.std.specs.Prelude.{List, map}
+use Rattle.std.specs.Prelude.{ℕ, List, map}
 use Rattle.rc_play_model.specs.Control.{Frame as PureFrame, Control as PureControl}
-use Rattle.rc_play_model.specs.Step.{Stop as PureStop, decide, is_done, is_limit}
+use Rattle.rc_play_model.specs.Step.{Stop as PureStop, decide, is_done, is_limit, Config}
+use Rattle.rc_play_model.specs.Stop.{Stopped}
 use Rattle.rc_rules.specs.declared.control.Frame.{Frame}
 use Rattle.rc_rules.specs.declared.control.Control.{Control}
 use Rattle.rc_rules.specs.declared.control.Stop.{Stop}
@@ -21,3 +22,7 @@ abbrev pub stop_seen : Stop → PureStop
 stop_seen (Decide seat site) = decide seat site
 stop_seen Done = is_done
 stop_seen Limit = is_limit
+
+-- a machine at a stop, behind so many shuffles
+abbrev pub stands_at : Stop → Config → ℕ → Stopped ℕ
+stands_at stop config shuffles = record { stop = stop_seen stop; config = config; dealer = shuffles }

@@ -7,8 +7,7 @@ ghost use Rattle.rc_play_model.specs.Table.{taken};
 ghost use Rattle.rc_play_model.specs.Effects.{Dealing};
 ghost use Rattle.rc_play_model.specs.Keyed.{dealing_of};
 
-use rc_draw::{key32, shuffle_by};
-use rc_play_model::{keys_pick_and_permute, tables_of_matches_are_sound};
+use rc_draw::put_in_order;
 use std::marker::Model;
 
 /// Permutes lists. How it does so no call changes; which order the next list takes is a matter of the state in which it is.
@@ -63,19 +62,7 @@ impl Dealer for MatchDealer {
     ghost state = { λ d. d.count };
 
     fn shuffle(&mut self, list: &mut [u16]) {
-        put_in_turn(self.deal, u64::from(self.count), list);
+        put_in_order(self.deal, 1, u64::from(self.count), 0, list);
         self.count = self.count.wrapping_add(1);
     }
-}
-
-// Puts a list into the order of this shuffle of a match.
-fn put_in_turn(deal: u64, turn: u64, list: &mut [u16])
-    requires few { length list.old ≤ most_cards }
-    ensures taken { list.new ≡ taken ((dealing_of deal).order turn (length list.old)) list.old }
-    ensures order { IsPermutation (below (length list.old)) ((dealing_of deal).order turn (length list.old)) }
-{
-    keys_pick_and_permute();
-    tables_of_matches_are_sound();
-    let key = key32(deal, 1, turn, 0);
-    shuffle_by(&key, list);
 }

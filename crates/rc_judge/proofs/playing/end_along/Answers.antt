@@ -1,9 +1,10 @@
 use Rattle.std.proofs.Common.{ℕ, ◌+◌, map, Some, sym, ap, subst, ◌∙◌}
+use Rattle.rc_rules.specs.Control.{stands_at}
 use Rattle.rc_text_model.specs.Rows.{ending_row}
 use Rattle.rc_text_model.specs.Along as along
 use Rattle.rc_text_model.proofs.LegalLemmas.{on_row_none, and_on}
 use Rattle.rc_rules.specs.Record.{record_seen, score_seen}
-use Rattle.rc_judge.specs.Seen.{Judges, row_seen, stands_at}
+use Rattle.rc_judge.specs.Seen.{Judges, row_seen}
 use Rattle.rc_judge.proofs.Steps.{halts, halts_first, hands_on}
 use Rattle.rc_judge.proofs.playing.end_along.Goals as goal
 

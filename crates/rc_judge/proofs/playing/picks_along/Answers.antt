@@ -5,10 +5,10 @@ use Rattle.rc_text_model.specs.Along.{marks_from, next_stop, picks_along}
 use Rattle.rc_text_model.specs.HouseText.{first_marks}
 use Rattle.rc_text_model.specs.Rows.{chosen_row, decision_row}
 use Rattle.rc_rules.specs.declared.record.Pick.{Pick}
-use Rattle.rc_rules.specs.Control.{stop_seen}
+use Rattle.rc_rules.specs.Control.{stop_seen, stands_at}
 use Rattle.rc_rules.specs.Machine.{StandsWhereItStops, bounds_here}
 use Rattle.rc_rules.specs.Record.{pick_seen}
-use Rattle.rc_judge.specs.Seen.{marks_row, row_seen, stands_at}
+use Rattle.rc_judge.specs.Seen.{marks_row, row_seen}
 use Rattle.rc_judge.proofs.Steps.{hands_on, marks_noted, marks_row_is, next_is, pick_halts, pick_leads, pick_noted}
 use Rattle.rc_judge.proofs.playing.picks_along.Goals as goal
 

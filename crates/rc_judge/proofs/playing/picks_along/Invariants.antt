@@ -2,10 +2,9 @@ use Rattle.std.proofs.Common.{◌≡◌, ℕ, ◌+◌, ◌++◌, map, drop, Some
 use Rattle.rc_play_model.specs.Plan.{Plan, deal_at}
 use Rattle.rc_play_model.specs.Keyed.{dealing_of}
 use Rattle.rc_text_model.specs.Along as along
-use Rattle.rc_rules.specs.Control.{stop_seen}
+use Rattle.rc_rules.specs.Control.{stop_seen, stands_at}
 use Rattle.rc_rules.specs.Record.{pick_seen}
 use Rattle.rc_rules.specs.Machine.{StandsWhereItStops}
-use Rattle.rc_judge.specs.Seen.{stands_at}
 use Rattle.rc_judge.proofs.playing.picks_along.Given as goal
 
 -- judging the choices that are left, from where the play stands, is judging all; and so it is with notes of what they bind

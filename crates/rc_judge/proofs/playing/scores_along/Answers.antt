@@ -1,11 +1,12 @@
 use Rattle.std.proofs.Common.{◌≡◌, ◌+◌, ◌<◌, map, drop, length, Some, arith, sym, ap, ◌∙◌}
+use Rattle.rc_rules.specs.Control.{stands_at}
 use Rattle.rc_model.specs.Numbers.{below}
 use Rattle.rc_sheet_model.specs.Sheet.{Sheet}
 use Rattle.rc_play_model.specs.Scores.{scores_of, rank_points}
 use Rattle.rc_text_model.specs.Along as along
 use Rattle.rc_text_model.proofs.LegalLemmas.{on_row_none}
 use Rattle.rc_rules.specs.Record.{score_seen}
-use Rattle.rc_judge.specs.Seen.{row_seen, stands_at}
+use Rattle.rc_judge.specs.Seen.{row_seen}
 use Rattle.rc_judge.proofs.Steps.{dropped, halts, hands_on}
 use Rattle.rc_judge.proofs.Told.{long_scores}
 use Rattle.rc_judge.proofs.playing.scores_along.Goals as goal

@@ -1,8 +1,8 @@
 use Rattle.std.proofs.Common.{◌≡◌, ℕ, ◌+◌, ◌≤◌, map, drop, Some}
+use Rattle.rc_rules.specs.Control.{stands_at}
 use Rattle.rc_text_model.specs.Along as along
 use Rattle.rc_rules.specs.declared.control.Stop.{Stop}
 use Rattle.rc_rules.specs.Record.{score_seen}
-use Rattle.rc_judge.specs.Seen.{stands_at}
 use Rattle.rc_judge.proofs.playing.scores_along.Given as goal
 
 -- judging the score lines that are left is judging all
