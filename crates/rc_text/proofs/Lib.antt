@@ -1,4 +1,4 @@
-mod Below
+pub mod Below
 mod Cuts
 mod Exactly
 mod Heads

@@ -19,7 +19,8 @@ text_of text = house_text (map record_seen text.matches.items) (map standing_see
 
 -- the matches and the standings that it tells
 abbrev pub house_seen : HouseText → PureText
-house_seen text = record { matches = map record_seen text.matches.items; standings = map standing_seen text.standings.items }
+house_seen text =
+    record { matches = map record_seen text.matches.items; standings = map standing_seen text.standings.items }
 
 -- with its marks, one after the other
 abbrev pub named_seen : NamedText → PureNamed
@@ -37,4 +38,5 @@ records_told [] (r ∷ matches) = record_told [] (record_seen r) ++ records_told
 records_told (b ∷ bounds) (r ∷ matches) = record_told (match_bounds b) (record_seen r) ++ records_told bounds matches
 
 abbrev pub parts_of : HouseText → List (Vec (ArrayVec Bound) Global) → List ℕ
-parts_of text bounds = records_told bounds text.matches.items ++ flat_map standing_line (map standing_seen text.standings.items)
+parts_of text bounds =
+    records_told bounds text.matches.items ++ flat_map standing_line (map standing_seen text.standings.items)

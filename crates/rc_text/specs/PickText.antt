@@ -4,4 +4,5 @@ use Rattle.rc_model.specs.Transcript.{Pick}
 
 abbrev pub pick_text : Pick → List ℕ
 pick_text p =
-    codes "choose " ++ decimal p.seat ++ codes " " ++ decimal p.site ++ codes " " ++ decimal p.item ++ codes " " ++ decimal p.size
+    codes "choose " ++ decimal p.seat ++ codes " " ++ decimal p.site
+    ++ codes " " ++ decimal p.item ++ codes " " ++ decimal p.size

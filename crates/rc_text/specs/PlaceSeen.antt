@@ -2,7 +2,8 @@
 use Rattle.std.specs.Prelude.{◌≡◌, List, [], ◌++◌, length, map}
 use Rattle.rc_rules.specs.Record.{record_seen, standing_seen}
 use Rattle.rc_play_model.specs.ItemBounds.{Bound as PureBound}
-use Rattle.rc_text_model.specs.Reading.{Place as PurePlace, headed, playing, told, stopped, scoring, ranking, Stand, inside}
+use Rattle.rc_text_model.specs.Reading.{Place as PurePlace, headed, playing, told, stopped, scoring, ranking}
+use Rattle.rc_text_model.specs.Reading.{Stand, inside}
 use Rattle.rc_rules.specs.Bounds.{match_bounds}
 use Rattle.rc_text.specs.BoundSeen.{all_bounds, AreFor}
 use Rattle.rc_text.specs.declared.places.Matches.{Matches}
@@ -16,7 +17,8 @@ place_seen (Playing before played) = playing (map record_seen before.records.ite
 place_seen (Told before played) = told (map record_seen before.records.items) (record_seen played.record)
 place_seen (Stopped before played) = stopped (map record_seen before.records.items) (record_seen played.record)
 place_seen (Scoring before played) = scoring (map record_seen before.records.items) (record_seen played.record)
-place_seen (Ranking matches standings) = ranking (map record_seen matches.records.items) (map standing_seen standings.items)
+place_seen (Ranking matches standings) =
+    ranking (map record_seen matches.records.items) (map standing_seen standings.items)
 
 -- the marks of closed matches, of an open one, and of both
 abbrev pub marks_of : Matches → List (List PureBound)

@@ -11,7 +11,8 @@ use rc_deck::Memory;
 use rc_table::{Shape, face_number};
 use std::alloc::{AllocError, Global};
 
-/// The legend of a sheet with this shape: for each number of a face, from small to large, a line with its attributes and values.
+/// The legend of a sheet with this shape: for each number of a face, from small to large, a line with its attributes
+/// and values.
 ///
 /// # Errors
 ///

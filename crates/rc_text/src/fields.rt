@@ -1,14 +1,32 @@
-//! The parts of a line: words, and numbers in their one spelling.
-ghost use Rattle.std.specs.Prelude.{◌≡◌, ◌<◌, ◌≤◌, ◌^◌, IfSome};
+//! The parts of a text: its lines, and in a line words and numbers in their one spelling.
+ghost use Rattle.std.specs.Prelude.{◌≡◌, ◌<◌, ◌≤◌, ◌^◌, ◌∷◌, [], length, IfSome, IfNone};
 ghost use Rattle.rc_model.specs.Clamp.{largest_number};
 ghost use Rattle.rc_model.specs.Literal.{is_digit};
 ghost use Rattle.rc_text_model.specs.Fields.{behind, digits_to, number_to, number, counted, integer};
+ghost use Rattle.rc_text_model.specs.Reading.{lines_in};
 ghost use Rattle.rc_text.specs.Finds.{Finds};
 
 use rc_names::limits;
 
 /// The largest number of a game. The least one is as far below 0.
 const LARGEST_NUMBER: u64 = limits::LARGEST_NUMBER as u64;
+
+/// The first line, without its LF, and the bytes behind that; nothing where no LF is left.
+pub fn first_line(bytes: &[u8]) -> Option<(&[u8], &[u8])>
+    ensures found { IfSome result (λ x.
+        lines_in bytes.now ≡ (x.0.now ∷ (lines_in x.1.now).0, (lines_in x.1.now).1)) }
+    ensures shorter { IfSome result (λ x. length x.1.now < length bytes.now) }
+    ensures none { IfNone result (lines_in bytes.now ≡ ([], bytes.now)) }
+{
+    let mut at = 0;
+    while at < bytes.len() {
+        if bytes[at] == b'\n' {
+            return Some((&bytes[..at], &bytes[at + 1..]));
+        }
+        at += 1;
+    }
+    None
+}
 
 /// The bytes behind a word.
 pub fn behind<'a>(word: &[u8], bytes: &'a [u8]) -> Option<&'a [u8]>

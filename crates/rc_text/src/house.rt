@@ -62,7 +62,8 @@ pub fn write_house(alloc: Global, text: &HouseText) -> Result<Vec<u8>, Memory>
     Ok(out)
 }
 
-/// The bytes of a house text that names what items bind: its format's line, the legend, the matches in order, and the standings.
+/// The bytes of a house text that names what items bind: its format's line, the legend, the matches in order, and the
+/// standings.
 ///
 /// # Errors
 ///
@@ -108,7 +109,8 @@ fn add_records(
 }
 
 fn add_record(out: &mut Vec<u8>, played: &MatchRecord, bounds: &[Bounds]) -> Result<(), AllocError>
-    ensures { OnOk result (out.new.items ≡ out.old.items ++ record_told (map bounds_seen bounds.now) (record_seen played.now)) }
+    ensures { OnOk result (out.new.items
+        ≡ out.old.items ++ record_told (map bounds_seen bounds.now) (record_seen played.now)) }
 {
     write_match_line(out, played)?;
     write_picks(out, &played.picks, bounds)?;

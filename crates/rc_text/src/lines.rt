@@ -1,5 +1,6 @@
 //! The lines of a house text, read.
-ghost use Rattle.rc_text_model.specs.Lines.{line_of, other_in, opening_in, chosen_in, shuffled_in, done_in, limit_in, scored_in, ranked_in};
+ghost use Rattle.rc_text_model.specs.Lines.{line_of, other_in, opening_in, chosen_in, shuffled_in, done_in, limit_in};
+ghost use Rattle.rc_text_model.specs.Lines.{scored_in, ranked_in};
 ghost use Rattle.rc_text_model.specs.Fields.{last};
 ghost use Rattle.rc_text.specs.Finds.{Finds};
 ghost use Rattle.std.specs.Prelude.{◌≡◌, true, IfSome};
@@ -27,7 +28,8 @@ pub enum Line {
     Ranked(Standing),
 }
 
-/// The line that bytes spell, in a text that names what items bind or in one that doesn't. The bytes are without the line's LF.
+/// The line that bytes spell, in a text that names what items bind or in one that doesn't. The bytes are without the
+/// line's LF.
 pub fn line_of(named: bool, bytes: &[u8]) -> Option<Line>
     ensures found { Finds marked_seen result (line_of named bytes.now) }
     ensures told { named ≡ true → IfSome result IsTold }

@@ -1,11 +1,13 @@
 //! Where a house text stands behind some lines, with what these told.
 ghost use Rattle.std.specs.Prelude.{◌≡◌, ◌++◌, ◌∷◌, [], IfOk, IfSome, OnOk, map};
-ghost use Rattle.rc_text_model.specs.Reading.{headed, playing, told, stopped, scoring, ranking, opened, with_pick, noted, take_marked, take_bytes};
+ghost use Rattle.rc_text_model.specs.Reading.{headed, playing, told, stopped, scoring, ranking};
+ghost use Rattle.rc_text_model.specs.Reading.{opened, with_pick, noted, take_marked, take_bytes};
 ghost use Rattle.rc_rules.specs.Record.{pick_seen, record_seen, standing_seen};
 ghost use Rattle.rc_text.specs.BoundSeen.{option_seen};
 ghost use Rattle.rc_text.specs.Finds.{Finds};
 ghost use Rattle.rc_text.specs.LineSeen.{marked_seen, IsTold};
-ghost use Rattle.rc_text.specs.PlaceSeen.{open_marks, marks_of, marks_before, marks_with, place_seen, stand_seen, AreFit, IsFit, StandsFit};
+ghost use Rattle.rc_text.specs.PlaceSeen.{open_marks, marks_of, marks_before, marks_with, place_seen, stand_seen};
+ghost use Rattle.rc_text.specs.PlaceSeen.{AreFit, IsFit, StandsFit};
 ghost use Rattle.std.specs.Prelude.{true, IsSome};
 
 use crate::lines::{Line, line_of};
@@ -27,8 +29,8 @@ pub struct OpenMatch {
     pub bounds: Vec<Bounds>,
 }
 
-/// Where a text stands behind its head, in a match or behind its shuffles, behind its end, behind a score, or behind a standing. Each
-/// holds the matches before, and those that a match is open in hold that match.
+/// Where a text stands behind its head, in a match or behind its shuffles, behind its end, behind a score, or behind a
+/// standing. Each holds the matches before, and those that a match is open in hold that match.
 #[derive(Drop)]
 pub enum Progress {
     Headed,
@@ -61,7 +63,8 @@ pub fn take_bytes(
 
 /// Where the text stands behind one more line, if that may stand there.
 fn take_line(alloc: Global, place: Progress, line: Line) -> Result<Option<Progress>, Memory>
-    ensures found { IfOk result (λ found. Finds stand_seen found (take_marked (place_seen place) (marks_with place) (marked_seen line))) }
+    ensures found { IfOk result (λ found. Finds stand_seen found
+        (take_marked (place_seen place) (marks_with place) (marked_seen line))) }
     ensures fit { IsTold line → StandsFit place → IfOk result (λ found. IfSome found StandsFit) }
 {
     match place {
@@ -97,7 +100,8 @@ fn behind_header(alloc: Global, line: Line) -> Option<Progress>
 
 fn in_match(before: Matches, mut played: OpenMatch, line: Line) -> Result<Option<Progress>, Memory>
     ensures found { IfOk result (λ found. Finds stand_seen found
-        (take_marked (playing (map record_seen before.records.items) (record_seen played.record)) (marks_before before played) (marked_seen line))) }
+        (take_marked (playing (map record_seen before.records.items) (record_seen played.record))
+        (marks_before before played) (marked_seen line))) }
     ensures fit { IsTold line → AreFit before → IsFit played → IfOk result (λ found. IfSome found StandsFit) }
 {
     match line {
@@ -120,7 +124,8 @@ fn in_match(before: Matches, mut played: OpenMatch, line: Line) -> Result<Option
 
 fn behind_shuffles(before: Matches, mut played: OpenMatch, line: Line) -> Option<Progress>
     ensures found { Finds stand_seen result
-        (take_marked (told (map record_seen before.records.items) (record_seen played.record)) (marks_before before played) (marked_seen line)) }
+        (take_marked (told (map record_seen before.records.items) (record_seen played.record))
+        (marks_before before played) (marked_seen line)) }
     ensures fit { AreFit before → IsFit played → IfSome result StandsFit }
 {
     match line {
@@ -139,7 +144,8 @@ fn behind_end(
     line: Line,
 ) -> Result<Option<Progress>, Memory>
     ensures found { IfOk result (λ found. Finds stand_seen found
-        (take_marked (stopped (map record_seen before.records.items) (record_seen played.record)) (marks_before before played) (marked_seen line))) }
+        (take_marked (stopped (map record_seen before.records.items) (record_seen played.record))
+        (marks_before before played) (marked_seen line))) }
     ensures fit { AreFit before → IsFit played → IfOk result (λ found. IfSome found StandsFit) }
 {
     match line {
@@ -158,7 +164,8 @@ fn behind_score(
     line: Line,
 ) -> Result<Option<Progress>, Memory>
     ensures found { IfOk result (λ found. Finds stand_seen found
-        (take_marked (scoring (map record_seen before.records.items) (record_seen played.record)) (marks_before before played) (marked_seen line))) }
+        (take_marked (scoring (map record_seen before.records.items) (record_seen played.record))
+        (marks_before before played) (marked_seen line))) }
     ensures fit { AreFit before → IsFit played → IfOk result (λ found. IfSome found StandsFit) }
 {
     match line {
@@ -191,7 +198,8 @@ fn behind_standing(
     line: Line,
 ) -> Result<Option<Progress>, Memory>
     ensures found { IfOk result (λ found. Finds stand_seen found
-        (take_marked (ranking (map record_seen matches.records.items) (map standing_seen standings.items)) (marks_of matches) (marked_seen line))) }
+        (take_marked (ranking (map record_seen matches.records.items) (map standing_seen standings.items))
+        (marks_of matches) (marked_seen line))) }
     ensures fit { AreFit matches → IfOk result (λ found. IfSome found StandsFit) }
 {
     match line {
@@ -206,7 +214,8 @@ fn behind_standing(
 impl Matches {
     /// A match more, which was open.
     fn close(&mut self, played: OpenMatch) -> Result<(), Memory>
-        ensures records { OnOk result (map record_seen self.new.records.items ≡ map record_seen self.old.records.items ++ record_seen played.record ∷ []) }
+        ensures records { OnOk result (map record_seen self.new.records.items
+            ≡ map record_seen self.old.records.items ++ record_seen played.record ∷ []) }
         ensures marks { OnOk result (marks_of self.new ≡ marks_before self.old played) }
         ensures fit { OnOk result (AreFit self.old → IsFit played → AreFit self.new) }
     {
@@ -220,7 +229,8 @@ impl Matches {
 impl OpenMatch {
     /// A choice more, with what its item binds where the text names that.
     fn choose(&mut self, pick: Pick, bounds: Option<Bounds>) -> Result<(), Memory>
-        ensures record { OnOk result (record_seen self.new.record ≡ with_pick (record_seen self.old.record) (pick_seen pick)) }
+        ensures record { OnOk result (record_seen self.new.record
+            ≡ with_pick (record_seen self.old.record) (pick_seen pick)) }
         ensures marks { OnOk result (open_marks self.new ≡ noted (open_marks self.old) (option_seen bounds)) }
         ensures fit { OnOk result (IsSome bounds → IsFit self.old → IsFit self.new) }
     {

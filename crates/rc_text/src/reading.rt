@@ -1,12 +1,14 @@
 //! Reads a house text of either format, line by line.
-ghost use Rattle.std.specs.Prelude.{◌≡◌, ℕ, ◌+◌, ◌<◌, ◌≤◌, Bool, true, List, ◌∷◌, ◌++◌, [], length, IfSome, IfNone, IfOk, IfErr, Ok, Err};
+ghost use Rattle.std.specs.Prelude.{◌≡◌, ℕ, ◌+◌, ◌≤◌, Bool, true, List, ◌++◌, [], length, IfOk, IfErr, Ok, Err};
 ghost use Rattle.rc_model.specs.Transcript.{house_text};
-ghost use Rattle.rc_text_model.specs.HouseText.{HouseText as ToldText, NamedText as PureNamed, plain, naming, unmarked, lines_of, text_in, IsHouseText, IsText};
+ghost use Rattle.rc_text_model.specs.HouseText.{HouseText as ToldText, NamedText as PureNamed, plain, naming, unmarked};
+ghost use Rattle.rc_text_model.specs.HouseText.{lines_of, text_in, IsHouseText, IsText};
 ghost use Rattle.rc_text_model.specs.Reading.{before, lines_in, read_from, read_in};
 ghost use Rattle.rc_text_model.specs.Laws.{IsFirstFault, ReadIsText};
 ghost use Rattle.rc_text.specs.House.{text_of, house_seen, named_seen, Fits};
 ghost use Rattle.rc_text.specs.Gives.{Gives, IfTextFault};
 
+use crate::fields::first_line;
 use crate::house::{HouseText, NamedText};
 use crate::places::{Matches, Progress, take_bytes};
 use rc_deck::Memory;
@@ -16,8 +18,9 @@ use std::alloc::Global;
 /// Why a text isn't read.
 #[derive(Clone, Copy, PartialEq, Eq, Debug)]
 pub enum TextFail {
-    /// The text is no house text. This is the number of its first line, counted from 1, that can't stand there: the lines before
-    /// it begin a house text, and with it they begin none. Where the text ends too early, it is the number of lines plus 1.
+    /// The text is no house text. This is the number of its first line, counted from 1, that can't stand there: the
+    /// lines before it begin a house text, and with it they begin none. Where the text ends too early, it is the number
+    /// of lines plus 1.
     Fault { line: u32 },
     /// Memory ran out.
     Memory,
@@ -34,9 +37,9 @@ impl From<Memory> for TextFail {
     }
 }
 
-/// Reads a house text: the format's line, one or more matches, and one or more standings. A match is its line, its choices, the
-/// number of its shuffles unless that is 0, its end, and one or more scores. Each line ends with LF, each number is within the
-/// range of its place, and each value has one spelling.
+/// Reads a house text: the format's line, one or more matches, and one or more standings. A match is its line, its
+/// choices, the number of its shuffles unless that is 0, its end, and one or more scores. Each line ends with LF, each
+/// number is within the range of its place, and each value has one spelling.
 ///
 /// # Errors
 ///
@@ -50,7 +53,8 @@ pub fn read_house(alloc: Global, bytes: &[u8]) -> Result<HouseText, TextFail>
     ensures few { IfOk result (λ text. 1 + length (lines_of (house_seen text)) ≤ length bytes.now) }
 
     // The bytes of any house text are read as that one.
-    ensures again { (told : ToldText) → IsHouseText told → bytes.now ≡ house_text told.matches told.standings → Gives house_seen result (Ok told) }
+    ensures again { (told : ToldText) → IsHouseText told → bytes.now ≡ house_text told.matches told.standings
+        → Gives house_seen result (Ok told) }
 
     // A fault is at the first line that no house text goes on with, and where there is such a line, it is found.
     ensures fault { IfErr result (λ fail. IfTextFault fail (IsFirstFault plain bytes.now)) }
@@ -66,7 +70,8 @@ pub fn read_house(alloc: Global, bytes: &[u8]) -> Result<HouseText, TextFail>
 
 /// What was read of a text that has no marks.
 fn without_marks(read: Result<NamedText, TextFail>) -> Result<HouseText, TextFail>
-    ensures { (bytes : List ℕ) → ReadIsText → Gives named_seen read (read_in plain bytes) → Gives (λ text. unmarked (house_seen text)) result (read_in plain bytes) }
+    ensures { (bytes : List ℕ) → ReadIsText → Gives named_seen read (read_in plain bytes)
+        → Gives (λ text. unmarked (house_seen text)) result (read_in plain bytes) }
 {
     match read {
         Ok(named) => Ok(named.text),
@@ -74,8 +79,8 @@ fn without_marks(read: Result<NamedText, TextFail>) -> Result<HouseText, TextFai
     }
 }
 
-/// Reads a house text that names what items bind: the format's line, this legend, and then as `read_house`, but that choices have
-/// their marks. The legend's lines end with LF.
+/// Reads a house text that names what items bind: the format's line, this legend, and then as `read_house`, but that
+/// choices have their marks. The legend's lines end with LF.
 ///
 /// # Errors
 ///
@@ -85,11 +90,15 @@ pub fn read_named(alloc: Global, legend: &[u8], bytes: &[u8]) -> Result<NamedTex
     requires legend { (lines_in legend.now).1 ≡ [] }
     ensures is { IfOk result (λ named. IsText true (named_seen named)) }
     ensures fits { IfOk result Fits }
-    ensures spelled { IfOk result (λ named. bytes.now ≡ text_in (naming (lines_in legend.now).0) (named_seen named)) }
-    ensures few { IfOk result (λ named. length (naming (lines_in legend.now).0).head + length (lines_of (house_seen named.text)) ≤ length bytes.now) }
-    ensures again { (told : PureNamed) → IsText true told → bytes.now ≡ text_in (naming (lines_in legend.now).0) told → Gives named_seen result (Ok told) }
+    ensures spelled { IfOk result (λ named.
+        bytes.now ≡ text_in (naming (lines_in legend.now).0) (named_seen named)) }
+    ensures few { IfOk result (λ named.
+        length (naming (lines_in legend.now).0).head + length (lines_of (house_seen named.text)) ≤ length bytes.now) }
+    ensures again { (told : PureNamed) → IsText true told → bytes.now ≡ text_in (naming (lines_in legend.now).0) told
+        → Gives named_seen result (Ok told) }
     ensures fault { IfErr result (λ fail. IfTextFault fail (IsFirstFault (naming (lines_in legend.now).0) bytes.now)) }
-    ensures first { (line : ℕ) → IsFirstFault (naming (lines_in legend.now).0) bytes.now line → Gives named_seen result (Err line) }
+    ensures first { (line : ℕ) → IsFirstFault (naming (lines_in legend.now).0) bytes.now line
+        → Gives named_seen result (Err line) }
     ensures exact { Gives named_seen result (read_in (naming (lines_in legend.now).0) bytes.now) }
 {
     texts_are_of_lines();
@@ -109,7 +118,8 @@ fn read_lines(
     requires short { length bytes.now ≤ 33554432 }
     requires first { (lines_in first.now).1 ≡ [] }
     requires legend { (lines_in legend.now).1 ≡ [] }
-    ensures reads { Gives named_seen result (read_in (record { head = (lines_in first.now).0 ++ (lines_in legend.now).0; named = named }) bytes.now) }
+    ensures reads { Gives named_seen result
+        (read_in (record { head = (lines_in first.now).0 ++ (lines_in legend.now).0; named = named }) bytes.now) }
     ensures fits { named ≡ true → IfOk result Fits }
 {
     let (number, rest) = behind_head(first, 1, bytes)?;
@@ -126,7 +136,8 @@ fn behind_head<'a>(head: &[u8], from: u32, bytes: &'a [u8]) -> Result<(u32, &'a 
         ≡ read_from named x.0 (before more) (lines_in x.1.now).0 (lines_in x.1.now).1) }
     ensures short { IfOk result (λ x. x.0 + length x.1.now ≤ from + length bytes.now) }
     ensures fault { IfErr result (λ fail. IfTextFault fail (λ line. (named : Bool) (more : List (List ℕ)) →
-        read_from named from (before ((lines_in head.now).0 ++ more)) (lines_in bytes.now).0 (lines_in bytes.now).1 ≡ Err line)) }
+        read_from named from (before ((lines_in head.now).0 ++ more)) (lines_in bytes.now).0 (lines_in bytes.now).1
+        ≡ Err line)) }
 {
     let mut number = from;
     let mut wanted = head;
@@ -147,7 +158,8 @@ fn behind_head<'a>(head: &[u8], from: u32, bytes: &'a [u8]) -> Result<(u32, &'a 
 /// Reads the lines behind the head, the first of which has this number.
 fn read_body(alloc: Global, named: bool, from: u32, bytes: &[u8]) -> Result<NamedText, TextFail>
     requires short { from + length bytes.now ≤ 33554433 }
-    ensures reads { Gives named_seen result (read_from named from (before []) (lines_in bytes.now).0 (lines_in bytes.now).1) }
+    ensures reads { Gives named_seen result
+        (read_from named from (before []) (lines_in bytes.now).0 (lines_in bytes.now).1) }
     ensures fits { named ≡ true → IfOk result Fits }
 {
     let mut place = Progress::Headed;
@@ -174,20 +186,4 @@ fn read_body(alloc: Global, named: bool, from: u32, bytes: &[u8]) -> Result<Name
         }),
         _ => Err(TextFail::Fault { line: number }),
     }
-}
-
-/// The first line, without its LF, and the bytes behind that; nothing where no LF is left.
-fn first_line(bytes: &[u8]) -> Option<(&[u8], &[u8])>
-    ensures found { IfSome result (λ x. lines_in bytes.now ≡ (x.0.now ∷ (lines_in x.1.now).0, (lines_in x.1.now).1)) }
-    ensures shorter { IfSome result (λ x. length x.1.now < length bytes.now) }
-    ensures none { IfNone result (lines_in bytes.now ≡ ([], bytes.now)) }
-{
-    let mut at = 0;
-    while at < bytes.len() {
-        if bytes[at] == b'\n' {
-            return Some((&bytes[..at], &bytes[at + 1..]));
-        }
-        at += 1;
-    }
-    None
 }

@@ -1,7 +1,8 @@
 //! The lines of a house text. Every line ends with LF.
 ghost use Rattle.std.specs.Prelude.{◌≡◌, ◌<◌, ◌++◌, codes, decimal, string_bytes, map, flat_map, option_map, OnOk};
 ghost use Rattle.std.specs.Fmt.{signed_decimal};
-ghost use Rattle.rc_model.specs.Transcript.{match_line, shuffles_line, end_line, ending_word, score_line, standing_line};
+ghost use Rattle.rc_model.specs.Transcript.{match_line, shuffles_line, end_line, ending_word, score_line};
+ghost use Rattle.rc_model.specs.Transcript.{standing_line};
 ghost use Rattle.rc_text_model.specs.Bounds.{mark_text};
 ghost use Rattle.rc_text_model.specs.Lines.{chosen};
 ghost use Rattle.rc_text_model.specs.HouseText.{ended_text};
@@ -30,7 +31,8 @@ pub(crate) fn write_picks(
     picks: &[Pick],
     bounds: &[Bounds],
 ) -> Result<(), AllocError>
-    ensures { OnOk result (out.new.items ≡ out.old.items ++ picks_text (map bounds_seen bounds.now) (map pick_seen picks.now)) }
+    ensures { OnOk result (out.new.items
+        ≡ out.old.items ++ picks_text (map bounds_seen bounds.now) (map pick_seen picks.now)) }
 {
     for (index, pick) in picks.iter().enumerate() {
         write_choice(out, *pick, bounds.get(index))?;
@@ -41,7 +43,8 @@ pub(crate) fn write_picks(
 // Adds the line of a choice.
 #[inline(always)]
 fn write_choice(out: &mut Vec<u8>, pick: Pick, bounds: Option<&Bounds>) -> Result<(), AllocError>
-    ensures { OnOk result (out.new.items ≡ out.old.items ++ ended_text (chosen (pick_seen pick), option_map (λ b. bounds_seen b.now) bounds.entry)) }
+    ensures { OnOk result (out.new.items
+        ≡ out.old.items ++ ended_text (chosen (pick_seen pick), option_map (λ b. bounds_seen b.now) bounds.entry)) }
 {
     write_pick(out, pick)?;
     if let Some(bounds) = bounds {

@@ -8,9 +8,10 @@ use Rattle.rc_text_model.specs.Lines.{Line, opening, chosen, shuffled, ending, s
 use Rattle.rc_play_model.specs.ItemBounds.{Bound}
 use Rattle.rc_text_model.specs.HouseText.{NamedText, first_marks, later_marks, marks_of, left_of, marked, shuffles_told, record_lines, lines_of, IsText}
 use Rattle.rc_text_model.specs.Reading.{Place, headed, playing, told, stopped, scoring, ranking, opened, with_pick, with_shuffles, with_end, with_score, take_line}
-use Rattle.rc_text_model.specs.Grammar.{run}
+use Rattle.rc_text_model.specs.LineGrammar.{run}
 use Rattle.rc_text_model.proofs.FieldLemmas.{bind_some, bind_is}
-use Rattle.rc_text_model.proofs.Grammar.{run_append, text_taken, add_picks, add_scores, record_apart, HasScores}
+use Rattle.rc_text_model.proofs.LineGrammars.{run_append}
+use Rattle.rc_text_model.proofs.Grammar.{text_taken, add_picks, add_scores, record_apart, HasScores}
 use Rattle.rc_play_model.specs.About.{About}
 use Rattle.rc_play_model.specs.Effects.{Dealing}
 use Rattle.rc_play_model.specs.Stop.{Stopped}
@@ -63,17 +64,17 @@ module _ (about : About) (dealing : ℕ → Dealing ℕ) (plan : Plan) where
   goes_on (ranking matches standings) (scored s) = tt
   goes_on (ranking matches standings) (ranked s) = refl
 
-  along_anew : (n : ℕ) (front ls : List Line) (marks : List (List Bound)) (p q : Place) (at : Option (Stopped ℕ)) → run headed front ≡ Some p → at ≡ play_at about dealing plan p → run p ls ≡ Some q →
+  along_anew : (n : ℕ) (front ls : List Line) (marks : List (List Bound)) (p q : Place) (at : Option (Stopped ℕ)) → run take_line headed front ≡ Some p → at ≡ play_at about dealing plan p → run take_line p ls ≡ Some q →
       along_from about dealing plan n p at marks ls ≡ first_from about dealing plan n front (marked marks ls)
   along_anew n front [] marks p q at is there e = ap (λ o. at_line n (o >>= end_at plan) None) (sym is)
   along_anew n front (l ∷ ls) marks p q at is there e =
-      let a = bind_some (take_line p l) (λ q. run q ls) q e in
+      let a = bind_some (take_line p l) (λ q. run take_line q ls) q e in
       let told = marks_of l marks in
       let left = left_of l marks in
       let row : row_at about dealing plan p at l told ≡ row_of about dealing plan front (l, told) =
       ap (λ at. row_at about dealing plan p at l told) there ∙ ap (λ o. o >>= λ place. row_at about dealing plan place (play_at about dealing plan place) l told) (sym is) in
-      let front' : run headed (front ++ l ∷ []) ≡ Some a.0 =
-      run_append headed front (l ∷ []) ∙ bind_is (run headed front) (λ q. run q (l ∷ [])) p (Some a.0) is (ap (λ o. o >>= λ q. Some q) a.1) in
+      let front' : run take_line headed (front ++ l ∷ []) ≡ Some a.0 =
+      run_append take_line headed front (l ∷ []) ∙ bind_is (run take_line headed front) (λ q. run take_line q (l ∷ [])) p (Some a.0) is (ap (λ o. o >>= λ q. Some q) a.1) in
       let stop : stop_along about dealing plan p (play_at about dealing plan p) l ≡ play_at about dealing plan a.0 =
       subst (λ o. IfSome o (λ q. stop_along about dealing plan p (play_at about dealing plan p) l ≡ play_at about dealing plan q)) a.1 (goes_on p l) in
       ap (λ o. at_line n (row_at about dealing plan p at l told) (o >>= λ next. along_from about dealing plan (n + 1) next (stop_along about dealing plan p at l) left ls)) a.1

@@ -1,14 +1,13 @@
 -- The grammar of lines: what is taken stands in a text, and each text is taken.
-use Rattle.std.proofs.Common.{◌≡◌, ◌≢◌, ℕ, ◌≤◌, ◌==◌, Bool, true, false, if◌then◌else◌, List, [], ◌∷◌, ◌++◌, map, flat_map, Option, Some, None, IfSome, pos, refl, sym, ap, ◌∙◌, subst, append_assoc, append-nil, arith, rules, eqb-true}
+use Rattle.std.proofs.Common.{◌≡◌, ◌≢◌, ℕ, ◌≤◌, ◌==◌, Bool, true, false, if◌then◌else◌, List, [], ◌∷◌, ◌++◌, map, flat_map, Some, None, IfSome, pos, refl, sym, ap, ◌∙◌, subst, append_assoc, append-nil, arith, rules, eqb-true}
 use Rattle.std.specs.List.{AllByRecursion}
 use Rattle.std.proofs.lemmas.List.{map-append}
 use Rattle.std.proofs.lemmas.List.Concat.{flat_map-append}
 use Rattle.rc_model.specs.Transcript.{Pick, Ending, done, Score, Record, Standing}
-use Rattle.rc_text_model.specs.Fields.{◌>>=◌}
 use Rattle.rc_play_model.specs.ItemBounds.{Bound}
 use Rattle.rc_text_model.specs.Lines.{Line, opening, chosen, shuffled, ending, scored, ranked, IsInRange, HasMarks}
 use Rattle.rc_text_model.specs.HouseText.{HouseText, NamedText, shuffles_told, played_lines, told_lines, ended_lines, record_lines, lines_of}
-use Rattle.rc_text_model.specs.Grammar.{run}
+use Rattle.rc_text_model.specs.LineGrammar.{run}
 use Rattle.rc_text_model.proofs.FieldLemmas.{bind_some, some_is}
 use Rattle.rc_text_model.specs.Reading.{Place, headed, playing, told, stopped, scoring, ranking, opened, with_pick, with_shuffles, with_end, with_score, take_line, whole_at}
 
@@ -138,22 +137,13 @@ pub all_append : {A : Type 0} (P : A → Type 0) (xs ys : List A) → AllByRecur
 all_append P [] ys all all' = all'
 all_append P (x ∷ xs) ys all all' = (all.0, all_append P xs ys all.1 all')
 
-pub run_append : (p : Place) (xs ys : List Line) → run p (xs ++ ys) ≡ (run p xs >>= λ q. run q ys)
-run_append p [] ys = refl
-run_append p (l ∷ xs) ys = run_step (take_line p l) xs ys (λ q. run_append q xs ys)
-  where
-    run_step : (o : Option Place) (xs ys : List Line) → ((q : Place) → run q (xs ++ ys) ≡ (run q xs >>= λ q. run q ys)) →
-        (o >>= λ q. run q (xs ++ ys)) ≡ ((o >>= λ q. run q xs) >>= λ q. run q ys)
-    run_step None xs ys e = refl
-    run_step (Some q) xs ys e = e q
-
 abbrev Reaches : Place → List Line → Place → Type 0
 Reaches p ls q = IsGood q × (lines_at q ≡ lines_at p ++ ls)
 
-pub run_good : (p : Place) (ls : List Line) (q : Place) → IsGood p → AllByRecursion IsInRange ls → run p ls ≡ Some q → Reaches p ls q
+pub run_good : (p : Place) (ls : List Line) (q : Place) → IsGood p → AllByRecursion IsInRange ls → run take_line p ls ≡ Some q → Reaches p ls q
 run_good p [] q good all e = subst (Reaches p []) (some_is p q e) (good, sym (append-nil (lines_at p)))
 run_good p (l ∷ ls) q good all e =
-    let a = bind_some (take_line p l) (λ q. run q ls) q e in
+    let a = bind_some (take_line p l) (λ q. run take_line q ls) q e in
     let f : Follows p l a.0 = subst (λ o. IfSome o (Follows p l)) a.1 (follows p l good all.0) in
     let r = run_good a.0 ls q f.0 all.1 a.2 in
     (r.0, r.1 ∙ ap (λ t. t ++ ls) f.1 ∙ append_assoc (lines_at p) (l ∷ []) ls)
@@ -188,7 +178,7 @@ pub record Finishes (p : Place) : Type 0 where
   pub more : List Line
   pub matches : List Record
   pub standings : List Standing
-  pub leads : run p more ≡ Some (ranking matches standings)
+  pub leads : run take_line p more ≡ Some (ranking matches standings)
   pub ranges : AllByRecursion (λ l. IsInRange l × HasMarks true l None) more
 
 pub finishes : (p : Place) → Finishes p
@@ -210,43 +200,43 @@ add_scores r scores =
     record { number = r.number; deal = r.deal; seats = r.seats; picks = r.picks; shuffles = r.shuffles; ending = r.ending; turn = r.turn; scores = r.scores ++ scores }
 
 run_picks : (before : List Record) (r : Record) (picks : List Pick) (more : List Line) →
-    run (playing before r) (map chosen picks ++ more) ≡ run (playing before (add_picks r picks)) more
+    run take_line (playing before r) (map chosen picks ++ more) ≡ run take_line (playing before (add_picks r picks)) more
 run_picks before r [] more =
-    ap (λ (ps : List Pick). run (playing before (record { number = r.number; deal = r.deal; seats = r.seats; picks = ps; shuffles = r.shuffles; ending = r.ending; turn = r.turn; scores = r.scores })) more) (sym (append-nil r.picks))
+    ap (λ (ps : List Pick). run take_line (playing before (record { number = r.number; deal = r.deal; seats = r.seats; picks = ps; shuffles = r.shuffles; ending = r.ending; turn = r.turn; scores = r.scores })) more) (sym (append-nil r.picks))
 run_picks before r (p ∷ picks) more =
     run_picks before (with_pick r p) picks more
-    ∙ ap (λ (ps : List Pick). run (playing before (record { number = r.number; deal = r.deal; seats = r.seats; picks = ps; shuffles = r.shuffles; ending = r.ending; turn = r.turn; scores = r.scores })) more) (append_assoc r.picks (p ∷ []) picks)
+    ∙ ap (λ (ps : List Pick). run take_line (playing before (record { number = r.number; deal = r.deal; seats = r.seats; picks = ps; shuffles = r.shuffles; ending = r.ending; turn = r.turn; scores = r.scores })) more) (append_assoc r.picks (p ∷ []) picks)
 
 run_scores : (before : List Record) (r : Record) (scores : List Score) (more : List Line) →
-    run (scoring before r) (map scored scores ++ more) ≡ run (scoring before (add_scores r scores)) more
+    run take_line (scoring before r) (map scored scores ++ more) ≡ run take_line (scoring before (add_scores r scores)) more
 run_scores before r [] more =
-    ap (λ (xs : List Score). run (scoring before (record { number = r.number; deal = r.deal; seats = r.seats; picks = r.picks; shuffles = r.shuffles; ending = r.ending; turn = r.turn; scores = xs })) more) (sym (append-nil r.scores))
+    ap (λ (xs : List Score). run take_line (scoring before (record { number = r.number; deal = r.deal; seats = r.seats; picks = r.picks; shuffles = r.shuffles; ending = r.ending; turn = r.turn; scores = xs })) more) (sym (append-nil r.scores))
 run_scores before r (s ∷ scores) more =
     run_scores before (with_score r s) scores more
-    ∙ ap (λ (xs : List Score). run (scoring before (record { number = r.number; deal = r.deal; seats = r.seats; picks = r.picks; shuffles = r.shuffles; ending = r.ending; turn = r.turn; scores = xs })) more) (append_assoc r.scores (s ∷ []) scores)
+    ∙ ap (λ (xs : List Score). run take_line (scoring before (record { number = r.number; deal = r.deal; seats = r.seats; picks = r.picks; shuffles = r.shuffles; ending = r.ending; turn = r.turn; scores = xs })) more) (append_assoc r.scores (s ∷ []) scores)
 
 run_standings : (matches : List Record) (standings more : List Standing) →
-    run (ranking matches standings) (map ranked more) ≡ Some (ranking matches (standings ++ more))
+    run take_line (ranking matches standings) (map ranked more) ≡ Some (ranking matches (standings ++ more))
 run_standings matches standings [] = ap (λ t. Some (ranking matches t)) (sym (append-nil standings))
 run_standings matches standings (s ∷ more) =
     run_standings matches (standings ++ s ∷ []) more ∙ ap (λ t. Some (ranking matches t)) (append_assoc standings (s ∷ []) more)
 
 run_first_score : (before : List Record) (r : Record) (scores : List Score) (more : List Line) → r.scores ≡ [] → scores ≢ [] →
-    run (stopped before r) (map scored scores ++ more) ≡ run (scoring before (add_scores r scores)) more
+    run take_line (stopped before r) (map scored scores ++ more) ≡ run take_line (scoring before (add_scores r scores)) more
 run_first_score before r [] more none has = absurd (has refl)
 run_first_score before r (s ∷ scores) more none has =
     run_scores before (with_score r s) scores more
-    ∙ ap (λ (xs : List Score). run (scoring before (record { number = r.number; deal = r.deal; seats = r.seats; picks = r.picks; shuffles = r.shuffles; ending = r.ending; turn = r.turn; scores = xs })) more) (append_assoc r.scores (s ∷ []) scores)
+    ∙ ap (λ (xs : List Score). run take_line (scoring before (record { number = r.number; deal = r.deal; seats = r.seats; picks = r.picks; shuffles = r.shuffles; ending = r.ending; turn = r.turn; scores = xs })) more) (append_assoc r.scores (s ∷ []) scores)
 
 run_told : (none : Bool) (before : List Record) (r : Record) (n : ℕ) (e : Ending) (turn : ℕ) (more : List Line) → (n == 0) ≡ none → r.shuffles ≡ 0 →
-    run (playing before r) ((if none then [] else shuffled n ∷ []) ++ ending e turn ∷ more) ≡ run (stopped before (with_end (with_shuffles r n) e turn)) more
+    run take_line (playing before r) ((if none then [] else shuffled n ∷ []) ++ ending e turn ∷ more) ≡ run take_line (stopped before (with_end (with_shuffles r n) e turn)) more
 run_told true before r n e turn more is zero-told =
-    ap (λ k. run (stopped before (with_end (with_shuffles r k) e turn)) more) (zero-told ∙ sym (eqb-true n 0 is))
+    ap (λ k. run take_line (stopped before (with_end (with_shuffles r k) e turn)) more) (zero-told ∙ sym (eqb-true n 0 is))
 run_told false before r n e turn more is zero-told = refl
 
 run_record : (before : List Record) (r : Record) (more : List Line) → HasScores r →
-    run (playing before (opened r.number r.deal r.seats)) (map chosen r.picks ++ (shuffles_told r.shuffles ++ (ending r.ending r.turn ∷ (map scored r.scores ++ more))))
-    ≡ run (scoring before r) more
+    run take_line (playing before (opened r.number r.deal r.seats)) (map chosen r.picks ++ (shuffles_told r.shuffles ++ (ending r.ending r.turn ∷ (map scored r.scores ++ more))))
+    ≡ run take_line (scoring before r) more
 run_record before r more has =
     let o = opened r.number r.deal r.seats in
     let p = add_picks o r.picks in
@@ -264,23 +254,23 @@ record_apart r more =
     ∙ append_assoc (played_lines r) (shuffles_told r.shuffles) (ending r.ending r.turn ∷ (map scored r.scores ++ more))
 
 run_matches : (before : List Record) (r : Record) (matches : List Record) (s : Standing) (more : List Line) → AllByRecursion HasScores matches →
-    run (scoring before r) (flat_map record_lines matches ++ (ranked s ∷ more)) ≡ run (ranking ((before ++ r ∷ []) ++ matches) (s ∷ [])) more
-run_matches before r [] s more all = ap (λ t. run (ranking t (s ∷ [])) more) (sym (append-nil (before ++ r ∷ [])))
+    run take_line (scoring before r) (flat_map record_lines matches ++ (ranked s ∷ more)) ≡ run take_line (ranking ((before ++ r ∷ []) ++ matches) (s ∷ [])) more
+run_matches before r [] s more all = ap (λ t. run take_line (ranking t (s ∷ [])) more) (sym (append-nil (before ++ r ∷ [])))
 run_matches before r (r' ∷ matches) s more all =
-    ap (run (scoring before r)) (append_assoc (record_lines r') (flat_map record_lines matches) (ranked s ∷ more) ∙ record_apart r' (flat_map record_lines matches ++ (ranked s ∷ more)))
+    ap (run take_line (scoring before r)) (append_assoc (record_lines r') (flat_map record_lines matches) (ranked s ∷ more) ∙ record_apart r' (flat_map record_lines matches ++ (ranked s ∷ more)))
     ∙ run_record (before ++ r ∷ []) r' (flat_map record_lines matches ++ (ranked s ∷ more)) all.0
     ∙ run_matches (before ++ r ∷ []) r' matches s more all.1
-    ∙ ap (λ t. run (ranking t (s ∷ [])) more) (append_assoc (before ++ r ∷ []) (r' ∷ []) matches)
+    ∙ ap (λ t. run take_line (ranking t (s ∷ [])) more) (append_assoc (before ++ r ∷ []) (r' ∷ []) matches)
 
 run_text : (matches : List Record) (standings : List Standing) → matches ≢ [] → standings ≢ [] → AllByRecursion HasScores matches →
-    run headed (lines_of (record { matches = matches; standings = standings })) ≡ Some (ranking matches standings)
+    run take_line headed (lines_of (record { matches = matches; standings = standings })) ≡ Some (ranking matches standings)
 run_text [] standings ne ne' all = absurd (ne refl)
 run_text (r ∷ matches) [] ne ne' all = absurd (ne' refl)
 run_text (r ∷ matches) (s ∷ standings) ne ne' all =
-    ap (run headed) (append_assoc (record_lines r) (flat_map record_lines matches) (map ranked (s ∷ standings)) ∙ record_apart r (flat_map record_lines matches ++ map ranked (s ∷ standings)))
+    ap (run take_line headed) (append_assoc (record_lines r) (flat_map record_lines matches) (map ranked (s ∷ standings)) ∙ record_apart r (flat_map record_lines matches ++ map ranked (s ∷ standings)))
     ∙ run_record [] r (flat_map record_lines matches ++ map ranked (s ∷ standings)) all.0
     ∙ run_matches [] r matches s (map ranked standings) all.1
     ∙ run_standings (r ∷ matches) (s ∷ []) standings
 
-pub text_taken : (t : HouseText) → t.matches ≢ [] → t.standings ≢ [] → AllByRecursion HasScores t.matches → run headed (lines_of t) ≡ Some (ranking t.matches t.standings)
+pub text_taken : (t : HouseText) → t.matches ≢ [] → t.standings ≢ [] → AllByRecursion HasScores t.matches → run take_line headed (lines_of t) ≡ Some (ranking t.matches t.standings)
 text_taken t some some' scores = run_text t.matches t.standings some some' scores

@@ -2,7 +2,8 @@
 use Rattle.std.proofs.Common.{rules, ◌≡◌, ℕ, false, None, Result, Ok, Err, sym, ap, ◌∙◌, subst}
 use Rattle.rc_text_model.specs.HouseText.{plain, NamedText, unmarked}
 use Rattle.rc_text_model.specs.Reading.{read_in}
-use Rattle.rc_text_model.proofs.Readings.{text_read}
+use Rattle.rc_text_model.proofs.LineGrammars.{text_read}
+use Rattle.rc_text_model.proofs.Readings.{is_grammar}
 use Rattle.rc_text_model.proofs.SameTexts.{text_same, plain_is}
 use Rattle.rc_play_model.specs.About.{About}
 use Rattle.rc_play_model.specs.Plan.{Plan}
@@ -30,7 +31,7 @@ module _ (about : About) (plan : Plan) (is : IsPlayable about plan) where
   pub read_back : read_in plain (keyed_house about plan) ≡ Ok (unmarked (played_text about plan))
   read_back =
       ap (read_in plain) (text_same (played_text about plan))
-      ∙ text_read plain (unmarked (played_text about plan)) (search rules) (plain_is (played_text about plan) (played_house about plan is))
+      ∙ text_read (is_grammar plain (search rules)) (unmarked (played_text about plan)) (plain_is (played_text about plan) (played_house about plan is))
 
   same_text : (t u : NamedText) (r : Result NamedText ℕ) → r ≡ Ok t → r ≡ Ok u → t ≡ u
   same_text t u (Ok v) e e' = cc

@@ -28,9 +28,11 @@ use Rattle.rc_text_model.specs.Rows.{unless, ◌or◌, has_ended, is_ending, lac
 use Rattle.rc_text_model.specs.Judged.{at_line, play_after}
 use Rattle.rc_text_model.specs.Along.{Judging, Picked, on_row, and_then, or_illegal, told_along, scores_along, end_along, standings_along, next_stop, picks_along, body_along, record_along, matches_along, judged, marks_from, marks_over}
 use Rattle.rc_text_model.specs.Legal.{IsMade, Leads, IsRecordOfPlay, AreRecords, IsLegal, HasItsMarks, IsLegalText}
+use Rattle.rc_text_model.proofs.FieldLemmas.{ok_is, if_true}
+pub use Rattle.rc_text_model.proofs.FieldLemmas.{some_is}
 use Rattle.rc_text_model.proofs.Marks.{bounds_are, bounds_themselves}
 use Rattle.rc_text_model.proofs.Fitting.{picks_in, enough_marks, no_more_marks, never_marks}
-use Rattle.rc_text_model.proofs.Rows.{unless_none, or_none, both, ok_is, on_row_ok, and_ok, or_ok, at_line_none}
+use Rattle.rc_text_model.proofs.Rows.{unless_none, or_none, both, on_row_ok, and_ok, or_ok, at_line_none}
 
 -- ---- where no row applies, judging goes on
 
@@ -61,9 +63,6 @@ or_on (Err w) f z e = absurd cc
 pub at_line_on : (n : ℕ) (o : Option Why) (later : Option Illegal) → o ≡ None → at_line n o later ≡ later
 at_line_on n None later e = refl
 at_line_on n (Some w) later e = absurd cc
-
-pub some_is : {A : Type 0} (x y : A) → Some x ≡ Some y → x ≡ y
-some_is x y e = cc
 
 not_less : (a b : ℕ) → not (nat_lt a b) ≡ true → b ≤ a
 not_less a b e = ltb-false a b (turned (nat_lt a b) e)
@@ -335,10 +334,6 @@ goes_behind about d k x left table control =
 nothing_more : (about : About) (d : Dealing ℕ) (o : Option (Stopped ℕ)) → from_stop (follow about d []) o ≡ o
 nothing_more about d None = refl
 nothing_more about d (Some at) = refl
-
-if_true : {A : Type 0} (b : Bool) (x y : A) → b ≡ true → (if b then x else y) ≡ x
-if_true true x y e = refl
-if_true false x y e = absurd cc
 
 -- where an item of the menu is taken, the play goes on behind it
 goes_on_there : (about : About) (d : Dealing ℕ) (p : Pick) (seat site : ℕ) (c : Config) (k : ℕ) → p.item < length (menu_at about site c.table c.control) →

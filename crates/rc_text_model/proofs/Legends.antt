@@ -1,5 +1,5 @@
 -- The lines of a legend have no LF.
-use Rattle.std.proofs.Common.{◌≡◌, ℕ, zero, suc, ◌+◌, ◌<◌, ◌≤◌, ◌==◌, Bool, true, false, List, [], ◌∷◌, map, flat_map, filter, length, codes, decimal, refl, sym, ap, ◌∙◌, subst, append-nil, arith, rules, eqb-true}
+use Rattle.std.proofs.Common.{◌≡◌, ℕ, zero, suc, ◌+◌, ◌<◌, ◌≤◌, ◌==◌, Bool, true, false, List, [], ◌∷◌, map, flat_map, filter, length, codes, decimal, refl, sym, ap, ◌∙◌, subst, arith, rules, eqb-true}
 use Rattle.std.specs.List.{AllByRecursion, list_all, range_with_len}
 use Rattle.rc_model.specs.Token.{is_part}
 use Rattle.rc_model.specs.Transcript.{line}
@@ -11,8 +11,8 @@ use Rattle.rc_model.specs.Numbers.{below}
 use Rattle.rc_play_model.proofs.CardLemmas.{get_each}
 use Rattle.rc_text_model.specs.HouseText.{IsOneLine}
 use Rattle.rc_text_model.specs.Naming.{word_at, pair_text, face_line, face_numbers, legend_of}
-use Rattle.rc_text_model.specs.Reading.{lines_in}
-use Rattle.rc_text_model.proofs.LineCuts.{IsOneLine-append, digits_one, joined_cut}
+use Rattle.rc_text_model.specs.LineGrammar.{lines_in}
+use Rattle.rc_text_model.proofs.LineCuts.{IsOneLine-append, digits_one, cut_lines}
 use Rattle.rc_text_model.proofs.Rows.{both}
 
 part_case : (ends : Bool) (b : ℕ) → (b == 10) ≡ ends → is_part b ≡ true → (b == 10) ≡ false
@@ -70,6 +70,4 @@ legend_one sheet shape words few =
     (kept_below (λ id. face_number shape id == id) (below (length shape.faces)) (numbers_few 0 (length shape.faces) (omega (arith, few))))
 
 pub legend_cut : (sheet : Sheet) (shape : Shape) → HasWords sheet → length shape.faces ≤ 512 → lines_in (flat_map line (legend_of sheet shape)) ≡ (legend_of sheet shape, [])
-legend_cut sheet shape words few =
-    ap lines_in (sym (append-nil (flat_map line (legend_of sheet shape)))) ∙ joined_cut (legend_of sheet shape) [] (legend_one sheet shape words few)
-    ∙ ap (λ lines. (lines, [])) (append-nil (legend_of sheet shape))
+legend_cut sheet shape words few = cut_lines (legend_of sheet shape) (legend_one sheet shape words few)

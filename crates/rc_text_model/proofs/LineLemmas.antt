@@ -15,11 +15,11 @@ use Rattle.rc_text_model.proofs.FieldLemmas.{bind_some, bind_is, some_is, number
 abbrev IsRead : List ℕ → Line → Type 0
 IsRead bytes l = IsInRange l × ((named : Bool) → HasMarks named l None) × (bytes ≡ line_text l)
 
--- one more part behind a word
-then : (word part tail rest : List ℕ) (bytes : List ℕ) → bytes ≡ word ++ (part ++ rest) → rest ≡ tail → bytes ≡ word ++ (part ++ tail)
+-- one more part behind a word, and the last one
+pub then : (word part tail rest : List ℕ) (bytes : List ℕ) → bytes ≡ word ++ (part ++ rest) → rest ≡ tail → bytes ≡ word ++ (part ++ tail)
 then word part tail rest bytes e e' = e ∙ ap (λ t. word ++ (part ++ t)) e'
 
-end : (word part rest : List ℕ) (bytes : List ℕ) → bytes ≡ word ++ (part ++ rest) → rest ≡ [] → bytes ≡ word ++ part
+pub end : (word part rest : List ℕ) (bytes : List ℕ) → bytes ≡ word ++ (part ++ rest) → rest ≡ [] → bytes ≡ word ++ part
 end word part rest bytes e e' = e ∙ ap (λ t. word ++ (part ++ t)) e' ∙ ap (λ t. word ++ t) (append-nil part)
 
 opening-only : (bytes : List ℕ) (l : Line) → opening_in bytes ≡ Some l → IsRead bytes l

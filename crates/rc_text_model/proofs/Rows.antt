@@ -17,12 +17,6 @@ pub both : (a b : Bool) → (a && b) ≡ true → (a ≡ true) × (b ≡ true)
 both true b e = (refl, e)
 both false b e = absurd cc
 
-abbrev ok : {A : Type 0} → A → Judging A
-ok x = Ok x
-
-pub ok_is : {A : Type 0} (x y : A) → ok x ≡ ok y → x ≡ y
-ok_is x y e = cc
-
 pub on_row_ok : {A : Type 0} (n : ℕ) (o : Option Why) (later : Judging A) (x : A) → on_row n o later ≡ Ok x → (o ≡ None) × (later ≡ Ok x)
 on_row_ok n None later x e = (refl, e)
 on_row_ok n (Some w) later x e = absurd cc

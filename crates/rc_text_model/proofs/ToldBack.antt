@@ -20,7 +20,8 @@ use Rattle.rc_text_model.proofs.Legends.{legend_one}
 use Rattle.rc_text_model.proofs.NamedPlayed.{matches_in_range}
 use Rattle.rc_text_model.proofs.Played.{played_house}
 use Rattle.rc_text_model.proofs.PlayedLemmas.{played_used}
-use Rattle.rc_text_model.proofs.Readings.{text_read}
+use Rattle.rc_text_model.proofs.LineGrammars.{text_read}
+use Rattle.rc_text_model.proofs.Readings.{is_grammar}
 use Rattle.rc_text_model.proofs.SameTexts.{plain_is}
 
 -- lines in their ranges, with marks in theirs, where there is one for each choice
@@ -78,7 +79,7 @@ module _ (about : About) (plan : Plan) (is : IsPlayable about plan) (few : lengt
   told_back named =
       record {
         text = told_is named;
-        read = text_read (format_by named about) (told named) (head_is named) (named_text named);
+        read = text_read (is_grammar (format_by named about) (head_is named)) (told named) (named_text named);
         passed =
             sym (one_pass about dealing_of plan named (length (format_by named about).head) (told named) (told_is named))
             ∙ played_used about plan (ap (λ shape. shape.places) is.shape) is.sight is.well.numbered.sites named (length (format_by named about).head);

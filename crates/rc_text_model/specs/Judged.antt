@@ -5,8 +5,8 @@ use Rattle.rc_text_model.specs.Fields.{◌>>=◌}
 use Rattle.rc_play_model.specs.ItemBounds.{Bound}
 use Rattle.rc_text_model.specs.Lines.{Line, opening, chosen, shuffled, ending, scored, ranked, Marked}
 use Rattle.rc_text_model.specs.HouseText.{NamedText, lines_of, marked}
-use Rattle.rc_text_model.specs.Reading.{Place, headed, playing, told, stopped, scoring, ranking}
-use Rattle.rc_text_model.specs.Grammar.{run}
+use Rattle.rc_text_model.specs.Reading.{Place, headed, playing, told, stopped, scoring, ranking, take_line}
+use Rattle.rc_text_model.specs.LineGrammar.{run}
 use Rattle.rc_play_model.specs.About.{About}
 use Rattle.rc_play_model.specs.Effects.{Dealing}
 use Rattle.rc_play_model.specs.Stop.{Stopped}
@@ -26,7 +26,7 @@ end_at plan (ranking matches standings) = end_row plan matches (length standings
 end_at plan _ = None
 
 abbrev pub end_of : Plan → List Line → Option Why
-end_of plan front = run headed front >>= end_at plan
+end_of plan front = run take_line headed front >>= end_at plan
 
 module _ (about : About) (dealing : ℕ → Dealing ℕ) (plan : Plan) where
   -- the play of match m after these choices
@@ -58,7 +58,7 @@ module _ (about : About) (dealing : ℕ → Dealing ℕ) (plan : Plan) where
 
   -- the row that applies to a line with its marks behind these lines
   abbrev pub row_of : List Line → Marked → Option Why
-  row_of front m = run headed front >>= λ place. row_at place (play_at place) m.0 m.1
+  row_of front m = run take_line headed front >>= λ place. row_at place (play_at place) m.0 m.1
 
   -- the first line from the n-th on, behind the lines before it, to which a row applies
   abbrev pub first_from : ℕ → List Line → List Marked → Option Illegal

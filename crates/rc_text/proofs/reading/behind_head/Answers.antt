@@ -1,4 +1,4 @@
-use Rattle.std.proofs.Common.{◌≡◌, ◌++◌, arith, sym, ap, ◌∙◌}
+use Rattle.std.proofs.Common.{◌≡◌, ℕ, List, ◌++◌, arith, sym, ap, ◌∙◌}
 use lib.Pointwise.{bytes_decides}
 use Rattle.rc_text_model.specs.Reading.{before, lines_in, read_from}
 use Rattle.rc_text.proofs.Heads.{head_step, head_fails, head_missing}
@@ -46,3 +46,9 @@ returns-in_default-first_line-clause-fault c = λ named more.
           ∙ (λ i. read_from named n (before ((wanted i).0 ++ more)) (read i).0 (read i).1)
           ∙ head_missing named n want (lines_in later).0 more c.loop-want.rest.now
     ]
+
+pub returns-clause-behind : goal.returns-clause-behind
+returns-clause-behind c = λ named more.
+    c.loop-want.invariant.reads named more
+    ∙ ap (λ (cut : List (List ℕ) × List ℕ). read_from named c.loop-want.number (before (cut.0 ++ more)) (lines_in c.loop-want.rest.now).0 (lines_in c.loop-want.rest.now).1)
+    c.in_default.ensures.none

@@ -1,9 +1,17 @@
-use Rattle.std.proofs.Common.{◌++◌, [], sym, ap, subst, ◌∙◌, append-nil}
+use Rattle.std.proofs.Common.{◌++◌, [], refl, sym, ap, subst, ◌∙◌, append-nil}
 use Rattle.rc_text_model.specs.Reading.{before, lines_in, read_from}
 use Rattle.rc_text.specs.Gives.{Gives}
 use Rattle.rc_text.specs.House.{named_seen}
 use Rattle.rc_text.proofs.Exactly.{hands_fault, fault_behind}
 use Rattle.rc_text.proofs.reading.read_lines.Goals as goal
+
+pub returns-in_err-number-clause-reads : goal.returns-in_err-number-clause-reads
+returns-in_err-number-clause-reads c =
+    let first = (lines_in c.args.first.now).0 in
+    hands_fault named_seen c.from_residual.result c.in_err-number.field-0.0 _ c.from_residual.ensures.1
+    (fault_behind c.in_err-number.field-0.0 _
+    (λ named more. read_from named 1 (before (first ++ more)) (lines_in c.args.bytes.now).0 (lines_in c.args.bytes.now).1) c.args.named (lines_in c.args.legend.now).0 refl
+    c.in_err-number.ensures.fault)
 
 pub returns-in_err-number-2-clause-reads : goal.returns-in_err-number-2-clause-reads
 returns-in_err-number-2-clause-reads c =

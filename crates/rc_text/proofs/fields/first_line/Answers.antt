@@ -1,6 +1,6 @@
 use Rattle.std.proofs.Common.{arith}
 use Rattle.rc_text.proofs.Cuts.{one_more, cut_at, none_at}
-use Rattle.rc_text.proofs.reading.first_line.Goals as goal
+use Rattle.rc_text.proofs.fields.first_line.Goals as goal
 
 pub returns-then-bytes-at-eq10-clause-found : goal.returns-then-bytes-at-eq10-clause-found
 returns-then-bytes-at-eq10-clause-found c = cut_at c.args.bytes.now c.loop-at.at c.loop-at-test.true c.loop-at.invariant.one c.if-bytes-at-eq10.true

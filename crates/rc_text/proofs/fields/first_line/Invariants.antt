@@ -1,6 +1,6 @@
 use Rattle.std.proofs.Common.{◌≤◌, ◌-◌, length, take}
 use Rattle.rc_text_model.specs.HouseText.{IsOneLine}
-use Rattle.rc_text.proofs.reading.first_line.Given as goal
+use Rattle.rc_text.proofs.fields.first_line.Given as goal
 
 abbrev pub invariant-loop-at : goal.invariant-loop-at
 invariant-loop-at l =
