@@ -14,9 +14,9 @@ use Rattle.rc_text_model.proofs.Grammar.{all_append}
 use Rattle.rc_log_model.specs.Shown.{site_shown, sight_from}
 use Rattle.rc_play_model.specs.View.{Sight, View}
 use Rattle.rc_log_model.specs.Lines.{header_text, opening_text, stop_text, made_text, frame_text, numbers_text, place_text, total_text, opening_in, stop_in, made_in, frame_in, numbers_in, place_in, total_in}
-use Rattle.rc_log_model.specs.Log.{LogText, log_lines, place_lines, block_lines, blocks_from, most_told, largest_word, IsFrame, IsSight, IsLogSite, ArePlaces, Counts, IsSmall, IsLog}
-use Rattle.rc_log_model.specs.Grammar.{run, Begins}
-use Rattle.rc_log_model.specs.Reading.{Place, outside, headed, between, stopped, framing, placing, ended, begun, with_frame, with_numbers, with_sight, opened, stop_at, total_at, frame_at, behind_place, place_at, takes, whole, grammar}
+use Rattle.rc_log_model.specs.Log.{LogText, log_lines, text_of, place_lines, block_lines, blocks_from, most_told, largest_word, IsFrame, IsSight, IsLogSite, ArePlaces, Counts, IsSmall, IsLog}
+use Rattle.rc_text_model.specs.LineGrammar.{run, Begins}
+use Rattle.rc_log_model.specs.Reading.{Place, outside, headed, between, stopped, framing, placing, ended, begun, with_frame, with_numbers, with_sight, opened, stop_at, total_at, frame_at, behind_place, place_at, takes, whole}
 use Rattle.rc_log_model.proofs.LineLemmas.{opening-only, stop-only, made-only, frame-only, numbers-only, place-only, total-only, sight_is}
 
 -- ---- the lines that a place stands behind
@@ -310,10 +310,10 @@ module _ (shape : Shape) where
   abbrev Reaches : Place → List (List ℕ) → Place → Type 0
   Reaches p lines q = IsGood q × (lines_at q ≡ lines_at p ++ lines)
 
-  pub run_good : (p : Place) (lines : List (List ℕ)) (q : Place) → IsGood p → run (grammar shape) p lines ≡ Some q → Reaches p lines q
+  pub run_good : (p : Place) (lines : List (List ℕ)) (q : Place) → IsGood p → run (takes shape) p lines ≡ Some q → Reaches p lines q
   run_good p [] q good e = subst (Reaches p []) (some_is p q e) (good, sym (append-nil (lines_at p)))
   run_good p (l ∷ lines) q good e =
-      let a = bind_some (takes shape p l) (λ q. run (grammar shape) q lines) q e in
+      let a = bind_some (takes shape p l) (λ q. run (takes shape) q lines) q e in
       let f = follows p l a.0 good a.1 in
       let r = run_good a.0 lines q f.0 a.2 in
       (r.0, r.1 ∙ ap (λ t. t ++ lines) f.1 ∙ append_assoc (lines_at p) (l ∷ []) lines)
@@ -327,7 +327,7 @@ module _ (shape : Shape) where
   whole_case (placing seat n views v) t e good = absurd cc
   whole_case (ended t') t e good = let same = some_is t' t e in (subst (IsLog shape) same good, ap log_lines (sym same))
 
-  pub log_only : (lines : List (List ℕ)) (q : Place) (t : LogText) → run (grammar shape) outside lines ≡ Some q → whole q ≡ Some t → IsLog shape t × (log_lines t ≡ lines)
+  pub log_only : (lines : List (List ℕ)) (q : Place) (t : LogText) → run (takes shape) outside lines ≡ Some q → whole q ≡ Some t → IsLog shape t × (log_lines t ≡ lines)
   log_only lines q t e w = let r = run_good outside lines q tt e in let l = whole_case q t w r.0 in (l.0, l.1 ∙ r.1)
 
 -- ---- each place leads to a whole log
@@ -471,7 +471,7 @@ module _ (shape : Shape) (small : IsSmall shape) where
   finish (placing seat n views v) good = finish_placing seat n views v good
   finish (ended t) good = (t, [], good, sym (append-nil (log_lines t)))
 
-  pub log_begins : (lines : List (List ℕ)) (q : Place) → run (grammar shape) outside lines ≡ Some q → Begins (IsLog shape) log_lines lines
+  pub log_begins : (lines : List (List ℕ)) (q : Place) → run (takes shape) outside lines ≡ Some q → Begins (IsLog shape) text_of lines
   log_begins lines q e =
       let r = run_good shape outside lines q tt e in
       let f = finish q r.0 in

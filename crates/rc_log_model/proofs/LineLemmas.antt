@@ -6,19 +6,13 @@ use Rattle.rc_play_model.specs.Control.{Frame}
 use Rattle.rc_play_model.specs.Shape.{Shape}
 use Rattle.rc_text_model.specs.Fields.{◌>>=◌, behind, number}
 use Rattle.rc_text_model.proofs.FieldLemmas.{bind_some, bind_is, some_is, behind_only, behind_again, number-only, number-again, last-only, either, IsStop}
+use Rattle.rc_text_model.proofs.LineLemmas.{then, end}
 use Rattle.rc_log_model.specs.Fields.{counts_in, integers_in, cards_in}
 use Rattle.rc_log_model.specs.Lines.{opening_text, stop_text, count_text, integer_text, made_text, direction_text, named_text, frame_text, numbers_text, card_text, place_text, total_text, opening_in, stop_in, made_in, direction_in, named_in, frame_in, numbers_in, sight_in, place_in, total_in}
 use Rattle.rc_log_model.specs.Log.{IsCard, IsSight, IsFrame}
 use Rattle.rc_log_model.specs.Shown.{cards_shown, sight_from, HasKind}
 use Rattle.rc_play_model.specs.View.{Sight, with_faces, partly}
 use Rattle.rc_log_model.proofs.Parts.{or_first, counts-only, counts-again, integers-only, integers-again, cards-only, cards-again, cards_short, stop_cards}
-
--- one more part behind a word, and the last one
-pub then : (word part tail rest : List ℕ) (bytes : List ℕ) → bytes ≡ word ++ (part ++ rest) → rest ≡ tail → bytes ≡ word ++ (part ++ tail)
-then word part tail rest bytes e e' = e ∙ ap (λ t. word ++ (part ++ t)) e'
-
-pub end : (word part rest : List ℕ) (bytes : List ℕ) → bytes ≡ word ++ (part ++ rest) → rest ≡ [] → bytes ≡ word ++ part
-end word part rest bytes e e' = e ∙ ap (λ t. word ++ (part ++ t)) e' ∙ ap (λ t. word ++ t) (append-nil part)
 
 -- ---- the seat and the match
 

@@ -1,30 +1,19 @@
 -- The lines of a log have no LF.
-use Rattle.std.proofs.Common.{◌≡◌, ℕ, suc, ◌+◌, ◌<◌, ◌≤◌, ◌^◌, Bool, true, false, List, [], ◌∷◌, ◌++◌, map, flat_map, ℤ, codes, decimal, Option, Some, None, unwrap_or, refl, subst, length, IfSome, pos, negsuc, arith, rules, leb→le}
+use Rattle.std.proofs.Common.{◌≡◌, ℕ, ◌+◌, ◌<◌, ◌≤◌, ◌^◌, Bool, true, false, List, [], ◌∷◌, map, flat_map, ℤ, codes, Option, Some, None, unwrap_or, refl, subst, length, IfSome, arith, rules}
 use Rattle.std.specs.Fmt.{signed_decimal}
 use Rattle.std.specs.List.{AllByRecursion}
-use Rattle.rc_model.specs.Clamp.{IsWithinClamp, largest_number}
+use Rattle.rc_model.specs.Clamp.{IsWithinClamp}
 use Rattle.rc_play_model.specs.Control.{Frame}
 use Rattle.rc_play_model.specs.Shape.{Place, Shape}
 use Rattle.rc_play_model.specs.Sees.{sees_place}
 use Rattle.rc_text_model.specs.HouseText.{IsOneLine}
-use Rattle.rc_text_model.proofs.LineCuts.{IsOneLine-append, digits_one}
+use Rattle.rc_text_model.proofs.LineCuts.{IsOneLine-append, signed_one, part, more}
 use Rattle.rc_text_model.proofs.Grammar.{all_append}
 use Rattle.rc_log_model.specs.Shown.{site_shown, cards_shown}
 use Rattle.rc_play_model.specs.View.{Sight, View}
 use Rattle.rc_log_model.specs.Lines.{opening_text, stop_text, count_text, integer_text, made_text, direction_text, named_text, frame_text, numbers_text, card_text, total_text}
 use Rattle.rc_log_model.specs.Log.{LogText, log_lines, place_lines, block_lines, blocks_from, IsFrame, IsCard, IsLogSite, ArePlaces, Counts, IsSmall, IsLog}
 use Rattle.rc_log_model.proofs.Parts.{face_small}
-
--- (this one stands in LineCuts of rc_text_model too, which doesn't export it)
-signed_one : (z : ℤ) → IsWithinClamp z → IsOneLine (signed_decimal z)
-signed_one (pos n) is = digits_one n (omega (arith, leb→le n largest_number is.1.le))
-signed_one (negsuc n) is = (refl, digits_one (suc n) (omega (arith, leb→le n 999999999 is.0.le)))
-
-part : (word : List ℕ) (n : ℕ) → IsOneLine word → n < 2 ^ 64 → IsOneLine (word ++ decimal n)
-part word n is lt = IsOneLine-append word (decimal n) is (digits_one n lt)
-
-more : (word : List ℕ) (n : ℕ) (rest : List ℕ) → IsOneLine word → n < 2 ^ 64 → IsOneLine rest → IsOneLine (word ++ (decimal n ++ rest))
-more word n rest is lt is' = IsOneLine-append word (decimal n ++ rest) is (IsOneLine-append (decimal n) rest (digits_one n lt) is')
 
 opening_one : (seat n : ℕ) → seat ≤ 255 → n ≤ 4294967295 → IsOneLine (opening_text seat n)
 opening_one seat n le le' = more (codes "seat ") seat _ (search rules) (omega arith) (part (codes " match ") n (search rules) (omega arith))

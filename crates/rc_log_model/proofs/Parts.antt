@@ -1,5 +1,5 @@
 -- Parts of lines that come in a row: what is read is what is written.
-use Rattle.std.proofs.Common.{◌≡◌, ℕ, zero, suc, ◌<◌, ◌≤◌, ◌^◌, ◌==◌, nat_lt, Bool, true, false, if◌then◌else◌, List, [], ◌∷◌, ◌++◌, length, flat_map, ℤ, codes, decimal, Option, Some, None, ◌⊎◌, inl, inr, refl, sym, ap, ◌∙◌, subst, append_assoc, arith}
+use Rattle.std.proofs.Common.{◌≡◌, ℕ, zero, suc, ◌<◌, ◌≤◌, ◌^◌, ◌==◌, nat_lt, Bool, true, false, List, [], ◌∷◌, ◌++◌, length, flat_map, ℤ, codes, decimal, Option, Some, None, ◌⊎◌, inl, inr, refl, sym, ap, ◌∙◌, subst, append_assoc, arith}
 use Rattle.std.specs.Fmt.{signed_decimal}
 use Rattle.std.specs.List.{AllByRecursion}
 use Rattle.std.proofs.lemmas.List.{length-append}
@@ -7,14 +7,10 @@ use Rattle.rc_model.specs.Clamp.{IsWithinClamp, largest_number}
 use Rattle.std.proofs.lemmas.Bool.{and_parts, ltb-true}
 use Rattle.rc_play_model.specs.Shape.{Shape, face_number}
 use Rattle.rc_text_model.specs.Fields.{◌or_else◌, behind, number, integer}
-use Rattle.rc_text_model.proofs.FieldLemmas.{bind_some, bind_is, some_is, if_some, behind_only, behind_again, number-only, number-again, integer-only, integer-again, last-only, either, IsStop}
+use Rattle.rc_text_model.proofs.FieldLemmas.{bind_some, bind_is, some_is, if_some, if_true, behind_only, behind_again, number-only, number-again, integer-only, integer-again, last-only, either, IsStop}
 use Rattle.rc_log_model.specs.Fields.{counts_in, integers_in, is_face, as_face, face_in, hidden_in, card_in, cards_in}
 use Rattle.rc_log_model.specs.Lines.{count_text, integer_text, card_text}
 use Rattle.rc_log_model.specs.Log.{IsCard}
-
-pub if_true : {A : Type 0} (b : Bool) (x y : A) → b ≡ true → (if b then x else y) ≡ x
-if_true true x y e = refl
-if_true false x y e = absurd cc
 
 pub or_first : {A : Type 0} (a b : Option A) (x : A) → a ≡ Some x → (a or_else b) ≡ Some x
 or_first a b x e = ap (λ o. o or_else b) e

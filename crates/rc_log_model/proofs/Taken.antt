@@ -8,21 +8,21 @@ use Rattle.rc_play_model.specs.Control.{Frame}
 use Rattle.rc_play_model.specs.Shape.{Place as Location, Shape}
 use Rattle.rc_play_model.specs.Sees.{sees, sees_place}
 use Rattle.rc_text_model.specs.Fields.{◌>>=◌}
-use Rattle.rc_text_model.proofs.FieldLemmas.{bind_is}
+use Rattle.rc_text_model.proofs.FieldLemmas.{bind_is, if_true}
 use Rattle.rc_log_model.specs.Shown.{site_shown}
 use Rattle.rc_play_model.specs.View.{Sight, View}
 use Rattle.rc_log_model.specs.Lines.{opening_text, stop_text, made_text, frame_text, numbers_text, place_text, total_text, opening_in, stop_in, made_in, frame_in, numbers_in, place_in, total_in}
 use Rattle.rc_log_model.specs.Log.{IsLogSite, LogText, log_lines, place_lines, block_lines, blocks_from, most_told, IsFrame, IsSight, ArePlaces, Counts, IsSmall, IsLog}
-use Rattle.rc_log_model.specs.Grammar.{run}
-use Rattle.rc_log_model.specs.Reading.{Place, outside, headed, between, stopped, framing, placing, ended, begun, with_frame, with_numbers, with_sight, opened, stop_at, total_at, frame_at, behind_place, place_at, takes, grammar}
+use Rattle.rc_text_model.specs.LineGrammar.{run}
+use Rattle.rc_log_model.specs.Reading.{Place, outside, headed, between, stopped, framing, placing, ended, begun, with_frame, with_numbers, with_sight, opened, stop_at, total_at, frame_at, behind_place, place_at, takes}
 use Rattle.rc_log_model.proofs.OneLine.{site_small}
-use Rattle.rc_log_model.proofs.Parts.{or_first, or_second, if_true}
+use Rattle.rc_log_model.proofs.Parts.{or_first, or_second}
 use Rattle.rc_log_model.proofs.LineLemmas.{opening-again, stop-again, made-again, frame-again, numbers-again, place-again, total-again}
 
 module _ (shape : Shape) (small : IsSmall shape) where
   -- a line that is taken, and lines behind it
-  goes : (p q : Place) (l : List ℕ) (more : List (List ℕ)) → takes shape p l ≡ Some q → run (grammar shape) p (l ∷ more) ≡ run (grammar shape) q more
-  goes p q l more e = ap (λ o. o >>= λ q. run (grammar shape) q more) e
+  goes : (p q : Place) (l : List ℕ) (more : List (List ℕ)) → takes shape p l ≡ Some q → run (takes shape) p (l ∷ more) ≡ run (takes shape) q more
+  goes p q l more e = ap (λ o. o >>= λ q. run (takes shape) q more) e
 
   module _ (seat n : ℕ) (views : List View) (lt : length views < most_told) where
     stop_taken : (turn site : ℕ) → turn ≤ 4294967295 → site ≤ 63 → takes shape (between seat n views) (stop_text (length views) turn site) ≡ Some (stopped seat n views turn site)
@@ -52,14 +52,14 @@ module _ (shape : Shape) (small : IsSmall shape) where
     with_frames v frames = record { seat = v.seat; control = record { site = v.control.site; frames = v.control.frames ++ frames; turn = v.control.turn; made = v.control.made }; numbers = v.numbers; sights = v.sights }
 
     frames_taken : (v : View) (frames : List Frame) (more : List (List ℕ)) → length v.control.frames + length frames ≤ 64 → AllByRecursion IsFrame frames →
-        run (grammar shape) (framing seat n views v) (map frame_text frames ++ more) ≡ run (grammar shape) (framing seat n views (with_frames v frames)) more
+        run (takes shape) (framing seat n views v) (map frame_text frames ++ more) ≡ run (takes shape) (framing seat n views (with_frames v frames)) more
     frames_taken v [] more few all =
-        ap (λ fs. run (grammar shape) (framing seat n views (record { seat = v.seat; control = record { site = v.control.site; frames = fs; turn = v.control.turn; made = v.control.made }; numbers = v.numbers; sights = v.sights })) more)
+        ap (λ fs. run (takes shape) (framing seat n views (record { seat = v.seat; control = record { site = v.control.site; frames = fs; turn = v.control.turn; made = v.control.made }; numbers = v.numbers; sights = v.sights })) more)
         (sym (append-nil v.control.frames))
     frames_taken v (f ∷ frames) more few all =
         goes (framing seat n views v) (framing seat n views (with_frame v f)) (frame_text f) (map frame_text frames ++ more) (frame_taken v f (omega (arith, few)) all.0)
         ∙ frames_taken (with_frame v f) frames more (omega (arith, few, length-append v.control.frames (f ∷ []))) all.1
-        ∙ ap (λ fs. run (grammar shape) (framing seat n views (record { seat = v.seat; control = record { site = v.control.site; frames = fs; turn = v.control.turn; made = v.control.made }; numbers = v.numbers; sights = v.sights })) more)
+        ∙ ap (λ fs. run (takes shape) (framing seat n views (record { seat = v.seat; control = record { site = v.control.site; frames = fs; turn = v.control.turn; made = v.control.made }; numbers = v.numbers; sights = v.sights })) more)
         (append_assoc v.control.frames (f ∷ []) frames)
 
     numbers_taken : (v : View) (numbers : List ℤ) → length numbers ≡ shape.numbers → AllByRecursion IsWithinClamp numbers →
@@ -90,18 +90,18 @@ module _ (shape : Shape) (small : IsSmall shape) where
     AreFrom k (sight ∷ lists) = IsSight shape (sees shape seat k) sight × AreFrom (k + 1) lists
 
     places_taken : (k : ℕ) (v : View) (lists : List Sight) (more : List (List ℕ)) → length v.sights ≡ k → length v.sights + length lists ≡ length shape.places → AreFrom k lists →
-        run (grammar shape) (behind_place shape seat n views v) (place_lines k lists ++ more) ≡ run (grammar shape) (behind_place shape seat n views (with_places v lists)) more
+        run (takes shape) (behind_place shape seat n views v) (place_lines k lists ++ more) ≡ run (takes shape) (behind_place shape seat n views (with_places v lists)) more
     places_taken k v [] more at all from =
-        ap (λ ps. run (grammar shape) (behind_place shape seat n views (record { seat = v.seat; control = v.control; numbers = v.numbers; sights = ps })) more)
+        ap (λ ps. run (takes shape) (behind_place shape seat n views (record { seat = v.seat; control = v.control; numbers = v.numbers; sights = ps })) more)
         (sym (append-nil v.sights))
     places_taken k v (sight ∷ lists) more at all from =
         let less : length v.sights < length shape.places = omega (arith, all) in
-        ap (λ p. run (grammar shape) p (place_text k sight ∷ (place_lines (k + 1) lists ++ more))) (still_placing v less)
+        ap (λ p. run (takes shape) p (place_text k sight ∷ (place_lines (k + 1) lists ++ more))) (still_placing v less)
         ∙ goes (placing seat n views v) (behind_place shape seat n views (with_sight v sight)) (place_text k sight) (place_lines (k + 1) lists ++ more)
         (ap (λ k. takes shape (placing seat n views v) (place_text k sight)) (sym at)
         ∙ place_taken v sight less (subst (λ k. IsSight shape (sees shape seat k) sight) (sym at) from.0))
         ∙ places_taken (k + 1) (with_sight v sight) lists more (omega (arith, at, length-append v.sights (sight ∷ []))) (omega (arith, all, length-append v.sights (sight ∷ []))) from.1
-        ∙ ap (λ ps. run (grammar shape) (behind_place shape seat n views (record { seat = v.seat; control = v.control; numbers = v.numbers; sights = ps })) more)
+        ∙ ap (λ ps. run (takes shape) (behind_place shape seat n views (record { seat = v.seat; control = v.control; numbers = v.numbers; sights = ps })) more)
         (append_assoc v.sights (sight ∷ []) lists)
 
     all_in : (v : View) → length v.sights ≡ length shape.places → behind_place shape seat n views v ≡ between seat n (views ++ v ∷ [])
@@ -141,7 +141,7 @@ module _ (shape : Shape) (small : IsSmall shape) where
         (sym is.of_seat) (site_is v.control.site is.site)
 
     block_taken : (v : View) (more : List (List ℕ)) → Counts shape seat v →
-        run (grammar shape) (between seat n views) (block_lines (length views) v ++ more) ≡ run (grammar shape) (between seat n (views ++ v ∷ [])) more
+        run (takes shape) (between seat n views) (block_lines (length views) v ++ more) ≡ run (takes shape) (between seat n (views ++ v ∷ [])) more
     block_taken v more is =
         let b = begun seat v.control.turn (site_shown v) v.control.made in
         let f = with_frames b v.control.frames in
@@ -151,23 +151,23 @@ module _ (shape : Shape) (small : IsSmall shape) where
         (stop_taken v.control.turn (site_shown v) is.turn (site_small v.control.site is.site))
         ∙ goes (stopped seat n views v.control.turn (site_shown v)) (framing seat n views b) (made_text v.control.made) ((map frame_text v.control.frames ++ (numbers_text v.numbers ∷ place_lines 0 v.sights)) ++ more)
         (made_taken v.control.turn (site_shown v) v.control.made is.each_made is.made)
-        ∙ ap (run (grammar shape) (framing seat n views b)) (append_assoc (map frame_text v.control.frames) (numbers_text v.numbers ∷ place_lines 0 v.sights) more)
+        ∙ ap (run (takes shape) (framing seat n views b)) (append_assoc (map frame_text v.control.frames) (numbers_text v.numbers ∷ place_lines 0 v.sights) more)
         ∙ frames_taken b v.control.frames (numbers_text v.numbers ∷ (place_lines 0 v.sights ++ more)) (omega (arith, is.few_frames)) is.frames
         ∙ goes (framing seat n views f) (behind_place shape seat n views m) (numbers_text v.numbers) (place_lines 0 v.sights ++ more) (numbers_taken f v.numbers is.each_number is.numbers)
         ∙ places_taken 0 m v.sights more refl (omega (arith, long)) (from_all 0 shape.places [] v.sights refl refl is.places)
-        ∙ ap (λ p. run (grammar shape) p more) (all_in (with_places m v.sights) long)
-        ∙ ap (λ w. run (grammar shape) (between seat n (views ++ w ∷ [])) more) (as_it_is v is)
+        ∙ ap (λ p. run (takes shape) p more) (all_in (with_places m v.sights) long)
+        ∙ ap (λ w. run (takes shape) (between seat n (views ++ w ∷ [])) more) (as_it_is v is)
 
   blocks_taken : (seat n : ℕ) (done views : List View) (more : List (List ℕ)) → length done + length views ≤ most_told → AllByRecursion (Counts shape seat) views →
-      run (grammar shape) (between seat n done) (blocks_from (length done) views ++ more) ≡ run (grammar shape) (between seat n (done ++ views)) more
-  blocks_taken seat n done [] more few all = ap (λ vs. run (grammar shape) (between seat n vs) more) (sym (append-nil done))
+      run (takes shape) (between seat n done) (blocks_from (length done) views ++ more) ≡ run (takes shape) (between seat n (done ++ views)) more
+  blocks_taken seat n done [] more few all = ap (λ vs. run (takes shape) (between seat n vs) more) (sym (append-nil done))
   blocks_taken seat n done (v ∷ views) more few all =
       let next : length done + 1 ≡ length (done ++ v ∷ []) = omega (arith, length-append done (v ∷ [])) in
-      ap (run (grammar shape) (between seat n done)) (append_assoc (block_lines (length done) v) (blocks_from (length done + 1) views) more)
+      ap (run (takes shape) (between seat n done)) (append_assoc (block_lines (length done) v) (blocks_from (length done + 1) views) more)
       ∙ block_taken seat n done (omega (arith, few)) v (blocks_from (length done + 1) views ++ more) all.0
-      ∙ ap (λ k. run (grammar shape) (between seat n (done ++ v ∷ [])) (blocks_from k views ++ more)) next
+      ∙ ap (λ k. run (takes shape) (between seat n (done ++ v ∷ [])) (blocks_from k views ++ more)) next
       ∙ blocks_taken seat n (done ++ v ∷ []) views more (omega (arith, few, next)) all.1
-      ∙ ap (λ vs. run (grammar shape) (between seat n vs) more) (append_assoc done (v ∷ []) views)
+      ∙ ap (λ vs. run (takes shape) (between seat n vs) more) (append_assoc done (v ∷ []) views)
 
   total_taken : (t : LogText) → IsLog shape t → takes shape (between t.seat t.number t.views) (total_text t.stops) ≡ Some (ended t)
   total_taken t is =
@@ -181,7 +181,7 @@ module _ (shape : Shape) (small : IsSmall shape) where
       bind_is (opening_in (opening_text seat n)) (opened shape) (seat, n) (Some (between seat n [])) (opening-again seat n (omega (arith, less, small.players)) le)
       (if_true (nat_lt seat shape.players) (Some (between seat n [])) None (lt-ltb seat shape.players less))
 
-  pub log_taken : (t : LogText) → IsLog shape t → run (grammar shape) outside (log_lines t) ≡ Some (ended t)
+  pub log_taken : (t : LogText) → IsLog shape t → run (takes shape) outside (log_lines t) ≡ Some (ended t)
   log_taken t is =
       goes headed (between t.seat t.number []) (opening_text t.seat t.number) (blocks_from 0 t.views ++ total_text t.stops ∷ []) (opening_taken t.seat t.number is.seat is.number)
       ∙ blocks_taken t.seat t.number [] t.views (total_text t.stops ∷ []) (omega (arith, is.told)) is.views

@@ -1,5 +1,5 @@
 -- A log tells the first views and how many there are, and nothing else.
-use Rattle.std.proofs.Common.{◌≡◌, ℕ, zero, suc, ◌-◌, ◌<◌, ◌≤◌, List, [], ◌∷◌, ◌++◌, length, take, Ok, Result, ◌⊎◌, inl, inr, refl, sym, ap, ap₂, ◌∙◌, subst, arith}
+use Rattle.std.proofs.Common.{◌≡◌, ℕ, zero, suc, ◌-◌, ◌<◌, ◌≤◌, List, [], ◌∷◌, ◌++◌, length, take, Ok, ◌⊎◌, inl, inr, refl, sym, ap, ap₂, ◌∙◌, subst, arith}
 use Rattle.std.specs.List.{AllByRecursion}
 use Rattle.std.proofs.lemmas.Bool.{cases_lt}
 use Rattle.std.proofs.lemmas.List.{length-append, length-take, take_all, take_at}
@@ -9,14 +9,16 @@ use Rattle.rc_play_model.specs.View.{View}
 use Rattle.rc_log_model.specs.Log.{LogText, log_lines, text_of, log_text, most_told, largest_word, Counts, IsSmall, IsLog}
 use Rattle.rc_log_model.specs.Laws.{AllCount}
 use Rattle.rc_log_model.specs.Reading.{ended, read_log, grammar}
-use Rattle.rc_log_model.proofs.Grammars.{IsGrammarOf, text_read}
+use Rattle.rc_text_model.proofs.LineGrammars.{IsGrammarOf, text_read}
+use Rattle.rc_text_model.proofs.FieldLemmas.{ok_is}
 use Rattle.rc_log_model.proofs.OneLine.{lines_one}
 use Rattle.rc_log_model.proofs.Follows.{log_only, log_begins}
 use Rattle.rc_log_model.proofs.Taken.{log_taken}
 
-pub is_grammar : (shape : Shape) → IsSmall shape → IsGrammarOf (grammar shape) (IsLog shape) log_lines
+pub is_grammar : (shape : Shape) → IsSmall shape → IsGrammarOf (grammar shape) (IsLog shape) text_of log_lines
 is_grammar shape small =
     record {
+      spelled = λ t. refl;
       one = lines_one shape small;
       taken = λ t is. (ended t, log_taken shape small t is, refl);
       only = log_only shape;
@@ -24,7 +26,7 @@ is_grammar shape small =
     }
 
 pub log_read : (shape : Shape) (t : LogText) → IsSmall shape → IsLog shape t → read_log shape (text_of t) ≡ Ok t
-log_read shape t small is = text_read (grammar shape) (IsLog shape) log_lines (is_grammar shape small) t is
+log_read shape t small is = text_read (is_grammar shape small) t is
 
 all_taken : {A : Type 0} (P : A → Type 0) (n : ℕ) (xs : List A) → AllByRecursion P xs → AllByRecursion P (take n xs)
 all_taken P zero xs all = tt
@@ -87,12 +89,6 @@ pub log_has : (shape : Shape) (t : LogText) → IsLog shape t → (views : List 
 log_has shape t is = let r = has_case shape t is (cases_lt t.stops most_told) in (r.0, r.1.0, r.1.1)
 
 -- ---- two logs
-
-abbrev ok : LogText → Result LogText ℕ
-ok t = Ok t
-
-ok_is : (t u : LogText) → ok t ≡ ok u → t ≡ u
-ok_is t u e = cc
 
 pub tell_views : (shape : Shape) (seat number : ℕ) (views views' : List View) → IsSmall shape → seat < shape.players → number ≤ largest_word →
     AllCount shape seat views → AllCount shape seat views' →

@@ -3,8 +3,8 @@ use Rattle.std.specs.Prelude.{◌≡◌, ◌↔◌, ℕ, ◌<◌, ◌≤◌, Lis
 use Rattle.std.specs.List.{AllByRecursion}
 use Rattle.rc_play_model.specs.Shape.{Shape}
 use Rattle.rc_play_model.specs.View.{View}
-use Rattle.rc_log_model.specs.Log.{LogText, log_lines, text_of, log_text, most_told, largest_word, IsSmall, Counts, IsLog}
-use Rattle.rc_log_model.specs.Grammar.{IsFirstFault}
+use Rattle.rc_log_model.specs.Log.{LogText, text_of, log_text, most_told, largest_word, IsSmall, Counts, IsLog}
+use Rattle.rc_text_model.specs.LineGrammar.{IsFirstFault}
 use Rattle.rc_log_model.specs.Reading.{read_log}
 
 -- a log is read off its text, and what is read has the bytes as its text
@@ -18,7 +18,7 @@ ReadIsLog =
 
 -- the first line that no log of a shape goes on with
 abbrev pub IsFirstFaultOf : Shape → List ℕ → ℕ → Type 0
-IsFirstFaultOf shape bytes n = IsFirstFault (IsLog shape) log_lines bytes n
+IsFirstFaultOf shape bytes n = IsFirstFault (IsLog shape) text_of bytes n
 
 -- a fault is at the first faulty line, and at no other
 abbrev pub FaultIsFirst : Type 0

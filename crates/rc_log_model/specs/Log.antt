@@ -1,5 +1,6 @@
 -- Logs: their lines and their bytes, and which there are.
-use Rattle.std.specs.Prelude.{◌≡◌, ℕ, ◌+◌, ◌<◌, ◌≤◌, min, Bool, true, false, List, [], ◌∷◌, ◌++◌, length, map, flat_map, take, Option, Some, None, IfSome, ⊤}
+use Rattle.std.specs.Prelude.{◌≡◌, ℕ, ◌+◌, ◌<◌, ◌≤◌, min, Bool, true, false, List, [], ◌∷◌, ◌++◌, length, map, flat_map}
+use Rattle.std.specs.Prelude.{take, Option, Some, None, IfSome, ⊤}
 use Rattle.std.specs.List.{AllByRecursion}
 use Rattle.rc_model.specs.Clamp.{IsWithinClamp}
 use Rattle.rc_model.specs.Limits.{most_players, most_locations, most_cards}
@@ -10,7 +11,8 @@ use Rattle.rc_play_model.specs.Sees.{sees_place}
 use Rattle.rc_play_model.specs.View.{Sight, View}
 use Rattle.rc_log_model.specs.Shown.{site_shown, cards_shown, HasKind}
 use Rattle.rc_log_model.specs.Fields.{is_face}
-use Rattle.rc_log_model.specs.Lines.{header_text, opening_text, stop_text, made_text, frame_text, numbers_text, place_text, total_text}
+use Rattle.rc_log_model.specs.Lines.{header_text, opening_text, stop_text, made_text, frame_text, numbers_text}
+use Rattle.rc_log_model.specs.Lines.{place_text, total_text}
 
 -- stops that a log tells one by one; behind these it tells only how many there are
 abbrev pub most_told : ℕ

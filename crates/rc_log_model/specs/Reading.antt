@@ -1,13 +1,15 @@
 -- Reading a log, line by line.
-use Rattle.std.specs.Prelude.{ℕ, ◌==◌, nat_lt, min, ◌&&◌, if◌then◌else◌, List, [], ◌∷◌, ◌++◌, length, ℤ, Option, Some, None, Result}
+use Rattle.std.specs.Prelude.{ℕ, ◌==◌, nat_lt, min, ◌&&◌, if◌then◌else◌, List, [], ◌∷◌, ◌++◌, length, ℤ, Option, Some}
+use Rattle.std.specs.Prelude.{None, Result}
 use Rattle.rc_play_model.specs.Control.{Frame, Control}
 use Rattle.rc_play_model.specs.Shape.{Shape}
 use Rattle.rc_play_model.specs.Sees.{sees}
 use Rattle.rc_play_model.specs.View.{Sight, View}
 use Rattle.rc_text_model.specs.Fields.{◌>>=◌, ◌or_else◌, behind, last}
-use Rattle.rc_log_model.specs.Lines.{header_text, opening_in, stop_in, made_in, frame_in, numbers_in, place_in, total_in}
+use Rattle.rc_log_model.specs.Lines.{header_text, opening_in, stop_in, made_in, frame_in, numbers_in, place_in}
+use Rattle.rc_log_model.specs.Lines.{total_in}
 use Rattle.rc_log_model.specs.Log.{LogText, most_told}
-use Rattle.rc_log_model.specs.Grammar.{Grammar, read_by}
+use Rattle.rc_text_model.specs.LineGrammar.{Grammar, read_by}
 
 -- Where a log stands: before its first line, behind it, behind whole stops, behind a stop's first line, among its
 -- frames or its locations, or behind its last line.

@@ -7,17 +7,15 @@ use Rattle.rc_table.specs.Shape.{IsShape}
 use Rattle.rc_text_model.specs.Fields.{◌>>=◌, number}
 use Rattle.rc_text_model.proofs.FieldLemmas.{bind_some, some_is, number-only}
 use Rattle.rc_log_model.specs.Lines.{sight_in, place_in}
-use Rattle.rc_log_model.specs.Log.{text_of, IsLog, IsSmall}
+use Rattle.rc_log_model.specs.Log.{text_of, IsLog}
 use Rattle.rc_log_model.specs.Reading.{place_at, behind_place, with_sight, read_log}
 use Rattle.rc_log_model.specs.Laws.{ReadIsLog, FaultIsFirst, LogHasViews, IsFirstFaultOf}
+use Rattle.rc_log_model.proofs.Matches.{is_small}
 use Rattle.rc_seatlog.specs.Seen.{log_seen}
 use Rattle.rc_seatlog.specs.Gives.{Gives, IfLogFault, IsOfViews}
 use Rattle.rc_seatlog.specs.declared.told.LogText.{LogText}
 use Rattle.rc_seatlog.specs.declared.reading.LogFail.{LogFail}
 use Rattle.rc_seatlog.specs.declared.reading.LogFail.TheVariants.{Fault, Memory}
-
-pub is_small : (shape : Shape) → IsShape shape → IsSmall shape
-is_small shape is = record { some_players = is.some_players; players = is.players; locations = is.locations; cards = is.cards }
 
 pub read_is : (shape : Shape) (bytes : List ℕ) (r : Result LogText LogFail) → IsShape shape → Gives r (read_log shape bytes) → ReadIsLog → IfOk r (λ text. IsLog shape (log_seen text))
 read_is shape bytes (Ok text) is gives only = (only shape bytes (log_seen text) (is_small shape is) gives).0

@@ -13,7 +13,7 @@ use Rattle.rc_play_model.specs.Step.{start}
 use Rattle.rc_play_model.specs.Stop.{stop_of}
 use Rattle.rc_play_model.specs.View.{View, view_of}
 use Rattle.rc_log_model.specs.Views.{views_from}
-use Rattle.rc_seatlog.specs.Plays.{IsPlayOf}
+use Rattle.rc_log_model.specs.Plays.{IsPlayOf}
 use Rattle.rc_text_model.proofs.FieldLemmas.{some_is}
 use Rattle.rc_rules.specs.declared.record.Pick.{Pick as CodePick}
 use Rattle.rc_rules.specs.Record.{pick_seen}

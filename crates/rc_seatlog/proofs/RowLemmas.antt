@@ -7,7 +7,7 @@ use Rattle.rc_play_model.specs.View.{Sight, with_faces}
 use Rattle.rc_log_model.specs.Shown.{sight_from}
 use Rattle.rc_log_model.specs.Lines.{sight_in}
 use Rattle.rc_log_model.proofs.LineLemmas.{sight_again}
-use Rattle.rc_seatlog.specs.Finds.{Finds}
+use Rattle.rc_text.specs.Finds.{Finds}
 use Rattle.rc_log_model.specs.Fields.{counts_in, integers_in, card_in, cards_in}
 
 -- faces that are known

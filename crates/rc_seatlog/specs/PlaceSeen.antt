@@ -4,7 +4,8 @@ use Rattle.rc_log_model.specs.Reading.{Place as PurePlace, outside, headed, betw
 use Rattle.rc_view.specs.Seen.{view_seen}
 use Rattle.rc_seatlog.specs.Seen.{log_seen}
 use Rattle.rc_seatlog.specs.declared.places.Progress.{Progress}
-use Rattle.rc_seatlog.specs.declared.places.Progress.TheVariants.{Outside, Headed, Between, Stopped, Framing, Placing, Ended}
+use Rattle.rc_seatlog.specs.declared.places.Progress.TheVariants.{Outside, Headed, Between, Stopped, Framing, Placing}
+use Rattle.rc_seatlog.specs.declared.places.Progress.TheVariants.{Ended}
 
 abbrev pub place_seen : Progress → PurePlace
 place_seen Outside = outside

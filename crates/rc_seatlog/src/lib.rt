@@ -1,7 +1,6 @@
 //! Seat logs: what a seat saw at each decision of a match. They are written and read.
 #![tactic(auto)]
 
-mod fields;
 mod lines;
 mod places;
 mod reading;

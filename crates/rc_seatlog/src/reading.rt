@@ -1,6 +1,5 @@
 //! Logs, read.
-ghost use Rattle.std.specs.Prelude.{◌≡◌, ℕ, List, ◌∷◌, [], ◌<◌, ◌≤◌, length, Ok, Err, IfSome, IfNone, IfOk, IfErr};
-ghost use Rattle.rc_text_model.specs.Reading.{lines_in};
+ghost use Rattle.std.specs.Prelude.{◌≡◌, ℕ, List, ◌<◌, ◌≤◌, length, Ok, Err, IfOk, IfErr};
 ghost use Rattle.rc_play_model.specs.View.{View as PureView};
 ghost use Rattle.rc_log_model.specs.Log.{LogText as PureText, text_of, log_text, log, largest_word, IsLog};
 ghost use Rattle.rc_log_model.specs.Reading.{read_log};
@@ -13,14 +12,15 @@ use crate::told::LogText;
 use rc_deck::Memory;
 use rc_log_model::{faults_are_first, logs_are_read, logs_tell_views};
 use rc_table::Shape;
+use rc_text::fields::first_line;
 use std::alloc::Global;
 
 /// Why a log isn't read.
 #[derive(Clone, Copy, PartialEq, Eq, Debug)]
 pub enum LogFail {
     /// The text is no log of a seat of the shape. This is the number of its first line, counted from 1, that can't
-    /// stand there: the lines before it begin a log, and with it they begin none. Where the text ends too early, it is the
-    /// number of lines plus 1.
+    /// stand there: the lines before it begin a log, and with it they begin none. Where the text ends too early, it is
+    /// the number of lines plus 1.
     Fault { line: u32 },
     /// Memory ran out.
     Memory,
@@ -96,20 +96,4 @@ fn read_lines(alloc: Global, shape: &Shape, bytes: &[u8]) -> Result<LogText, Log
         Progress::Ended(text) => Ok(text),
         _ => Err(LogFail::Fault { line: number }),
     }
-}
-
-// The first line, without its LF, and the bytes behind that; nothing where no LF is left.
-fn first_line(bytes: &[u8]) -> Option<(&[u8], &[u8])>
-    ensures found { IfSome result (λ x. lines_in bytes.now ≡ (x.0.now ∷ (lines_in x.1.now).0, (lines_in x.1.now).1)) }
-    ensures shorter { IfSome result (λ x. length x.1.now < length bytes.now) }
-    ensures none { IfNone result (lines_in bytes.now ≡ ([], bytes.now)) }
-{
-    let mut at = 0;
-    while at < bytes.len() {
-        if bytes[at] == b'\n' {
-            return Some((&bytes[..at], &bytes[at + 1..]));
-        }
-        at += 1;
-    }
-    None
 }

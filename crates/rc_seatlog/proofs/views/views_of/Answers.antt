@@ -12,7 +12,7 @@ use Rattle.rc_rules.specs.Control.{stop_seen}
 use Rattle.rc_rules.specs.Record.{pick_seen}
 use Rattle.rc_rules.specs.Machine.{StandsAtDecision, StandsWhereItStops, menu_here}
 use Rattle.rc_rules.specs.declared.record.Pick.{Pick}
-use Rattle.rc_seatlog.specs.Plays.{IsPlayOf}
+use Rattle.rc_log_model.specs.Plays.{IsPlayOf}
 use Rattle.rc_view.specs.Seen.{view_seen}
 use Rattle.rc_seatlog.proofs.PlayLemmas.{goes, stands_there, offered_there, begins, goes_on, sees_on}
 use Rattle.rc_seatlog.proofs.views.views_of.Goals as goal
