@@ -3,4 +3,4 @@
 
 mod plays;
 
-pub use plays::series_of;
+pub use plays::{own_choices, series_of};

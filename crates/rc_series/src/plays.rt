@@ -109,8 +109,8 @@ fn played<N: BookNaming, L: Ledger>(
     }
 }
 
-// Choices by a new book for one worker, on this code.
-fn own_choices<N: BookNaming>(
+/// Choices by a new book for one worker, on this code. Memory may run out.
+pub fn own_choices<N: BookNaming>(
     alloc: Global,
     fresh: Fresh,
     about: &About,
