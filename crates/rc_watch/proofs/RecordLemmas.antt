@@ -1,0 +1,28 @@
+-- What the record of a match says of its log.
+use Rattle.std.proofs.Common.{◌≡◌, ℕ, ◌<◌, Some, ap, subst, arith}
+use Rattle.rc_model.specs.Transcript.{Record}
+use Rattle.rc_sheet_model.specs.Sight.{IsInSight}
+use Rattle.rc_sheet_model.specs.WellFormed.{IsWellFormed}
+use Rattle.rc_play_model.specs.Shape.{shape_of}
+use Rattle.rc_play_model.specs.About.{About}
+use Rattle.rc_play_model.specs.Plan.{Plan}
+use Rattle.rc_play_model.specs.Keyed.{dealing_of, keyed_match}
+use Rattle.rc_log_model.specs.Laws.{AllCount}
+use Rattle.rc_log_model.specs.MatchLaws.{IsWatchable, RecordsTellViews, MatchViewsCount}
+use Rattle.rc_log_model.specs.Views.{views_in}
+
+-- an about keeps a well formed sheet in sight with its shape, and its turn limit is a word
+pub watchable : (about kept counted : About) (turns : ℕ) → kept ≡ about → counted ≡ about → kept.shape ≡ shape_of kept.sheet → IsWellFormed kept.sheet →
+    IsInSight kept.sheet → turns ≡ counted.turns → turns < 4294967296 → IsWatchable about
+watchable about kept counted turns same same' shape well sight is le =
+    record {
+      shape = subst (λ (about : About). about.shape ≡ shape_of about.sheet) same shape;
+      well = subst (λ (about : About). IsWellFormed about.sheet) same well;
+      sight = subst (λ (about : About). IsInSight about.sheet) same sight;
+      turns = let limit = ap (λ (about : About). about.turns) same' in omega (arith, is, limit, le);
+    }
+
+-- the views at the choices of the record count
+pub views_count : (about : About) (plan : Plan) (m seat : ℕ) (r : Record) → IsWatchable about → RecordsTellViews → MatchViewsCount → keyed_match about plan m ≡ Some r →
+    AllCount about.shape seat (views_in about (dealing_of r.deal) seat r.picks)
+views_count about plan m seat r is tell count recorded = subst (AllCount about.shape seat) (tell about plan m seat r recorded) (count about plan m seat is)

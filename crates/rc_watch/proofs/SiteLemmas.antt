@@ -1,0 +1,23 @@
+-- Views that may stand in a log stand at a choice site.
+use Rattle.std.proofs.Common.{◌≡◌, ℕ, List, [], ◌∷◌, map, Option, Some, None, refl, sym, subst}
+use Rattle.std.specs.Prelude.{All, IsSome}
+use Rattle.std.specs.List.{AllByRecursion}
+use Rattle.std.proofs.lemmas.List.Elements.{All-from_recursion}
+use Rattle.rc_play_model.specs.Shape.{Shape}
+use Rattle.rc_play_model.specs.View.{View as PureView}
+use Rattle.rc_view.specs.Seen.{view_seen}
+use Rattle.rc_view.specs.declared.view.View.{View}
+use Rattle.rc_log_model.specs.Log.{IsLogSite, Counts}
+
+site_there : (o : Option ℕ) → IsLogSite o → IsSome o
+site_there None is = absurd is
+site_there (Some site) is = refl
+
+stand : (shape : Shape) (seat : ℕ) (views : List View) → AllByRecursion (Counts shape seat) (map view_seen views) → AllByRecursion (λ (v : View). IsSome v.control.site) views
+stand shape seat [] all = tt
+stand shape seat (v ∷ views) all = (site_there v.control.site all.0.site, stand shape seat views all.1)
+
+pub all_stand : (shape : Shape) (seat : ℕ) (views : List View) (seen : List PureView) → map view_seen views ≡ seen → AllByRecursion (Counts shape seat) seen →
+    All (λ (v : View). IsSome v.control.site) views
+all_stand shape seat views seen is all =
+    All-from_recursion (λ (v : View). IsSome v.control.site) views (stand shape seat views (subst (AllByRecursion (Counts shape seat)) (sym is) all))
