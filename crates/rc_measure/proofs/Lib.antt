@@ -1,0 +1,9 @@
+pub mod CodeLemmas
+pub mod SiteLemmas
+pub mod Sums
+pub mod AddingUp
+pub mod GroupLemmas
+pub mod InOrder
+pub mod Leading
+pub mod Numbers
+pub mod PointSums

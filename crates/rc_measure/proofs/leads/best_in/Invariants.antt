@@ -1,0 +1,11 @@
+use Rattle.std.proofs.Common.{◌≡◌, ◌≤◌, map, take, count_by}
+use Rattle.rc_rules.specs.Record.{record_seen}
+use Rattle.rc_rules.specs.Plan.{plan_seen}
+use Rattle.rc_measure.specs.Leads.{is_best_in}
+use Rattle.rc_measure.proofs.leads.best_in.Given as goal
+
+abbrev pub invariant-loop-played : goal.invariant-loop-played
+invariant-loop-played l = record {
+  is : l.count ≡ count_by (is_best_in (plan_seen l.plan) l.strategy) (map record_seen (take l.played-index l.matches));
+  few : l.count ≤ l.played-index;
+}

@@ -1,0 +1,11 @@
+use Rattle.std.proofs.Common.{◌≡◌, take, fold}
+use Rattle.rc_model.specs.Clamp.{IsWithinClamp}
+use Rattle.std.specs.Int.{int_max}
+use Rattle.rc_measure.proofs.CodeLemmas.{scores_of}
+use Rattle.rc_measure.proofs.scores.largest.Given as goal
+
+abbrev pub invariant-loop-score : goal.invariant-loop-score
+invariant-loop-score l = record {
+  is : l.top ≡ fold int_max l.first (scores_of (take l.score-index l.rest));
+  within : IsWithinClamp l.top;
+}

@@ -1,0 +1,10 @@
+pub mod Tally
+pub mod Groups
+pub mod Turns
+pub mod Scores
+pub mod Leads
+pub mod Measures
+pub mod Rows
+pub mod Text
+pub mod Seen
+pub mod Laws
