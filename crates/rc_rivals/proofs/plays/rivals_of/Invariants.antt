@@ -1,0 +1,12 @@
+use Rattle.rc_rivals.proofs.plays.rivals_of.Given as goal
+
+abbrev pub ghosts-told : goal.ghosts-told
+ghosts-told a =
+    record {
+      about = a.about.now.value;
+      capacity = 1024;
+      lanes = a.fresh.looks.parts;
+      looks = a.fresh.looks.name;
+      hits = a.fresh.hits.name;
+      keeps = a.fresh.keeps.name;
+    }

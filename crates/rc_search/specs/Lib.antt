@@ -1,0 +1,6 @@
+pub mod Shuffling
+pub mod Rival
+pub mod Looking
+pub mod Pruning
+pub mod Rounds
+pub mod Chosen

@@ -1,0 +1,14 @@
+//! A strategy that searches: it looks some decisions deep into tables that are redrawn for what its seat sees.
+#![tactic(auto)]
+
+mod dealer;
+mod plain;
+mod playing;
+mod pruned;
+mod rival;
+mod root;
+mod totals;
+
+pub use playing::{has_two_teams, play_rival};
+pub use rival::{Found, Rival, Seen};
+pub use totals::{plain_totals, pruned_totals};

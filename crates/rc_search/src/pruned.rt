@@ -1,0 +1,273 @@
+//! What stops are worth to one seat in a game of two teams, with those items left out that can't change it.
+ghost use Rattle.std.specs.Prelude.{◌≡◌, ◌<◌, ◌≤◌, ◌+◌, true, false, max, min, fold, length, if◌then◌else◌, IfOk, OnOk};
+ghost use Rattle.rc_ast.specs.Sheet.{sheet_seen};
+ghost use Rattle.rc_play_model.specs.About.{menu_at};
+ghost use Rattle.rc_play_model.specs.Scores as play;
+ghost use Rattle.rc_rules.specs.Control.{stop_seen};
+ghost use Rattle.rc_rules.specs.Machine.{Decides, StandsAtDecision, StandsWhereItStops, menu_here};
+ghost use Rattle.rc_search_model.specs.Value.{is_mate as is_mate_in, most_points as most_for};
+ghost use Rattle.rc_search.specs.Looking.{Tells, tried_at, tried_behind, tried_with, value_at, value_behind, values};
+ghost use Rattle.rc_search.specs.Pruning.{bounded_to};
+
+use crate::dealer::{SearchDealer, Way};
+use crate::plain::count_one;
+use rc_ast::Sheet;
+use rc_deck::Memory;
+use rc_flat::FlatMachine;
+use rc_rules::{About, Machine, Stop, rank_points_of, team_in};
+use rc_steps::Steps;
+use std::sync::ledger::Ledger;
+
+/// What an item is worth to the seat, so many decisions deep behind it, if that lies between two bounds, and otherwise
+/// the bound that it passes. The machine stands at the item's decision, where it stands again behind this. Each item
+/// that is tried is a step.
+#[cycle(pruned)]
+pub(crate) fn behind_within<L: Ledger>(
+    about: &About,
+    way: &Way,
+    depth: u8,
+    item: u16,
+    made: u64,
+    low: u8,
+    high: u8,
+    machine: &mut FlatMachine,
+    steps: &mut Steps<L>,
+    applied: &mut u64,
+) -> Result<u8, Memory>
+    requires about { machine.old.about ≡ about.now }
+    requires fresh { machine.old.spent ≡ false }
+    requires notes { machine.old.notes ≡ true }
+    requires decides { StandsAtDecision about.now machine.old.config }
+    requires offered { item < length (menu_here about.now machine.old.config) }
+    requires player { way.now.seat < about.now.sheet.players }
+    requires made { made < 281474976710656 }
+    requires few { applied.old ≤ 18446744073709551615 }
+    requires bounds { low ≤ high }
+    requires top { high ≤ most_for about.now.sheet way.now.seat }
+    ensures is { IfOk result (λ found. found
+        ≡ bounded_to low high (value_behind about.now way.now depth machine.old.config made item)) }
+    ensures back { OnOk result (machine.new ≡ machine.old) }
+    ensures counted { OnOk result (steps.new
+        ≤ steps.old + 1 + tried_behind about.now way.now depth machine.old.config made item) }
+    ensures told { OnOk result (Tells applied.old applied.new steps.old steps.new) }
+{
+    let mark = machine.mark();
+    let mut dealer = SearchDealer::new(way, made);
+    machine.apply(item, &mut dealer)?;
+    steps.add(1);
+    count_one(applied);
+    let stop = machine.advance(&mut dealer)?;
+    let made = dealer.made();
+    let found = worth_within(
+        about, way, depth, stop, made, low, high, machine, steps, applied,
+    )?;
+    machine.undo_to(mark);
+    Ok(found)
+}
+
+// What the stop where a machine stands is worth to the seat, so many decisions deep, if that lies between two bounds,
+// and otherwise the bound that it passes.
+#[cycle(pruned)]
+fn worth_within<L: Ledger>(
+    about: &About,
+    way: &Way,
+    depth: u8,
+    stop: Stop,
+    made: u64,
+    low: u8,
+    high: u8,
+    machine: &mut FlatMachine,
+    steps: &mut Steps<L>,
+    applied: &mut u64,
+) -> Result<u8, Memory>
+    requires about { machine.old.about ≡ about.now }
+    requires fresh { machine.old.spent ≡ false }
+    requires notes { machine.old.notes ≡ true }
+    requires stands { StandsWhereItStops about.now (stop_seen stop) machine.old.config }
+    requires player { way.now.seat < about.now.sheet.players }
+    requires made { made < 281474976710656 }
+    requires few { applied.old ≤ 18446744073709551615 }
+    requires bounds { low ≤ high }
+    requires top { high ≤ most_for about.now.sheet way.now.seat }
+    ensures is { IfOk result (λ found. found
+        ≡ bounded_to low high (value_at about.now way.now depth (stop_seen stop) machine.old.config made)) }
+    ensures back { OnOk result (machine.new ≡ machine.old) }
+    ensures counted { OnOk result (steps.new
+        ≤ steps.old + tried_at about.now way.now depth (stop_seen stop) machine.old.config made) }
+    ensures told { OnOk result (Tells applied.old applied.new steps.old steps.new) }
+{
+    match stop {
+        Stop::Done => Ok(bounded(points_of(about, way.seat, machine), low, high)),
+        Stop::Limit => Ok(bounded(points_of(about, way.seat, machine), low, high)),
+        Stop::Decide { seat, site } => {
+            if depth == 0 {
+                return Ok(bounded(points_of(about, way.seat, machine), low, high));
+            }
+            if is_mate(about.sheet(), way.seat, seat) {
+                most_within(
+                    about,
+                    way,
+                    depth - 1,
+                    seat,
+                    site,
+                    made,
+                    low,
+                    high,
+                    machine,
+                    steps,
+                    applied,
+                )
+            } else {
+                least_within(
+                    about,
+                    way,
+                    depth - 1,
+                    seat,
+                    site,
+                    made,
+                    low,
+                    high,
+                    machine,
+                    steps,
+                    applied,
+                )
+            }
+        }
+    }
+}
+
+// The most that the items of a decision are worth to the seat, between two bounds. Each item raises the lower one for
+// those behind it. Where they meet, no further item can change anything.
+#[cycle(pruned)]
+fn most_within<L: Ledger>(
+    about: &About,
+    way: &Way,
+    depth: u8,
+    seat: u8,
+    site: u8,
+    made: u64,
+    low: u8,
+    high: u8,
+    machine: &mut FlatMachine,
+    steps: &mut Steps<L>,
+    applied: &mut u64,
+) -> Result<u8, Memory>
+    requires about { machine.old.about ≡ about.now }
+    requires fresh { machine.old.spent ≡ false }
+    requires notes { machine.old.notes ≡ true }
+    requires decides { Decides about.now seat site machine.old.config }
+    requires player { way.now.seat < about.now.sheet.players }
+    requires made { made < 281474976710656 }
+    requires few { applied.old ≤ 18446744073709551615 }
+    requires bounds { low ≤ high }
+    requires top { high ≤ most_for about.now.sheet way.now.seat }
+    ensures is { IfOk result (λ found. found ≡ bounded_to low high (fold max 0
+        (values about.now way.now depth machine.old.config made
+        (length (menu_at about.now site machine.old.config.table machine.old.config.control))))) }
+    ensures back { OnOk result (machine.new ≡ machine.old) }
+    ensures counted { OnOk result (steps.new ≤ steps.old + tried_with about.now way.now depth machine.old.config made
+        (length (menu_at about.now site machine.old.config.table machine.old.config.control))) }
+    ensures told { OnOk result (Tells applied.old applied.new steps.old steps.new) }
+{
+    let size = machine.menu_size() as u16;
+    let mut best = low;
+    for item in 0..size {
+        if best >= high {
+            return Ok(best);
+        }
+        best = behind_within(
+            about, way, depth, item, made, best, high, machine, steps, applied,
+        )?;
+    }
+    Ok(best)
+}
+
+// The least that they are worth to it, between two bounds. Each item lowers the upper one for those behind it.
+#[cycle(pruned)]
+fn least_within<L: Ledger>(
+    about: &About,
+    way: &Way,
+    depth: u8,
+    seat: u8,
+    site: u8,
+    made: u64,
+    low: u8,
+    high: u8,
+    machine: &mut FlatMachine,
+    steps: &mut Steps<L>,
+    applied: &mut u64,
+) -> Result<u8, Memory>
+    requires about { machine.old.about ≡ about.now }
+    requires fresh { machine.old.spent ≡ false }
+    requires notes { machine.old.notes ≡ true }
+    requires decides { Decides about.now seat site machine.old.config }
+    requires player { way.now.seat < about.now.sheet.players }
+    requires made { made < 281474976710656 }
+    requires few { applied.old ≤ 18446744073709551615 }
+    requires bounds { low ≤ high }
+    requires top { high ≤ most_for about.now.sheet way.now.seat }
+    ensures is { IfOk result (λ found. found ≡ bounded_to low high (fold min (most_for about.now.sheet way.now.seat)
+        (values about.now way.now depth machine.old.config made
+        (length (menu_at about.now site machine.old.config.table machine.old.config.control))))) }
+    ensures back { OnOk result (machine.new ≡ machine.old) }
+    ensures counted { OnOk result (steps.new ≤ steps.old + tried_with about.now way.now depth machine.old.config made
+        (length (menu_at about.now site machine.old.config.table machine.old.config.control))) }
+    ensures told { OnOk result (Tells applied.old applied.new steps.old steps.new) }
+{
+    let size = machine.menu_size() as u16;
+    let mut best = high;
+    for item in 0..size {
+        if best <= low {
+            return Ok(best);
+        }
+        best = behind_within(
+            about, way, depth, item, made, low, best, machine, steps, applied,
+        )?;
+    }
+    Ok(best)
+}
+
+// A number, or the bound that it passes.
+fn bounded(points: u8, low: u8, high: u8) -> u8
+    ensures { result ≡ bounded_to low high points }
+{
+    points.min(high).max(low)
+}
+
+// Whether two players are of one team.
+fn is_mate(sheet: &Sheet, player: u8, other: u8) -> bool
+    ensures { result ≡ is_mate_in (sheet_seen sheet.now) player other }
+{
+    team_in(sheet, player) == team_in(sheet, other)
+}
+
+/// The most rank points that a player may have: two for each player of another team.
+pub(crate) fn most_points(sheet: &Sheet, player: u8) -> u8
+    requires { sheet.now.players ≤ 8 }
+    ensures { result ≡ most_for (sheet_seen sheet.now) player }
+{
+    let mut most = 0;
+    for other in 0..sheet.players {
+        most += two_unless(is_mate(sheet, player, other));
+    }
+    most
+}
+
+// What a player may have for another one: nothing for a mate.
+fn two_unless(mate: bool) -> u8
+    ensures is { result ≡ (if mate then 0 else 2) }
+    ensures few { result ≤ 2 }
+{
+    if mate { 0 } else { 2 }
+}
+
+// The seat's rank points where a machine stands.
+fn points_of(about: &About, seat: u8, machine: &FlatMachine) -> u8
+    requires about { machine.now.about ≡ about.now }
+    requires fresh { machine.now.spent ≡ false }
+    requires player { seat < about.now.sheet.players }
+    ensures { result ≡ play.rank_points about.now.sheet
+        (play.scores_of about.now machine.now.config.table machine.now.config.control) seat }
+{
+    rank_points_of(about.sheet(), &machine.scores(), seat)
+}

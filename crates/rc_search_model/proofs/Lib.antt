@@ -1,0 +1,5 @@
+pub mod BestPoints
+pub mod TeamPoints
+pub mod Ranges
+pub mod Alternate
+pub mod RivalLemmas
