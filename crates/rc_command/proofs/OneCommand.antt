@@ -3,7 +3,7 @@ use Rattle.std.proofs.Common.{◌≡◌, ℕ, zero, suc, ◌<◌, ◌≤◌, Lis
 use Rattle.std.specs.Prelude.{unwrap_or}
 use Rattle.rc_model.specs.Literal.{natural}
 use Rattle.rc_command.specs.Words.{Setting, IsFirst, AreSettings, HasFormat, HasNumber, HasOptions, number_of, text_in}
-use Rattle.rc_command.specs.Command.{IsCommand}
+use Rattle.rc_command.specs.Command.{IsCommand, IsRival}
 use Rattle.rc_command.specs.declared.option.OptionName.{OptionName}
 use Rattle.rc_command.specs.declared.option.OptionName.TheVariants.{Workers, Cache, Format}
 use Rattle.rc_command.specs.declared.options.Format.{Format as TextFormat}
@@ -11,8 +11,9 @@ use Rattle.rc_command.specs.declared.options.Format.TheVariants.{Plain, Named}
 use Rattle.rc_command.specs.declared.options.Options.{Options}
 use Rattle.rc_command.specs.declared.reader.Playing.{Playing}
 use Rattle.rc_command.specs.declared.reader.Playing.TheVariants as playing
+use Rattle.rc_command.specs.declared.rival.Rival.{Rival}
 use Rattle.rc_command.specs.declared.command.Command.{Command}
-use Rattle.rc_command.specs.declared.command.Command.TheVariants.{Play, Check, Sheet, Bench, Migrate}
+use Rattle.rc_command.specs.declared.command.Command.TheVariants.{Play, Check, Sheet, Bench, Migrate, Watch, Measure, Rival as SearchesFor}
 use Rattle.rc_command.proofs.WordLemmas.{first_of, behind_first}
 
 abbrev Text : Type 0
@@ -130,6 +131,26 @@ options_are kind words options (texts, ((settings, are, once, told), workers, ca
         → ◌≡◌ {A = Options} (record { workers = workers; cache = cache; format = format }) (record { workers = workers'; cache = cache'; format = format' })
     same a b c = λ i. record { workers = a i; cache = b i; format = c i }
 
+-- the search that words name, where they name one
+abbrev number_at : ℕ → List Text → ℕ
+number_at n words = unwrap_or (natural (first_of (drop n words))) 0
+
+abbrev rival_in : List Text → Rival
+rival_in words =
+    record { strategy = number_at 0 words; depth = number_at 1 words; rounds = number_at 2 words; key = number_at 3 words }
+
+rival_is : (words : List Text) (rival : Rival) → IsRival words rival → rival ≡ rival_in words
+rival_is words rival (strategy, depth, rounds, key, split, (first, second, third, spelled)) =
+    same (sym (ap (λ x. unwrap_or x 0) first.1)) (sym (ap (λ x. unwrap_or x 0) second.1)) (sym (ap (λ x. unwrap_or x 0) third.1))
+    (sym (ap (λ x. unwrap_or x 0) spelled))
+    ∙ sym (ap rival_in split)
+  where
+    same : {strategy strategy' depth depth' rounds rounds' key key' : ℕ} → strategy ≡ strategy' → depth ≡ depth' → rounds ≡ rounds'
+        → key ≡ key'
+        → ◌≡◌ {A = Rival} (record { strategy = strategy; depth = depth; rounds = rounds; key = key })
+        (record { strategy = strategy'; depth = depth'; rounds = rounds'; key = key' })
+    same a b c d = λ i. record { strategy = a i; depth = b i; rounds = c i; key = d i }
+
 -- the command that words are, where they are one. Other words may give anything here too
 abbrev command_in : List Text → Command
 command_in [] = Check
@@ -138,6 +159,10 @@ command_in (name ∷ words) =
     else if bytes_eq name (codes "bench") then Bench (unwrap_or (natural (first_of words)) 1) (options_in playing.Bench (behind_first words))
     else if bytes_eq name (codes "sheet") then Sheet
     else if bytes_eq name (codes "migrate") then Migrate
+    else if bytes_eq name (codes "watch")
+    then Watch (unwrap_or (natural (first_of words)) 0) (unwrap_or (natural (first_of (behind_first words))) 0)
+    else if bytes_eq name (codes "measure") then Measure
+    else if bytes_eq name (codes "rival") then SearchesFor (rival_in words)
     else Check
 
 command_is : (words : List Text) (command : Command) → IsCommand words command → command ≡ command_in words
@@ -145,6 +170,11 @@ command_is words (Play options) (rest, is, has) = ap Play (options_are playing.P
 command_is words Check is = sym (ap command_in is)
 command_is words Sheet is = sym (ap command_in is)
 command_is words Migrate is = sym (ap command_in is)
+command_is words (Watch seat number) (later, is, (text, other, split, (short, spelled, least, most), (short', spelled', least', most'))) =
+    ap₂ Watch (sym (ap (λ x. unwrap_or x 0) spelled)) (sym (ap (λ x. unwrap_or x 0) spelled'))
+    ∙ sym (ap command_in (is ∙ ap (λ x. codes "watch" ∷ x) split))
+command_is words Measure is = sym (ap command_in is)
+command_is words (SearchesFor rival) (later, is, has) = ap SearchesFor (rival_is later rival has) ∙ sym (ap command_in is)
 command_is words (Bench number options) (later, is, (text, rest, split, (short, spelled, least, greatest), has)) =
     ap₂ Bench (sym (ap (λ x. unwrap_or x 1) spelled)) (options_are playing.Bench rest options has)
     ∙ sym (ap command_in (is ∙ ap (λ x. codes "bench" ∷ x) split))

@@ -7,7 +7,7 @@ use Rattle.rc_command.specs.declared.options.Options.{Options}
 use Rattle.rc_command.specs.declared.reader.Playing.{Playing}
 use Rattle.rc_command.specs.declared.reader.Playing.TheVariants as playing
 use Rattle.rc_command.specs.declared.command.Command.{Command}
-use Rattle.rc_command.specs.declared.command.Command.TheVariants.{Play, Check, Sheet, Bench, Migrate}
+use Rattle.rc_command.specs.declared.command.Command.TheVariants.{Play, Check, Sheet, Bench, Migrate, Watch, Measure, Rival}
 
 abbrev pub IsWithin : Options → Type 0
 IsWithin options = (1 ≤ options.workers) × (options.workers ≤ 64) × (1 ≤ options.cache) × (options.cache ≤ 65536)
@@ -32,3 +32,6 @@ command_within words Check is = usual_within
 command_within words Sheet is = usual_within
 command_within words (Bench number options) is = let bench = is.2 in given_within playing.Bench bench.1 options bench.4
 command_within words Migrate is = usual_within
+command_within words (Watch seat number) is = usual_within
+command_within words Measure is = usual_within
+command_within words (Rival rival) is = usual_within

@@ -3,11 +3,12 @@ use Rattle.std.proofs.Common.{◌≡◌, ℕ, ◌≤◌, ◌-◌, List, [], ◌�
 use Rattle.std.proofs.lemmas.List.{take_rest}
 use Rattle.std.proofs.lemmas.Bool.{eq-eqb, false≢true}
 use Rattle.rc_command.specs.Words.{HasOptions}
-use Rattle.rc_command.specs.Command.{IsCommand, IsBench}
+use Rattle.rc_command.specs.Command.{IsCommand, IsBench, IsRival, IsWatch, SpellRival}
 use Rattle.rc_command.specs.declared.options.Options.{Options}
 use Rattle.rc_command.specs.declared.reader.Playing.TheVariants as playing
+use Rattle.rc_command.specs.declared.rival.Rival.{Rival}
 use Rattle.rc_command.specs.declared.command.Command.{Command}
-use Rattle.rc_command.specs.declared.command.Command.TheVariants.{Play, Check, Sheet, Bench, Migrate}
+use Rattle.rc_command.specs.declared.command.Command.TheVariants.{Play, Check, Sheet, Bench, Migrate, Watch, Measure, Rival as SearchesFor}
 
 abbrev Text : Type 0
 Text = List ℕ
@@ -74,6 +75,9 @@ no_play name rest named none Check is = differ name (codes "play") (codes "check
 no_play name rest named none Sheet is = differ name (codes "play") (codes "sheet") rest [] refl named is
 no_play name rest named none Migrate is = differ name (codes "play") (codes "migrate") rest [] refl named is
 no_play name rest named none (Bench number options) (later, is, has) = differ name (codes "play") (codes "bench") rest later refl named is
+no_play name rest named none (Watch seat number) (later, is, has) = differ name (codes "play") (codes "watch") rest later refl named is
+no_play name rest named none Measure is = differ name (codes "play") (codes "measure") rest [] refl named is
+no_play name rest named none (SearchesFor rival) (later, is, has) = differ name (codes "play") (codes "rival") rest later refl named is
 
 pub no_bench : (name : Text) (rest : List Text) → name ≡ codes "bench" → ((number : ℕ) (options : Options) → IsBench rest number options → ⊥)
     → (command : Command) → IsCommand (name ∷ rest) command → ⊥
@@ -83,6 +87,53 @@ no_bench name rest named none Check is = differ name (codes "bench") (codes "che
 no_bench name rest named none Sheet is = differ name (codes "bench") (codes "sheet") rest [] refl named is
 no_bench name rest named none Migrate is = differ name (codes "bench") (codes "migrate") rest [] refl named is
 no_bench name rest named none (Play options) (later, is, has) = differ name (codes "bench") (codes "play") rest later refl named is
+no_bench name rest named none (Watch seat number) (later, is, has) = differ name (codes "bench") (codes "watch") rest later refl named is
+no_bench name rest named none Measure is = differ name (codes "bench") (codes "measure") rest [] refl named is
+no_bench name rest named none (SearchesFor rival) (later, is, has) = differ name (codes "bench") (codes "rival") rest later refl named is
+
+pub no_watch : (name : Text) (rest : List Text) → name ≡ codes "watch" → ((seat number : ℕ) → IsWatch rest seat number → ⊥)
+    → (command : Command) → IsCommand (name ∷ rest) command → ⊥
+no_watch name rest named none (Watch seat number) (later, is, has) =
+    none seat number (subst (λ x. IsWatch x seat number) (sym (ap behind_first is)) has)
+no_watch name rest named none Check is = differ name (codes "watch") (codes "check") rest [] refl named is
+no_watch name rest named none Sheet is = differ name (codes "watch") (codes "sheet") rest [] refl named is
+no_watch name rest named none Migrate is = differ name (codes "watch") (codes "migrate") rest [] refl named is
+no_watch name rest named none (Play options) (later, is, has) = differ name (codes "watch") (codes "play") rest later refl named is
+no_watch name rest named none (Bench number options) (later, is, has) = differ name (codes "watch") (codes "bench") rest later refl named is
+no_watch name rest named none Measure is = differ name (codes "watch") (codes "measure") rest [] refl named is
+no_watch name rest named none (SearchesFor rival) (later, is, has) = differ name (codes "watch") (codes "rival") rest later refl named is
+
+-- four words, told one by one
+pub four_words : (words : List (String Global)) (a b c d : String Global) → length words ≡ 4
+    → a ≡ get_or words 0 a → b ≡ get_or words 1 b → c ≡ get_or words 2 c → d ≡ get_or words 3 d
+    → bytes_of words ≡ string_bytes a ∷ string_bytes b ∷ string_bytes c ∷ string_bytes d ∷ []
+four_words [] a b c d four first second third last = absurd (omega (arith, four))
+four_words (v ∷ []) a b c d four first second third last = absurd (omega (arith, four))
+four_words (v ∷ w ∷ []) a b c d four first second third last = absurd (omega (arith, four))
+four_words (v ∷ w ∷ x ∷ []) a b c d four first second third last = absurd (omega (arith, four))
+four_words (v ∷ w ∷ x ∷ y ∷ []) a b c d four first second third last =
+    λ i. string_bytes (sym first i) ∷ string_bytes (sym second i) ∷ string_bytes (sym third i) ∷ string_bytes (sym last i) ∷ []
+four_words (v ∷ w ∷ x ∷ y ∷ z ∷ words) a b c d four first second third last = absurd (omega (arith, four))
+
+-- words that spell no search by their first four
+pub not_spelled : (words : List Text) (strategy depth rounds key : Text) → words ≡ strategy ∷ depth ∷ rounds ∷ key ∷ []
+    → ((rival : Rival) → SpellRival strategy depth rounds key rival → ⊥) → (rival : Rival) → IsRival words rival → ⊥
+not_spelled words strategy depth rounds key are none rival (strategy', depth', rounds', key', split, spelled) =
+    none rival
+    (subst (λ these. SpellRival (first_of these) (first_of (drop 1 these)) (first_of (drop 2 these)) (first_of (drop 3 these)) rival)
+    (sym split ∙ are) spelled)
+
+pub no_rival : (name : Text) (rest : List Text) → name ≡ codes "rival" → ((rival : Rival) → IsRival rest rival → ⊥)
+    → (command : Command) → IsCommand (name ∷ rest) command → ⊥
+no_rival name rest named none (SearchesFor rival) (later, is, has) =
+    none rival (subst (λ x. IsRival x rival) (sym (ap behind_first is)) has)
+no_rival name rest named none Check is = differ name (codes "rival") (codes "check") rest [] refl named is
+no_rival name rest named none Sheet is = differ name (codes "rival") (codes "sheet") rest [] refl named is
+no_rival name rest named none Migrate is = differ name (codes "rival") (codes "migrate") rest [] refl named is
+no_rival name rest named none Measure is = differ name (codes "rival") (codes "measure") rest [] refl named is
+no_rival name rest named none (Play options) (later, is, has) = differ name (codes "rival") (codes "play") rest later refl named is
+no_rival name rest named none (Bench number options) (later, is, has) = differ name (codes "rival") (codes "bench") rest later refl named is
+no_rival name rest named none (Watch seat number) (later, is, has) = differ name (codes "rival") (codes "watch") rest later refl named is
 
 pub no_options : (words : List (String Global)) → ((options : Options) → HasOptions playing.Bench (bytes_of (take (length words - 1) (drop 1 words))) options → ⊥)
     → (number : ℕ) (options : Options) → IsBench (bytes_of words) number options → ⊥

@@ -10,12 +10,17 @@ option_rule name = record (new_rule name) { long = Some name; action = Some Set 
 
 abbrev pub bare_app : List ℕ → App
 bare_app command = record (new_app command) {
-  top = record (new_app command).top { no_binary_name = true; disable_help_flag = true; disable_version_flag = true };
+  top = record (new_app command).top {
+    no_binary_name = true;
+    disable_help_flag = true;
+    disable_version_flag = true;
+  };
 }
 
 -- how many threads play, and how many totals are kept
 abbrev pub players_app : List ℕ → App
-players_app command = with_rule (with_rule (bare_app command) (option_rule (codes "workers"))) (option_rule (codes "cache"))
+players_app command =
+    with_rule (with_rule (bare_app command) (option_rule (codes "workers"))) (option_rule (codes "cache"))
 
 abbrev pub options_app : Playing → App
 options_app Play = with_rule (players_app (codes "play")) (option_rule (codes "format"))

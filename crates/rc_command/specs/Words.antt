@@ -1,5 +1,6 @@
 -- Options and their numbers, as words spell them.
-use Rattle.std.specs.Prelude.{ℕ, Bool, true, false, ◌≡◌, ◌≤◌, ◌⊎◌, List, [], ◌∷◌, ◌++◌, length, codes, bytes_eq, if◌then◌else◌, Option, Some, None, option_map}
+use Rattle.std.specs.Prelude.{ℕ, Bool, true, false, ◌≡◌, ◌≤◌, ◌⊎◌, List, [], ◌∷◌, ◌++◌, length, codes, bytes_eq}
+use Rattle.std.specs.Prelude.{if◌then◌else◌, Option, Some, None, option_map}
 use Rattle.rc_model.specs.Limits.{most_workers, most_entries}
 use Rattle.rc_model.specs.Literal.{natural}
 use Rattle.rc_command.specs.declared.option.OptionName.{OptionName}
@@ -16,14 +17,15 @@ name_of option.Workers = codes "workers"
 name_of option.Cache = codes "cache"
 name_of option.Format = codes "format"
 
--- one to five digits spell a number from 1 to `most`
-abbrev pub IsNumber : ℕ → List ℕ → ℕ → Type 0
-IsNumber most text n = (length text ≤ 5) × (natural text ≡ Some n) × (1 ≤ n) × (n ≤ most)
+-- one to five digits spell a number from `least` to `most`
+abbrev pub IsNumber : (least most : ℕ) → List ℕ → ℕ → Type 0
+IsNumber least most text n = (length text ≤ 5) × (natural text ≡ Some n) × (least ≤ n) × (n ≤ most)
 
 -- the words name the option and give it this text, in two words or in one
 abbrev pub IsOption : OptionName → List ℕ → List (List ℕ) → Type 0
 IsOption name text words =
-    (words ≡ (codes "--" ++ name_of name) ∷ text ∷ []) ⊎ (words ≡ (codes "--" ++ name_of name ++ codes "=" ++ text) ∷ [])
+    (words ≡ (codes "--" ++ name_of name) ∷ text ∷ [])
+    ⊎ (words ≡ (codes "--" ++ name_of name ++ codes "=" ++ text) ∷ [])
 
 -- the words begin with the option, where it has a text, and these words stand behind it
 abbrev pub IsFirst : OptionName → Option (List ℕ) → List (List ℕ) → List (List ℕ) → Type 0
@@ -65,10 +67,10 @@ text_of texts option.Workers = option_map (λ s. s.now) texts.workers
 text_of texts option.Cache = option_map (λ s. s.now) texts.cache
 text_of texts option.Format = option_map (λ s. s.now) texts.format
 
--- the number of an option: what its text spells, or the usual one where it isn't named
+-- the number of an option, from 1 on: what its text spells, or the usual one where it isn't named
 abbrev pub HasNumber : ℕ → ℕ → Option (List ℕ) → ℕ → Type 0
 HasNumber usual most None n = n ≡ usual
-HasNumber usual most (Some text) n = IsNumber most text n
+HasNumber usual most (Some text) n = IsNumber 1 most text n
 
 -- the number that names a format
 abbrev pub number_of : Format → ℕ

@@ -4,13 +4,15 @@ ghost use Rattle.rc_command.specs.Words.{HasOptions};
 ghost use Rattle.rc_command.specs.declared.options.Options.{Options};
 ghost use Rattle.rc_command.specs.declared.command.Command.{Command};
 ghost use Rattle.rc_command.specs.declared.reader.Playing.TheVariants as playing;
-ghost use Rattle.rc_command.specs.Command.{IsCommand, IsBench, options_of};
+ghost use Rattle.rc_command.specs.Command.{IsCommand, IsBench, IsRival, IsWatch, options_of};
+ghost use Rattle.rc_command.specs.declared.rival.Rival.{Rival};
 
 use crate::number::number_of;
 use crate::options::{Options, options_of};
 use crate::reader::Playing;
+use crate::rival::{Rival, rival_of};
 use rc_deck::Memory;
-use rc_names::limits::MOST_IN_BENCH;
+use rc_names::limits::{MOST_IN_BENCH, MOST_MATCHES, MOST_PLAYERS};
 use std::alloc::Global;
 
 /// A command with what its words say.
@@ -26,6 +28,12 @@ pub enum Command {
     Bench { number: u16, options: Options },
     /// Writes a transcript in format 2.
     Migrate,
+    /// Writes what a seat sees in a match, both counted from 0: at most 7 and 4,095.
+    Watch { seat: u8, number: u32 },
+    /// Writes the measures of a transcript.
+    Measure,
+    /// Plays the matches of a sheet and a plan with a search for one of its strategies.
+    Rival(Rival),
 }
 
 impl Command {
@@ -39,6 +47,9 @@ impl Command {
             Command::Sheet => Options::usual(),
             Command::Bench { options, .. } => *options,
             Command::Migrate => Options::usual(),
+            Command::Watch { .. } => Options::usual(),
+            Command::Measure => Options::usual(),
+            Command::Rival(_) => Options::usual(),
         }
     }
 }
@@ -50,7 +61,8 @@ impl Command {
 /// There is no memory to read options.
 pub fn command_of(alloc: Global, words: &[String]) -> Result<Option<Command>, Memory>
     ensures some { IfOk result (λ found. IfSome found (IsCommand (map string_bytes words.now))) }
-    ensures none { IfOk result (λ found. IfNone found ((command : Command) → IsCommand (map string_bytes words.now) command → ⊥)) }
+    ensures none { IfOk result (λ found. IfNone found
+        ((command : Command) → IsCommand (map string_bytes words.now) command → ⊥)) }
 {
     match words {
         [first, rest @ ..] => command_named(alloc, first, rest),
@@ -61,7 +73,8 @@ pub fn command_of(alloc: Global, words: &[String]) -> Result<Option<Command>, Me
 /// The command of this name that has these words behind it.
 fn command_named(alloc: Global, name: &String, rest: &[String]) -> Result<Option<Command>, Memory>
     ensures some { IfOk result (λ found. IfSome found (IsCommand (string_bytes name.now ∷ map string_bytes rest.now))) }
-    ensures none { IfOk result (λ found. IfNone found ((command : Command) → IsCommand (string_bytes name.now ∷ map string_bytes rest.now) command → ⊥)) }
+    ensures none { IfOk result (λ found. IfNone found
+        ((command : Command) → IsCommand (string_bytes name.now ∷ map string_bytes rest.now) command → ⊥)) }
 {
     match name.as_str() {
         "play" => play_of(alloc, rest),
@@ -69,6 +82,9 @@ fn command_named(alloc: Global, name: &String, rest: &[String]) -> Result<Option
         "check" if rest.is_empty() => Ok(Some(Command::Check)),
         "sheet" if rest.is_empty() => Ok(Some(Command::Sheet)),
         "migrate" if rest.is_empty() => Ok(Some(Command::Migrate)),
+        "watch" => Ok(watch_of(rest)),
+        "measure" if rest.is_empty() => Ok(Some(Command::Measure)),
+        "rival" => Ok(named_rival(rest)),
         _ => Ok(None),
     }
 }
@@ -76,7 +92,8 @@ fn command_named(alloc: Global, name: &String, rest: &[String]) -> Result<Option
 /// `play` with these words behind it.
 fn play_of(alloc: Global, rest: &[String]) -> Result<Option<Command>, Memory>
     ensures some { IfOk result (λ found. IfSome found (IsCommand (codes "play" ∷ map string_bytes rest.now))) }
-    ensures none { IfOk result (λ found. IfNone found ((options : Options) → HasOptions playing.Play (map string_bytes rest.now) options → ⊥)) }
+    ensures none { IfOk result (λ found. IfNone found
+        ((options : Options) → HasOptions playing.Play (map string_bytes rest.now) options → ⊥)) }
 {
     match options_of(alloc, Playing::Play, rest) {
         Ok(Some(options)) => Ok(Some(Command::Play(options))),
@@ -88,10 +105,11 @@ fn play_of(alloc: Global, rest: &[String]) -> Result<Option<Command>, Memory>
 /// `bench` with these words behind it.
 fn bench_of(alloc: Global, rest: &[String]) -> Result<Option<Command>, Memory>
     ensures some { IfOk result (λ found. IfSome found (IsCommand (codes "bench" ∷ map string_bytes rest.now))) }
-    ensures none { IfOk result (λ found. IfNone found ((number : ℕ) (options : Options) → IsBench (map string_bytes rest.now) number options → ⊥)) }
+    ensures none { IfOk result (λ found. IfNone found
+        ((number : ℕ) (options : Options) → IsBench (map string_bytes rest.now) number options → ⊥)) }
 {
     match rest {
-        [number, rest @ ..] => match number_of(number.as_str(), MOST_IN_BENCH) {
+        [number, rest @ ..] => match number_of(number.as_str(), 1, MOST_IN_BENCH) {
             Some(number) => numbered_bench(alloc, number as u16, rest),
             None => Ok(None),
         },
@@ -101,12 +119,43 @@ fn bench_of(alloc: Global, rest: &[String]) -> Result<Option<Command>, Memory>
 
 /// `bench` with its number and these words behind it.
 fn numbered_bench(alloc: Global, number: u16, rest: &[String]) -> Result<Option<Command>, Memory>
-    ensures some { IfOk result (λ found. IfSome found (λ command. (options : Options) × (command ≡ Command.Bench number options) × HasOptions playing.Bench (map string_bytes rest.now) options)) }
-    ensures none { IfOk result (λ found. IfNone found ((options : Options) → HasOptions playing.Bench (map string_bytes rest.now) options → ⊥)) }
+    ensures some { IfOk result (λ found. IfSome found (λ command. (options : Options)
+        × (command ≡ Command.Bench number options) × HasOptions playing.Bench (map string_bytes rest.now) options)) }
+    ensures none { IfOk result (λ found. IfNone found
+        ((options : Options) → HasOptions playing.Bench (map string_bytes rest.now) options → ⊥)) }
 {
     match options_of(alloc, Playing::Bench, rest) {
         Ok(Some(options)) => Ok(Some(Command::Bench { number, options })),
         Ok(None) => Ok(None),
         Err(fail) => Err(fail),
+    }
+}
+
+/// `watch` with these words behind it.
+fn watch_of(rest: &[String]) -> Option<Command>
+    ensures some { IfSome result (IsCommand (codes "watch" ∷ map string_bytes rest.now)) }
+    ensures none { IfNone result ((seat number : ℕ) → IsWatch (map string_bytes rest.now) seat number → ⊥) }
+{
+    match rest {
+        [seat, number] => {
+            let seat = number_of(seat.as_str(), 0, MOST_PLAYERS as u64 - 1)?;
+            let number = number_of(number.as_str(), 0, MOST_MATCHES - 1)?;
+            Some(Command::Watch {
+                seat: seat as u8,
+                number: number as u32,
+            })
+        }
+        _ => None,
+    }
+}
+
+/// `rival` with these words behind it.
+fn named_rival(rest: &[String]) -> Option<Command>
+    ensures some { IfSome result (IsCommand (codes "rival" ∷ map string_bytes rest.now)) }
+    ensures none { IfNone result ((rival : Rival) → IsRival (map string_bytes rest.now) rival → ⊥) }
+{
+    match rival_of(rest) {
+        Some(rival) => Some(Command::Rival(rival)),
+        None => None,
     }
 }

@@ -5,5 +5,6 @@ ghost use Rattle.rc_command.specs.Command.{IsCommand};
 
 /// Words are one command at most, with one number and one pair of options.
 pub fn words_are_one_command()
-    ensures { (words : List (List ℕ)) (command other : Command) → IsCommand words command → IsCommand words other → other ≡ command }
+    ensures { (words : List (List ℕ)) (command other : Command)
+        → IsCommand words command → IsCommand words other → other ≡ command }
 {}

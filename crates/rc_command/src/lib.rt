@@ -7,8 +7,10 @@ mod number;
 mod option;
 mod options;
 mod reader;
+mod rival;
 mod settings;
 
 pub use command::{Command, command_of};
 pub use laws::words_are_one_command;
 pub use options::{Format, Options};
+pub use rival::Rival;

@@ -1,5 +1,6 @@
 //! One option in a list of words.
-ghost use Rattle.std.specs.Prelude.{ℕ, ◌≡◌, ◌↔◌, ◌++◌, List, Some, map, codes, string_bytes, option_map, IsTrue, IfSome, IsSomeAnd};
+ghost use Rattle.std.specs.Prelude.{ℕ, ◌≡◌, ◌↔◌, ◌++◌, List, Some, map, codes, string_bytes, option_map};
+ghost use Rattle.std.specs.Prelude.{IsTrue, IfSome, IsSomeAnd};
 ghost use Rattle.rc_command.specs.Words.{IsFirst, name_of};
 
 /// An option of `play` and `bench`.
@@ -49,7 +50,8 @@ fn is_joined(word: &String, name: OptionName, text: &str) -> bool
 
 /// Whether two words give the option this text.
 fn is_pair(word: &String, value: &String, name: OptionName, text: &str) -> bool
-    ensures { IsTrue result ↔ ((string_bytes word.now ≡ codes "--" ++ name_of name) × (string_bytes value.now ≡ text.now)) }
+    ensures { IsTrue result
+        ↔ ((string_bytes word.now ≡ codes "--" ++ name_of name) × (string_bytes value.now ≡ text.now)) }
 {
     word.as_bytes() == name.flag() && value.as_str() == text
 }
@@ -60,8 +62,10 @@ pub(crate) fn behind_option<'a>(
     name: OptionName,
     text: Option<&str>,
 ) -> Option<&'a [String]>
-    ensures some { IfSome result (λ rest. IsFirst name (option_map (λ s. s.now) text.entry) (map string_bytes words.now) (map string_bytes rest.now)) }
-    ensures only { (back : List (List ℕ)) → IsFirst name (option_map (λ s. s.now) text.entry) (map string_bytes words.now) back
+    ensures some { IfSome result (λ rest. IsFirst name (option_map (λ s. s.now) text.entry) (map string_bytes words.now)
+        (map string_bytes rest.now)) }
+    ensures only { (back : List (List ℕ))
+        → IsFirst name (option_map (λ s. s.now) text.entry) (map string_bytes words.now) back
         → IsSomeAnd result (λ rest. map string_bytes rest.now ≡ back) }
 {
     match text {
@@ -72,7 +76,8 @@ pub(crate) fn behind_option<'a>(
 
 /// The words behind the option, where the first one or two words give it this text.
 fn behind_text<'a>(words: &'a [String], name: OptionName, text: &str) -> Option<&'a [String]>
-    ensures some { IfSome result (λ rest. IsFirst name (Some text.now) (map string_bytes words.now) (map string_bytes rest.now)) }
+    ensures some { IfSome result (λ rest.
+        IsFirst name (Some text.now) (map string_bytes words.now) (map string_bytes rest.now)) }
     ensures only { (back : List (List ℕ)) → IsFirst name (Some text.now) (map string_bytes words.now) back
         → IsSomeAnd result (λ rest. map string_bytes rest.now ≡ back) }
 {

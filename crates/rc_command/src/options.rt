@@ -2,7 +2,8 @@
 ghost use Rattle.std.specs.Prelude.{◌≡◌, ℕ, ◌≤◌, map, string_bytes, option_map, IfOk, IfSome, IfNone};
 ghost use Rattle.rc_command.specs.declared.options.Format.{Format};
 ghost use Rattle.rc_command.specs.declared.options.Options.{Options};
-ghost use Rattle.rc_command.specs.Words.{GivesOptions, HasFormat, HasNumber, HasOptions, is_named, text_of, usual_options};
+ghost use Rattle.rc_command.specs.Words.{GivesOptions, HasFormat, HasNumber, HasOptions};
+ghost use Rattle.rc_command.specs.Words.{is_named, text_of, usual_options};
 
 use crate::number::number_of;
 use crate::reader::{Playing, texts_of};
@@ -63,7 +64,8 @@ pub(crate) fn options_of(
     words: &[String],
 ) -> Result<Option<Options>, Memory>
     ensures some { IfOk result (λ found. IfSome found (HasOptions playing (map string_bytes words.now))) }
-    ensures none { IfOk result (λ found. IfNone found ((options : Options) → HasOptions playing (map string_bytes words.now) options → ⊥)) }
+    ensures none { IfOk result (λ found. IfNone found
+        ((options : Options) → HasOptions playing (map string_bytes words.now) options → ⊥)) }
 {
     match texts_of(alloc, playing, words) {
         Ok(Some(texts)) => Ok(options_with(playing, words, texts)),
@@ -75,7 +77,8 @@ pub(crate) fn options_of(
 /// The options, where the words give them these texts and the texts spell numbers in their ranges.
 fn options_with(playing: Playing, words: &[String], texts: Texts<'_>) -> Option<Options>
     ensures some { IfSome result (GivesOptions playing (text_of texts.entry) (map string_bytes words.now)) }
-    ensures none { IfNone result ((options : Options) → GivesOptions playing (text_of texts.entry) (map string_bytes words.now) options → ⊥) }
+    ensures none { IfNone result
+        ((options : Options) → GivesOptions playing (text_of texts.entry) (map string_bytes words.now) options → ⊥) }
 {
     if !are_options(words, texts) {
         return None;
@@ -98,7 +101,7 @@ fn option_number(text: Option<&str>, usual: u64, most: u64) -> Option<u64>
     ensures small { IfSome result (λ n. n ≤ most) }
 {
     match text {
-        Some(text) => number_of(text, most),
+        Some(text) => number_of(text, 1, most),
         None => Some(usual),
     }
 }
@@ -106,7 +109,8 @@ fn option_number(text: Option<&str>, usual: u64, most: u64) -> Option<u64>
 /// The format of an option with this text, or the usual one without.
 fn format_of(playing: Playing, text: Option<&str>) -> Option<Format>
     ensures some { IfSome result (HasFormat playing (option_map (λ s. s.now) text.entry)) }
-    ensures none { IfNone result ((format : Format) → HasFormat playing (option_map (λ s. s.now) text.entry) format → ⊥) }
+    ensures none { IfNone result
+        ((format : Format) → HasFormat playing (option_map (λ s. s.now) text.entry) format → ⊥) }
 {
     match playing {
         Playing::Play => match option_number(text, 1, 2)? {

@@ -20,8 +20,8 @@ pub(crate) enum Playing {
     Bench,
 }
 
-/// The texts that the words behind a command's name and number give to options. Where these words are options and nothing else,
-/// there are such texts. Other words may have some too.
+/// The texts that the words behind a command's name and number give to options. Where these words are options and
+/// nothing else, there are such texts. Other words may have some too.
 pub(crate) fn texts_of<'a>(
     alloc: Global,
     playing: Playing,

@@ -1,5 +1,6 @@
 //! The options in a list of words, in any order.
-ghost use Rattle.std.specs.Prelude.{ℕ, ◌≡◌, ◌↔◌, List, None, map, string_bytes, if◌then◌else◌, IsTrue, IfSome, IsSomeAnd};
+ghost use Rattle.std.specs.Prelude.{ℕ, ◌≡◌, ◌↔◌, List, None, map, string_bytes, if◌then◌else◌};
+ghost use Rattle.std.specs.Prelude.{IsTrue, IfSome, IsSomeAnd};
 ghost use Rattle.rc_command.specs.Words.{AreOptions, IsFirst, is_same, text_of};
 ghost use Rattle.rc_command.specs.declared.option.OptionName.{OptionName};
 
@@ -16,7 +17,8 @@ pub(crate) struct Texts<'a> {
 impl<'a> Texts<'a> {
     /// Whether no option is named.
     pub(crate) fn is_empty(self) -> bool
-        ensures { IsTrue result ↔ ((self.entry.workers ≡ None) × (self.entry.cache ≡ None) × (self.entry.format ≡ None)) }
+        ensures { IsTrue result
+            ↔ ((self.entry.workers ≡ None) × (self.entry.cache ≡ None) × (self.entry.format ≡ None)) }
     {
         self.workers.is_none() && self.cache.is_none() && self.format.is_none()
     }
@@ -44,8 +46,10 @@ impl<'a> Texts<'a> {
 
 /// The option that the words begin with, with its text, and the words behind it.
 fn first_option<'a>(words: &'a [String], texts: Texts<'_>) -> Option<(OptionName, &'a [String])>
-    ensures some { IfSome result (λ first. IsFirst first.0 (text_of texts.entry first.0) (map string_bytes words.now) (map string_bytes first.1.now)) }
-    ensures only { (name : OptionName) (back : List (List ℕ)) → IsFirst name (text_of texts.entry name) (map string_bytes words.now) back
+    ensures some { IfSome result (λ first. IsFirst first.0 (text_of texts.entry first.0) (map string_bytes words.now)
+        (map string_bytes first.1.now)) }
+    ensures only { (name : OptionName) (back : List (List ℕ))
+        → IsFirst name (text_of texts.entry name) (map string_bytes words.now) back
         → IsSomeAnd result (λ first. (first.0 ≡ name) × (map string_bytes first.1.now ≡ back)) }
 {
     if let Some(rest) = behind_option(words, OptionName::Workers, texts.workers) {
