@@ -18,11 +18,12 @@ use Rattle.rc_plan.specs.Reads.{IfPlanFault}
 use Rattle.rc_answers.specs.declared.answer.Answer.{Answer as Stored}
 use Rattle.rc_answers.specs.declared.answer.Answer.TheVariants.{Text, Refused}
 use Rattle.rc_command.specs.declared.options.Options.{Options}
+use Rattle.rc_command.specs.declared.rival.Rival.{Rival as NamedRival}
 use Rattle.rc_answers.specs.declared.task.Task.{Task}
-use Rattle.rc_answers.specs.declared.task.Task.TheVariants.{Play, Check, Sheet as PrintsSheet, Migrate}
+use Rattle.rc_answers.specs.declared.task.Task.TheVariants.{Play, Check, Sheet as PrintsSheet, Migrate, Watch, Measure, Rival}
 use Rattle.rc_answers.specs.declared.transcript.Judging.{Judging}
 use Rattle.rc_answers.specs.declared.transcript.Judging.TheVariants as judging
-use Rattle.rc_answers.specs.AcceptedPlan.{HasPlanReadFault, IsBehind, IsFaultyBehind, IsPlanFaulty}
+use Rattle.rc_answers.specs.AcceptedPlan.{HasPlanReadFault, IsBehind, IsFaultyBehind, IsPlanned, IsPlanFaulty}
 use Rattle.rc_answers.specs.declared.refusal.Refusal.{Refusal}
 use Rattle.rc_answers.specs.declared.refusal.Refusal.TheVariants as refusal
 use Rattle.rc_answers.specs.declared.status.SourceKind.{SourceKind}
@@ -33,7 +34,7 @@ use Rattle.rc_answers.specs.Accepted.{HasFirstFault}
 use Rattle.rc_answers.specs.Task.{wanted}
 use Rattle.rc_answers.specs.Reading.{Reading, IsAcceptedWith}
 use Rattle.rc_answers.specs.Note.{note_line}
-use Rattle.rc_answers.specs.Answer.{Answer, text, refused, seen, playouts_of, AreAlike, IsAnswered, HasPlanRefusal, HasAnswer, form_faulty, sheet_faulty, plan_faulty, accepted, IsAnswerTo, IsJudged, IsPlanRefusal, IsSheetText, IsTranscribed, task_of}
+use Rattle.rc_answers.specs.Answer.{Answer, text, refused, seen, playouts_of, AreAlike, IsAnswered, HasPlanRefusal, HasAnswer, form_faulty, sheet_faulty, plan_faulty, accepted, IsAnswerTo, IsJudged, IsPlanRefusal, IsSheetText, IsTranscribed, task_of, rivalled, watched}
 use Rattle.rc_answers.proofs.OneAnswer.{alike_answers}
 use Rattle.rc_answers.proofs.Options.{some_is}
 
@@ -122,6 +123,7 @@ pub transcript_accepted : (asked : Judging) (source : List ℕ) (lists : List Tr
     → HasAnswer (task_of asked) source answer
 transcript_accepted judging.Check source lists rest sheet answer spelled is has = accepted_answer Check source lists rest sheet answer spelled is has
 transcript_accepted judging.Migrate source lists rest sheet answer spelled is has = accepted_answer Migrate source lists rest sheet answer spelled is has
+transcript_accepted judging.Measure source lists rest sheet answer spelled is has = accepted_answer Measure source lists rest sheet answer spelled is has
 
 -- and the first fault of the plan, as it is read, refuses it
 pub plan_refused : (asked : Judging) (source : List ℕ) (lists : List Tree) (rest : ℕ) (sheet : Sheet) (kind : PlanKind) (at : ℕ)
@@ -130,6 +132,7 @@ pub plan_refused : (asked : Judging) (source : List ℕ) (lists : List Tree) (re
     → HasAnswer (task_of asked) source (refused (refusal.Plan kind at))
 plan_refused judging.Check source lists rest sheet kind at spelled is has = plan_answer Check source lists rest sheet kind at spelled is has
 plan_refused judging.Migrate source lists rest sheet kind at spelled is has = plan_answer Migrate source lists rest sheet kind at spelled is has
+plan_refused judging.Measure source lists rest sheet kind at spelled is has = plan_answer Measure source lists rest sheet kind at spelled is has
 
 -- a transcript that is judged
 judged_so : (asked : Judging) (source : List ℕ) (lists : List Tree) (rest : ℕ) (sheet : Sheet) (plan : Plan) (answer : Stored)
@@ -163,15 +166,75 @@ unread_answers asked source lists rest sheet fail (Err error) spelled is fault r
 unread_answers asked source lists rest sheet fail (Ok answer) spelled is fault refusal_so =
     unread_answer asked source lists rest sheet fail answer spelled is fault refusal_so
 
--- A plan that fails is refused for its first fault.
+-- A plan behind which nothing may follow, and that fails, is refused for its first fault.
+failed_so : (task : Task) (source : List ℕ) (players : ℕ) (lists : List Tree) (rest : ℕ) (fail : PlanFail) (answer : Stored)
+    → ((kind : PlanKind) (at : ℕ) → IsPlanFaulty source players lists rest kind at
+    → HasAnswer task source (refused (refusal.Plan kind at)))
+    → IfPlanFault fail (λ fault. IsPlanFaulty source players lists rest fault.kind fault.at) → IsPlanRefusal fail answer
+    → IsAnswerTo task source answer
+failed_so task source players lists rest fails.Memory answer refuses fault refusal_so = absurd refusal_so
+failed_so task source players lists rest (fails.Fault found) answer refuses fault refusal_so =
+    refusal_is task source (refusal.Plan found.kind found.at) answer refusal_so (refuses found.kind found.at fault)
+
 pub failed_answer : (options : Options) (source : List ℕ) (lists : List Tree) (rest : ℕ) (sheet : Sheet) (fail : PlanFail) (answer : Stored)
     → Spelled source 2 lists rest → IsAcceptedWith (λ other _. other ≡ sheet) lists
     → IfPlanFault fail (λ fault. IsPlanFaulty source sheet.players lists rest fault.kind fault.at) → IsPlanRefusal fail answer
     → IsAnswerTo (Play options) source answer
-failed_answer options source lists rest sheet fails.Memory answer spelled is fault refusal_so = absurd refusal_so
-failed_answer options source lists rest sheet (fails.Fault found) answer spelled is fault refusal_so =
-    refusal_is (Play options) source (refusal.Plan found.kind found.at) answer refusal_so
-    (plan_answer (Play options) source lists rest sheet found.kind found.at spelled is fault)
+failed_answer options source lists rest sheet fail answer spelled is fault refusal_so =
+    failed_so (Play options) source sheet.players lists rest fail answer
+    (λ kind at faulty. plan_answer (Play options) source lists rest sheet kind at spelled is faulty) fault refusal_so
+
+failed_answers : (task : Task) (source : List ℕ) (players : ℕ) (lists : List Tree) (rest : ℕ) (fail : PlanFail)
+    {E : Type 0} (result : Result Stored E)
+    → ((kind : PlanKind) (at : ℕ) → IsPlanFaulty source players lists rest kind at
+    → HasAnswer task source (refused (refusal.Plan kind at)))
+    → IfPlanFault fail (λ fault. IsPlanFaulty source players lists rest fault.kind fault.at)
+    → IfOk result (IsPlanRefusal fail) → IfOk result (IsAnswerTo task source)
+failed_answers task source players lists rest fail (Err error) refuses fault refusal_so = tt
+failed_answers task source players lists rest fail (Ok answer) refuses fault refusal_so =
+    failed_so task source players lists rest fail answer refuses fault refusal_so
+
+pub unwatched_answers : (seat number : ℕ) (source : List ℕ) (lists : List Tree) (rest : ℕ) (sheet : Sheet) (fail : PlanFail)
+    {E : Type 0} (result : Result Stored E)
+    → Spelled source 2 lists rest → IsAcceptedWith (λ other _. other ≡ sheet) lists
+    → IfPlanFault fail (λ fault. IsPlanFaulty source sheet.players lists rest fault.kind fault.at)
+    → IfOk result (IsPlanRefusal fail) → IfOk result (IsAnswerTo (Watch seat number) source)
+unwatched_answers seat number source lists rest sheet fail result spelled is =
+    failed_answers (Watch seat number) source sheet.players lists rest fail result
+    (λ kind at faulty. plan_answer (Watch seat number) source lists rest sheet kind at spelled is faulty)
+
+pub unrivalled_answers : (rival : NamedRival) (source : List ℕ) (lists : List Tree) (rest : ℕ) (sheet : Sheet) (fail : PlanFail)
+    {E : Type 0} (result : Result Stored E)
+    → Spelled source 2 lists rest → IsAcceptedWith (λ other _. other ≡ sheet) lists
+    → IfPlanFault fail (λ fault. IsPlanFaulty source sheet.players lists rest fault.kind fault.at)
+    → IfOk result (IsPlanRefusal fail) → IfOk result (IsAnswerTo (Rival rival) source)
+unrivalled_answers rival source lists rest sheet fail result spelled is =
+    failed_answers (Rival rival) source sheet.players lists rest fail result
+    (λ kind at faulty. plan_answer (Rival rival) source lists rest sheet kind at spelled is faulty)
+
+-- What is watched of an accepted sheet and plan is the answer.
+pub watched_answers : (seat number : ℕ) (source : List ℕ) (lists : List Tree) (rest : ℕ) (sheet : Sheet) (plan : Plan)
+    {E : Type 0} (result : Result Stored E)
+    → Spelled source 2 lists rest → IsAcceptedWith (λ other _. other ≡ sheet) lists
+    → IsPlanned source sheet.players lists rest plan
+    → IfOk result (λ answer. seen answer 0 ≡ watched seat number (about_of sheet plan.turns) plan)
+    → IfOk result (IsAnswerTo (Watch seat number) source)
+watched_answers seat number source lists rest sheet plan (Err error) spelled is planned told = tt
+watched_answers seat number source lists rest sheet plan (Ok answer) spelled is planned told =
+    accepted_answer (Watch seat number) source lists rest sheet (seen answer 0) spelled is
+    (λ form others listed. (plan, planned form others listed, told))
+
+-- What is played with a search is the answer.
+pub rivalled_answers : (rival : NamedRival) (source : List ℕ) (lists : List Tree) (rest : ℕ) (sheet : Sheet) (plan : Plan)
+    {E : Type 0} (result : Result Stored E)
+    → Spelled source 2 lists rest → IsAcceptedWith (λ other _. other ≡ sheet) lists
+    → IsPlanned source sheet.players lists rest plan
+    → IfOk result (λ answer. seen answer 0 ≡ rivalled rival (about_of sheet plan.turns) plan)
+    → IfOk result (IsAnswerTo (Rival rival) source)
+rivalled_answers rival source lists rest sheet plan (Err error) spelled is planned told = tt
+rivalled_answers rival source lists rest sheet plan (Ok answer) spelled is planned told =
+    accepted_answer (Rival rival) source lists rest sheet (seen answer 0) spelled is
+    (λ form others listed. (plan, planned form others listed, told))
 
 -- where no more steps were counted than playouts are for one answer, that is so of any answer to the source
 pub counted_few : (task : Task) (source : List ℕ) (answer : Answer) (steps steps' : ℕ) → HasAnswer task source answer

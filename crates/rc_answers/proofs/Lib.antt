@@ -4,6 +4,7 @@ pub mod BenchLaws
 pub mod Cards
 pub mod Exits
 pub mod FirstFaults
+pub mod Measured
 pub mod OneAnswer
 pub mod OneReading
 pub mod Notes
@@ -16,3 +17,4 @@ pub mod PlaysLemmas
 pub mod PrintedTwice
 pub mod SomeAnswer
 pub mod Verdicts
+pub mod WatchedLaws

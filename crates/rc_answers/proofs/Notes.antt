@@ -1,21 +1,25 @@
 -- What is noted behind a text is as the command notes.
-use Rattle.std.proofs.Common.{◌≡◌, ℕ, Bool, List, [], ◌∷◌, length, drop, Option, Some, None, Result, Ok, Err, sym}
+use Rattle.std.proofs.Common.{◌≡◌, ℕ, Bool, true, false, nat_lt, if◌then◌else◌, List, [], ◌∷◌, length, drop, Option, Some, None, Result, Ok, Err, sym}
 use Rattle.rc_model.specs.Tree.{Tree}
 use Rattle.rc_sheet_model.specs.Sheet as sheets
 use Rattle.rc_play_model.specs.About.{About, about_of}
 use Rattle.rc_play_model.specs.Keyed.{dealing_of}
 use Rattle.rc_play_model.specs.Plan.{Plan}
+use Rattle.rc_log_model.specs.Views.{log_of}
 use Rattle.rc_records.specs.Series.{looks_of}
+use Rattle.rc_search_model.specs.Rivals.{rival_house}
+use Rattle.rc_command.specs.declared.rival.Rival.{Rival as NamedRival}
 use Rattle.rc_text_model.specs.HouseText.{HouseText, NamedText}
 use Rattle.rc_text_model.specs.Judged.{first_illegal}
 use Rattle.rc_text_model.specs.PlayedLaws.{format_by}
 use Rattle.rc_text_model.specs.Reading.{read_in}
 use Rattle.rc_text_model.specs.Why.{Illegal}
 use Rattle.rc_answers.specs.declared.task.Task.{Task}
-use Rattle.rc_answers.specs.declared.task.Task.TheVariants.{Play, Check, Sheet, Migrate}
+use Rattle.rc_answers.specs.declared.task.Task.TheVariants.{Play, Check, Sheet, Migrate, Watch, Measure, Rival}
+use Rattle.rc_answers.specs.declared.refusal.Refusal.TheVariants as refusal
 use Rattle.rc_answers.specs.declared.transcript.Judging.{Judging}
 use Rattle.rc_answers.specs.declared.transcript.Judging.TheVariants as judging
-use Rattle.rc_answers.specs.Answer.{text, answer_in, judged_as, legal_answer, read_answer, tells_bounds, IsAnswered, HasAnswer, form_faulty, sheet_faulty, plan_faulty, accepted}
+use Rattle.rc_answers.specs.Answer.{text, answer_in, judged_as, legal_answer, read_answer, refused, tells_bounds, is_there, rivalled, searching, watched, IsAnswered, HasAnswer, form_faulty, sheet_faulty, plan_faulty, accepted}
 use Rattle.rc_answers.specs.Reading.{IsAcceptedWith}
 use Rattle.rc_answers.specs.Task.{IsNoteOf}
 
@@ -24,6 +28,7 @@ judged_note : (asked : Judging) (about : About) (plan : Plan) (told : HouseText)
     → judged_as (legal_answer asked about plan told) found ≡ text bytes note playouts → note ≡ []
 judged_note judging.Check about plan told None bytes note playouts same = cc
 judged_note judging.Migrate about plan told None bytes note playouts same = cc
+judged_note judging.Measure about plan told None bytes note playouts same = cc
 judged_note asked about plan told (Some illegal) bytes note playouts same = absurd cc
 
 read_note : (asked : Judging) (named : Bool) (about : About) (plan : Plan) (read : Result NamedText ℕ) (bytes note : List ℕ) (playouts : ℕ)
@@ -38,6 +43,27 @@ transcript_note asked about plan transcript bytes note playouts same =
     let named = tells_bounds transcript in
     read_note asked named about plan (read_in (format_by named about) transcript) bytes note playouts same
 
+-- nothing is noted where a seat watches
+watched_note : (seat number : ℕ) (about : About) (plan : Plan) (bytes note : List ℕ) (playouts : ℕ)
+    → watched seat number about plan ≡ text bytes note playouts → note ≡ []
+watched_note seat number about plan bytes note playouts same = by (is_there about plan seat number) same
+  where
+    by : (there : Bool) → (if there then text (log_of about plan number seat) [] 0 else refused refusal.Absent) ≡ text bytes note playouts
+        → note ≡ []
+    by true same = cc
+    by false same = absurd cc
+
+-- and where a search plays
+rivalled_note : (rival : NamedRival) (about : About) (plan : Plan) (bytes note : List ℕ) (playouts : ℕ)
+    → rivalled rival about plan ≡ text bytes note playouts → note ≡ []
+rivalled_note rival about plan bytes note playouts same = by (nat_lt rival.strategy (length plan.strategies)) same
+  where
+    by : (there : Bool)
+        → (if there then text (rival_house about (searching rival) plan) [] 0 else refused refusal.Absent) ≡ text bytes note playouts
+        → note ≡ []
+    by true same = cc
+    by false same = absurd cc
+
 -- what is answered for an accepted sheet is noted as the command notes
 note_of_sheet : (task : Task) (source : List ℕ) (sheet : sheets.Sheet) (others : List Tree) (rest : ℕ) (bytes note : List ℕ) (playouts : ℕ)
     → IsAnswered task source sheet others rest (text bytes note playouts) → IsNoteOf task note
@@ -48,6 +74,12 @@ note_of_sheet Check source sheet others rest bytes note playouts has =
 note_of_sheet Sheet source sheet others rest bytes note playouts has = cc
 note_of_sheet Migrate source sheet others rest bytes note playouts has =
     transcript_note judging.Migrate (about_of sheet has.0.turns) has.0 (drop rest source) bytes note playouts (sym has.2)
+note_of_sheet (Watch seat number) source sheet others rest bytes note playouts has =
+    watched_note seat number (about_of sheet has.0.turns) has.0 bytes note playouts (sym has.2)
+note_of_sheet Measure source sheet others rest bytes note playouts has =
+    transcript_note judging.Measure (about_of sheet has.0.turns) has.0 (drop rest source) bytes note playouts (sym has.2)
+note_of_sheet (Rival rival) source sheet others rest bytes note playouts has =
+    rivalled_note rival (about_of sheet has.0.turns) has.0 bytes note playouts (sym has.2)
 
 -- and so is what is answered to a source
 pub note_of_text : (task : Task) (source bytes note : List ℕ) (playouts : ℕ) → HasAnswer task source (text bytes note playouts) → IsNoteOf task note

@@ -11,14 +11,14 @@ use Rattle.rc_command.specs.declared.options.Options.{Options}
 use Rattle.rc_command.specs.declared.options.Format.{Format}
 use Rattle.rc_command.specs.Words.{is_named}
 use Rattle.rc_answers.specs.declared.task.Task.{Task}
-use Rattle.rc_answers.specs.declared.task.Task.TheVariants.{Play, Check, Sheet, Migrate}
+use Rattle.rc_answers.specs.declared.task.Task.TheVariants.{Play, Check, Sheet, Migrate, Watch, Measure, Rival}
 use Rattle.rc_answers.specs.declared.transcript.Judging.{Judging}
 use Rattle.rc_answers.specs.declared.transcript.Judging.TheVariants as judging
 use Rattle.rc_answers.specs.declared.refusal.Refusal.TheVariants as refusal
 use Rattle.rc_answers.specs.Task.{wanted}
 use Rattle.rc_answers.specs.Reading.{Reading, HasSheetFault, IsAcceptedWith}
 use Rattle.rc_answers.specs.Players.{AreHits, alone, shared}
-use Rattle.rc_answers.specs.Answer.{Answer, text, refused, house_played, transcript_answer, AreAlike, IsAlone, IsAnswered, IsTranscribed, HasPlanRefusal, HasAnswer, form_faulty, sheet_faulty, plan_faulty, accepted}
+use Rattle.rc_answers.specs.Answer.{Answer, text, refused, house_played, transcript_answer, rivalled, watched, AreAlike, IsAlone, IsAnswered, IsPlanAnswered, IsTranscribed, HasPlanRefusal, HasAnswer, form_faulty, sheet_faulty, plan_faulty, accepted}
 use Rattle.rc_answers.proofs.AcceptedLaws.{one_sheet_fault, accepted_no_fault, both_accepted}
 use Rattle.rc_answers.proofs.OneReading.{one_reading, read_has_no_fault, one_form_fault}
 use Rattle.rc_answers.proofs.PlanLaws.{accepted_no_plan_fault, one_plan_fault, one_accepted_plan, read_no_fault, one_read_fault, one_read_plan}
@@ -53,6 +53,14 @@ one_transcribed asked source sheet others rest answer other has has' =
     let same = one_read_plan sheet.players others has.0 has'.0 has.1 has'.1 in
     has'.2 ∙ ap (λ plan. transcript_answer asked (about_of sheet plan.turns) plan (drop rest source)) same ∙ sym has.2
 
+-- an accepted plan has one answer
+one_plan_answered : (answer_to : About → Plan → Answer) (source : List ℕ) (sheet : sheets.Sheet) (others : List Tree) (rest : ℕ)
+    (answer other : Answer) → IsPlanAnswered answer_to source sheet others rest answer
+    → IsPlanAnswered answer_to source sheet others rest other → other ≡ answer
+one_plan_answered answer_to source sheet others rest answer other has has' =
+    let same = one_accepted_plan source sheet.players others rest has.0 has'.0 has.1 has'.1 in
+    has'.2 ∙ ap (λ plan. answer_to (about_of sheet plan.turns) plan) same ∙ sym has.2
+
 -- of an accepted sheet one worker has one answer
 one_accepted : (task : Task) (source : List ℕ) (sheet : sheets.Sheet) (others : List Tree) (rest : ℕ) (answer other : Answer) → IsAlone task
     → IsAnswered task source sheet others rest answer → IsAnswered task source sheet others rest other → other ≡ answer
@@ -65,6 +73,11 @@ one_accepted (Play options) source sheet others rest answer other few has has' =
 one_accepted Check source sheet others rest answer other few has has' = one_transcribed judging.Check source sheet others rest answer other has has'
 one_accepted Sheet source sheet others rest answer other few has has' = has' ∙ sym has
 one_accepted Migrate source sheet others rest answer other few has has' = one_transcribed judging.Migrate source sheet others rest answer other has has'
+one_accepted (Watch seat number) source sheet others rest answer other few has has' =
+    one_plan_answered (watched seat number) source sheet others rest answer other has has'
+one_accepted Measure source sheet others rest answer other few has has' = one_transcribed judging.Measure source sheet others rest answer other has has'
+one_accepted (Rival rival) source sheet others rest answer other few has has' =
+    one_plan_answered (rivalled rival) source sheet others rest answer other has has'
 
 -- an answer is alike to itself
 pub alike_itself : (answer : Answer) → AreAlike answer answer
@@ -91,6 +104,12 @@ alike_accepted Sheet source sheet others rest answer other has has' =
     subst (AreAlike answer) (sym (one_accepted Sheet source sheet others rest answer other tt has has')) (alike_itself answer)
 alike_accepted Migrate source sheet others rest answer other has has' =
     subst (AreAlike answer) (sym (one_accepted Migrate source sheet others rest answer other tt has has')) (alike_itself answer)
+alike_accepted (Watch seat number) source sheet others rest answer other has has' =
+    subst (AreAlike answer) (sym (one_accepted (Watch seat number) source sheet others rest answer other tt has has')) (alike_itself answer)
+alike_accepted Measure source sheet others rest answer other has has' =
+    subst (AreAlike answer) (sym (one_accepted Measure source sheet others rest answer other tt has has')) (alike_itself answer)
+alike_accepted (Rival rival) source sheet others rest answer other has has' =
+    subst (AreAlike answer) (sym (one_accepted (Rival rival) source sheet others rest answer other tt has has')) (alike_itself answer)
 
 -- a plan with a fault isn't accepted
 no_plan_fault : (task : Task) (source : List ℕ) (sheet : sheets.Sheet) (others : List Tree) (rest : ℕ) (answer : Answer) (kind : _) (at : ℕ)
@@ -100,6 +119,11 @@ no_plan_fault (Play options) source sheet others rest answer kind at has fault =
 no_plan_fault Check source sheet others rest answer kind at has fault = read_no_fault sheet.players others rest has.0 kind at has.1 fault
 no_plan_fault Sheet source sheet others rest answer kind at has fault = fault
 no_plan_fault Migrate source sheet others rest answer kind at has fault = read_no_fault sheet.players others rest has.0 kind at has.1 fault
+no_plan_fault (Watch seat number) source sheet others rest answer kind at has fault =
+    accepted_no_plan_fault source sheet.players others rest has.0 kind at has.1 fault
+no_plan_fault Measure source sheet others rest answer kind at has fault = read_no_fault sheet.players others rest has.0 kind at has.1 fault
+no_plan_fault (Rival rival) source sheet others rest answer kind at has fault =
+    accepted_no_plan_fault source sheet.players others rest has.0 kind at has.1 fault
 
 -- a plan has one first fault
 one_plan_refusal : (task : Task) (source : List ℕ) (sheet : sheets.Sheet) (others : List Tree) (rest : ℕ) (kind other : _) (at offset : ℕ)
@@ -112,6 +136,12 @@ one_plan_refusal Check source sheet others rest kind other at offset has has' =
 one_plan_refusal Sheet source sheet others rest kind other at offset has has' = absurd has
 one_plan_refusal Migrate source sheet others rest kind other at offset has has' =
     one_read_fault sheet.players others rest kind other at offset has has'
+one_plan_refusal (Watch seat number) source sheet others rest kind other at offset has has' =
+    one_plan_fault source sheet.players others rest kind other at offset has has'
+one_plan_refusal Measure source sheet others rest kind other at offset has has' =
+    one_read_fault sheet.players others rest kind other at offset has has'
+one_plan_refusal (Rival rival) source sheet others rest kind other at offset has has' =
+    one_plan_fault source sheet.players others rest kind other at offset has has'
 
 -- a sheet that is accepted has no fault
 no_sheet_fault : (P : sheets.Sheet → List Tree → Type 0) (task : Task) (source : List ℕ) (kind : _) (at : ℕ)

@@ -21,7 +21,7 @@ use Rattle.rc_answers.specs.declared.transcript.Judging.TheVariants as judging
 use Rattle.rc_answers.specs.AcceptedPlan.{IsPlanRead}
 use Rattle.rc_answers.specs.Reading.{Reading, IsAcceptedWith}
 use Rattle.rc_answers.specs.Answer.{text, answer_in, judged_as, legal_answer, read_answer, tells_bounds, transcript_answer, house_played, called_legal, IsAnswered, HasAnswer, accepted, task_of}
-use Rattle.rc_answers.specs.PlayedLaws.{PlayedIsLegal, IsPlayedBehind, PlayedIsAnsweredLegal, PlayedIsChecked, PlayedIsMigrated}
+use Rattle.rc_answers.specs.PlayedLaws.{PlayedIsLegal, IsPlayedBehind, PlayedIsAnsweredLegal, PlayedIsChecked, PlayedIsMigrated, IsMeasuredBehind, PlayedIsMeasured}
 use Rattle.rc_answers.proofs.AnswerLaws.{first_accepted, transcript_accepted}
 use Rattle.rc_answers.proofs.Cards.{cards_few}
 use Rattle.rc_answers.proofs.OneAnswer.{same_texts, text_accepted}
@@ -145,3 +145,19 @@ played_migrated options others source bytes bytes' note note' playouts playouts'
         ap (λ (format : Format). house_in (is_named format) about plan) (sym named) ∙ same_texts others others source _ bytes' _ note' _ playouts' refl own has' in
         subst (λ bytes'. HasAnswer Migrate (source ++ 10 ∷ bytes) (text bytes' [] 0)) same
         (written_behind judging.Migrate options source bytes note playouts form plan_form more rest sheet spelled has.1 has.2)
+
+pub played_measured : PlayedIsMeasured
+played_measured options source bytes note playouts has =
+    let found = text_accepted options source bytes note playouts has in
+    (found.0, by found.0.lists found.0.rest found.0.spelled found.1)
+  where
+    by : (lists : List Tree) (rest : ℕ) → Spelled source 2 lists rest →
+        IsAcceptedWith (λ sheet others. IsAnswered (Play options) source sheet others rest (text bytes note playouts)) lists →
+        IsAcceptedWith (IsMeasuredBehind source rest bytes) lists
+    by [] rest spelled has = absurd has
+    by (form ∷ []) rest spelled has = absurd has.2.1.0
+    by (form ∷ plan_form ∷ more) rest spelled has = (
+      has.0,
+      has.1,
+      (has.2.0, has.2.1, written_behind judging.Measure options source bytes note playouts form plan_form more rest has.0 spelled has.1 has.2),
+    )

@@ -15,12 +15,14 @@ use Rattle.rc_form.proofs.AtomsAreRead.{of_atoms-first}
 use Rattle.rc_form.proofs.TopLists.{fits-first}
 use Rattle.rc_sheet.proofs.Accepted.{has_sheet}
 use Rattle.rc_play_model.specs.About.{about_of}
+use Rattle.rc_play_model.specs.Plan.{Plan}
+use Rattle.rc_plan_model.specs.declared.fault.PlanKind.{PlanKind}
 use Rattle.rc_redraw.specs.Asking.{Key}
 use Rattle.rc_cache.specs.Hits.{hits}
 use Rattle.rc_records.specs.Series.{looks_of}
 use Rattle.rc_command.specs.declared.options.Options.{Options}
 use Rattle.rc_answers.specs.declared.task.Task.{Task}
-use Rattle.rc_answers.specs.declared.task.Task.TheVariants.{Play, Check, Sheet, Migrate}
+use Rattle.rc_answers.specs.declared.task.Task.TheVariants.{Play, Check, Sheet, Migrate, Watch, Measure, Rival}
 use Rattle.rc_answers.specs.declared.transcript.Judging.{Judging}
 use Rattle.rc_answers.specs.declared.transcript.Judging.TheVariants as judging
 use Rattle.rc_answers.specs.declared.refusal.Refusal.TheVariants as refusal
@@ -31,7 +33,7 @@ use Rattle.rc_answers.specs.AcceptedPlan.{HasPlanFault, HasPlanReadFault, IsPlan
 use Rattle.rc_answers.specs.Task.{wanted}
 use Rattle.rc_answers.specs.Reading.{IsAcceptedWith}
 use Rattle.rc_answers.specs.Players.{AreHits, alone, shared}
-use Rattle.rc_answers.specs.Answer.{Answer, text, refused, house_played, transcript_answer, HasAnswer, form_faulty, task_of}
+use Rattle.rc_answers.specs.Answer.{Answer, text, refused, house_played, transcript_answer, rivalled, watched, HasPlanRefusal, IsAnswered, HasAnswer, form_faulty, task_of}
 use Rattle.rc_answers.proofs.AcceptedLaws.{in_sight_or_not}
 use Rattle.rc_answers.proofs.FirstFaults.{first_found}
 use Rattle.rc_answers.proofs.AnswerLaws.{missing_answer, refused_answer, first_accepted, accepted_answer, plan_answer, transcript_accepted, plan_refused}
@@ -74,6 +76,38 @@ transcribed asked source form others rest sheet spelled is =
           (λ first more same. subst (λ others. HasPlanReadFault sheet.players others rest fault.0 fault.1) (behind first more same) fault.2),
     )
 
+-- with a sheet that is accepted and a plan that nothing may follow
+planned : (task : Task) (source : List ℕ) (form : Tree) (others : List Tree) (rest : ℕ) (sheet : sheets.Sheet)
+    → Spelled source (wanted task) (form ∷ others) rest → IsAccepted form sheet
+    → ((others : List Tree) (plan : Plan) → IsPlanAccepted source sheet.players others rest plan
+    → (answer : Answer) × IsAnswered task source sheet others rest answer)
+    → ((others : List Tree) (kind : PlanKind) (at : ℕ) → HasPlanFault source sheet.players others rest kind at
+    → HasPlanRefusal task source sheet others rest kind at)
+    → SomeAnswer task source
+planned task source form others rest sheet spelled is answers refuses =
+    by_plan (plan_or_fault source sheet.players others rest is.of_form.well.limits.some_players is.of_form.well.limits.players)
+  where
+    behind : (first : Tree) (more : List Tree) → form ∷ others ≡ first ∷ more → others ≡ more
+    behind first more same = cc
+
+    sheet_is : IsAcceptedWith (λ other _. other ≡ sheet) (form ∷ others)
+    sheet_is = first_accepted (form ∷ others) form others sheet refl is
+
+    by_plan : IsPlanOrFault source sheet.players others rest → SomeAnswer task source
+    by_plan (inl plan) =
+        let found = answers others plan.0 plan.1 in (
+          found.0,
+          accepted_answer task source (form ∷ others) rest sheet found.0 spelled sheet_is
+              (λ first more same. subst (λ others. IsAnswered task source sheet others rest found.0) (behind first more same) found.1),
+        )
+    by_plan (inr fault) = (
+      refused (refusal.Plan fault.0 fault.1),
+      plan_answer task source (form ∷ others) rest sheet fault.0 fault.1 spelled sheet_is
+          (λ first more same.
+          subst (λ others. HasPlanRefusal task source sheet others rest fault.0 fault.1) (behind first more same)
+          (refuses others fault.0 fault.1 fault.2)),
+    )
+
 -- and with a sheet that is accepted
 accepted : (task : Task) (source : List ℕ) (form : Tree) (others : List Tree) (rest : ℕ) (sheet : sheets.Sheet)
     → Spelled source (wanted task) (form ∷ others) rest → IsAccepted form sheet → SomeAnswer task source
@@ -85,29 +119,20 @@ accepted Sheet source form others rest sheet spelled is =
     )
 accepted Check source form others rest sheet spelled is = transcribed judging.Check source form others rest sheet spelled is
 accepted Migrate source form others rest sheet spelled is = transcribed judging.Migrate source form others rest sheet spelled is
+accepted Measure source form others rest sheet spelled is = transcribed judging.Measure source form others rest sheet spelled is
+accepted (Watch seat number) source form others rest sheet spelled is =
+    planned (Watch seat number) source form others rest sheet spelled is
+    (λ others plan has. (watched seat number (about_of sheet plan.turns) plan, (plan, has, refl))) (λ others kind at fault. fault)
+accepted (Rival rival) source form others rest sheet spelled is =
+    planned (Rival rival) source form others rest sheet spelled is
+    (λ others plan has. (rivalled rival (about_of sheet plan.turns) plan, (plan, has, refl))) (λ others kind at fault. fault)
 accepted (Play options) source form others rest sheet spelled is =
-    by_plan (plan_or_fault source sheet.players others rest is.of_form.well.limits.some_players is.of_form.well.limits.players)
-  where
-    behind : (first : Tree) (more : List Tree) → form ∷ others ≡ first ∷ more → others ≡ more
-    behind first more same = cc
-
-    sheet_is : IsAcceptedWith (λ other _. other ≡ sheet) (form ∷ others)
-    sheet_is = first_accepted (form ∷ others) form others sheet refl is
-
-    by_plan : IsPlanOrFault source sheet.players others rest → SomeAnswer (Play options) source
-    by_plan (inl plan) =
-        let about = about_of sheet plan.0.turns in
-        let hits = some_hits options (looks_of about plan.0) in
-        let answer = house_played options about plan.0 hits.0 in (
-          answer,
-          accepted_answer (Play options) source (form ∷ others) rest sheet answer spelled sheet_is
-              (λ first more same. (plan.0, subst (λ others. IsPlanAccepted source sheet.players others rest plan.0) (behind first more same) plan.1, (hits.0, hits.1, refl))),
-        )
-    by_plan (inr fault) = (
-      refused (refusal.Plan fault.0 fault.1),
-      plan_answer (Play options) source (form ∷ others) rest sheet fault.0 fault.1 spelled sheet_is
-          (λ first more same. subst (λ others. HasPlanFault source sheet.players others rest fault.0 fault.1) (behind first more same) fault.2),
-    )
+    planned (Play options) source form others rest sheet spelled is
+    (λ others plan has.
+    let about = about_of sheet plan.turns in
+    let hits = some_hits options (looks_of about plan) in
+    (house_played options about plan hits.0, (plan, has, (hits.0, hits.1, refl))))
+    (λ others kind at fault. fault)
 
 -- one whose first list has no fault of its parts
 faultless : (task : Task) (source : List ℕ) (form : Tree) (others : List Tree) (rest : ℕ) (sheet : sheets.Sheet)

@@ -15,11 +15,13 @@ use Rattle.rc_answers.specs.declared.status.SourceKind.{SourceKind}
 use Rattle.rc_answers.specs.declared.status.SourceKind.TheVariants.{Unseen}
 use Rattle.rc_answers.specs.Status.{sheet_kind}
 
--- The first fault of the parts of a form that is to be a sheet. It is one of the first round, or of the second where the first round
--- finds none, and no fault of its round comes before it: none at a smaller offset, and at its own none of an earlier kind.
+-- The first fault of the parts of a form that is to be a sheet. It is one of the first round, or of the second where
+-- the first round finds none, and no fault of its round comes before it: none at a smaller offset, and at its own none
+-- of an earlier kind.
 abbrev pub HasPartFault : Tree → SourceKind → ℕ → Type 0
 HasPartFault form kind at =
-    (found : SheetFault) × (sheet_fault form ≡ Some found) × IsFirstFault form found × (kind ≡ sheet_kind found.kind) × (at ≡ found.at)
+    (found : SheetFault) × (sheet_fault form ≡ Some found) × IsFirstFault form found × (kind ≡ sheet_kind found.kind)
+    × (at ≡ found.at)
 
 -- the first location that stands in a guard or a domain and is out of sight there
 abbrev pub HasSightFault : Tree → SourceKind → ℕ → Type 0

@@ -9,8 +9,8 @@ use Rattle.rc_plan_model.specs.PlanFault.{IsPlanFault}
 use Rattle.rc_plan_model.specs.declared.fault.PlanKind.{PlanKind}
 use Rattle.rc_plan_model.specs.declared.fault.PlanKind.TheVariants.{Shape, Rest}
 
--- The plan of a form that has no fault as one for so many players: the plan within the limits that the form stands for, with a
--- strategy for each player. Of each form there is one at most.
+-- The plan of a form that has no fault as one for so many players: the plan within the limits that the form stands for,
+-- with a strategy for each player. Of each form there is one at most.
 pub record IsPlanOf (players : ℕ) (form : Tree) (plan : Plan) : Type 0 where
   pub faultless : plan_faults players form ≡ []
   pub stands : PlanStands plan form
@@ -22,8 +22,8 @@ abbrev pub IsPlanRead : ℕ → List Tree → Plan → Type 0
 IsPlanRead players [] plan = ⊥
 IsPlanRead players (form ∷ others) plan = IsPlanOf players form plan
 
--- The first fault of the plan, where these are the lists and the rest that were read behind the sheet: it is missing, or else it is
--- the first fault of the first of them.
+-- The first fault of the plan, where these are the lists and the rest that were read behind the sheet: it is missing,
+-- or else it is the first fault of the first of them.
 abbrev pub HasPlanReadFault : ℕ → List Tree → ℕ → PlanKind → ℕ → Type 0
 HasPlanReadFault players [] rest kind at = (kind ≡ Shape) × (at ≡ rest)
 HasPlanReadFault players (form ∷ others) rest kind at = IsPlanFault form players kind at
@@ -54,7 +54,8 @@ IsPlanFaulty source players lists rest kind at =
 
 -- Behind the first of these lists stands this plan.
 abbrev pub IsBehind : ℕ → List Tree → Plan → Type 0
-IsBehind players lists plan = (form : Tree) (others : List Tree) → lists ≡ form ∷ others → IsPlanRead players others plan
+IsBehind players lists plan =
+    (form : Tree) (others : List Tree) → lists ≡ form ∷ others → IsPlanRead players others plan
 
 -- Behind the first of these lists stands a plan whose first fault, as it is read, is this.
 abbrev pub IsFaultyBehind : ℕ → List Tree → ℕ → PlanKind → ℕ → Type 0

@@ -19,13 +19,16 @@ AnswersAreAlike = (task : Task) (source : List ℕ) (answer other : Answer)
 abbrev pub SomeAnswer : Type 0
 SomeAnswer = (task : Task) (source : List ℕ) → (answer : Answer) × HasAnswer task source answer
 
--- Whoever plays, with whatever book, the answers of `play` to a source have one text in each format. Outcome.antt says that it is what
--- is written.
+-- Whoever plays, with whatever book, the answers of `play` to a source have one text in each format. Outcome.antt says
+-- that it is what is written.
 abbrev pub TextsAreTheSame : Type 0
-TextsAreTheSame = (options others : Options) (source bytes bytes' note note' : List ℕ) (playouts playouts' : ℕ) → options.format ≡ others.format
-    → HasAnswer (Play options) source (text bytes note playouts) → HasAnswer (Play others) source (text bytes' note' playouts')
+TextsAreTheSame = (options others : Options) (source bytes bytes' note note' : List ℕ) (playouts playouts' : ℕ)
+    → options.format ≡ others.format
+    → HasAnswer (Play options) source (text bytes note playouts)
+    → HasAnswer (Play others) source (text bytes' note' playouts')
     → bytes ≡ bytes'
 
 -- what `sheet` answers to a source, it answers to that text too
 abbrev pub PrintedAgain : Type 0
-PrintedAgain = (source bytes : List ℕ) → HasAnswer Sheet source (text bytes [] 0) → HasAnswer Sheet bytes (text bytes [] 0)
+PrintedAgain =
+    (source bytes : List ℕ) → HasAnswer Sheet source (text bytes [] 0) → HasAnswer Sheet bytes (text bytes [] 0)

@@ -4,6 +4,7 @@ pub mod Answer
 pub mod Bench
 pub mod Laws
 pub mod Legend
+pub mod Measured
 pub mod Note
 pub mod Players
 pub mod PlayedLaws
@@ -11,3 +12,4 @@ pub mod Plays
 pub mod Reading
 pub mod Status
 pub mod Task
+pub mod WatchedLaws

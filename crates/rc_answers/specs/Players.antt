@@ -17,11 +17,12 @@ abbrev pub CanPlay : (many : Bool) → ℕ → Type 0
 CanPlay true workers = Unit {0}
 CanPlay false workers = workers ≡ 1
 
--- So many of the looks hit. One worker looks the keys up in order, in a list that holds so many totals and keeps those of each miss.
--- Where several play at one time, not all looks hit, if there is one.
+-- So many of the looks hit. One worker looks the keys up in order, in a list that holds so many totals and keeps those
+-- of each miss. Where several play at one time, not all looks hit, if there is one.
 pub data AreHits (options : Options) (looks : List Key) (found : ℕ) : Type 0 where
   alone : options.workers ≤ 1 → found ≡ hits looks options.cache → AreHits options looks found
-  shared : 1 < options.workers → found ≤ length looks → (0 < length looks → found < length looks) → AreHits options looks found
+  shared : 1 < options.workers → found ≤ length looks → (0 < length looks → found < length looks)
+      → AreHits options looks found
 
 -- how many playouts are counted: of one worker those of the looks that miss, and of several none
 abbrev pub counted_playouts : Options → List Key → ℕ

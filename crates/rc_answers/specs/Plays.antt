@@ -1,5 +1,6 @@
--- What stands in the text that `play` writes, match by match: each match is a play that the sheet allows for its seeded shuffles, up to
--- its end or the turn limit, and each choice is its strategy's function of its seat's view and of the seed of the seats.
+-- What stands in the text that `play` writes, match by match: each match is a play that the sheet allows for its seeded
+-- shuffles, up to its end or the turn limit, and each choice is its strategy's function of its seat's view and of the
+-- seed of the seats.
 use Rattle.std.specs.Prelude.{◌≡◌, ℕ, Bool, ◌<◌, ◌≤◌, List, [], take, length, slice_get, Some}
 use Rattle.rc_model.specs.Tree.{Tree}
 use Rattle.rc_model.specs.Transcript.{Pick, Ending, done, limit, Record}
@@ -26,8 +27,8 @@ abbrev pub item_by_view : About → Plan → (m seat : ℕ) → Config → ℕ
 item_by_view about plan m seat c =
     choice_of about (strategy_at plan m seat) (deal_at plan m).seats (view_of about.shape seat c.table c.control)
 
--- In match m the items before the n-th of these picks lead from the start to a decision, by the match's shuffles, and the n-th is what
--- the strategy of the seat that decides there takes.
+-- In match m the items before the n-th of these picks lead from the start to a decision, by the match's shuffles, and
+-- the n-th is what the strategy of the seat that decides there takes.
 pub record IsChosen (about : About) (plan : Plan) (m : ℕ) (picks : List Pick) (n : ℕ) : Type 0 where
   pub at : Stopped ℕ
   pub seat : ℕ
@@ -54,10 +55,12 @@ pub record IsPlayedOut (about : About) (plan : Plan) (m : ℕ) (r : Record) : Ty
   -- each pick is its strategy's
   pub chosen : (n : ℕ) → n < length r.picks → IsChosen about plan m r.picks n
 
--- These bytes tell the matches of a plan for a sheet in a format, each with its record, and how the strategies stand behind them.
+-- These bytes tell the matches of a plan for a sheet in a format, each with its record, and how the strategies stand
+-- behind them.
 pub record TellsPlays (named : Bool) (sheet : Sheet) (plan : Plan) (bytes : List ℕ) : Type 0 where
   pub told : HouseText
-  pub written : bytes ≡ text_in (format_by named (about_of sheet plan.turns)) (told_in named (about_of sheet plan.turns) plan told)
+  pub written : bytes
+      ≡ text_in (format_by named (about_of sheet plan.turns)) (told_in named (about_of sheet plan.turns) plan told)
   -- there is a record for each match, and the standings are those that the records make
   pub legal : IsLegal (about_of sheet plan.turns) dealing_of plan told
   pub played : (m : ℕ) → m < length plan.matches →
@@ -70,10 +73,13 @@ TellsPlaysBehind named source rest bytes sheet others =
 
 -- the source is read as a sheet and a plan that are accepted, and these bytes tell the plan's matches
 abbrev pub TellsPlaysOf : (named : Bool) → List ℕ → List ℕ → Type 0
-TellsPlaysOf named source bytes = (read : Reading source 2) × IsAcceptedWith (TellsPlaysBehind named source read.rest bytes) read.lists
+TellsPlaysOf named source bytes =
+    (read : Reading source 2) × IsAcceptedWith (TellsPlaysBehind named source read.rest bytes) read.lists
 
--- What `play` writes for a source tells plays in the format that is named, with however many workers and however large a book.
+-- What `play` writes for a source tells plays in the format that is named, with however many workers and however large
+-- a book.
 abbrev pub WrittenIsPlayed : Type 0
 WrittenIsPlayed =
-    (options : Options) (source bytes note : List ℕ) (playouts : ℕ) → HasAnswer (Play options) source (text bytes note playouts) →
+    (options : Options) (source bytes note : List ℕ) (playouts : ℕ) →
+    HasAnswer (Play options) source (text bytes note playouts) →
     TellsPlaysOf (is_named options.format) source bytes

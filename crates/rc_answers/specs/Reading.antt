@@ -11,7 +11,8 @@ use Rattle.rc_answers.specs.Status.{source_kind}
 use Rattle.rc_sheet_laws.specs.Accepted.{IsAccepted}
 use Rattle.rc_answers.specs.Accepted.{HasFirstFault}
 
--- The source is read: these are the wanted lists that it spells, of which the first is to be the sheet, and the rest begins here.
+-- The source is read: these are the wanted lists that it spells, of which the first is to be the sheet, and the rest
+-- begins here.
 pub record Reading (source : List ℕ) (want : ℕ) : Type 0 where
   pub lists : List Tree
   pub rest : ℕ
@@ -21,8 +22,8 @@ pub record Reading (source : List ℕ) (want : ℕ) : Type 0 where
 abbrev pub HasFormFault : List ℕ → ℕ → SourceKind → ℕ → Type 0
 HasFormFault source want kind at = (found : FormKind) × IsFormFault source want found at × (kind ≡ source_kind found)
 
--- The first fault of the sheet, where these are the lists and the rest that were read: the sheet is missing, or else it is the
--- first fault of the first list.
+-- The first fault of the sheet, where these are the lists and the rest that were read: the sheet is missing, or else it
+-- is the first fault of the first list.
 abbrev pub HasSheetFault : List Tree → ℕ → SourceKind → ℕ → Type 0
 HasSheetFault [] rest kind at = (kind ≡ Shape) × (at ≡ rest)
 HasSheetFault (form ∷ others) rest kind at = HasFirstFault form kind at

@@ -11,13 +11,17 @@ use Rattle.rc_plan_model.specs.declared.fault.PlanKind.{PlanKind}
 use Rattle.rc_plan_model.specs.declared.fault.PlanKind.TheVariants as plan
 use Rattle.rc_judge.specs.declared.verdict.Why.{Why}
 use Rattle.rc_judge.specs.declared.verdict.Why.TheVariants as whys
-use Rattle.rc_text_model.specs.Why.{Why as PureWhy, by_match, by_shuffle, by_seat, by_menu, by_item, by_name, by_end, by_score, by_standing}
+use Rattle.rc_text_model.specs.Why.{Why as PureWhy, by_match, by_shuffle, by_seat, by_menu, by_item, by_name, by_end}
+use Rattle.rc_text_model.specs.Why.{by_score, by_standing}
 use Rattle.rc_answers.specs.declared.refusal.Refusal.{Refusal}
 use Rattle.rc_answers.specs.declared.refusal.Refusal.TheVariants as refusal
 use Rattle.rc_answers.specs.declared.status.SourceKind.{SourceKind}
-use Rattle.rc_answers.specs.declared.status.SourceKind.TheVariants.{BadByte, Stray, TooDeep, AtomLong, Unclosed, Shape, Number, Twice, Unknown, WrongKind, TooMany, NoCards, Unseen}
+use Rattle.rc_answers.specs.declared.status.SourceKind.TheVariants.{BadByte, Stray, TooDeep, AtomLong, Unclosed}
+use Rattle.rc_answers.specs.declared.status.SourceKind.TheVariants.{Shape, Number, Twice, Unknown, WrongKind, TooMany}
+use Rattle.rc_answers.specs.declared.status.SourceKind.TheVariants.{NoCards, Unseen}
 use Rattle.rc_answers.specs.declared.status.Status.{Status}
-use Rattle.rc_answers.specs.declared.status.Status.TheVariants.{Done, Sheet, Plan, Text, Illegal, Memory, ReadFault, WriteFault, TooLong, Usage}
+use Rattle.rc_answers.specs.declared.status.Status.TheVariants.{Done, Sheet, Plan, Text, Illegal, Memory}
+use Rattle.rc_answers.specs.declared.status.Status.TheVariants.{ReadFault, WriteFault, TooLong, Usage, Absent}
 
 -- the name of a kind
 abbrev pub kind_name : SourceKind → List ℕ
@@ -93,6 +97,7 @@ refusal_status (refusal.Sheet kind at) = Sheet kind at
 refusal_status (refusal.Plan kind at) = Plan kind at
 refusal_status (refusal.Text line) = Text line
 refusal_status (refusal.Illegal line why) = Illegal line why
+refusal_status refusal.Absent = Absent
 
 -- the status of a source that wasn't read to its end
 abbrev pub read_status : ReadFail → Status
@@ -112,6 +117,7 @@ code_of Memory = 5
 code_of ReadFault = 6
 code_of WriteFault = 7
 code_of TooLong = 8
+code_of Absent = 10
 
 -- the line that goes to the notes where a command ends so; where all went well, the command says what is noted
 abbrev pub line_of : Status → List ℕ
@@ -124,4 +130,5 @@ line_of Memory = line (codes "no memory")
 line_of ReadFault = line (codes "read fault")
 line_of WriteFault = line (codes "write fault")
 line_of TooLong = line (codes "too long")
-line_of Usage = line (codes "usage: cardhouse play, check, sheet, bench or migrate")
+line_of Usage = line (codes "usage: cardhouse play, check, sheet, bench, migrate, watch, measure or rival")
+line_of Absent = line (codes "absent")

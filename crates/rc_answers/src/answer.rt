@@ -10,7 +10,7 @@ ghost use Rattle.rc_answers.specs.declared.status.SourceKind.TheVariants.{Shape}
 ghost use Rattle.rc_answers.specs.Status.{source_kind};
 ghost use Rattle.rc_command.specs.declared.options.Options.{Options};
 ghost use Rattle.rc_answers.specs.declared.task.Task.TheVariants as task;
-ghost use Rattle.rc_answers.specs.Task.{wanted};
+ghost use Rattle.rc_answers.specs.Task.{CanSearch, wanted};
 ghost use Rattle.rc_answers.specs.Reading.{IsAcceptedWith};
 ghost use Rattle.rc_answers.specs.declared.answer.Answer.TheVariants as stored;
 ghost use Rattle.rc_answers.specs.Answer.{IsAnswerTo, IsPlanRefusal, IsPrepared, IsSheetText, task_of};
@@ -20,9 +20,12 @@ use crate::note::Note;
 use crate::planning::{plan_behind, read_plan};
 use crate::printing::print_line;
 use crate::refusal::Refusal;
+use crate::rivalling::rivalled_answer;
 use crate::status::SourceKind;
 use crate::task::Task;
 use crate::transcript::{Judging, judged_answer};
+use crate::watching::watched_answer;
+use rc_command::Rival;
 use rc_deck::Memory;
 use rc_flow::Checked;
 use rc_form::{FormFail, FormFault, Forms, read_forms};
@@ -57,7 +60,8 @@ pub enum Prepared {
 
 /// What a command makes of its source before anybody plays. Memory may run out.
 pub fn prepare(alloc: Global, task: Task, source: &[u8]) -> Result<Prepared, Memory>
-    requires { length source.now ≤ longest_text }
+    requires small { length source.now ≤ longest_text }
+    requires searches { CanSearch task }
     ensures { IfOk result (IsPrepared task source.now) }
 {
     match read_forms(alloc, source, task.wanted()) {
@@ -84,6 +88,7 @@ fn prepare_forms(
     source: &[u8],
     forms: &Forms,
 ) -> Result<Prepared, Memory>
+    requires searches { CanSearch task }
     requires small { length source.now ≤ longest_text }
     requires within { forms.now.rest ≤ length source.now }
     requires read { Spelled source.now (wanted task) (trees_of forms.now.list.items) forms.now.rest }
@@ -123,6 +128,7 @@ fn prepare_sheet(
     forms: &Forms,
     checked: Checked,
 ) -> Result<Prepared, Memory>
+    requires searches { CanSearch task }
     requires small { length source.now ≤ longest_text }
     requires within { forms.now.rest ≤ length source.now }
     requires read { Spelled source.now (wanted task) (trees_of forms.now.list.items) forms.now.rest }
@@ -139,6 +145,18 @@ fn prepare_sheet(
         Task::Sheet => Ok(Prepared::Answered(sheet_answer(alloc, &checked)?)),
         Task::Migrate => {
             let answer = transcript_answer(alloc, Judging::Migrate, source, forms, checked)?;
+            Ok(Prepared::Answered(answer))
+        }
+        Task::Watch { seat, number } => {
+            let answer = watch_answer(alloc, seat, number, source, forms, checked)?;
+            Ok(Prepared::Answered(answer))
+        }
+        Task::Measure => {
+            let answer = transcript_answer(alloc, Judging::Measure, source, forms, checked)?;
+            Ok(Prepared::Answered(answer))
+        }
+        Task::Rival(rival) => {
+            let answer = rival_answer(alloc, rival, source, forms, checked)?;
             Ok(Prepared::Answered(answer))
         }
     }
@@ -165,7 +183,54 @@ fn prepare_play(
     }
 }
 
-/// The answer of `check` or `migrate` to a source with these forms, of which the first is accepted as this sheet.
+/// The answer of `watch` to a source with these forms, of which the first is accepted as this sheet.
+fn watch_answer(
+    alloc: Global,
+    seat: u8,
+    number: u32,
+    source: &[u8],
+    forms: &Forms,
+    checked: Checked,
+) -> Result<Answer, Memory>
+    requires small { length source.now ≤ longest_text }
+    requires within { forms.now.rest ≤ length source.now }
+    requires read { Spelled source.now 2 (trees_of forms.now.list.items) forms.now.rest }
+    requires placed { All (λ form. IsPlaced (length source.now) (tree_of form)) forms.now.list.items }
+    requires accepted { IsAcceptedWith (λ sheet _. sheet ≡ checked) (trees_of forms.now.list.items) }
+    ensures { IfOk result (IsAnswerTo (task.Watch seat number) source.now) }
+{
+    let players = checked.sheet().players;
+    match read_plan(alloc, source, forms, players) {
+        Ok(plan) => watched_answer(alloc, Game { checked, plan }, seat, number),
+        Err(fail) => plan_failed(fail),
+    }
+}
+
+/// The answer of `rival` to a source with these forms, of which the first is accepted as this sheet.
+fn rival_answer(
+    alloc: Global,
+    rival: Rival,
+    source: &[u8],
+    forms: &Forms,
+    checked: Checked,
+) -> Result<Answer, Memory>
+    requires small { length source.now ≤ longest_text }
+    requires within { forms.now.rest ≤ length source.now }
+    requires read { Spelled source.now 2 (trees_of forms.now.list.items) forms.now.rest }
+    requires placed { All (λ form. IsPlaced (length source.now) (tree_of form)) forms.now.list.items }
+    requires accepted { IsAcceptedWith (λ sheet _. sheet ≡ checked) (trees_of forms.now.list.items) }
+    requires deep { 1 ≤ rival.depth }
+    requires some { 1 ≤ rival.rounds }
+    ensures { IfOk result (IsAnswerTo (task.Rival rival) source.now) }
+{
+    let players = checked.sheet().players;
+    match read_plan(alloc, source, forms, players) {
+        Ok(plan) => rivalled_answer(alloc, Game { checked, plan }, rival),
+        Err(fail) => plan_failed(fail),
+    }
+}
+
+/// The answer of a command that judges, to a source with these forms, of which the first is accepted as this sheet.
 fn transcript_answer(
     alloc: Global,
     asked: Judging,

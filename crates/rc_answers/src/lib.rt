@@ -1,6 +1,7 @@
-//! What the commands answer: `play` plays a sheet by a plan, `check` judges a transcript of such plays, `migrate` tells one in format 2,
-//! `sheet` prints a sheet, and `bench` plays a game of its own. Here a source is answered without ports, as far as nobody has to play for
-//! it, with why it is refused, the statuses that commands end with, and the laws of answers.
+//! What the commands answer: `play` plays a sheet by a plan, `check` judges a transcript of such plays, `migrate` tells
+//! one in format 2, `measure` tells its measures, `watch` tells what a seat sees in a match, `sheet` prints a sheet,
+//! and `bench` plays a game of its own. Here a source is answered without ports, as far as nobody has to play for it,
+//! with why it is refused, the statuses that commands end with, and the laws of answers.
 #![tactic(auto)]
 
 mod accepting;
@@ -12,17 +13,19 @@ mod note;
 mod planning;
 mod printing;
 mod refusal;
+mod rivalling;
 mod status;
 mod table_examples;
 mod task;
 mod transcript;
+mod watching;
 
 pub use answer::{Answer, Game, Prepared, prepare};
 pub use benching::bench_game;
 pub use laws::{
-    a_printed_sheet_is_printed_again, answers_are_alike, one_answer, some_answer,
-    texts_are_the_same, what_is_played_is_judged_legal, what_is_played_is_migrated,
-    what_is_written_is_played,
+    a_printed_sheet_is_printed_again, absent_exactly, answers_are_alike, one_answer, some_answer,
+    texts_are_the_same, what_is_played_is_judged_legal, what_is_played_is_measured,
+    what_is_played_is_migrated, what_is_watched_is_read, what_is_written_is_played,
 };
 pub use naming::legend_for;
 pub use note::Note;

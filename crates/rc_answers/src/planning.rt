@@ -14,14 +14,16 @@ use rc_plan::{PlanFail, PlanFault, PlanKind, plan_of};
 use rc_rules::Plan;
 use std::alloc::Global;
 
-/// The plan behind the sheet in a source with these forms, for so many players, behind which nothing stands; or its first fault.
+/// The plan behind the sheet in a source with these forms, for so many players, behind which nothing stands; or its
+/// first fault.
 pub fn read_plan(alloc: Global, source: &[u8], forms: &Forms, players: u8) -> Result<Plan, PlanFail>
     requires small { length source.now ≤ longest_text }
     requires within { forms.now.rest ≤ length source.now }
     requires placed { All (λ form. IsPlaced (length source.now) (tree_of form)) forms.now.list.items }
     requires some { 1 ≤ players }
     requires few { players ≤ 8 }
-    ensures planned { IfOk result (λ plan. IsPlanned source.now players (trees_of forms.now.list.items) forms.now.rest (plan_seen plan)) }
+    ensures planned { IfOk result (λ plan.
+        IsPlanned source.now players (trees_of forms.now.list.items) forms.now.rest (plan_seen plan)) }
     ensures limits { IfOk result (λ plan. IsWithinLimits (plan_seen plan)) }
     ensures seats { IfOk result (λ plan. length (plan_seen plan).strategies ≡ players) }
     ensures fault { IfErr result (λ fail. IfPlanFault fail (λ fault.
@@ -34,7 +36,8 @@ pub fn read_plan(alloc: Global, source: &[u8], forms: &Forms, players: u8) -> Re
     }
 }
 
-/// The plan behind the sheet in a source with these forms, for so many players, whatever follows it; or its first fault.
+/// The plan behind the sheet in a source with these forms, for so many players, whatever follows it; or its first
+/// fault.
 pub fn plan_behind(alloc: Global, forms: &Forms, players: u8) -> Result<Plan, PlanFail>
     requires small { forms.now.rest ≤ longest_text }
     requires placed { All (λ form. (size : ℕ) × IsPlaced size (tree_of form)) forms.now.list.items }
@@ -58,7 +61,8 @@ pub fn plan_behind(alloc: Global, forms: &Forms, players: u8) -> Result<Plan, Pl
 // The fault of a source where something follows what was read of it.
 fn rest_fault(source: &[u8], rest: usize) -> Option<PlanFault>
     requires { rest ≤ longest_text }
-    ensures found { IfSome result (λ fault. (rest ≢ length source.now) × (fault.kind ≡ plan_kind.Rest) × (fault.at ≡ rest)) }
+    ensures found { IfSome result (λ fault.
+        (rest ≢ length source.now) × (fault.kind ≡ plan_kind.Rest) × (fault.at ≡ rest)) }
     ensures none { IfNone result (rest ≡ length source.now) }
 {
     if rest == source.len() {

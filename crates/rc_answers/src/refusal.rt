@@ -14,6 +14,8 @@ pub enum Refusal {
     Text { line: u32 },
     /// The transcript's first line that no play allows, and why.
     Illegal { line: u32, why: Why },
+    /// The plan has no such seat, no such match or no such strategy.
+    Absent,
 }
 
 impl From<Refusal> for Status {
@@ -28,6 +30,7 @@ impl From<Refusal> for Status {
             Refusal::Plan { kind, at } => Status::Plan { kind, at },
             Refusal::Text { line } => Status::Text { line },
             Refusal::Illegal { line, why } => Status::Illegal { line, why },
+            Refusal::Absent => Status::Absent,
         }
     }
 }

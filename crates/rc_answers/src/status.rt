@@ -11,7 +11,7 @@ use rc_outside::ReadFail;
 use rc_plan::PlanKind;
 
 /// The most bytes of a line that is noted.
-pub const LINE: usize = 64;
+pub const LINE: usize = 80;
 
 /// What is wrong with a sheet: first the kinds of its forms, and then those of its parts.
 #[derive(Clone, Copy, Debug, PartialEq, Eq, Hash)]
@@ -161,6 +161,8 @@ pub enum Status {
     TooLong,
     /// The words are no command's.
     Usage,
+    /// The plan has no such seat, no such match or no such strategy.
+    Absent,
 }
 
 impl Status {
@@ -179,6 +181,7 @@ impl Status {
             Status::ReadFault => 6,
             Status::WriteFault => 7,
             Status::TooLong => 8,
+            Status::Absent => 10,
         }
     }
 
@@ -196,7 +199,10 @@ impl Status {
             Status::ReadFault => fixed_line("read fault\n"),
             Status::WriteFault => fixed_line("write fault\n"),
             Status::TooLong => fixed_line("too long\n"),
-            Status::Usage => fixed_line("usage: cardhouse play, check, sheet, bench or migrate\n"),
+            Status::Usage => fixed_line(
+                "usage: cardhouse play, check, sheet, bench, migrate, watch, measure or rival\n",
+            ),
+            Status::Absent => fixed_line("absent\n"),
         }
     }
 }
@@ -229,7 +235,7 @@ impl From<ReadFail> for Status {
 
 /// A line that is the same each time.
 fn fixed_line(text: &str) -> ArrayString<LINE>
-    requires { length text.now ≤ 64 }
+    requires { length text.now ≤ 80 }
     ensures { result.bytes ≡ text.now }
 {
     let mut line = ArrayString::new();

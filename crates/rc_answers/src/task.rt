@@ -4,7 +4,7 @@ ghost use Rattle.rc_model.specs.Limits.{longest_text};
 ghost use Rattle.rc_answers.specs.declared.task.Task.{Task};
 ghost use Rattle.rc_answers.specs.Task.{limit_of, wanted};
 
-use rc_command::Options;
+use rc_command::{Options, Rival};
 use rc_names::limits::{LONGEST_SOURCE, LONGEST_TEXT};
 
 /// What a command does with its source.
@@ -18,6 +18,12 @@ pub enum Task {
     Sheet,
     /// Tells a transcript of a sheet and a plan in format 2.
     Migrate,
+    /// Tells what a seat sees in a match of a sheet and a plan.
+    Watch { seat: u8, number: u32 },
+    /// Tells the measures of a transcript of a sheet and a plan.
+    Measure,
+    /// Plays the matches of a sheet and a plan with this search for one of its strategies.
+    Rival(Rival),
 }
 
 impl Task {
@@ -30,6 +36,9 @@ impl Task {
             Task::Check => 2,
             Task::Sheet => 1,
             Task::Migrate => 2,
+            Task::Watch { .. } => 2,
+            Task::Measure => 2,
+            Task::Rival(_) => 2,
         }
     }
 
@@ -43,6 +52,9 @@ impl Task {
             Task::Check => LONGEST_TEXT,
             Task::Sheet => LONGEST_SOURCE,
             Task::Migrate => LONGEST_TEXT,
+            Task::Watch { .. } => LONGEST_SOURCE,
+            Task::Measure => LONGEST_TEXT,
+            Task::Rival(_) => LONGEST_SOURCE,
         }
     }
 }

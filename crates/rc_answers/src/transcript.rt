@@ -1,4 +1,4 @@
-//! What `check` and `migrate` answer to a transcript. Both judge it, and so refuse the same.
+//! What `check`, `migrate` and `measure` answer to a transcript. All three judge it, and so refuse the same.
 ghost use Rattle.std.specs.Prelude.{◌≡◌, ◌+◌, ◌≤◌, [], length, true, false, Ok, IfOk};
 ghost use Rattle.rc_model.specs.Limits.{longest_text};
 ghost use Rattle.rc_plan_model.specs.Limits.{IsWithinLimits};
@@ -9,7 +9,9 @@ ghost use Rattle.rc_text_model.specs.Reading.{lines_in};
 ghost use Rattle.rc_text.specs.House.{house_seen, named_seen, Fits};
 ghost use Rattle.rc_rules.specs.Plan.{plan_seen};
 ghost use Rattle.rc_answers.specs.declared.transcript.Judging.TheVariants as judging;
-ghost use Rattle.rc_answers.specs.Answer.{IsAnswerIn, IsJudged, IsReadAnswer, called_legal, seen, tells_bounds, text as answered};
+ghost use Rattle.rc_answers.specs.Answer.{IsAnswerIn, IsJudged, IsReadAnswer};
+ghost use Rattle.rc_answers.specs.Answer.{called_legal, measured, seen, tells_bounds, text as answered};
+ghost use Rattle.rc_answers.specs.Measured.{IsMeasurable};
 
 use crate::answer::Answer;
 use crate::naming::legend_of;
@@ -18,6 +20,7 @@ use crate::refusal::Refusal;
 use rc_deck::Memory;
 use rc_flow::Checked;
 use rc_judge::{Named, Verdict, judge, judge_and_name, judge_named};
+use rc_measure::{measures_of, write_measures};
 use rc_records::shared_about;
 use rc_rules::Plan;
 use rc_text::{HouseText, NamedText, TextFail, read_house, read_named, write_named};
@@ -30,6 +33,8 @@ pub(crate) enum Judging {
     Check,
     /// To tell it in format 2.
     Migrate,
+    /// To tell its measures.
+    Measure,
 }
 
 /// The answer to this transcript where the sheet and the plan are accepted.
@@ -76,6 +81,7 @@ fn plain_answer(
         Ok(text) => match asked {
             Judging::Check => verdict_answer(alloc, checked, plan, &text),
             Judging::Migrate => migrated_answer(alloc, checked, plan, text),
+            Judging::Measure => measured_answer(alloc, checked, plan, &text),
         },
         Err(TextFail::Fault { line }) => Ok(Answer::Refused(Refusal::Text { line })),
         Err(TextFail::Memory) => Err(Memory),
@@ -114,7 +120,8 @@ fn verdict_answer(
     requires seats { length (plan_seen plan.now).strategies ≡ checked.players }
     requires text { IsHouseText (house_seen text.now) }
     requires few { 1 + length (lines_of (house_seen text.now)) ≤ longest_text }
-    ensures { IfOk result (IsReadAnswer judging.Check false (about_of checked plan.now.turns) (plan_seen plan.now) (Ok (unmarked (house_seen text.now)))) }
+    ensures { IfOk result (IsReadAnswer judging.Check false (about_of checked plan.now.turns) (plan_seen plan.now)
+        (Ok (unmarked (house_seen text.now)))) }
 {
     let about = shared_about(alloc, checked, plan.turns)?;
     match judge(alloc, &about, plan, text)? {
@@ -134,13 +141,35 @@ fn migrated_answer(
     requires seats { length (plan_seen plan.now).strategies ≡ checked.players }
     requires text { IsHouseText (house_seen text) }
     requires few { 1 + length (lines_of (house_seen text)) ≤ longest_text }
-    ensures { IfOk result (IsReadAnswer judging.Migrate false (about_of checked plan.now.turns) (plan_seen plan.now) (Ok (unmarked (house_seen text)))) }
+    ensures { IfOk result (IsReadAnswer judging.Migrate false (about_of checked plan.now.turns) (plan_seen plan.now)
+        (Ok (unmarked (house_seen text)))) }
 {
     let legend = legend_of(alloc, &checked)?;
     let about = shared_about(alloc, checked, plan.turns)?;
     match judge_and_name(alloc, &about, plan, &text)? {
         Named::Legal(bounds) => named_text(alloc, &legend, &NamedText { text, bounds }),
         Named::Illegal { line, why } => Ok(Answer::Refused(Refusal::Illegal { line, why })),
+    }
+}
+
+/// The measures of a house text, where it is legal.
+fn measured_answer(
+    alloc: Global,
+    checked: Checked,
+    plan: &Plan,
+    text: &HouseText,
+) -> Result<Answer, Memory>
+    requires within { IsWithinLimits (plan_seen plan.now) }
+    requires seats { length (plan_seen plan.now).strategies ≡ checked.players }
+    requires text { IsHouseText (house_seen text.now) }
+    requires few { 1 + length (lines_of (house_seen text.now)) ≤ longest_text }
+    ensures { IfOk result (IsReadAnswer judging.Measure false (about_of checked plan.now.turns) (plan_seen plan.now)
+        (Ok (unmarked (house_seen text.now)))) }
+{
+    let about = shared_about(alloc, checked, plan.turns)?;
+    match judge(alloc, &about, plan, text)? {
+        Verdict::Legal => measured_text(alloc, plan, text),
+        Verdict::Illegal { line, why } => Ok(Answer::Refused(Refusal::Illegal { line, why })),
     }
 }
 
@@ -159,13 +188,15 @@ fn named_verdict(
     requires fits { Fits named.now }
     requires few { length (lines_of (house_seen named.now.text)) ≤ longest_text }
     requires told { bytes.now ≡ text_in (format_by true (about_of checked plan.now.turns)) (named_seen named.now) }
-    ensures { IfOk result (IsReadAnswer asked true (about_of checked plan.now.turns) (plan_seen plan.now) (Ok (named_seen named.now))) }
+    ensures { IfOk result (IsReadAnswer asked true (about_of checked plan.now.turns) (plan_seen plan.now)
+        (Ok (named_seen named.now))) }
 {
     let about = shared_about(alloc, checked, plan.turns)?;
     match judge_named(alloc, &about, plan, named)? {
         Verdict::Legal => match asked {
             Judging::Check => legal_text(alloc),
             Judging::Migrate => same_text(alloc, bytes),
+            Judging::Measure => measured_text(alloc, plan, &named.text),
         },
         Verdict::Illegal { line, why } => Ok(Answer::Refused(Refusal::Illegal { line, why })),
     }
@@ -191,8 +222,19 @@ fn same_text(alloc: Global, bytes: &[u8]) -> Result<Answer, Memory>
 fn named_text(alloc: Global, legend: &[u8], named: &NamedText) -> Result<Answer, Memory>
     requires legend { (lines_in legend.now).1 ≡ [] }
     requires fits { Fits named.now }
-    ensures { IfOk result (λ answer. seen answer 0 ≡ answered (text_in (naming (lines_in legend.now).0) (named_seen named.now)) [] 0) }
+    ensures { IfOk result (λ answer. seen answer 0
+        ≡ answered (text_in (naming (lines_in legend.now).0) (named_seen named.now)) [] 0) }
 {
     let text = write_named(alloc, legend, named)?;
+    Ok(Answer::Text(text, Note::Nothing))
+}
+
+/// The measures of a house text. Memory may run out.
+fn measured_text(alloc: Global, plan: &Plan, text: &HouseText) -> Result<Answer, Memory>
+    requires { IsMeasurable plan.now text.now.matches.items }
+    ensures { IfOk result (λ answer. seen answer 0 ≡ measured (plan_seen plan.now) (house_seen text.now)) }
+{
+    let measures = measures_of(alloc, plan, &text.matches)?;
+    let text = write_measures(alloc, &measures)?;
     Ok(Answer::Text(text, Note::Nothing))
 }

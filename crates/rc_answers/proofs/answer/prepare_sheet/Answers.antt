@@ -18,3 +18,12 @@ returns-in_ok-answer-in-Check c = rw c.in-Check.is c.in_ok-answer-in-Check.ensur
 
 pub returns-in_ok-answer-in-Migrate : goal.returns-in_ok-answer-in-Migrate
 returns-in_ok-answer-in-Migrate c = rw c.in-Migrate.is c.in_ok-answer-in-Migrate.ensures
+
+pub returns-in_ok-answer-in-Watch : goal.returns-in_ok-answer-in-Watch
+returns-in_ok-answer-in-Watch c = rw c.in-Watch.is c.in_ok-answer-in-Watch.ensures
+
+pub returns-in_ok-answer-in-Measure : goal.returns-in_ok-answer-in-Measure
+returns-in_ok-answer-in-Measure c = rw c.in-Measure.is c.in_ok-answer-in-Measure.ensures
+
+pub returns-in_ok-answer-in-Rival : goal.returns-in_ok-answer-in-Rival
+returns-in_ok-answer-in-Rival c = rw c.in-Rival.is c.in_ok-answer-in-Rival.ensures
