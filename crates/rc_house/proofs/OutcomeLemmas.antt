@@ -74,6 +74,9 @@ reads_game told after faults faults' (Play options) bytes sheet plan given end f
 reads_game told after faults faults' named.Check bytes sheet plan given end few is = is
 reads_game told after faults faults' named.Sheet bytes sheet plan given end few is = is
 reads_game told after faults faults' named.Migrate bytes sheet plan given end few is = is
+reads_game told after faults faults' (named.Watch seat number) bytes sheet plan given end few is = is
+reads_game told after faults faults' named.Measure bytes sheet plan given end few is = is
+reads_game told after faults faults' (named.Rival rival) bytes sheet plan given end few is = is
 
 -- what a command makes of the bytes that a source gave to its end
 pub reads_prepared : (told after : Option (List ℕ)) (faults faults' : ℕ) (task : Task) (bytes : List ℕ) (prepared : Prepared)
@@ -250,6 +253,7 @@ refusal_not_done (refusals.Sheet kind at) status is done = absurd cc
 refusal_not_done (refusals.Plan kind at) status is done = absurd cc
 refusal_not_done (refusals.Text line) status is done = absurd cc
 refusal_not_done (refusals.Illegal line why) status is done = absurd cc
+refusal_not_done refusals.Absent status is done = absurd cc
 
 -- what `play` writes where it is done tells plays
 writes_plays : (task : Task) (before after : Ports) (steps steps' : ℕ) (status : Status) → Outcome task before after steps steps' status
@@ -257,6 +261,9 @@ writes_plays : (task : Task) (before after : Ports) (steps steps' : ℕ) (status
 writes_plays named.Check before after steps steps' status ends = tt
 writes_plays named.Sheet before after steps steps' status ends = tt
 writes_plays named.Migrate before after steps steps' status ends = tt
+writes_plays (named.Watch seat number) before after steps steps' status ends = tt
+writes_plays named.Measure before after steps steps' status ends = tt
+writes_plays (named.Rival rival) before after steps steps' status ends = tt
 writes_plays (Play options) before after steps steps' status (written is note noted answers took steady quiet) = λ done. by before.source.told answers
   where
     by : (told : Option (List ℕ)) → Answers (port told before.source.faults) after.source (Play options) (IsTextWith note steps steps' (Received before.out after.out))

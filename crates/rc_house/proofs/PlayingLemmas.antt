@@ -1,5 +1,5 @@
 -- How the answers of commands that have matches played come about.
-use Rattle.std.proofs.Common.{◌≡◌, ◌<◌, ◌≤◌, ◌+◌, inr, ℕ, List, length, map, Option, Some, None, Result, Ok, Err, IfOk, OnOk, Vec, refl, sym, subst, ap, ◌∙◌, arith}
+use Rattle.std.proofs.Common.{◌≡◌, ◌<◌, ◌≤◌, ◌+◌, inl, inr, ℕ, List, length, map, Option, Some, None, Result, Ok, Err, IfOk, OnOk, Vec, refl, sym, subst, ap, ◌∙◌, arith}
 use Rattle.std.specs.Prelude.{nat_lt, if◌then◌else◌}
 use Rattle.std.proofs.lemmas.Bool.{lt-ltb}
 use Rattle.std.specs.Global.{Global}
@@ -37,7 +37,7 @@ use Rattle.rc_answers.specs.declared.note.Note.TheVariants.{Looks}
 use Rattle.rc_answers.specs.declared.status.Status.{Status}
 use Rattle.rc_answers.specs.declared.status.Status.TheVariants.{Memory}
 use Rattle.rc_answers.specs.declared.task.Task.{Task}
-use Rattle.rc_answers.specs.declared.task.Task.TheVariants.{Play, Check, Sheet as PrintsSheet, Migrate}
+use Rattle.rc_answers.specs.declared.task.Task.TheVariants.{Play, Check, Sheet as PrintsSheet, Migrate, Watch, Measure, Rival}
 use Rattle.rc_answers.specs.Answer.{Answer, text, house_played, playouts_of, seen, IsGame}
 use Rattle.rc_answers.specs.Bench.{IsBenchAnswer}
 use Rattle.rc_answers.specs.Legend.{HasLegend}
@@ -47,7 +47,7 @@ use Rattle.rc_answers.specs.Note.{looks_line, note_line}
 use Rattle.rc_house.specs.Outcome.{Answers, CountedFew}
 use Rattle.rc_answers.specs.Players.{AreHits, alone, shared, counted_playouts}
 use Rattle.rc_house.specs.Port.{Port, Ports, port, IsSteady}
-use Rattle.rc_house.specs.Running.{ReadsAnswer, ReadsGame, IsSeriesOf, TellsOf, series_text, PreparesCommand, AnswersBench, AnswersSource, AnswersCommand, Concludes}
+use Rattle.rc_house.specs.Running.{ReadsAnswer, ReadsGame, IsSeriesOf, TellsOf, series_text, PreparesCommand, PreparesNone, AnswersBench, AnswersSource, AnswersCommand, Concludes}
 use Rattle.rc_answers.proofs.AnswerLaws.{counted_few}
 use Rattle.rc_answers.proofs.BenchLaws.{summary_is, few_steps}
 use Rattle.rc_house.proofs.OutcomeLemmas.{concluded, performed}
@@ -121,7 +121,22 @@ module _ (before after : Port) where
   answered command.Check steps answer is = unplayed Check steps answer is
   answered command.Sheet steps answer is = unplayed PrintsSheet steps answer is
   answered command.Migrate steps answer is = unplayed Migrate steps answer is
+  answered (command.Watch seat number) steps answer is = unplayed (Watch seat number) steps answer is
+  answered command.Measure steps answer is = unplayed Measure steps answer is
+  answered (command.Rival rival) steps answer is = unplayed (Rival rival) steps answer is
   answered (command.Bench number options) steps answer is = absurd is.1
+
+  -- what it answers where it makes nothing of its source
+  pub unprepared : (called : Command) (steps : ℕ) (status : Status) → PreparesNone called before after status
+      → AnswersCommand called before after steps steps (Err status)
+  unprepared (command.Play options) steps status none = inl (none, refl)
+  unprepared command.Check steps status none = inl (none, refl)
+  unprepared command.Sheet steps status none = inl (none, refl)
+  unprepared command.Migrate steps status none = inl (none, refl)
+  unprepared (command.Watch seat number) steps status none = inl (none, refl)
+  unprepared command.Measure steps status none = inl (none, refl)
+  unprepared (command.Rival rival) steps status none = inl (none, refl)
+  unprepared (command.Bench number options) steps status none = (none.0, (none.1, λ answer benched. omega arith))
 
   -- what it has played is the game of a sheet and a plan
   pub game_prepared : (called : Command) (game : Game) → PreparesCommand called before after (Playing game)
@@ -130,6 +145,9 @@ module _ (before after : Port) where
   game_prepared command.Check game prepared = prepared.0
   game_prepared command.Sheet game prepared = prepared.0
   game_prepared command.Migrate game prepared = prepared.0
+  game_prepared (command.Watch seat number) game prepared = prepared.0
+  game_prepared command.Measure game prepared = prepared.0
+  game_prepared (command.Rival rival) game prepared = prepared.0
   game_prepared (command.Bench number options) game prepared = let made = prepared.1 in made.0
 
   -- what it tells of the matches that were played for it
@@ -144,6 +162,9 @@ module _ (before after : Port) where
   told command.Check game steps steps' series legend (Text bytes note) prepared is has tells = absurd prepared.1
   told command.Sheet game steps steps' series legend (Text bytes note) prepared is has tells = absurd prepared.1
   told command.Migrate game steps steps' series legend (Text bytes note) prepared is has tells = absurd prepared.1
+  told (command.Watch seat number) game steps steps' series legend (Text bytes note) prepared is has tells = absurd prepared.1
+  told command.Measure game steps steps' series legend (Text bytes note) prepared is has tells = absurd prepared.1
+  told (command.Rival rival) game steps steps' series legend (Text bytes note) prepared is has tells = absurd prepared.1
   told (command.Bench number options) game steps steps' series legend (Text bytes note) prepared is has tells =
       let made = prepared.1 in
       (prepared.0, bench_answers options number game.checked (plan_seen game.plan) steps steps' series bytes note made.1 made.3 is tells.0 tells.1)
@@ -157,6 +178,9 @@ module _ (before after : Port) where
   lacking command.Check game steps steps' status prepared few is = absurd prepared.1
   lacking command.Sheet game steps steps' status prepared few is = absurd prepared.1
   lacking command.Migrate game steps steps' status prepared few is = absurd prepared.1
+  lacking (command.Watch seat number) game steps steps' status prepared few is = absurd prepared.1
+  lacking command.Measure game steps steps' status prepared few is = absurd prepared.1
+  lacking (command.Rival rival) game steps steps' status prepared few is = absurd prepared.1
   lacking (command.Bench number options) game steps steps' status prepared few is =
       let made = prepared.1 in
       (prepared.0, (is, λ answer benched. few_steps options number game.checked (plan_seen game.plan) steps steps' answer made.3 made.2 benched few))
@@ -269,5 +293,13 @@ runs_so command.Sheet before after steps steps' answered status is ends =
     performed PrintsSheet before after steps steps' status (concluded PrintsSheet before after steps steps' answered status is ends)
 runs_so command.Migrate before after steps steps' answered status is ends =
     performed Migrate before after steps steps' status (concluded Migrate before after steps steps' answered status is ends)
+runs_so (command.Watch seat number) before after steps steps' answered status is ends =
+    performed (Watch seat number) before after steps steps' status
+    (concluded (Watch seat number) before after steps steps' answered status is ends)
+runs_so command.Measure before after steps steps' answered status is ends =
+    performed Measure before after steps steps' status (concluded Measure before after steps steps' answered status is ends)
+runs_so (command.Rival rival) before after steps steps' answered status is ends =
+    performed (Rival rival) before after steps steps' status
+    (concluded (Rival rival) before after steps steps' answered status is ends)
 runs_so (command.Bench number options) before after steps steps' answered status is ends =
     (is.0, bench_concluded options number before after steps steps' answered status is.1 ends)

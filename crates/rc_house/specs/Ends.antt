@@ -1,9 +1,11 @@
--- How words end: those of a command, and all others. Ends is what `run` and `run_alone` promise, all of it: of the words, the ports,
--- the steps and the status. For `run`, `many` is Runs and the steps are some number that fits, since it is handed no counter.
+-- How words end: those of a command, and all others. Ends is what `run` and `run_alone` promise, all of it: of the
+-- words, the ports, the steps and the status. For `run`, `many` is Runs and the steps are some number that fits, since
+-- it is handed no counter.
 use Rattle.std.specs.Prelude.{◌≡◌, ◌<◌, ℕ, Bool, true, false, List, IfSome}
 use Rattle.rc_command.specs.Command.{IsCommand, workers_of}
 use Rattle.rc_command.specs.declared.command.Command.{Command}
-use Rattle.rc_command.specs.declared.command.Command.TheVariants.{Play, Check, Sheet, Bench, Migrate}
+use Rattle.rc_command.specs.declared.command.Command.TheVariants.{Play, Check, Sheet, Bench, Migrate, Watch, Measure}
+use Rattle.rc_command.specs.declared.command.Command.TheVariants.{Rival}
 use Rattle.rc_command.specs.Words.{is_named}
 use Rattle.rc_answers.specs.declared.status.Status.{Status}
 use Rattle.rc_answers.specs.declared.status.Status.TheVariants as ending
@@ -14,9 +16,9 @@ use Rattle.rc_house.specs.Bench.{BenchOutcome}
 use Rattle.rc_house.specs.Outcome.{Outcome, Succeeds, Refuses}
 use Rattle.rc_house.specs.Port.{Ports, Received, NoCountFell}
 
--- Where `play` is done and its source tells its bytes, `out` has received a text that tells plays in the format that is named: each match
--- is one that the accepted sheet allows for its seeded shuffles, up to its end or the turn limit, with choices by views and seeds
--- (Plays.antt of rc_answers).
+-- Where `play` is done and its source tells its bytes, `out` has received a text that tells plays in the format that is
+-- named: each match is one that the accepted sheet allows for its seeded shuffles, up to its end or the turn limit,
+-- with choices by views and seeds (Plays.antt of rc_answers).
 abbrev pub WritesPlays : Task → Ports → Ports → Status → Type 0
 WritesPlays (task.Play options) before after status =
     status ≡ ending.Done →
@@ -25,6 +27,9 @@ WritesPlays (task.Play options) before after status =
 WritesPlays task.Check before after status = Unit {0}
 WritesPlays task.Sheet before after status = Unit {0}
 WritesPlays task.Migrate before after status = Unit {0}
+WritesPlays (task.Watch seat number) before after status = Unit {0}
+WritesPlays task.Measure before after status = Unit {0}
+WritesPlays (task.Rival rival) before after status = Unit {0}
 
 -- A source was read and answered.
 pub record Performs (task : Task) (before after : Ports) (steps steps' : ℕ) (status : Status) : Type 0 where
@@ -40,6 +45,10 @@ Runs Sheet before after steps steps' status = Performs task.Sheet before after s
 Runs (Bench number options) before after steps steps' status =
     (after.source ≡ before.source) × BenchOutcome options number before after steps steps' status
 Runs Migrate before after steps steps' status = Performs task.Migrate before after steps steps' status
+Runs (Watch seat number) before after steps steps' status =
+    Performs (task.Watch seat number) before after steps steps' status
+Runs Measure before after steps steps' status = Performs task.Measure before after steps steps' status
+Runs (Rival rival) before after steps steps' status = Performs (task.Rival rival) before after steps steps' status
 
 -- No command was run: nothing was read, written or counted, and the status's line was noted.
 pub record Rests (status : Status) (before after : Ports) (steps steps' : ℕ) : Type 0 where
@@ -60,8 +69,10 @@ abbrev pub ended_by : (many : Bool) → HowEnded
 ended_by true = Runs
 ended_by false = RefusesMany
 
--- Words that began with these ports and so many steps ended so, where `many` is how commands of more than one worker end.
-pub data Ending (many : HowEnded) (words : List (List ℕ)) (before after : Ports) (steps steps' : ℕ) (status : Status) : Type 0 where
+-- Words that began with these ports and so many steps ended so, where `many` is how commands of more than one worker
+-- end.
+pub data Ending (many : HowEnded) (words : List (List ℕ)) (before after : Ports) (steps steps' : ℕ) (status : Status)
+    : Type 0 where
   -- they are a command's, with one worker
   alone : (command : Command) → IsCommand words command → workers_of command ≡ 1
       → Runs command before after steps steps' status
@@ -79,6 +90,7 @@ pub data Ending (many : HowEnded) (words : List (List ℕ)) (before after : Port
       → Ending many words before after steps steps' status
 
 -- and no count of faults fell
-pub record Ends (many : HowEnded) (words : List (List ℕ)) (before after : Ports) (steps steps' : ℕ) (status : Status) : Type 0 where
+pub record Ends (many : HowEnded) (words : List (List ℕ)) (before after : Ports) (steps steps' : ℕ) (status : Status)
+    : Type 0 where
   pub ending : Ending many words before after steps steps' status
   pub no_count_fell : NoCountFell before after

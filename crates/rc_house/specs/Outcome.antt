@@ -1,5 +1,5 @@
--- How a command that reads a source may end, and what its ports have received then. Of the bytes of a port that doesn't tell them
--- nothing is said: Answers, Supplied and Received are then true of anything.
+-- How a command that reads a source may end, and what its ports have received then. Of the bytes of a port that doesn't
+-- tell them nothing is said: Answers, Supplied and Received are then true of anything.
 use Rattle.std.specs.Prelude.{◌≡◌, ℕ, ◌+◌, ◌<◌, ◌≤◌, ◌⊎◌, List, [], length, Some, IfSome}
 use Rattle.rc_outside.specs.Source.{longest_read}
 use Rattle.rc_answers.specs.declared.task.Task.{Task}
@@ -9,7 +9,8 @@ use Rattle.rc_answers.specs.declared.status.Status.TheVariants as ending
 use Rattle.rc_answers.specs.Task.{IsNoteOf, limit_of}
 use Rattle.rc_answers.specs.Answer.{Answer, text, refused, HasAnswer, playouts_of}
 use Rattle.rc_answers.specs.Status.{line_of, refusal_status}
-use Rattle.rc_house.specs.Port.{Port, Ports, HasFailed, IsSteady, Supplied, Received, ReceivedFront, Took, Noted, NotedFront}
+use Rattle.rc_house.specs.Port.{Port, Ports, HasFailed, IsSteady, Supplied, Received, ReceivedFront, Took, Noted}
+use Rattle.rc_house.specs.Port.{NotedFront}
 
 -- the source gave no more than the command takes
 abbrev pub GaveFew : Task → Port → Port → Type 0
@@ -18,13 +19,16 @@ GaveFew task before after = (taken : List ℕ) × Supplied before after taken ×
 -- the source gave more than that, by no more than one read
 abbrev pub GaveTooMuch : Task → Port → Port → Type 0
 GaveTooMuch task before after =
-    (taken : List ℕ) × Supplied before after taken × (limit_of task < length taken) × (length taken ≤ limit_of task + longest_read)
+    (taken : List ℕ) × Supplied before after taken × (limit_of task < length taken)
+    × (length taken ≤ limit_of task + longest_read)
 
--- Where the source tells its bytes: it gave all of them, they are few enough, and P holds of the command's answer to them.
+-- Where the source tells its bytes: it gave all of them, they are few enough, and P holds of the command's answer to
+-- them.
 abbrev pub Answers : Port → Port → Task → (Answer → Type 0) → Type 0
 Answers before after task P =
     IfSome before.told (λ source.
-    (length source ≤ limit_of task) × (after.told ≡ Some []) × (answer : Answer) × HasAnswer task source answer × P answer)
+    (length source ≤ limit_of task) × (after.told ≡ Some [])
+    × (answer : Answer) × HasAnswer task source answer × P answer)
 
 -- The answer is a text with this note, Q holds of it, and so many steps were counted as it takes playouts.
 abbrev pub IsTextWith : List ℕ → ℕ → ℕ → (List ℕ → Type 0) → Answer → Type 0
@@ -39,7 +43,8 @@ pub record Refuses (status : Status) (before after : Ports) : Type 0 where
 -- No more steps were counted than the command's answer takes playouts, where the source tells its bytes.
 abbrev pub CountedFew : Port → Task → ℕ → ℕ → Type 0
 CountedFew before task steps steps' =
-    IfSome before.told (λ source. (answer : Answer) → HasAnswer task source answer → steps' ≤ steps + playouts_of answer)
+    IfSome before.told (λ source.
+    (answer : Answer) → HasAnswer task source answer → steps' ≤ steps + playouts_of answer)
 
 -- The command may end so. Each playout is a step. No read or write failed but where it is said.
 pub data Outcome (task : Task) (before after : Ports) (steps steps' : ℕ) (status : Status) : Type 0 where
@@ -65,7 +70,8 @@ pub data Outcome (task : Task) (before after : Ports) (steps steps' : ℕ) (stat
       → GaveFew task before.source after.source → Refuses status before after → steps' ≡ steps
       → Outcome task before after steps steps' status
   -- the source gave too much
-  too_long : status ≡ ending.TooLong → GaveTooMuch task before.source after.source → Refuses status before after → steps' ≡ steps
+  too_long : status ≡ ending.TooLong → GaveTooMuch task before.source after.source → Refuses status before after
+      → steps' ≡ steps
       → IsSteady before.source after.source
       → Outcome task before after steps steps' status
   -- a write of the text failed
@@ -94,7 +100,8 @@ NoPortFailed (text bytes note playouts) before after =
     × (HasFailed before.notes after.notes → ⊥)
 NoPortFailed (refused refusal) before after = HasFailed before.source after.source → ⊥
 
--- Where no port fails, only want of memory keeps a command from the status of its answer to a source that tells its bytes.
+-- Where no port fails, only want of memory keeps a command from the status of its answer to a source that tells its
+-- bytes.
 pub record Succeeds (task : Task) (before after : Ports) (status : Status) : Type 0 where
   pub answers : (source : List ℕ) (answer : Answer) → before.source.told ≡ Some source → length source ≤ limit_of task
       → HasAnswer task source answer → NoPortFailed answer before after

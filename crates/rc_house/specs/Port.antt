@@ -7,7 +7,8 @@ use Rattle.rc_answers.specs.declared.status.Status.{Status}
 use Rattle.rc_answers.specs.declared.status.Status.TheVariants.{Done, WriteFault}
 use Rattle.rc_answers.specs.Status.{line_of}
 
--- A source or a sink at a moment: the bytes that are left or that were written, where it tells them, and its count of faults.
+-- A source or a sink at a moment: the bytes that are left or that were written, where it tells them, and its count of
+-- faults.
 pub record Port : Type 0 where
   pub told : Option (List ℕ)
   pub faults : ℕ
@@ -48,13 +49,14 @@ Noted before after note = Received before after note × (note ≡ [] → after �
 abbrev pub NotedFront : Port → Port → List ℕ → Type 0
 NotedFront before after note = ReceivedFront before after note × (note ≡ [] → ⊥)
 
--- How writing a text and its note ends: both were written; or a write of the text failed, which was noted; or the text was
--- written, and a write of its note failed. No write failed but these.
+-- How writing a text and its note ends: both were written; or a write of the text failed, which was noted; or the text
+-- was written, and a write of its note failed. No write failed but these.
 abbrev pub Delivers : List ℕ → List ℕ → Port → Port → Port → Port → Status → Type 0
 Delivers text note out out' notes notes' status =
     ((status ≡ Done) × Received out out' text × Noted notes notes' note × IsSteady out out')
     ⊎ ((status ≡ WriteFault) × HasFailed out out' × ReceivedFront out out' text × Took notes notes' (line_of status))
-    ⊎ ((status ≡ WriteFault) × HasFailed notes notes' × Received out out' text × NotedFront notes notes' note × IsSteady out out')
+    ⊎ ((status ≡ WriteFault) × HasFailed notes notes' × Received out out' text × NotedFront notes notes' note
+    × IsSteady out out')
 
 -- The three ports of a command at a moment.
 pub record Ports : Type 0 where
@@ -67,7 +69,8 @@ ports source out notes = record { source = source; out = out; notes = notes }
 
 -- what is left of the source, what out and notes have received, and behind each its count of faults
 abbrev pub moment : Option (List ℕ) → ℕ → Option (List ℕ) → ℕ → Option (List ℕ) → ℕ → Ports
-moment left source_faults out out_faults notes note_faults = ports (port left source_faults) (port out out_faults) (port notes note_faults)
+moment left source_faults out out_faults notes note_faults =
+    ports (port left source_faults) (port out out_faults) (port notes note_faults)
 
 -- no count of faults fell
 pub record NoCountFell (before after : Ports) : Type 0 where

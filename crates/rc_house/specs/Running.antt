@@ -1,5 +1,5 @@
--- What the private parts of `run` and `run_alone` do, from the source to the ports. No contract of another crate cites it: Ends.antt
--- says what comes of it.
+-- What the private parts of `run` and `run_alone` do, from the source to the ports. No contract of another crate cites
+-- it: Ends.antt says what comes of it.
 use Rattle.std.specs.Prelude.{◌≡◌, ◌≤◌, ◌⊎◌, ℕ, ◌+◌, Bool, List, Result, Ok, Err, length, map}
 use Rattle.rc_play_model.specs.About.{About, about_of}
 use Rattle.rc_play_model.specs.House.{standings_of}
@@ -21,7 +21,8 @@ use Rattle.rc_command.specs.declared.options.Format.TheVariants.{Plain, Named}
 use Rattle.rc_command.specs.declared.options.Options.{Options}
 use Rattle.rc_command.specs.Words.{is_named}
 use Rattle.rc_answers.specs.declared.task.Task.{Task}
-use Rattle.rc_answers.specs.declared.task.Task.TheVariants.{Play, Check, Sheet as PrintsSheet, Migrate}
+use Rattle.rc_answers.specs.declared.task.Task.TheVariants.{Play, Check, Sheet as PrintsSheet, Migrate, Watch}
+use Rattle.rc_answers.specs.declared.task.Task.TheVariants.{Measure, Rival}
 use Rattle.rc_answers.specs.declared.answer.Answer.{Answer as Stored}
 use Rattle.rc_answers.specs.declared.answer.Answer.TheVariants as stored
 use Rattle.rc_answers.specs.declared.answer.Prepared.{Prepared}
@@ -51,10 +52,14 @@ ReadsAnswer task before after playouts answer =
 -- the source was read, and what is played of this sheet and plan is the command's answer to it
 abbrev pub ReadsGame : Task → Port → Port → Sheet → Plan → Type 0
 ReadsGame (Play options) before after sheet plan =
-    (answer : Answer) → IsPlayed options (about_of sheet plan.turns) plan answer → Answers before after (Play options) (λ other. other ≡ answer)
+    (answer : Answer) → IsPlayed options (about_of sheet plan.turns) plan answer
+    → Answers before after (Play options) (λ other. other ≡ answer)
 ReadsGame Check before after sheet plan = ⊥
 ReadsGame PrintsSheet before after sheet plan = ⊥
 ReadsGame Migrate before after sheet plan = ⊥
+ReadsGame (Watch seat number) before after sheet plan = ⊥
+ReadsGame Measure before after sheet plan = ⊥
+ReadsGame (Rival rival) before after sheet plan = ⊥
 
 abbrev pub ReadsPrepared : Task → Port → Port → Prepared → Type 0
 ReadsPrepared task before after (Answered answer) = ReadsAnswer task before after 0 answer
@@ -62,8 +67,8 @@ ReadsPrepared task before after (Playing game) =
     IsGame game.checked (plan_seen game.plan) × ReadsGame task before after game.checked (plan_seen game.plan)
     × GaveFew task before after × IsSteady before after
 
--- Why the command makes nothing of its source: a read failed, the source gave too much, or there was no memory. Only in the first case
--- one failed.
+-- Why the command makes nothing of its source: a read failed, the source gave too much, or there was no memory. Only in
+-- the first case one failed.
 abbrev pub ReadsNone : Task → Port → Port → Status → Type 0
 ReadsNone task before after status =
     ((status ≡ ending.ReadFault) × HasFailed before after × GaveFew task before after)
@@ -71,7 +76,8 @@ ReadsNone task before after status =
     ⊎ ((status ≡ ending.Memory) × GaveFew task before after × IsSteady before after)
 
 -- The matches of a sheet and a plan were played as the options say, and so many playouts were counted for them.
-pub record IsSeriesOf (options : Options) (about : About) (plan : Plan) (steps steps' : ℕ) (series : Series) : Type 0 where
+pub record IsSeriesOf (options : Options) (about : About) (plan : Plan) (steps steps' : ℕ) (series : Series)
+    : Type 0 where
   pub matches : map record_seen series.named.text.matches.items ≡ matches_of about plan
   pub standings : map standing_seen series.named.text.standings.items ≡ standings_of plan (matches_of about plan)
   pub named : IsTold (is_named options.format) about plan series.named
@@ -96,8 +102,12 @@ told_of (command.Play options) legend series = series_text options.format legend
 told_of command.Check legend series = text_of series.named.text
 told_of command.Sheet legend series = text_of series.named.text
 told_of (command.Bench number options) legend series =
-    bench_text number (map record_seen series.named.text.matches.items) (map standing_seen series.named.text.standings.items)
+    bench_text number (map record_seen series.named.text.matches.items)
+    (map standing_seen series.named.text.standings.items)
 told_of command.Migrate legend series = text_of series.named.text
+told_of (command.Watch seat number) legend series = text_of series.named.text
+told_of command.Measure legend series = text_of series.named.text
+told_of (command.Rival rival) legend series = text_of series.named.text
 
 -- and with it how their looks went
 abbrev pub TellsOf : Command → List (List ℕ) → Series → Stored → Type 0
@@ -105,19 +115,23 @@ TellsOf called legend series (stored.Text bytes note) =
     (bytes.items ≡ told_of called legend series) × (note ≡ Looks series.totals.looks series.totals.hits)
 TellsOf called legend series (stored.Refused refusal) = ⊥
 
--- This is the command's answer to its source, and as many steps were counted as it takes playouts; or this is why there is none.
+-- This is the command's answer to its source, and as many steps were counted as it takes playouts; or this is why there
+-- is none.
 abbrev pub AnswersSource : Task → Port → Port → ℕ → ℕ → Result Stored Status → Type 0
 AnswersSource task before after steps steps' (Ok answer) =
-    (playouts : ℕ) × ReadsAnswer task before after playouts answer × (steps' ≡ steps + playouts_of (seen answer playouts))
+    (playouts : ℕ) × ReadsAnswer task before after playouts answer
+    × (steps' ≡ steps + playouts_of (seen answer playouts))
 AnswersSource task before after steps steps' (Err status) =
     (ReadsNone task before after status × (steps' ≡ steps))
-    ⊎ ((status ≡ ending.Memory) × GaveFew task before after × CountedFew before task steps steps' × IsSteady before after)
+    ⊎ ((status ≡ ending.Memory) × GaveFew task before after × CountedFew before task steps steps'
+    × IsSteady before after)
 
 -- What `bench` makes before anybody plays: its game.
 abbrev pub PreparesBench : ℕ → Prepared → Type 0
 PreparesBench number (Answered answer) = ⊥
 PreparesBench number (Playing game) =
-    IsGame game.checked (plan_seen game.plan) × IsTrickGame game.checked × ((other : Sheet) → IsTrickGame other → other ≡ game.checked)
+    IsGame game.checked (plan_seen game.plan) × IsTrickGame game.checked
+    × ((other : Sheet) → IsTrickGame other → other ≡ game.checked)
     × (plan_seen game.plan ≡ bench_plan number)
 
 -- What a command makes of its source before anybody plays, and why it makes nothing of it.
@@ -126,6 +140,10 @@ PreparesCommand (command.Play options) before after prepared = ReadsPrepared (Pl
 PreparesCommand command.Check before after prepared = ReadsPrepared Check before after prepared
 PreparesCommand command.Sheet before after prepared = ReadsPrepared PrintsSheet before after prepared
 PreparesCommand command.Migrate before after prepared = ReadsPrepared Migrate before after prepared
+PreparesCommand (command.Watch seat number) before after prepared =
+    ReadsPrepared (Watch seat number) before after prepared
+PreparesCommand command.Measure before after prepared = ReadsPrepared Measure before after prepared
+PreparesCommand (command.Rival rival) before after prepared = ReadsPrepared (Rival rival) before after prepared
 PreparesCommand (command.Bench number options) before after prepared = (after ≡ before) × PreparesBench number prepared
 
 abbrev pub PreparesNone : Command → Port → Port → Status → Type 0
@@ -133,35 +151,52 @@ PreparesNone (command.Play options) before after status = ReadsNone (Play option
 PreparesNone command.Check before after status = ReadsNone Check before after status
 PreparesNone command.Sheet before after status = ReadsNone PrintsSheet before after status
 PreparesNone command.Migrate before after status = ReadsNone Migrate before after status
+PreparesNone (command.Watch seat number) before after status = ReadsNone (Watch seat number) before after status
+PreparesNone command.Measure before after status = ReadsNone Measure before after status
+PreparesNone (command.Rival rival) before after status = ReadsNone (Rival rival) before after status
 PreparesNone (command.Bench number options) before after status = (after ≡ before) × (status ≡ ending.Memory)
 
--- This is what `bench` answers with so many matches, and as many steps were counted as it takes playouts; or there was no memory.
+-- This is what `bench` answers with so many matches, and as many steps were counted as it takes playouts; or there was
+-- no memory.
 abbrev pub AnswersBench : Options → ℕ → ℕ → ℕ → Result Stored Status → Type 0
 AnswersBench options number steps steps' (Ok (stored.Text bytes note)) =
     (playouts : ℕ) × IsBenchAnswer options number (seen (stored.Text bytes note) playouts) × (steps' ≡ steps + playouts)
 AnswersBench options number steps steps' (Ok (stored.Refused refusal)) = ⊥
 AnswersBench options number steps steps' (Err status) =
-    (status ≡ ending.Memory) × ((answer : Answer) → IsBenchAnswer options number answer → steps' ≤ steps + playouts_of answer)
+    (status ≡ ending.Memory)
+    × ((answer : Answer) → IsBenchAnswer options number answer → steps' ≤ steps + playouts_of answer)
 
 -- This is what a command answers; or this is why there is no answer.
 abbrev pub AnswersCommand : Command → Port → Port → ℕ → ℕ → Result Stored Status → Type 0
-AnswersCommand (command.Play options) before after steps steps' answered = AnswersSource (Play options) before after steps steps' answered
+AnswersCommand (command.Play options) before after steps steps' answered =
+    AnswersSource (Play options) before after steps steps' answered
 AnswersCommand command.Check before after steps steps' answered = AnswersSource Check before after steps steps' answered
-AnswersCommand command.Sheet before after steps steps' answered = AnswersSource PrintsSheet before after steps steps' answered
-AnswersCommand command.Migrate before after steps steps' answered = AnswersSource Migrate before after steps steps' answered
+AnswersCommand command.Sheet before after steps steps' answered =
+    AnswersSource PrintsSheet before after steps steps' answered
+AnswersCommand command.Migrate before after steps steps' answered =
+    AnswersSource Migrate before after steps steps' answered
+AnswersCommand (command.Watch seat number) before after steps steps' answered =
+    AnswersSource (Watch seat number) before after steps steps' answered
+AnswersCommand command.Measure before after steps steps' answered =
+    AnswersSource Measure before after steps steps' answered
+AnswersCommand (command.Rival rival) before after steps steps' answered =
+    AnswersSource (Rival rival) before after steps steps' answered
 AnswersCommand (command.Bench number options) before after steps steps' answered =
     (after ≡ before) × AnswersBench options number steps steps' answered
 
--- Why words name no command here: they are none's, or those of one with more workers than can play, or there was no memory to read them.
+-- Why words name no command here: they are none's, or those of one with more workers than can play, or there was no
+-- memory to read them.
 pub data NamesNone (many : Bool) (words : List (List ℕ)) (status : Status) : Type 0 where
   no_command : ((command : Command) → IsCommand words command → ⊥) → status ≡ ending.Usage → NamesNone many words status
-  too_many : (command : Command) → IsCommand words command → (CanPlay many (workers_of command) → ⊥) → status ≡ ending.Usage
+  too_many : (command : Command) → IsCommand words command → (CanPlay many (workers_of command) → ⊥)
+      → status ≡ ending.Usage
       → NamesNone many words status
   unread : status ≡ ending.Memory → NamesNone many words status
 
 -- The text of an answer was handed on with its note; or the refusal, or why there is no answer, was noted.
 abbrev pub Concludes : Result Stored Status → Port → Port → Port → Port → Status → Type 0
-Concludes (Ok (stored.Text bytes note)) out out' notes notes' status = Delivers bytes.items (note_line note) out out' notes notes' status
+Concludes (Ok (stored.Text bytes note)) out out' notes notes' status =
+    Delivers bytes.items (note_line note) out out' notes notes' status
 Concludes (Ok (stored.Refused refusal)) out out' notes notes' status =
     (status ≡ refusal_status refusal) × (out' ≡ out) × Took notes notes' (line_of status)
 Concludes (Err why) out out' notes notes' status = (status ≡ why) × (out' ≡ out) × Took notes notes' (line_of status)

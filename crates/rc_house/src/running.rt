@@ -9,26 +9,31 @@ ghost use Rattle.rc_command.specs.Command.{IsCommand, options_of, workers_of};
 ghost use Rattle.rc_command.specs.Words.{is_named};
 ghost use Rattle.rc_answers.specs.declared.note.Note.TheVariants.{Looks};
 ghost use Rattle.rc_answers.specs.Answer.{IsGame};
+ghost use Rattle.rc_answers.specs.Task.{CanSearch};
+ghost use Rattle.rc_search_model.specs.RivalLaws.{AlikeSameSearches};
 ghost use Rattle.rc_house.specs.Ends.{Ends, RefusesMany, Runs};
 ghost use Rattle.rc_answers.specs.Laws.{TextsAreTheSame};
-ghost use Rattle.rc_answers.specs.PlayedLaws.{PlayedIsChecked, PlayedIsMigrated};
+ghost use Rattle.rc_answers.specs.PlayedLaws.{PlayedIsChecked, PlayedIsMeasured, PlayedIsMigrated};
 ghost use Rattle.rc_answers.specs.Plays.{WrittenIsPlayed};
+ghost use Rattle.rc_answers.specs.WatchedLaws.{AbsentExactly, WatchedIsRead};
 ghost use Rattle.rc_answers.specs.Players.{CanPlay, counted_playouts};
 ghost use Rattle.rc_records.specs.Series.{looks_of};
 ghost use Rattle.rc_house.specs.Port.{moment, port};
-ghost use Rattle.rc_house.specs.Running.{AnswersCommand, ArePlayedBy, IsSeriesOf, NamesNone, PreparesCommand, PreparesNone, ReadsNone, ReadsPrepared, TellsOf, series_text, told_of};
+ghost use Rattle.rc_house.specs.Running.{AnswersCommand, ArePlayedBy, IsSeriesOf, NamesNone, PreparesCommand};
+ghost use Rattle.rc_house.specs.Running.{PreparesNone, ReadsNone, ReadsPrepared, TellsOf, series_text, told_of};
 
 use crate::handing::{conclude, refuse};
 use rc_answers::{
-    Answer, Game, Note, Prepared, Status, Task, bench_game, legend_for, prepare,
-    texts_are_the_same, what_is_played_is_judged_legal, what_is_played_is_migrated,
-    what_is_written_is_played,
+    Answer, Game, Note, Prepared, Status, Task, absent_exactly, bench_game, legend_for, prepare,
+    texts_are_the_same, what_is_played_is_judged_legal, what_is_played_is_measured,
+    what_is_played_is_migrated, what_is_watched_is_read, what_is_written_is_played,
 };
 use rc_command::{Command, Format, Options, command_of};
 use rc_deck::Memory;
 use rc_outside::{Gate, Sink, Source, read_all};
 use rc_play_model::alike_decisions_have_one_item;
 use rc_records::Series;
+use rc_search_model::alike_searches_have_one_item;
 use rc_series::series_of;
 use rc_steps::Steps;
 use rc_text::{write_house, write_named};
@@ -42,8 +47,11 @@ use std::thread::Threads;
 
 /// What a command makes of its source before anybody plays, or the status that it ends with.
 fn read_prepared<S: Source>(alloc: Global, task: Task, source: &mut S) -> Result<Prepared, Status>
-    ensures prepared { IfOk result (ReadsPrepared task (port (S.left source.old) (S.faults source.old)) (port (S.left source.new) (S.faults source.new))) }
-    ensures none { IfErr result (ReadsNone task (port (S.left source.old) (S.faults source.old)) (port (S.left source.new) (S.faults source.new))) }
+    requires searches { CanSearch task }
+    ensures prepared { IfOk result (ReadsPrepared task (port (S.left source.old) (S.faults source.old))
+        (port (S.left source.new) (S.faults source.new))) }
+    ensures none { IfErr result (ReadsNone task (port (S.left source.old) (S.faults source.old))
+        (port (S.left source.new) (S.faults source.new))) }
     ensures counted { S.faults source.old ≤ S.faults source.new }
 {
     let bytes = read_all(alloc, source, task.limit())?;
@@ -58,8 +66,10 @@ fn prepare_command<S: Source>(
     source: &mut S,
 ) -> Result<Prepared, Status>
     requires named { (words : List (List ℕ)) × IsCommand words command }
-    ensures prepared { IfOk result (PreparesCommand command (port (S.left source.old) (S.faults source.old)) (port (S.left source.new) (S.faults source.new))) }
-    ensures none { IfErr result (PreparesNone command (port (S.left source.old) (S.faults source.old)) (port (S.left source.new) (S.faults source.new))) }
+    ensures prepared { IfOk result (PreparesCommand command (port (S.left source.old) (S.faults source.old))
+        (port (S.left source.new) (S.faults source.new))) }
+    ensures none { IfErr result (PreparesNone command (port (S.left source.old) (S.faults source.old))
+        (port (S.left source.new) (S.faults source.new))) }
     ensures counted { S.faults source.old ≤ S.faults source.new }
 {
     match command {
@@ -68,10 +78,16 @@ fn prepare_command<S: Source>(
         Command::Sheet => read_prepared(alloc, Task::Sheet, source),
         Command::Bench { number, .. } => Ok(Prepared::Playing(bench_game(alloc, number)?)),
         Command::Migrate => read_prepared(alloc, Task::Migrate, source),
+        Command::Watch { seat, number } => {
+            read_prepared(alloc, Task::Watch { seat, number }, source)
+        }
+        Command::Measure => read_prepared(alloc, Task::Measure, source),
+        Command::Rival(rival) => read_prepared(alloc, Task::Rival(rival), source),
     }
 }
 
-/// The text that tells of the matches that were played for a command, with this legend if it tells what items bind. Memory may run out.
+/// The text that tells of the matches that were played for a command, with this legend if it tells what items bind.
+/// Memory may run out.
 fn told_text(
     alloc: Global,
     command: Command,
@@ -86,7 +102,12 @@ fn told_text(
     match command {
         Command::Bench { number, .. } => summary(alloc, number, &text.matches, &text.standings),
         Command::Play(options) => series_text(alloc, options.format, legend, series),
-        Command::Check | Command::Sheet | Command::Migrate => write_house(alloc, text),
+        Command::Check
+        | Command::Sheet
+        | Command::Migrate
+        | Command::Watch { .. }
+        | Command::Measure
+        | Command::Rival(_) => write_house(alloc, text),
     }
 }
 
@@ -132,8 +153,8 @@ fn note_of(series: &Series) -> Note
     }
 }
 
-/// The matches of a game, as one worker plays them for a command, who waits for nobody. Memory may run out; then no more steps were
-/// counted than the whole call counts.
+/// The matches of a game, as one worker plays them for a command, who waits for nobody. Memory may run out; then no
+/// more steps were counted than the whole call counts.
 fn play_alone<L: Ledger>(
     alloc: Global,
     command: Command,
@@ -143,8 +164,10 @@ fn play_alone<L: Ledger>(
     requires named { (words : List (List ℕ)) × IsCommand words command }
     requires alone { workers_of command ≡ 1 }
     requires game { IsGame game.checked (plan_seen game.plan) }
-    ensures series { IfOk result (IsSeriesOf (options_of command) (about_of game.checked game.plan.turns) (plan_seen game.plan) steps.old steps.new) }
-    ensures few { steps.new ≤ steps.old + counted_playouts (options_of command) (looks_of (about_of game.checked game.plan.turns) (plan_seen game.plan)) }
+    ensures series { IfOk result (IsSeriesOf (options_of command) (about_of game.checked game.plan.turns)
+        (plan_seen game.plan) steps.old steps.new) }
+    ensures few { steps.new ≤ steps.old + counted_playouts (options_of command)
+        (looks_of (about_of game.checked game.plan.turns) (plan_seen game.plan)) }
 {
     let Game { checked, plan } = game;
     let Options { cache, format, .. } = command.options();
@@ -160,7 +183,8 @@ fn answer_alone<S: Source, L: Ledger>(
 ) -> Result<Answer, Status>
     requires named { (words : List (List ℕ)) × IsCommand words command }
     requires alone { workers_of command ≡ 1 }
-    ensures answers { AnswersCommand command (port (S.left source.old) (S.faults source.old)) (port (S.left source.new) (S.faults source.new))
+    ensures answers { AnswersCommand command (port (S.left source.old) (S.faults source.old))
+        (port (S.left source.new) (S.faults source.new))
         steps.old steps.new result }
     ensures counted { S.faults source.old ≤ S.faults source.new }
 {
@@ -175,8 +199,8 @@ fn answer_alone<S: Source, L: Ledger>(
     }
 }
 
-/// The matches of a game, as several workers play them for a command: so many as its words say, over one book of as many entries. Each
-/// calls the gate before it plays a match. Memory may run out.
+/// The matches of a game, as several workers play them for a command: so many as its words say, over one book of as
+/// many entries. Each calls the gate before it plays a match. Memory may run out.
 fn play_together<R: Threads + Wait + Sync, G: Gate>(
     alloc: Global,
     rt: &R,
@@ -187,7 +211,8 @@ fn play_together<R: Threads + Wait + Sync, G: Gate>(
     requires named { (words : List (List ℕ)) × IsCommand words command }
     requires many { 1 < workers_of command }
     requires game { IsGame game.checked (plan_seen game.plan) }
-    ensures { IfOk result (IsSeriesOf (options_of command) (about_of game.checked game.plan.turns) (plan_seen game.plan) 0 0) }
+    ensures { IfOk result (IsSeriesOf (options_of command) (about_of game.checked game.plan.turns)
+        (plan_seen game.plan) 0 0) }
 {
     let Game { checked, plan } = game;
     let Options {
@@ -199,8 +224,8 @@ fn play_together<R: Threads + Wait + Sync, G: Gate>(
     series_by_workers(rt, alloc, checked, plan, noted, workers, cache, gate)
 }
 
-/// What a command answers that several workers run, over one book, or the status that it ends with. Each calls the gate before it plays
-/// a match.
+/// What a command answers that several workers run, over one book, or the status that it ends with. Each calls the gate
+/// before it plays a match.
 fn answer_together<R: Threads + Wait + Sync, S: Source, G: Gate>(
     alloc: Global,
     rt: &R,
@@ -210,7 +235,8 @@ fn answer_together<R: Threads + Wait + Sync, S: Source, G: Gate>(
 ) -> Result<Answer, Status>
     requires named { (words : List (List ℕ)) × IsCommand words command }
     requires many { 1 < workers_of command }
-    ensures answers { AnswersCommand command (port (S.left source.old) (S.faults source.old)) (port (S.left source.new) (S.faults source.new))
+    ensures answers { AnswersCommand command (port (S.left source.old) (S.faults source.old))
+        (port (S.left source.new) (S.faults source.new))
         0 0 result }
     ensures counted { S.faults source.old ≤ S.faults source.new }
 {
@@ -225,7 +251,8 @@ fn answer_together<R: Threads + Wait + Sync, S: Source, G: Gate>(
     }
 }
 
-/// What a command answers that one worker runs on a ledger that no type stands for yet, or the status that it ends with.
+/// What a command answers that one worker runs on a ledger that no type stands for yet, or the status that it ends
+/// with.
 fn answer_from<S: Source, L: Ledger>(
     alloc: Global,
     command: Command,
@@ -237,7 +264,8 @@ fn answer_from<S: Source, L: Ledger>(
     requires some { 0 < blank.parts }
     requires named { (words : List (List ℕ)) × IsCommand words command }
     requires alone { workers_of command ≡ 1 }
-    ensures answers { (playouts : ℕ) × AnswersCommand command (port (S.left source.old) (S.faults source.old)) (port (S.left source.new) (S.faults source.new))
+    ensures answers { (playouts : ℕ) × AnswersCommand command
+        (port (S.left source.old) (S.faults source.old)) (port (S.left source.new) (S.faults source.new))
         0 playouts result }
     ensures counted { S.faults source.old ≤ S.faults source.new }
 {
@@ -261,14 +289,17 @@ fn command_for(alloc: Global, words: &[String], several: bool) -> Result<Command
     }
 }
 
-/// Runs a command with one worker; where its words name more, they are none of a command's. It waits for nobody and always
-/// returns. Each playout is a step. The other clauses hand on laws and refuse no body. `alike`: in what is played, two decisions of
-/// one seat with one strategy and one seed of the seats, at states that are alike to that seat, have the same item, in whatever
-/// matches of that sheet and turn limit they stand. `same`: what is written to a source in one format is the same whoever plays.
-/// `legal`: what `play` writes for a source, in either format, `check` answers to be legal behind that source. `migrated`: to the same
-/// `migrate` answers what `play` writes in format 2. `plays`: in what `play` writes, each match is a play that the sheet allows for its
-/// seeded shuffles, up to its end or the turn limit, and each choice is its strategy's function of its seat's view and of the seed of
-/// the seats.
+/// Runs a command with one worker; where its words name more, they are none of a command's. It waits for nobody and
+/// always returns. Each playout of `play` and of `bench` is a step. The other clauses hand on laws and refuse no body.
+/// `alike`: in what is played, two decisions of one seat with one strategy and one seed of the seats, at states that
+/// are alike to that seat, have the same item, in whatever matches of that sheet and turn limit they stand. `same`:
+/// what is written to a source in one format is the same whoever plays. `legal`: what `play` writes for a source, in
+/// either format, `check` answers to be legal behind that source. `migrated`: to the same `migrate` answers what `play`
+/// writes in format 2. `measured`: and `measure` the measures of the matches that were played. `plays`: in what `play`
+/// writes, each match is a play that the sheet allows for its seeded shuffles, up to its end or the turn limit, and
+/// each choice is its strategy's function of its seat's view and of the seed of the seats. `views`: what `watch` writes
+/// is read as a log, and tells what the seat saw in the match. `absent`: it refuses a seat or a match exactly where
+/// sheet and plan are accepted and have none such.
 pub fn run_alone<S: Source, O: Sink, N: Sink, L: Ledger>(
     alloc: Global,
     words: &[String],
@@ -278,20 +309,30 @@ pub fn run_alone<S: Source, O: Sink, N: Sink, L: Ledger>(
     steps: &mut Steps<L>,
 ) -> Status
     ensures ends { Ends RefusesMany (map string_bytes words.now)
-        (moment (S.left source.old) (S.faults source.old) (O.written out.old) (O.faults out.old) (N.written notes.old) (N.faults notes.old))
-        (moment (S.left source.new) (S.faults source.new) (O.written out.new) (O.faults out.new) (N.written notes.new) (N.faults notes.new))
+        (moment (S.left source.old) (S.faults source.old) (O.written out.old) (O.faults out.old)
+        (N.written notes.old) (N.faults notes.old))
+        (moment (S.left source.new) (S.faults source.new) (O.written out.new) (O.faults out.new)
+        (N.written notes.new) (N.faults notes.new))
         steps.old steps.new result }
     ensures alike { AlikeSamePicks }
     ensures same { TextsAreTheSame }
     ensures legal { PlayedIsChecked }
     ensures migrated { PlayedIsMigrated }
+    ensures measured { PlayedIsMeasured }
     ensures plays { WrittenIsPlayed }
+    ensures views { WatchedIsRead }
+    ensures searches { AlikeSameSearches }
+    ensures absent { AbsentExactly }
 {
     alike_decisions_have_one_item();
+    alike_searches_have_one_item();
     texts_are_the_same();
     what_is_played_is_judged_legal();
     what_is_played_is_migrated();
+    what_is_played_is_measured();
     what_is_written_is_played();
+    what_is_watched_is_read();
+    absent_exactly();
     match command_for(alloc, words, false) {
         Ok(command) => {
             let answered = answer_alone(alloc, command, source, steps);
@@ -301,9 +342,9 @@ pub fn run_alone<S: Source, O: Sink, N: Sink, L: Ledger>(
     }
 }
 
-/// Runs a command. It may wait for workers, and what it promises holds if it returns. Where words name several workers, these play the
-/// matches at one time, and each calls the gate before it plays one. `alike`, `same`, `legal`, `migrated` and `plays` are those of
-/// `run_alone`.
+/// Runs a command. It may wait for workers, and what it promises holds if it returns. Where words name several workers,
+/// these play the matches at one time, and each calls the gate before it plays one. `alike`, `same`, `legal`,
+/// `migrated`, `measured`, `plays`, `views`, `searches` and `absent` are those of `run_alone`.
 pub fn run<R: Threads + Wait + Sync, S: Source, O: Sink, N: Sink, G: Gate>(
     alloc: Global,
     rt: &R,
@@ -314,20 +355,30 @@ pub fn run<R: Threads + Wait + Sync, S: Source, O: Sink, N: Sink, G: Gate>(
     gate: &G,
 ) -> Status
     ensures ends { (playouts : ℕ) × Ends Runs (map string_bytes words.now)
-        (moment (S.left source.old) (S.faults source.old) (O.written out.old) (O.faults out.old) (N.written notes.old) (N.faults notes.old))
-        (moment (S.left source.new) (S.faults source.new) (O.written out.new) (O.faults out.new) (N.written notes.new) (N.faults notes.new))
+        (moment (S.left source.old) (S.faults source.old) (O.written out.old) (O.faults out.old)
+        (N.written notes.old) (N.faults notes.old))
+        (moment (S.left source.new) (S.faults source.new) (O.written out.new) (O.faults out.new)
+        (N.written notes.new) (N.faults notes.new))
         0 playouts result }
     ensures alike { AlikeSamePicks }
     ensures same { TextsAreTheSame }
     ensures legal { PlayedIsChecked }
     ensures migrated { PlayedIsMigrated }
+    ensures measured { PlayedIsMeasured }
     ensures plays { WrittenIsPlayed }
+    ensures views { WatchedIsRead }
+    ensures searches { AlikeSameSearches }
+    ensures absent { AbsentExactly }
 {
     alike_decisions_have_one_item();
+    alike_searches_have_one_item();
     texts_are_the_same();
     what_is_played_is_judged_legal();
     what_is_played_is_migrated();
+    what_is_played_is_measured();
     what_is_written_is_played();
+    what_is_watched_is_read();
+    absent_exactly();
     match command_for(alloc, words, true) {
         Ok(command) if command.options().workers == 1 => {
             let answered = answer_from::<S, Brand>(alloc, command, source, Blank::new(1));

@@ -1,7 +1,7 @@
 //! A game, its plan and the text of its play.
 
-/// Two players with two cards each who choose the first one each time, of which the last dealt is worth least, with the plan. The sheet
-/// has 463 bytes with its line feed, and the plan 61.
+/// Two players with two cards each who choose the first one each time, of which the last dealt is worth least, with the
+/// plan. The sheet has 463 bytes with its line feed, and the plan 61.
 pub const SOURCE: &[u8] = b"\
 (game
 (setup (create players 2)

@@ -14,7 +14,7 @@ const PLAYED: End<'static> = End {
 const USAGE: End<'static> = End {
     status: Status::Usage,
     written: b"",
-    noted: b"usage: cardhouse play, check, sheet, bench or migrate\n",
+    noted: b"usage: cardhouse play, check, sheet, bench, migrate, watch, measure or rival\n",
 };
 
 const READ_FAULT: End<'static> = End {
@@ -54,7 +54,7 @@ fn a_source_in_pieces_is_played_unless_a_read_fails(rt: HostRuntime) -> Result<(
 }
 
 /// Words that are no command's. The last ones name more than one worker.
-const WORDS: [&[&str]; 18] = [
+const WORDS: [&[&str]; 23] = [
     &[],
     &[""],
     &["Play"],
@@ -64,6 +64,11 @@ const WORDS: [&[&str]; 18] = [
     &["sheet", "play"],
     &["check", "x"],
     &["migrate", "x"],
+    &["watch", "0"],
+    &["watch", "8", "0"],
+    &["watch", "0", "4096"],
+    &["watch", "000000", "0"],
+    &["measure", "0"],
     &["bench"],
     &["bench", "0"],
     &["play", "--workers", "0"],

@@ -10,4 +10,6 @@ mod house;
 #[cfg(test)]
 mod ports;
 #[cfg(test)]
+mod telling;
+#[cfg(test)]
 mod workers;

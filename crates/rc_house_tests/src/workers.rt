@@ -1,5 +1,5 @@
-//! Matches by several workers: who enters while a match is held, and what a match finds behind those before it. The rollouts are two
-//! seats' with two cards each, of which each decision asks something else.
+//! Matches by several workers: who enters while a match is held, and what a match finds behind those before it. The
+//! rollouts are two seats' with two cards each, of which each decision asks something else.
 use crate::expect::expect_same;
 use crate::game::{SHEET, SOURCE};
 use crate::ports::{Sinks, WIDE, owned, sinks_of};
@@ -12,7 +12,8 @@ use std::sync::atomic::{AtomicU64, Ordering};
 use std::test::Fail;
 use std::thread::Threads;
 
-/// How many turns a match that is held waits for another one to enter. That takes about a second, and only a play that fails takes it.
+/// How many turns a match that is held waits for another one to enter. That takes about a second, and only a play that
+/// fails takes it.
 const TURNS: u64 = 100_000_000;
 
 /// Holds one match until another one enters, but not forever, and tells whether that one entered in time.
@@ -59,8 +60,8 @@ impl Gate for Held {
     }
 }
 
-/// A plan of matches of the game, which are all alike, and the text of their play. Both cards of a player are played in any case, so all
-/// items do as well, and the first one is taken.
+/// A plan of matches of the game, which are all alike, and the text of their play. Both cards of a player are played in
+/// any case, so all items do as well, and the first one is taken.
 #[derive(Clone, Copy)]
 struct Alike {
     plan: &'static [u8],
@@ -155,8 +156,8 @@ fn run_words<R: AllocGlobal + Threads + Wait + Sync>(
     ))
 }
 
-/// What two workers write and note who play a plan behind a gate. Fails unless the gate lets a match enter in time, and the text is
-/// right.
+/// What two workers write and note who play a plan behind a gate. Fails unless the gate lets a match enter in time, and
+/// the text is right.
 fn played<R: AllocGlobal + Abort + Threads + Wait + Sync>(
     rt: &R,
     alike: Alike,
@@ -186,7 +187,8 @@ fn the_matches_behind_a_held_one_are_played(rt: HostRuntime) -> Result<(), Fail>
     Ok(())
 }
 
-/// Match 1 is held until match 2 enters, which it does behind all of match 0. So both find the four totals that match 0 left.
+/// Match 1 is held until match 2 enters, which it does behind all of match 0. So both find the four totals that match 0
+/// left.
 #[test]
 fn matches_find_the_totals_of_one_that_is_over(rt: HostRuntime) -> Result<(), Fail> {
     let sinks = played(&rt, THREE, &Held::new(1, 2))?;

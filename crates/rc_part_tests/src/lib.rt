@@ -1,6 +1,7 @@
-//! Tests of calls below the commands: readers and writers of std, decks, forms, draws and claims; machines side by side, and the ways back
-//! of playouts; redrawn tables, what seats see, and the bytes of views; when a gate is asked; and what matches remember: in a house over
-//! events, in the book that workers share, and in a memo that forgets.
+//! Tests of calls below the commands: readers and writers of std, decks, forms, draws and claims; machines side by
+//! side, and the ways back of playouts; redrawn tables, what seats see, the bytes of views, and logs of seats;
+//! measures; when a gate is asked; and what matches remember: in a house over events, in the book that workers share,
+//! and in a memo that forgets.
 #![tactic(auto)]
 
 #[cfg(test)]
@@ -24,7 +25,11 @@ mod form;
 #[cfg(test)]
 mod largest;
 #[cfg(test)]
+mod logs;
+#[cfg(test)]
 mod matches;
+#[cfg(test)]
+mod measures;
 #[cfg(test)]
 mod outside;
 #[cfg(test)]

@@ -6,10 +6,18 @@ use Rattle.rc_command.specs.declared.options.Options.{Options}
 use Rattle.rc_answers.specs.declared.answer.Prepared.TheVariants.{Playing}
 use Rattle.rc_answers.specs.Legend.{HasLegend}
 use Rattle.rc_house.specs.Port.{port}
-use Rattle.rc_house.specs.Running.{AnswersCommand, PreparesCommand}
+use Rattle.rc_house.specs.Running.{AnswersCommand, PreparesCommand, PreparesNone}
 use Rattle.rc_answers.proofs.Exits.{at_err}
-use Rattle.rc_house.proofs.PlayingLemmas.{game_prepared, lacking, lacking_text, told}
+use Rattle.rc_house.proofs.PlayingLemmas.{game_prepared, lacking, lacking_text, told, unprepared}
 use Rattle.rc_house.proofs.running.answer_alone.Goals as goal
+
+pub returns-in_err-answer-clause-answers : goal.returns-in_err-answer-clause-answers
+returns-in_err-answer-clause-answers g c =
+    let before = port (g.S.Source.left c.args.source.now) (g.S.Source.faults c.args.source.now) in
+    let after = port (g.S.Source.left c.prepare_command.new.source) (g.S.Source.faults c.prepare_command.new.source) in
+    at_err (AnswersCommand c.args.command before after c.args.steps.now c.args.steps.now) c.from_residual.result c.from_residual.ensures.1
+    (λ status is. unprepared before after c.args.command c.args.steps.now status
+    (subst (PreparesNone c.args.command before after) (sym is) c.in_err-answer.ensures.none))
 
 pub play_alone-requires-clause-game : goal.play_alone-requires-clause-game
 play_alone-requires-clause-game g c =
