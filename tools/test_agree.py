@@ -6,13 +6,14 @@ import unittest
 from dataclasses import dataclass, field, replace
 from pathlib import Path
 
-from agreeing.cases import Case, case_of, likeness, with_a_slip
+from agreeing.cases import Case, case_of, chance_of, likeness, with_a_slip
 from agreeing.chance import Chance
-from agreeing.comparing import Comparing, Kind, Played, Result, first_difference, rolls_out
+from agreeing.comparing import Comparing, Kind, Played, Result, first_difference, others_of, rolls_out
 from agreeing.decks import Group, cards_of, deck_of
 from agreeing.forms import in_lines, plain, strewn
+from agreeing.others import on_log, on_measures, rival_words, stops_in, watch_words
 from agreeing.program import PROGRAM, End, Program
-from agreeing.reading import reading_of
+from agreeing.reading import reading_of, search_of
 from agreeing.running import Tally, keep
 from agreeing.transcripts import OTHERS, OUTSIDE, count, looks_of, mangled, spoiled, spoiled_legend, spoiled_marks, unnamed
 from built import Built
@@ -54,6 +55,9 @@ standing 2 strategy 1 points 0
 NAMED = b"house 2\nface 0 RANK 1\nface 2 RANK 2\n" + TEXT.removeprefix(b"house 1\n")
 for line, marks in ((b"0 0 0 2", b" p1 c0"), (b"0 0 0 1", b" g2"), (b"1 0 0 1", b" c2")):
     NAMED = NAMED.replace(b"choose " + line, b"choose " + line + marks)
+
+# The commands that read a plan.
+READERS = ("play",), ("check",), ("migrate",), ("watch", "0", "0"), ("measure",), ("rival", "0", "1", "1", "0")
 
 Ends = dict[tuple[str, ...], End]
 
@@ -281,6 +285,49 @@ class Runs(unittest.TestCase):
         said = self.result({("migrate",): End(0, self.end("play", "--format", "2").text, b"x\n")}).disagreements
         self.assertIn("migrate of format 2 notes b'x\\n'", said)
 
+    def test_logs(self) -> None:
+        text = self.end("play").text
+        words = watch_words(text, chance_of(1, 2, "watched"))
+        log = self.end(*words)
+        self.assertEqual(list(on_log(words, log, text)), [])
+        for other in (b"log 2", b"seat 7", b"stops 5"):
+            end = replace(log, text=re.sub(rb"\b%s \d\b" % other.split()[0], other, log.text))
+            self.assertEqual([it.split(" ended")[0] for it in self.result({words: end}).disagreements], [" ".join(words)], other)
+        self.assertEqual(len(list(on_log(("watch", "2", "0"), log, text))), 1)
+        self.assertEqual(list(on_log(("watch", "2", "0"), End(10, b"", b"absent\n"), text)), [])
+
+    def test_measures(self) -> None:
+        text = self.end("play").text
+        end = Told().run(("measure",), self.case.source() + text)
+        self.assertEqual(list(on_measures(end, text)), [])
+        self.assertEqual(len(list(on_measures(replace(end, text=end.text.replace(b"choices 12/", b"choices 11/")), text))), 1)
+        self.assertEqual(len(list(on_measures(replace(end, note=b"cache looks 0 hits 0\n"), text))), 1)
+        said = self.said({("measure",): end})
+        self.assertTrue(said and all(it.startswith("measure of a transcript that is spoiled") for it in said))
+
+    def test_searches(self) -> None:
+        words = rival_words(self.end("play").text, chance_of(1, 2, "searched"))
+        end = self.end(*words)
+        for other in (replace(end, note=b"cache looks 0 hits 0\n"), replace(end, text=end.text[:-1]), End(10, b"", b"absent\n")):
+            (said,) = self.result({words: other}).disagreements
+            self.assertIn(f"{' '.join(words)} ended with", said)
+        self.assertEqual(self.result({words: End(5, b"", b"no memory\n")}).disagreements, [])
+        self.assertEqual({len(rival_words(TEXT, Chance(seed))) for seed in range(20)}, {5})
+        self.assertEqual({rival_words(TEXT, Chance(seed))[2] for seed in range(100)}, {*"1234"})
+
+    def test_a_search_that_the_second_reading_plays_otherwise(self) -> None:
+        words = rival_words(self.end("play").text, chance_of(1, 2, "searched"))
+        other = replace(self.end("play"), note=b"")
+        self.assertNotEqual(other, self.end(*words))
+        comparing = Comparing(Told({words: other}), reads=True)  # type: ignore[arg-type]
+        self.assertEqual([it.split(" ended")[0] for it in comparing.result(self.case).disagreements], [" ".join(words)])
+        self.assertIsNone(search_of(self.case, ("rival", "0", "4", "100", "5"), 0.02))
+
+    def test_stops_of_matches(self) -> None:
+        self.assertEqual((stops_in(TEXT), stops_in(NAMED)), ([2, 3], [2, 3]))
+        seen = {watch_words(TEXT, Chance(seed)) for seed in range(200)}
+        self.assertEqual(seen, {("watch", seat, match) for seat in "012" for match in "01"})
+
     def test_a_sheet_that_is_printed_badly(self) -> None:
         self.assertEqual(len(self.said({("sheet",): End(1, b"", b"sheet Shape 0\n")})), 2)
 
@@ -291,12 +338,12 @@ class Runs(unittest.TestCase):
         self.assertEqual(self.said({}, {words: End(0, b"house 2\n", b"")}), ["play of the other program in format 2"])
         self.assertEqual(self.said({}, {words: End(2, b"", b"usage: cardhouse play, check, sheet or bench\n")}), [])
         refused = End(1, b"", b"sheet Unseen 7\n")
-        ends = dict.fromkeys((("play",), ("check",), ("migrate",)), refused)
+        ends = dict.fromkeys(READERS, refused)
         self.assertEqual(len(self.result(ends, {}).disagreements), 1)
 
     def test_refusals(self) -> None:
         def result(end: End) -> tuple[Kind, str, int]:
-            got = self.result(dict.fromkeys((("play",), ("check",), ("migrate",)), end), {("play",): end})
+            got = self.result(dict.fromkeys(READERS, end), {("play",): end})
             return got.kind, got.why, len(got.disagreements)
 
         self.assertEqual(result(End(1, b"", b"sheet Unseen 7\n")), (Kind.REFUSED, "Unseen", 0))
@@ -305,8 +352,8 @@ class Runs(unittest.TestCase):
         self.assertEqual(result(End(1, b"", b"sheet Unseen 7\nsheet Unseen 7\n")), (Kind.REFUSED, "", 1))
         self.assertEqual(result(End(-11, b"", b"")), (Kind.REFUSED, "", 1))
         self.assertEqual(result(End(1, b"", b"sheet Unseen 9999\n")), (Kind.REFUSED, "Unseen", 1))
-        self.assertEqual(len(self.result({("play",): End(3, b"", b"plan Turns 9\n")}).disagreements), 2)
-        self.assertEqual(len(self.result({("play",): End(3, b"", b"plan Rest 9\n")}).disagreements), 0)
+        self.assertEqual(len(self.result({("play",): End(3, b"", b"plan Turns 9\n")}).disagreements), 5)
+        self.assertEqual(len(self.result({("play",): End(3, b"", b"plan Rest 9\n")}).disagreements), 2)
         self.assertEqual(result(End(5, b"", b"no memory\n")), (Kind.DROPPED, "", 0))
 
     def test_what_is_told_and_kept(self) -> None:
@@ -334,7 +381,7 @@ class Read(unittest.TestCase):
         right = program.run(("play", "--format", "2"), self.case.source())
         played = Played(self.case, End(0, text, b""), 0, hits, right if named is None else replace(right, text=named))
         texts = [text, played.named.text]
-        reading = reading_of(self.case, texts, 60)
+        reading = reading_of(self.case, texts, others_of(played), 60)
         assert reading
         comparing = Comparing(program, reads=True)  # type: ignore[arg-type]
         return list(comparing.of_reading(played, {1024: hits}, reading, texts))
@@ -345,7 +392,7 @@ class Read(unittest.TestCase):
     def test_texts_that_are_refused(self) -> None:
         def said(note: bytes, status: int, plan: bytes) -> int:
             end = End(status, b"", note)
-            ends = dict.fromkeys((("play",), ("check",), ("migrate",)), end)
+            ends = dict.fromkeys(READERS, end)
             comparing = Comparing(Told(ends), reads=True)  # type: ignore[arg-type]
             players = b"9" if status == 1 else b"2"
             result = comparing.result(Case(1, 2, self.case.sheet.replace(b"players 2", b"players " + players), plan))
@@ -369,16 +416,16 @@ class Read(unittest.TestCase):
 
     def test_what_is_migrated(self) -> None:
         program = Told({("migrate",): End(0, self.text, b""), ("check",): End(4, b"", b"text 1\n")})
-        reading = reading_of(self.case, [self.text], 60)
-        assert reading
         named = Told().run(("play", "--format", "2"), self.case.source())
         played = Played(self.case, End(0, self.text, b""), 0, 0, named)
+        reading = reading_of(self.case, [self.text], others_of(played), 60)
+        assert reading
         said = list(Comparing(program, reads=True).of_reading(played, {1024: 0}, reading, [self.text]))  # type: ignore[arg-type]
         self.assertEqual([it.split(" ended")[0] for it in said], ["migrate", "check"])
 
     def test_what_takes_too_long(self) -> None:
         plan = b"(plan (seats (rollout 1000 1) (rollout 1000 1)) (matches (from 1 1 4096)) (turns 9))"
-        self.assertIsNone(reading_of(Case(1, 2, self.case.sheet, plan), [], 0.2))
+        self.assertIsNone(reading_of(Case(1, 2, self.case.sheet, plan), [], [], 0.2))
 
 
 class OfProgram(Built):

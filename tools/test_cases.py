@@ -18,7 +18,7 @@ from cases.language import frame_of, read_page
 from cases.notes import NO_LOOKS, any_hits, is_note
 from cases.plays import Play, lines_match, read_play, read_plays
 from cases.rows import Mistake, Row, copied, is_limit, marked, only_last_marker, read_groups, read_rows, unescaped
-from cases.running import End, fault_case, run
+from cases.running import ENDING, OF_PLANS, End, fault_case, run
 from cases.sheets import read_frames, read_sheets
 from cases.texts import altered, read_texts
 from cases.words import NO_SHEET, USAGE, words_case
@@ -104,13 +104,13 @@ class Sheets(InFolder):
 
     def test_faults_of_plans(self) -> None:
         cases = self.cases("[f]\n(@)\n", "[f: plan Seats]\n^a\n[f: play Stray]\n^b\n[f: no fault of plan]\nc\n")
-        plan, sheet = ([((word,), f"({part})", f"{told} at 1") for word in ("play", "check", "migrate")]
+        plan, sheet = ([(words, f"({part})", f"{told} at 1") for words in OF_PLANS]
                        for part, told in (("a", "plan Seats"), ("b", "play Stray")))
         self.assertEqual(cases, [*plan, *sheet, (("play",), "(c)", "no fault of plan"), (("check",), "(c)", "text 1")])
 
     def test_what_follows_a_plan_is_a_fault_for_play_alone(self) -> None:
         cases = self.cases("[f]\n(@)\n", "[f: plan Rest]\n^a\n")
-        self.assertEqual(cases, [(("play",), "(a)", "plan Rest at 1"), (("check",), "(a)", "text 1")])
+        self.assertEqual(cases, [*((words, "(a)", "plan Rest at 1") for words in ENDING), (("check",), "(a)", "text 1")])
 
     def test_mistakes(self) -> None:
         self.mistake("no frame 'g'", lambda: self.cases("[f]\n(@)\n", "[g: no fault]\na\n"))
@@ -182,11 +182,27 @@ class Plays(InFolder):
         self.assertFalse(is_note("cache looks 600 hits *\n", "cache looks 600 hits 0"))
         self.assertFalse(is_note("cache looks 600 hits 1\n", "cache looks 600 hits 2\n"))
 
+    def test_other_commands(self) -> None:
+        ends = [End(0, "log 1\nstops 0\n", ""), End(10, "", "absent\n"), End(1, "", "sheet Number 6\n"), End(3, "", "plan Turns 6\n")]
+        others = End(0, "log 1\nstops 0\n", "cache looks 0 hits 0\n"), End(0, "log 2\n", ""), End(0, "", "absent\n")
+        text = "[one]\na: 1\nb: 2\n$ watch 0 1\n> log 1\n> ..\n[two]\n$ watch 7 1\nabsent\n[three]\na: ^3\n$ watch 0 0\nNumber\n"
+        cases = list(read_plays(self.write("a.plays", text + "[four]\na: ^3\n$ watch 0 0\nplan Turns\n"), self.SOURCE))
+        self.assertEqual([case.words for case in cases], [("watch", *numbers) for numbers in ("01", "71", "00", "00")])
+        self.assertEqual([[case.is_met(end) for end in (*ends, *others)] for case in cases],
+                         [[at == number for at in range(7)] for number in range(4)])
+
+    def test_lines_that_are_read(self) -> None:
+        text = "[one]\na: 1\nb: 2\n< house 1\n<- end\n$ measure\ntext 2\n[two]\n< house 2\n$ measure\n> measure 1\n[three]\n$ measure\nillegal 1 Seat\n"
+        cases = list(read_plays(self.write("a.plays", text), self.SOURCE))
+        self.assertEqual([case.source.removeprefix("(game 1 2)") for case in cases], ["house 1\nend", "house 2\n", ""])
+        ends = End(4, "", "text 2\n"), End(0, "measure 1\n", ""), End(4, "", "illegal 1 Seat\n")
+        self.assertEqual([[case.is_met(end) for end in ends] for case in cases], [[at == number for at in range(3)] for number in range(3)])
+
     def test_other_refusals(self) -> None:
         self.assertEqual(self.plays("[one]\na: 1\nb: 2\ntoo long\n"), [(("play",), "(game 1 2)", "too long")])
         self.assertEqual(
             self.plays("[one]\na: ^1\nb: 2\nplan Seats\n"),
-            [((command,), "(game 1 2)", "plan Seats at 6") for command in ("play", "check", "migrate")],
+            [(words, "(game 1 2)", "plan Seats at 6") for words in OF_PLANS],
         )
 
     def test_mistakes(self) -> None:
@@ -212,10 +228,11 @@ class Texts(InFolder):
 
     def test_what_is_expected(self) -> None:
         cases = list(read_texts(self.write("a.texts", "[one]\nlegal\n[two]\n1: b\ntext 1\n"), "(s)", "a\n"))
-        self.assertEqual([case.source for case in cases], ["(s)\na\n", "(s)\nb\n", "(s)\nb\n"])
-        self.assertEqual([case.words for case in cases], [("check",), ("check",), ("migrate",)])
+        self.assertEqual([case.source for case in cases], ["(s)\na\n", *["(s)\nb\n"] * 3])
+        self.assertEqual([case.words for case in cases], [("check",), ("check",), ("migrate",), ("measure",)])
         self.assertTrue(cases[0].is_met(End(0, "legal\n", "")))
         self.assertTrue(cases[2].is_met(End(4, "", "text 1\n")))
+        self.assertTrue(cases[3].is_met(End(4, "", "text 1\n")))
         self.assertTrue(cases[1].is_met(End(4, "", "text 1\n")))
         self.assertFalse(cases[1].is_met(End(4, "legal\n", "text 1\n")))
         self.mistake("what is expected of a text", lambda: list(read_texts(self.write("b.texts", "[one]\n1: x\n"), "", "")))
@@ -245,7 +262,7 @@ class Pages(InFolder):
         )
         cases = [(case.source, case.expected) for case in read_page(page, self.FRAMES)]
         self.assertEqual(cases, [("<(y)>", "no fault of shape"), ("1 (a)", "Shape at 2"), ("2 (create a)", "Twice at 2"),
-                                 ("3 (b)", "Unknown at 3"), *[("4 (c)", "plan Seats at 3")] * 3])
+                                 ("3 (b)", "Unknown at 3"), *[("4 (c)", "plan Seats at 3")] * 6])
 
     def test_where_a_part_stands(self) -> None:
         self.assertEqual(frame_of("second", "EFFECT, LINE or ITEM", "(choice (do))"), "second ITEM")

@@ -5,10 +5,12 @@ import pty
 import re
 import subprocess
 import sys
+import time
 import unittest
 from collections.abc import Iterator
 from dataclasses import dataclass
 from pathlib import Path
+from unittest.mock import patch
 
 from built import PROGRAM, ROOT, Built
 from cases.language import read_page
@@ -198,6 +200,10 @@ class Explanations(unittest.TestCase):
         self.assertEqual(self.named("illegal 8 Named", "choose 0 0 5 6 c0"), kinds.ILLEGAL["Named"])
         self.assertEqual(self.named("illegal 9 Named", "choose 0 0 0 5 c0"), kinds.ILLEGAL["Named"])
 
+    def test_a_match_that_takes_too_long(self) -> None:
+        with patch("faults.naming.SECONDS", 0.001), patch("faults.naming.marks_of", lambda *_: time.sleep(20)):
+            self.assertEqual(self.named("illegal 8 Named", "choose 0 0 3 5 c0"), kinds.ILLEGAL["Named"])
+
     def test_lines_that_no_transcript_has(self) -> None:
         for note, line, said in (
             ("text 1", "house 3", kinds.FIRST_LINE),
@@ -290,6 +296,18 @@ class Explanations(unittest.TestCase):
             with self.subTest(note):
                 self.assertTrue(explanation(note, b"", ["play"]))
         self.assertEqual(explanation("cache looks 0 hits 0", b"", ["play"]), [])
+
+    def test_what_is_absent(self) -> None:
+        for words, said in (
+            ("watch 1 0", ["There is no seat 1: there is one alone, with the number 0."]),
+            ("watch 00 7", ["There is no match 7: there is one alone, with the number 0."]),
+            ("watch 7 00002", ["There is no seat 7: there is one alone, with the number 0. There is no match 2: there is one alone,", "with the number 0."]),
+        ):
+            self.assertEqual(explanation("absent", (GAME + PLAN).encode(), words.split()), said)
+        said = explanation("absent", (GAME + PLAN.replace("(0 0)", "(from 1 1 30)")).encode(), ["watch", "0", "30"])
+        self.assertEqual(said, ["There is no match 30: they are numbered from 0 to 29."])
+        said = explanation("absent", (GAME + PLAN).encode(), ["rival", "3", "4", "1", "0"])
+        self.assertEqual(said, ["There is no strategy 3: there is one alone, with the number 0."])
 
     def test_words_that_name_a_file(self) -> None:
         note = "usage: cardhouse play, check, sheet or bench"
@@ -569,6 +587,16 @@ class Script(Scripted):
         os.close(folder)
         self.assertEqual(ran.returncode, 6)
         self.assertTrue(ran.stderr.endswith(b"read fault\n"))
+
+    def test_input_that_cant_be_read(self) -> None:
+        reading, writing = os.pipe()
+        ran = self.run_script("--explain", "sheet", given=None, stdin=writing, seconds=20)
+        self.assertEqual((ran.returncode, ran.stdout, ran.stderr.splitlines()[0]), (6, b"", b"read fault"))
+        os.close(reading)
+        os.close(writing)
+        with open(self.root / "out", "wb") as out:
+            ran = self.run_script("--explain", "sheet", note="read fault", status=6, given=None, stdin=out, seconds=20)
+        self.assertEqual((ran.returncode, ran.stderr.splitlines()[-1][:9]), (6, b"Standard "), ran.stderr)
 
     def test_nothing_is_said_of_what_went_well(self) -> None:
         ran = self.run_script("--explain", "play", note="cache looks 0 hits 0", status=0)

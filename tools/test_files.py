@@ -73,6 +73,11 @@ class Words(unittest.TestCase):
             ("play --workers 2 first.sheet --cache=7 first.plan", "play --workers 2 --cache=7", "first.sheet first.plan"),
             ("play --format 2 first.sheet first.plan --format=1", "play --format 2 --format=1", "first.sheet first.plan"),
             ("migrate first.sheet first.plan first.transcript", "migrate", "first.sheet first.plan first.transcript"),
+            ("measure first.sheet first.plan first.named", "measure", "first.sheet first.plan first.named"),
+            ("rival first.sheet first.plan 0 4 1 5", "rival 0 4 1 5", "first.sheet first.plan"),
+            ("watch first.sheet first.plan 1 0", "watch 1 0", "first.sheet first.plan"),
+            ("watch 1 first.sheet 0 first.plan", "watch 1 0", "first.sheet first.plan"),
+            ("watch 1 0", "watch 1 0", ""),
             ("sheet first.sheet", "sheet", "first.sheet"),
             ("play --workers check", "play --workers check", ""),
             ("play 7 -h --help", "play 7 -h --help", ""),
@@ -88,6 +93,7 @@ class Words(unittest.TestCase):
         for words, why, status in (
             ("sheet first.sheet first.plan", "first.plan is a file too many, since `sheet` reads a sheet", 2),
             ("play a b c", "c is a file too many, since `play` reads a sheet and a plan", 2),
+            ("watch a b c 0 0", "c is a file too many, since `watch` reads a sheet and a plan", 2),
             ("play first.sheet none.plan", "none.plan can't be read: there is no such file", 6),
             ("sheet .", ". can't be read: it is a folder", 6),
         ):
@@ -115,7 +121,23 @@ class Script(Scripted):
             self.check(f"{option}sheet a.sheet", "sheet", SHEET)
             self.check(f"{option}play --workers 2 a.sheet a.plan", "play --workers 2", f"{SHEET}\n{PLAN}")
             self.check(f"{option}check a.sheet a.plan 7up", "check", SOURCE.decode())
+            self.check(f"{option}watch a.sheet a.plan 0 12", "watch 0 12", f"{SHEET}\n{PLAN}")
             self.check(f"{option}check a.sheet a.plan /dev/stdin", "check", f"{SHEET}\n{PLAN}given", given=b"given")
+
+    def test_wherever_it_is_called_from(self) -> None:
+        folder = self.root / "a b"
+        folder.mkdir()
+        (folder / "link").symlink_to("../cardhouse")
+        (folder / "cards").symlink_to("link")
+        (folder / "tools").mkdir()
+        names = {**os.environ, "NOTE": "", "STATUS": "0", "SAID": "said", "CDPATH": f"{folder}:{self.root}:."}
+        for words, cwd in (("tools/../cardhouse", self.root), ("a\\ b/cards", self.root), ("./link", folder), ("sh link", folder)):
+            with self.subTest(words):
+                ran = run(["bash", "-c", f"{words} sheet {self.root}/a.sheet"], seconds=SECONDS, cwd=cwd, env=names)
+                self.assertEqual((ran.returncode, ran.stdout, ran.stderr), (0, SHEET.encode(), b""))
+        names["PATH"] = f"{folder}:{names['PATH']}"
+        ran = run(["cards", "sheet", self.root / "a.sheet"], seconds=SECONDS, cwd=folder, env=names)
+        self.assertEqual((ran.returncode, ran.stdout), (0, SHEET.encode()))
 
     def test_without_a_file_standard_input_is_read(self) -> None:
         for words in ("play", "play --cache 7", "play 7", "words a.sheet"):

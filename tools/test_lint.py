@@ -409,6 +409,19 @@ class Reading(unittest.TestCase):
                 read_sheet(source.encode())
             self.assertEqual(str(raised.exception), said)
 
+    def test_more_names_than_a_sheet_may_have(self) -> None:
+        for form, what in (
+            ("(set (game sto {0}) 1)", "stored numbers"),
+            ("(shuffle (game hloc {0}))", "locations"),
+            ("(if (is (top (game hloc STOCK)) RANK {0}) (cycle reverse))", "values"),
+            ("(if (is (top (game hloc STOCK)) {0} ACE) (cycle reverse))", "attributes"),
+        ):
+            items = [form.format(f"N{number}A") for number in range(257)]
+            source = sheet(f"(do {' '.join(items)})")
+            with self.subTest(what), self.assertRaises(Unreadable) as refused:
+                told(source)
+            self.assertEqual(str(refused.exception), f"it names more than 256 {what}")
+
     def test_a_plan_may_stand_behind_the_sheet(self) -> None:
         self.assertEqual(told(sheet("") + "(plan (seats (script)))"), [])
 

@@ -16,6 +16,9 @@ FORMATS = ROOT / "docs/FORMATS.md"
 # What the script that starts the program ends with where it can't build it.
 NOT_BUILT = 127
 
+# What the program ends with where the plan hasn't what the words name.
+ABSENT = 10
+
 
 def told_in_manual() -> dict[int, set[str]]:
     """The lines of each exit status."""
@@ -45,18 +48,18 @@ class Manual(unittest.TestCase):
                 self.assertIn(line, manual[status])
 
     def test_no_other_statuses(self) -> None:
-        self.assertEqual(told_in_manual().keys(), {*range(9), NOT_BUILT})
+        self.assertEqual(told_in_manual().keys(), {*range(9), ABSENT, NOT_BUILT})
 
     def test_each_line_is_explained(self) -> None:
         lines = {line for status, lines in told_in_manual().items() if status not in (0, NOT_BUILT) for line in lines}
         whole = {line.partition(":")[0] for line in lines if not re.search("[A-Z]{2}", line)}
-        self.assertEqual(whole, kinds.WHOLE.keys())
+        self.assertEqual(whole, kinds.WHOLE.keys() | {"absent"})
 
     def test_commands_and_options(self) -> None:
         text = MANUAL.read_text("ascii")
-        for command in ("play", "check", "sheet"):
+        for command in ("play", "check", "sheet", "migrate", "measure"):
             self.assertIn(f"\n.TP\n.B {command}\n", text)
-        for entry in ('.BI bench " N"', '.BI \\-\\-workers " N"', '.BI \\-\\-cache " N"', ".B \\-\\-explain", ".B \\-\\-try"):
+        for entry in ('.BI bench " N"', '.BI watch " SEAT MATCH"', '.BI rival " K DEPTH ROUNDS KEY"', '.BI \\-\\-workers " N"', '.BI \\-\\-cache " N"', ".B \\-\\-explain", ".B \\-\\-try"):
             self.assertIn(f"\n.TP\n{entry}\n", text)
 
     def test_its_files_are_there(self) -> None:

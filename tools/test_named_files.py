@@ -19,7 +19,7 @@ PAGES = sorted([*ROOT.glob("*.md"), *ROOT.glob("*/*.md")])
 # The pages that name types of the code by a single word, and those on which every word names a part of it, but these.
 ON_CODE = {"ARCHITECTURE.md", "DECISIONS.md", "PLANTED.md", "PROVED.md"}
 ON_CODE_ALONE = {"PLANTED.md", "PROVED.md"}
-OTHERS = {"_by", "crates", "migrate", "planted", "tools"}
+OTHERS = {"_by", "crates", "measure", "migrate", "planted", "rival", "tools", "watch"}
 
 # A path in code that begins with a folder of the repository, without signs that stand for several files.
 NAMED = re.compile(r"(?:bench|cases|crates|docs|editors|examples|planted|tools|\.ci)/[\w./-]+")

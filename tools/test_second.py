@@ -313,6 +313,37 @@ class Page(unittest.TestCase):
                 self.assertEqual(ended(Words(word), before + text).note, f"{told}\n", line)
 
 
+class Others(unittest.TestCase):
+    """Commands beside `play`, `check`, `sheet` and `migrate`, of which there are worked plays."""
+
+    def end(self, case: Case) -> End:
+        end = ended(command_of([*case.words]), case.source.encode("latin-1"))
+        return End(end.status, end.text, end.note)
+
+    def test_worked_plays(self) -> None:
+        cases = [case for of_file in read_all().values() for case in of_file]
+        for word, least in (("watch", 20), ("measure", 24), ("rival", 40)):
+            found = [it for it in cases if it.words[:1] == (word,) and it.row.file.suffix == ".plays"]
+            self.assertGreaterEqual(len(found), least, word)
+            for case in found:
+                self.assertTrue(case.is_met(self.end(case)), case.said(str(self.end(case))))
+
+    def test_a_log_shows_as_many_stops_as_it_may(self) -> None:
+        (case,) = (it for of_file in read_all().values() for it in of_file if "stops 1001" in it.expected)
+        lines = self.end(case).out.splitlines()
+        blocks = [["stop {} turn {} site 0".format(at, 2 * at + 1), f"made {at}", "frame 0 0 forward none", f"numbers {at + 1}", "place 0 -"]
+                  for at in range(1000)]
+        self.assertEqual(lines, ["log 1", "seat 0 match 0", *(line for block in blocks for line in block), "stops 1001"])
+
+    def test_a_log_tells_no_card_that_its_seat_doesnt_see(self) -> None:
+        # The hand of seat 1, in place 2, and that of seat 0, in place 1, as the other seat sees them.
+        first = read(ROOT / "examples/first.sheet") + read(ROOT / "examples/first.plan")
+        for seat, place, hidden in ((0, "place 2", "- - | - - | - | -"), (1, "place 1", "- - | - | - | ")):
+            lines = ended(command_of(["watch", str(seat), "0"]), first).text.splitlines()
+            seen = [line.removeprefix(place).strip() for line in lines if line.split(" ")[:2] == place.split(" ")]
+            self.assertEqual(" | ".join(seen), hidden)
+
+
 class Options(unittest.TestCase):
     def test_words_of_the_cases(self) -> None:
         for row in (ROOT / "cases/words.rows").read_text("utf-8").splitlines():
@@ -320,6 +351,8 @@ class Options(unittest.TestCase):
                 words, _, expected = row.partition("\t")
                 told = command_of(json.loads(words))
                 self.assertEqual("usage" if told is None else told.name, expected.split()[0], row)
+                if told and told.numbers:
+                    self.assertEqual(" ".join(map(str, told.numbers)), expected.partition(" ")[2], row)
 
     def test_formats(self) -> None:
         self.assertEqual(command_of(["play"]), Words("play", 0, 1024, 1))
@@ -362,7 +395,7 @@ class Command(unittest.TestCase):
     def test_words_that_are_no_command(self) -> None:
         ran = subprocess.run([COMMAND, "play", "--format", "3"], input=b"", capture_output=True)
         self.assertEqual((ran.returncode, ran.stdout), (2, b""))
-        self.assertEqual(ran.stderr, b"usage: cardhouse play, check, sheet, bench or migrate\n")
+        self.assertEqual(ran.stderr, b"usage: cardhouse play, check, sheet, bench, migrate, watch, measure or rival\n")
 
     def test_a_bench(self) -> None:
         ran = subprocess.run([COMMAND, "bench", "1"], input=b"", capture_output=True)

@@ -1,5 +1,6 @@
 """Tests of tools/series. Those that play need the built program."""
 
+import fcntl
 import io
 import json
 import os
@@ -16,13 +17,17 @@ from unittest.mock import patch
 
 import started
 from built import PROGRAM, ROOT, Built, skip_unless_built
-from pieces.folder import Piece, Series, Split, write_object
+from inputs import LONGEST
+from pieces.folder import Done, Piece, Series, Split
+from pieces.making import MAKEFILE
 from pieces.plans import plan_of, size_of
 from pieces.playing import line_of, picked
 from pieces.program import Program, digest
 from pieces.running import main
-from pieces.splitting import MAKEFILE
+from pieces.splitting import in_units
+from pieces.storing import HOST, remove_left, whole_folder, write_object, write_whole
 from pieces.whole import merge
+from second.measuring import measured
 from second.playing import played
 from second.sources import lists_of
 from tables.ending import Refused
@@ -105,6 +110,15 @@ class Plans(unittest.TestCase):
         self.assertIn(b"(matches (10 20) (10 20) (10 20) (11 21) (11 21) (11 21))", plan.part(0, 6))
         self.assertIn(b"(matches (11 21) (11 21) (11 21))", plan.part(3, 3))
 
+    def test_how_long_a_part_is(self) -> None:
+        for duplicate in (False, True):
+            for deal, seats in ((0, 0), (7, 95), (999_990, 9), (10**17 - 3, 10**18 - 90)):
+                text = f"; {deal}\n(plan (seats (script) (random 1) (script)) (matches (from {deal} {seats} 40)) (turns 9))"
+                plan = plan_of("a", text.encode(), duplicate)
+                for begin, count in ((0, 1), (0, 39), (3, 30), (5, 8), (14, 1)):
+                    with self.subTest(duplicate=duplicate, deal=deal, begin=begin, count=count):
+                        self.assertEqual(plan.length(begin, count), len(plan.part(begin, count)))
+
     def test_what_is_no_plan_of_a_series(self) -> None:
         plan = "(plan (seats (script)) (matches (from 1 1 9)) (turns 9))"
         plan_of("a", plan.encode(), False)
@@ -131,9 +145,14 @@ class Folders(unittest.TestCase):
         self.folder = Path(folder.name)
 
     def write(self, pieces: int, seed: int = 0) -> None:
-        parts = [Piece(2 * number, 2, "") for number in range(pieces)]
-        (self.folder / "series.plan").write_text(PLAN)
-        write_object(self.folder / "series.json", Split(f"{seed}", digest(PLAN.encode()), "", None, None, False, parts))
+        """Writes what `split` does of a series that has so many pieces of two matches."""
+        text = PLAN.replace(" 300)", f" {2 * pieces})").encode()
+        plans = [plan_of("a", text, False).part(2 * number, 2) for number in range(pieces)]
+        parts = [Piece(2 * number, 2, digest(plan)) for number, plan in enumerate(plans)]
+        for number, plan in enumerate(plans):
+            (self.folder / f"{number}.plan").write_bytes(plan)
+        (self.folder / "series.plan").write_bytes(text)
+        write_object(self.folder / "series.json", Split(f"{seed}", digest(text), "", None, None, False, parts))
 
     def test_the_share_is_picked_by_the_digest(self) -> None:
         self.write(40)
@@ -156,15 +175,108 @@ class Folders(unittest.TestCase):
             (self.folder / "series.json").write_text(text)
             self.assertRaises(Refused, Series, self.folder)
 
+    def test_a_series_that_is_damaged(self) -> None:
+        self.write(2)
+        file = self.folder / "series.json"
+        text = file.read_text()
+        kept = json.loads(text)
+        one, other = kept["pieces"]
+        texts = ["", "1", "[]", "{}", text[:-3], 100_000 * "[", 5000 * "9", "\xff"]
+        for name, value in (
+            ("plan", 1), ("program", None), ("duplicate", 0), ("kit", 1), ("more", 1), ("format", 3), ("format", "1 --workers"),
+            ("pieces", {}), ("pieces", [1]), ("pieces", []), ("pieces", [one]), ("pieces", [other, one]),
+            ("pieces", [{**one, "matches": 4}, other]), ("pieces", [{**one, "begin": False}, other]),
+            ("pieces", [{**one, "begin": 0.0}, other]), ("pieces", [{**one, "matches": 1}, {**other, "begin": 1, "matches": 3}]),
+        ):  # fmt: skip
+            texts.append(json.dumps(kept | {name: value}))
+        del kept["sheet"]
+        for damaged in [*texts, json.dumps(kept)]:
+            with self.subTest(damaged[:300]):
+                file.write_text(damaged, "latin-1")
+                for command in ("table", "merge", "make"):
+                    self.assertEqual(ran(command, self.folder), (4, "", f"{file} isn't what split wrote\n"))
+
+    def test_a_plan_that_is_none_of_the_series(self) -> None:
+        self.write(2)
+        (self.folder / "game.sheet").write_text("")
+        kept = json.loads((self.folder / "series.json").read_text())
+        kept["pieces"][1]["plan"] = digest(PLAN.encode())
+        (self.folder / "1.plan").write_text(PLAN)
+        (self.folder / "series.json").write_text(json.dumps(kept))
+        self.assertEqual(ran("run", self.folder, 1), (4, "", f"{self.folder / 'series.json'} isn't what split wrote\n"))
+
+    def test_what_is_kept_of_a_piece_is_damaged(self) -> None:
+        self.write(1)
+        series, file = Series(self.folder), self.folder / "0.json"
+        (self.folder / "0.transcript").touch()
+        write_object(file, Done(series.pieces[0].plan, digest(b""), "", "legal", "a", 1, ""))
+        self.assertIsNone(series.fault(0))
+        kept = json.loads(file.read_text())
+        texts = ["", "[]", "{}", 100_000 * "[", 5000 * "9", json.dumps(kept | {"seconds": "1"}), json.dumps(kept | {"note": None})]
+        for text in texts:
+            with self.subTest(text[:300]):
+                file.write_text(text)
+                self.assertEqual(series.fault(0), "has a 0.json that run didn't write")
+        file.unlink()
+        file.mkdir()
+        self.assertEqual(series.fault(0), "has a 0.json that run didn't write")
+        file.rmdir()
+        os.mkfifo(file)
+        self.assertEqual(series.fault(0), "has a 0.json that run didn't write")
+
+    def test_a_transcript_that_is_none_or_too_long(self) -> None:
+        self.write(1)
+        series, file = Series(self.folder), self.folder / "0.transcript"
+        write_object(self.folder / "0.json", Done(series.pieces[0].plan, digest(b""), "", "legal", "a", 1.5, ""))
+        os.mkfifo(file)
+        self.assertEqual(series.fault(0), "isn't as it was judged")
+        file.unlink()
+        with file.open("wb") as long:
+            long.truncate(LONGEST + 1)
+        self.assertEqual(series.fault(0), "isn't as it was judged")
+
+    def test_what_a_killed_process_left_is_removed(self) -> None:
+        self.write(1)
+        names = [f".{name}.{HOST}.99999" for name in ("0.transcript", "0.json", "series.json", "series")]
+        others = [f".0.transcript.{HOST}x.1", ".0.json", f"0.json.{HOST}.1", f".a.{HOST}.1"]
+        for name in [*names[:3], *others]:
+            (self.folder / name).touch()
+        (self.folder / names[3]).mkdir()
+        (self.folder / names[3] / "0.plan").touch()
+        with (self.folder / names[0]).open() as held:
+            fcntl.flock(held, fcntl.LOCK_EX)
+            remove_left(self.folder)
+            self.assertEqual({*names, *others} & {*os.listdir(self.folder)}, {names[0], *others})
+        remove_left(self.folder)
+        self.assertEqual({*names, *others} & {*os.listdir(self.folder)}, {*others})
+
+    def test_a_link_is_replaced_and_not_written_to(self) -> None:
+        file, other = self.folder / "0.json", self.folder / "other"
+        for link in (file, self.folder / f".0.json.{HOST}.{os.getpid()}"):
+            link.symlink_to(other)
+            write_whole(file, b"abc")
+            self.assertEqual((file.is_symlink(), file.read_bytes(), other.exists()), (False, b"abc", False))
+
+    def test_a_folder_is_there_as_a_whole(self) -> None:
+        with self.assertRaises(KeyError), whole_folder(self.folder / "out") as part:
+            (part / "0.plan").touch()
+            self.assertEqual(os.listdir(self.folder), [part.name])
+            raise KeyError
+        self.assertEqual(os.listdir(self.folder), [])
+        with whole_folder(self.folder / "out") as part:
+            (part / "0.plan").touch()
+        self.assertEqual((os.listdir(self.folder), os.listdir(self.folder / "out")), (["out"], ["0.plan"]))
+
     def test_a_file_is_written_as_a_whole(self) -> None:
         self.write(2)
-        self.assertEqual({file.name for file in self.folder.iterdir()}, {"series.plan", "series.json"})
+        self.assertEqual({file.name for file in self.folder.iterdir()}, {"series.plan", "series.json", "0.plan", "1.plan"})
 
     def test_a_series_that_no_text_holds(self) -> None:
         self.write(2)
         plan = PLAN.replace(" 300)", " 4097)")
         (self.folder / "series.plan").write_text(plan)
-        write_object(self.folder / "series.json", Split("", digest(plan.encode()), "", None, None, False, []))
+        parts = [Piece(0, 4096, ""), Piece(4096, 1, "")]
+        write_object(self.folder / "series.json", Split("", digest(plan.encode()), "", None, None, False, parts))
         with self.assertRaises(Refused) as caught:
             merge(self.folder)
         self.assertIn("with 40 turns it has at most 4096", str(caught.exception))
@@ -173,11 +285,67 @@ class Folders(unittest.TestCase):
         self.assertEqual([line_of(b"a\nb\n", it) for it in (b"x\nb\n", b"a\nx\n", b"a\n", b"a\nb\nc")], [1, 2, 2, 3])
 
     def test_make_plays_what_is_missing_alone(self) -> None:
-        (self.folder / "Makefile").write_text(MAKEFILE.format(command="echo", last=2))
         (self.folder / "1.json").touch()
         (self.folder / "1.transcript").touch()
-        made = ended(["make", "-C", self.folder, "-s", "-n"])
-        self.assertEqual(made.stdout.split("\n"), ["echo run . 0", "echo run . 2", ""])
+        made = ended(["make", "-s", "-f", MAKEFILE, "-C", self.folder], SERIES="echo", LAST_PIECE="2")
+        self.assertEqual(made.stdout.split("\n"), ["run . 0", "run . 2", ""])
+
+    def test_a_makefile_of_others_is_not_read(self) -> None:
+        self.write(2)
+        for name in ("Makefile", "GNUmakefile", "makefile"):
+            (self.folder / name).write_text("$(shell touch made)\n")
+        end = ended([COMMAND, "make", self.folder, "-n"])
+        self.assertEqual((end.returncode, end.stdout.count("run . ")), (0, 2))
+        self.assertFalse((self.folder / "made").exists())
+
+
+class Sizes(unittest.TestCase):
+    """How much a split writes. A program of a few lines finds each sheet and each plan right."""
+
+    def setUp(self) -> None:
+        folder = tempfile.TemporaryDirectory()
+        self.addCleanup(folder.cleanup)
+        self.root = Path(folder.name)
+        self.program = self.root / "program"
+        self.program.write_text("#!/bin/sh\ncat >/dev/null\necho 'text 1' >&2\nexit 4\n")
+        self.program.chmod(0o755)
+
+    def split(self, plan: str, *options: object) -> End:
+        (self.root / "a.plan").write_text(plan)
+        return ran("split", self.root / "out", SHEET, self.root / "a.plan", *options, CARDHOUSE=str(self.program))
+
+    def test_it_is_told(self) -> None:
+        end = self.split(PLAN, "--size", 102)
+        size = sum(file.stat().st_size for file in (self.root / "out").iterdir())
+        told, written = end.stdout.splitlines()
+        self.assertEqual((end.returncode, told), (0, f"3 pieces of at most 102 matches, {in_units(size)} to write"))
+        self.assertEqual(written, f"written: `series make {self.root / 'out'} -j 4` plays four at a time")
+
+    def test_more_than_a_gigabyte_is_refused(self) -> None:
+        plan = PLAN.replace("1 5 300", f"{9 * 10**17} {9 * 10**17} 204800000")
+        said = "100000 pieces of at most 4096 matches have plans of 16.4 GB, more than 1 GB; `--large` writes them all the same\n"
+        self.assertEqual(self.split(plan, "--duplicate"), (8, "", said))
+        self.assertEqual({*os.listdir(self.root)}, {"a.plan", "program"})
+
+    def test_or_asked_for(self) -> None:
+        with patch("pieces.splitting.MOST_BYTES", 50):
+            self.assertEqual(self.split(PLAN).returncode, 8)
+            self.assertEqual(self.split(PLAN, "--large").returncode, 0)
+
+    def test_units(self) -> None:
+        for count, told in ((999, "999 bytes"), (1000, "1.0 KB"), (2_345_678, "2.3 MB"), (16_409_000_000, "16.4 GB")):
+            self.assertEqual(in_units(count), told)
+
+    def test_what_a_killed_split_left_is_removed(self) -> None:
+        left = self.root / f".series.{HOST}.99999"
+        left.mkdir()
+        self.assertEqual(self.split(PLAN).returncode, 0)
+        self.assertFalse(left.exists())
+
+    def test_a_folder_that_is_there_is_told_first(self) -> None:
+        (self.root / "out").mkdir()
+        self.program.unlink()
+        self.assertEqual(self.split(PLAN), (7, "", f"{self.root / 'out'}: File exists\n"))
 
 
 class Programs(unittest.TestCase):
@@ -234,6 +402,28 @@ class Named(unittest.TestCase):
         self.assertEqual(self.ran("merge", folder), text)
         self.assertEqual(self.ran("table", folder), table_of(text))
         self.assertIn("all are the same", self.ran("again", folder, 1))
+        self.assertEqual(self.ran("measure", folder), measured(text, 2))
+
+    def test_measures_of_duplicates(self) -> None:
+        folder = self.root / "twice"
+        self.ran("split", folder, SHEET, self.root / "series.plan", "--size", 6, "--duplicate")
+        for number in (0, 1, 2):
+            self.ran("run", folder, number)
+        told = self.ran("measure", folder)
+        self.assertEqual(told, measured(self.ran("merge", folder), 2))
+        self.assertTrue(told.startswith("measure 1\nmatches 14 limits "), told)
+
+    def test_a_program_that_measures_nothing(self) -> None:
+        folder = self.root / "whole"
+        self.ran("split", folder, SHEET, self.root / "series.plan")
+        self.ran("run", folder, 0)
+        for script, status, said in (("echo usage: x >&2; exit 2", 2, "usage: x"), ("echo measure 2", 127, "no measures that are known")):
+            program = self.root / "program"
+            program.write_text(f"#!/bin/sh\n{script}\n")
+            program.chmod(0o755)
+            end = ran("measure", folder, CARDHOUSE=str(program))
+            self.assertEqual((end.returncode, end.stdout), (status, ""))
+            self.assertIn(said, end.stderr)
 
     def test_where_nothing_is_said_it_is_format_1(self) -> None:
         self.ran("split", self.root / "whole", SHEET, self.root / "series.plan")
@@ -263,7 +453,7 @@ class Played(Housed):
         super().setUpClass()
         (cls.root / "series.plan").write_text(PLAN)
         cls.split = ran("split", cls.root / "whole", SHEET, cls.root / "series.plan", "--size", 103)
-        cls.made = ended(["make", "-s", "-j", 4, "-C", cls.root / "whole", "table"])
+        cls.made = ended([COMMAND, "make", cls.root / "whole", "-s", "-j", 4, "table"])
         cls.text = ended([PROGRAM, "play"], SHEET.read_text() + PLAN).stdout
         cls.table = table_of(cls.text)
 
@@ -287,7 +477,7 @@ class Played(Housed):
 
     def test_what_was_split_and_played(self) -> None:
         self.assertEqual((self.split.returncode, self.split.stderr), (0, ""))
-        self.assertTrue(self.split.stdout.startswith("3 pieces of at most 102 matches: "))
+        self.assertTrue(self.split.stdout.startswith("3 pieces of at most 102 matches, "))
         self.assertEqual((self.made.returncode, self.made.stderr), (0, ""))
         *pieces, told = self.made.stdout.split("\n", 3)
         self.assertEqual({line.rpartition(",")[0] for line in pieces}, {f"piece {number} of 3" for number in range(3)})
@@ -306,7 +496,7 @@ class Played(Housed):
             (self.folder / f"1.{ending}").unlink()
             self.refused(4, "piece 1 is missing; 1 of 3 pieces don't count: 1;", "table", self.folder)
             self.refused(4, "piece 1 is missing", "again", self.folder, 1)
-            self.assertEqual(ended(["make", "-s", "-C", self.folder]).stdout, "piece 1 of 3, 3 done\n")
+            self.assertEqual(ended([COMMAND, "make", self.folder, "-s"]).stdout, "piece 1 of 3, 3 done\n")
             self.is_whole()
 
     def test_a_changed_byte_is_refused(self) -> None:
@@ -364,13 +554,13 @@ class Played(Housed):
         shutil.rmtree(self.folder)
         ran("split", self.folder, SHEET, self.root / "series.plan", "--size", 30)
         names = {**os.environ, "CARDHOUSE": str(PROGRAM)}
-        command = ["make", "-s", "-j", "4", "-C", self.folder]
+        command = [COMMAND, "make", self.folder, "-s", "-j", "4"]
         with started.started(command, env=names, stdout=subprocess.DEVNULL) as made:
             while made.poll() is None and not Series(self.folder).played():
                 time.sleep(0.01)
         done = Series(self.folder).played()
         self.assertLess(done, 10)
-        end = ended(["make", "-s", "-j", 4, "-C", self.folder])
+        end = ended([COMMAND, "make", self.folder, "-s", "-j", 4])
         self.assertEqual((end.returncode, len(end.stdout.splitlines())), (0, 10 - done))
         self.is_whole()
 

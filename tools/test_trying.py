@@ -75,7 +75,7 @@ class Trying(Scripted):
     def test_there_is_no_kit(self) -> None:
         path = self.root / "path"
         path.mkdir()
-        for name in ("sh", "dirname", "python3", "env"):
+        for name in ("sh", "dirname", "readlink", "grep", "python3", "env"):
             (path / name).symlink_to(shutil.which(name) or "")
         env = {**os.environ, "PATH": str(path)}
         ran = self.run_script("--try", "play", env=env)

@@ -9,6 +9,7 @@ import subprocess
 import sys
 from pathlib import Path
 
+from attended import attended, tied
 from faults.files import LONGEST, TEXTS, hand_over
 
 CRATE = Path(__file__).resolve().parent.parent / "crates/rc_main"
@@ -49,8 +50,11 @@ def notes_of(words: list[str]) -> list[bytes]:
     if reads:
         read_to_end()
     source = None if reads else subprocess.DEVNULL
-    ran = subprocess.run(["rt", "try", "--", *words], cwd=CRATE, stdin=source, stderr=subprocess.PIPE, check=False)
-    return ran.stderr.splitlines(keepends=True)
+    # The kit ends what it started where it is told to end.
+    how = {"cwd": CRATE, "stdin": source, "stderr": subprocess.PIPE, "preexec_fn": tied(signal.SIGTERM)}
+    with subprocess.Popen(["rt", "try", "--", *words], **how) as trying, attended(trying):
+        assert trying.stderr
+        return trying.stderr.read().splitlines(keepends=True)
 
 
 def read_to_end() -> None:

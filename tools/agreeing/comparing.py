@@ -7,8 +7,9 @@ from enum import Enum
 
 from agreeing.cases import Case, chance_of
 from agreeing.chance import Chance
+from agreeing.others import ABSENT, Words, on_log, on_measures, players_in, rival_words, watch_words
 from agreeing.program import End, Program
-from agreeing.reading import Reading, reading_of
+from agreeing.reading import Reading, reading_of, search_of
 from agreeing.transcripts import count, looks_of, mangled, spoiled, spoiled_legend, spoiled_marks, unnamed
 from second.running import refusal
 from second.strategies import hits_of
@@ -21,7 +22,8 @@ REFUSALS = 1, 3
 FIRST_SECONDS = 4
 READING_SECONDS = 5
 
-PLAY, CHECK, SHEET, MIGRATE = ("play",), ("check",), ("sheet",), ("migrate",)
+PLAY, CHECK, SHEET, MIGRATE, MEASURE = ("play",), ("check",), ("sheet",), ("migrate",), ("measure",)
+WATCH, RIVAL = ("watch", "0", "0"), ("rival", "0", "1", "1", "0")
 NAMED = ("--format", "2")
 USAGE = 2
 LEGAL = End(0, b"legal\n", b"")
@@ -84,15 +86,14 @@ class Comparing:
         return self.accepted(Played(case, first, int(noted[1]), int(noted[2]), named))
 
     def refused(self, case: Case, first: End) -> Result:
-        """A refusal is one line with a place in the source. `check` and the other program say the same; but what stands behind the
-        plan is a fault for `play` alone."""
+        """A refusal is one line with a place in the source. Other commands and the other program say the same; but what stands behind
+        the plan is a fault for commands that read nothing there."""
         told = REFUSED.fullmatch(first.note)
         result = Result(Kind.REFUSED, told[1].decode() if told else "")
         if not told or first.text or first.status not in REFUSALS or int(told[2]) > len(case.source()):
             result.disagreements.append(f"play ended with {first}")
-        if result.why != "Rest":
-            for words in (CHECK, MIGRATE):
-                result.disagreements += differing(words[0], self.program.run(words, case.source()), first)
+        for words in (WATCH, RIVAL) if result.why == "Rest" else (WATCH, RIVAL, CHECK, MIGRATE, MEASURE):
+            result.disagreements += differing(words[0], self.program.run(words, case.source()), first)
         if self.other:
             result.disagreements += differing("play of the other program", self.other.run(PLAY, case.source()), first)
         if self.reads:
@@ -108,11 +109,12 @@ class Comparing:
         counts = (count(text, head) for head in (b"match", b"choose", b"shuffles"))
         result = Result(Kind.ACCEPTED, "", *counts, it.looks, it.hits)
         for said in (
-            self.rooms(it, by_room), self.workers(it, by_room), self.named(it), self.judged(it), self.printed(it), self.of_other(it),
+            self.rooms(it, by_room), self.workers(it, by_room), self.named(it), self.judged(it), self.printed(it), self.watched(it),
+            self.measured(it), self.searched(it), self.of_other(it),
         ):  # fmt: skip
             result.disagreements += said
         texts = self.texts(it)
-        if self.reads and (reading := reading_of(it.case, texts, READING_SECONDS)):
+        if self.reads and (reading := reading_of(it.case, texts, others_of(it), READING_SECONDS)):
             result.read = 1
             result.disagreements += self.of_reading(it, by_room, reading, texts)
         return result
@@ -161,11 +163,35 @@ class Comparing:
                 yield f"check of the transcript ended with {end}"
         chance, named = options_of(it, "spoiled"), it.named.text
         tries = (spoiled(it.end.text, chance), spoiled(named, chance), spoiled_marks(named, chance), spoiled_legend(named, chance))
-        for words in (CHECK, MIGRATE):
+        for words in (CHECK, MIGRATE, MEASURE):
             for text, told in filter(None, tries):
                 end = self.program.run(words, it.case.source() + text)
                 if end != End(4, b"", told):
                     yield f"{words[0]} of a transcript that is spoiled, and so {told!r}, ended with {end}"
+
+    def watched(self, it: Played) -> Iterator[str]:
+        """A log tells as many stops as its match has choices."""
+        for words in others_of(it):
+            yield from on_log(words, self.program.run(words, it.case.source()), it.end.text)
+
+    def measured(self, it: Played) -> Iterator[str]:
+        """The transcript has the same measures in either format."""
+        ends = [self.program.run(MEASURE, it.case.source() + text) for text in (it.end.text, it.named.text)]
+        yield from on_measures(ends[0], it.end.text)
+        yield from differing("measure of format 2", ends[1], ends[0])
+
+    def searched(self, it: Played) -> Iterator[str]:
+        """What is written with a search in the place of a strategy is legal, of the plan's matches; and the second reading writes it."""
+        words = rival_words(it.end.text, options_of(it, "searched"))
+        end = self.program.run(words, it.case.source(), FIRST_SECONDS)
+        if end.is_out_of_bounds():
+            return
+        if end != ABSENT or int(words[1]) < players_in(it.end.text):
+            judged = self.program.run(CHECK, it.case.source() + end.text)
+            if (end.status, end.note, judged) != (0, b"", LEGAL):
+                yield f"{' '.join(words)} ended with {end}, and check of it with {judged}"
+        if self.reads and (wanted := search_of(it.case, words, READING_SECONDS)):
+            yield from differing(" ".join(words), end, wanted)
 
     def texts(self, it: Played) -> list[bytes]:
         """The transcript in both formats, and some that are changed by chance."""
@@ -194,7 +220,7 @@ class Comparing:
 
     def of_reading(self, it: Played, by_room: dict[int, int], reading: Reading, texts: list[bytes]) -> Iterator[str]:
         """The second reading accepts the sheet and has the same transcript in both formats, the same printed sheet, and the same hits in
-        each room; it migrates these texts as the program does, and judges them so."""
+        each room; it migrates, judges and measures these texts as the program does; and other commands end alike."""
         if reading.fault:
             yield f"the second reading refuses the sheet for {reading.fault}"
         yield from differing("the second reading", End(0, reading.text, b""), it.end)
@@ -204,6 +230,10 @@ class Comparing:
             source = it.case.source() + text
             yield from differing("migrate", self.program.run(MIGRATE, source), wanted)
             yield from differing("check", self.program.run(CHECK, source), wanted if wanted.status else LEGAL)
+        for text, wanted in zip(texts, reading.measured):
+            yield from differing("measure", self.program.run(MEASURE, it.case.source() + text), wanted)
+        for words, wanted in zip(others_of(it), reading.others):
+            yield from differing(" ".join(words), self.program.run(words, it.case.source()), wanted)
         hits = {room: hits_of(reading.asks, room) for room in by_room}
         if hits != by_room or len(reading.asks) != it.looks:
             yield f"by room {by_room} of {it.looks} looks hit, and by the second reading {hits} of {len(reading.asks)}"
@@ -212,6 +242,11 @@ class Comparing:
 def options_of(it: Played, what: object = "options") -> Chance:
     """Chance by which options and spoiled lines are taken."""
     return chance_of(it.case.seed, it.case.number, str(what))
+
+
+def others_of(it: Played) -> list[Words]:
+    """Words of other commands that read a sheet and a plan."""
+    return [watch_words(it.end.text, options_of(it, "watched"))]
 
 
 def rolls_out(case: Case) -> list[bool]:

@@ -22,7 +22,7 @@ PLAY_FAULTS = {f"play {kind}" for kind in KINDS}
 TOLD = KINDS | PLAN_FAULTS | PLAY_FAULTS
 
 # The lines of other refusals, with their statuses.
-REFUSALS = {"too long": 8}
+REFUSALS = {"too long": 8, "absent": 10}
 
 # What may be expected of a play but lines.
 REFUSED = TOLD | REFUSALS.keys()

@@ -9,6 +9,10 @@ from pathlib import Path
 from cases.rows import ROOT, Mistake, Row
 
 PROGRAM = ROOT / "crates/rc_main/out/rc_main"
+
+# Commands that read a plan, and those behind whose plan nothing may stand.
+ENDING = (("play",), ("watch", "0", "0"), ("rival", "0", "1", "1", "0"))
+OF_PLANS = (*ENDING, ("check",), ("migrate",), ("measure",))
 SECONDS = 60
 
 
@@ -81,12 +85,12 @@ def fault_case(row: Row, command: str, source: str, fault: tuple[str, int]) -> C
 
 
 def told_cases(row: Row, source: str, at: int, expected: str) -> Iterator[Case]:
-    """The cases of a source of which `play`, `check` and `migrate` tell a fault, of its plan or of its sheet. What follows the plan is
-    a fault for `play` alone."""
+    """The cases of a source of which all commands that read a plan tell a fault, of its plan or of its sheet. What follows the plan is
+    a fault for `play`, `watch` and `rival` alone."""
     what, kind = expected.split()
     told = End.plan_fault if what == "plan" else End.fault
-    for command in ("play",) if kind == "Rest" else ("play", "check", "migrate"):
-        yield Case(row, (command,), source, f"{expected} at {at}", lambda end: told(end) == (kind, at))
+    for words in ENDING if kind == "Rest" else OF_PLANS:
+        yield Case(row, words, source, f"{expected} at {at}", lambda end: told(end) == (kind, at))
     if kind == "Rest":
         yield untold_case(row, source)
 

@@ -44,10 +44,12 @@ def judged_case(heading: Row, source: str, text: str, expected: str) -> Case:
 
 
 def migrated_cases(heading: Row, source: str, text: str, expected: str, written: str | None = None) -> Iterator[Case]:
-    """The case of `migrate` of the same, if it is known: what is refused is refused alike, and a text of format 2 stays as it is."""
+    """The case of `migrate` of the same, if it is known: what is refused is refused alike, by `measure` too, and a text of format 2
+    stays as it is."""
     begun = text[gap_end(text.encode("latin-1"), 0) :]
     if expected != "legal":
-        yield Case(heading, ("migrate",), f"{source}\n{text}", f"migrate: {expected}", ends_as(End(4, "", f"{expected}\n")))
+        for word in ("migrate", "measure"):
+            yield Case(heading, (word,), f"{source}\n{text}", f"{word}: {expected}", ends_as(End(4, "", f"{expected}\n")))
     elif written or begun.startswith(NAMED):
         end = End(0, written or begun, "")
         yield Case(heading, ("migrate",), f"{source}\n{text}", f"migrate: {end.out!r}", ends_as(end))

@@ -9,7 +9,8 @@ from cases.bench import MATCHES, ends_as_bench, is_bench
 from cases.rows import Row, numbered_lines
 from cases.running import Case, End, ends_as
 
-USAGE = End(2, "", "usage: cardhouse play, check, sheet, bench or migrate\n")
+USAGE = End(2, "", "usage: cardhouse play, check, sheet, bench, migrate, watch, measure or rival\n")
+NUMBERED = re.compile(r"watch [0-7] \d+|rival [0-7] [1-4] \d+ \d+")
 NO_SHEET = End(1, "", "sheet Shape 0\n")
 
 
@@ -35,7 +36,7 @@ def run_of(row: Row, words: tuple[str, ...], expected: str) -> tuple[tuple[str, 
     """The words that are run, the source, what is expected, and whether an end is so."""
     if expected == "usage":
         return words, "", f"usage of {words}", ends_as(USAGE)
-    if expected in ("check", "sheet", "migrate"):
+    if expected in ("check", "sheet", "migrate", "measure") or NUMBERED.fullmatch(expected):
         return words, "", f"the command {expected}", ends_as(NO_SHEET)
     command = re.fullmatch(r"(?:play|bench (?P<number>\d+)) workers \d+ cache (?P<entries>\d+)(?: format [12])?", expected)
     if not command:

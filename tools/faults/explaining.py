@@ -6,6 +6,7 @@ import textwrap
 from collections.abc import Callable
 
 from faults import kinds
+from faults.absence import on_absence
 from faults.doubts import doubt_about, sentence_on_doubt
 from faults.forms import MEANINGS, is_fixed
 from faults.naming import on_grammar, on_marks
@@ -26,6 +27,7 @@ def explanation(note: str, text: bytes, words: list[str], files: tuple[File, ...
         (r"illegal (\d+) Named", lambda told: on_line(int(told[1]), on_marks(text, int(told[1])), source)),
         (r"illegal (\d+) (\w+)", lambda told: on_line(int(told[1]), kinds.ILLEGAL.get(told[2]), source)),
         (r"(usage): .*", lambda told: on_words(words)),
+        (r"absent", lambda told: wrapped(on_absence(text, words))),
         (r"(.+)", lambda told: wrapped(kinds.WHOLE.get(told[1]))),
     ]
     for pattern, explain in readings:

@@ -3,6 +3,7 @@
 import os
 
 from faults.sources import File
+from inputs import LONGEST, front, refuse_others
 
 # What the files behind a command hold, in their order.
 TEXTS = {
@@ -10,13 +11,13 @@ TEXTS = {
     "check": ("sheet", "plan", "transcript"),
     "sheet": ("sheet",),
     "migrate": ("sheet", "plan", "transcript"),
+    "watch": ("sheet", "plan"),
+    "measure": ("sheet", "plan", "transcript"),
+    "rival": ("sheet", "plan"),
 }
 
 # The options behind which a number stands.
 OPTIONS = ("--workers", "--cache", "--format")
-
-# The most bytes that a command reads. Of a longer file one byte more is taken, so that the program refuses it.
-LONGEST = 33554432
 
 USAGE_FAULT, READ_FAULT = 2, 6
 
@@ -59,10 +60,12 @@ def is_file(before: str, word: str) -> bool:
 
 def why_unreadable(name: str) -> str | None:
     """Why a file can't be read, as far as that shows before it is."""
-    if not os.path.exists(name):
+    try:
+        refuse_others(name, os.stat(name).st_mode)
+    except FileNotFoundError:
         return "there is no such file"
-    if os.path.isdir(name):
-        return "it is a folder"
+    except OSError as error:
+        return error.strerror
     return None if os.access(name, os.R_OK) else "that isn't allowed"
 
 
@@ -80,9 +83,9 @@ def put_together(names: list[str]) -> tuple[File, ...]:
 
 
 def read(name: str) -> bytes:
+    """The bytes of a file. Of one that is too long for every command one byte more is taken, so that the program refuses it."""
     try:
-        with open(name, "rb") as file:
-            return file.read(LONGEST + 1)
+        return front(name, LONGEST)
     except OSError as error:
         raise FilesRefused(f"{name} can't be read: {error.strerror}", READ_FAULT) from error
 

@@ -102,8 +102,8 @@ ILLEGAL = {
 # Lines that point nowhere.
 WHOLE = {
     "too long": (
-        "The source is too long: `play` and `sheet` take 1048576 bytes at most, and `check` and `migrate` take 33554432; take out "
-        "comments, or list fewer matches."
+        "The source is too long: `play`, `sheet`, `watch` and `rival` take 1048576 bytes at most, and `check`, `migrate` and "
+        "`measure` take 33554432; take out comments, or list fewer matches."
     ),
     "no memory": (
         "There was not enough memory, and nothing was written: end other programs, or play fewer matches at a time."
@@ -113,9 +113,11 @@ WHOLE = {
         "Not all could be written: look whether the disk is full, or whether the program that reads the output ended."
     ),
     "usage": (
-        "These words are no command: write `play`, `check`, `sheet` or `migrate`, or `bench N` with N from 1 to 1000; `play` and "
-        "`bench` take `--workers N` (1 to 64) and `--cache N` (1 to 65536) behind that, and `play` takes `--format N` (1 or 2). "
-        "The other commands are `lint`, `table` and `series`."
+        "These words are no command: write `play`, `check`, `sheet`, `migrate` or `measure`, `bench N` with N from 1 to 1000, "
+        "`watch SEAT MATCH` with numbers from 0 on, up to 7 and 4095, or `rival K DEPTH ROUNDS KEY` with K from 0 to 7, DEPTH from "
+        "1 to 4, ROUNDS from 1 to 100 and a KEY of up to 18 digits; `play` and `bench` take `--workers N` (1 to 64) and "
+        "`--cache N` (1 to 65536) behind that, and `play` takes `--format N` (1 or 2). The other commands are `lint`, `table` and "
+        "`series`."
     ),
 }
 

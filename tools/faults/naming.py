@@ -1,6 +1,9 @@
 """Sentences on the lines of a transcript by which it names cards: its legend, and the marks of what items take."""
 
 import re
+import signal
+from collections.abc import Iterator
+from contextlib import contextmanager
 
 from faults import kinds
 from second.expressions import GROUP
@@ -13,6 +16,9 @@ from tables.grammar import NAMED, format_of
 
 MARKED = re.compile(r"choose \d+ \d+ \d+ \d+ (.*)")
 MARK = re.compile(r"[pcg]\d+")
+
+# How long a match is played for a sentence. A sheet may have loops for which no time is enough.
+SECONDS = 10.0
 
 
 def on_grammar(source: bytes, number: int) -> str:
@@ -40,7 +46,33 @@ def line_of(text: bytes, number: int) -> str:
 
 
 def on_marks(source: bytes, number: int) -> str:
-    """On a choice with other marks than those of its item. What stands before it in its match is legal, and is played once more."""
+    """On a choice with other marks than those of its item. What stands before it in its match is legal, and is played once more, if
+    that doesn't take too long."""
+    try:
+        with within(SECONDS):
+            return on_right_marks(source, number)
+    except TimeoutError:
+        return kinds.ILLEGAL["Named"]
+
+
+@contextmanager
+def within(seconds: float) -> Iterator[None]:
+    """Ends the block with a TimeoutError where it takes longer."""
+
+    def end(*_: object) -> None:
+        raise TimeoutError
+
+    before = signal.signal(signal.SIGALRM, end)
+    signal.setitimer(signal.ITIMER_REAL, seconds)
+    try:
+        yield
+    finally:
+        signal.setitimer(signal.ITIMER_REAL, 0)
+        signal.signal(signal.SIGALRM, before)
+
+
+def on_right_marks(source: bytes, number: int) -> str:
+    """On the marks that such a choice has, and those that it is to have."""
     (sheet, plan), text = lists_of(source, 2)
     lines = text.decode("latin-1").split("\n")[:number]
     begin = max((at for at, line in enumerate(lines) if line.startswith("match ")), default=0)

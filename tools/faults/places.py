@@ -2,6 +2,8 @@
 
 from dataclasses import dataclass
 
+from telling import printable
+
 # The widest picture of a line, and how much of the line stands at least before the caret.
 WIDTH = 96
 BEFORE = 60
@@ -38,12 +40,7 @@ def line_at(text: bytes, at: int) -> bytes:
 
 def shown(line: bytes) -> str:
     """The line in printable characters. A tab is one space wide, so that a column is a place in the picture."""
-    decoded = line.replace(b"\t", b" ").decode("utf-8", "backslashreplace")
-    return "".join(it if it.isprintable() else escaped(it) for it in decoded)
-
-
-def escaped(character: str) -> str:
-    return "".join(f"\\x{byte:02x}" for byte in character.encode("utf-8", "surrogatepass"))
+    return printable(line.replace(b"\t", b" ").decode("utf-8", "backslashreplace"))
 
 
 def picture(line: bytes, column: int) -> list[str]:

@@ -2,6 +2,7 @@
 
 import re
 from collections.abc import Iterable
+from functools import lru_cache
 
 # In how many letters two names may differ that are spelled alike.
 FURTHEST = 2
@@ -11,7 +12,8 @@ SUGGESTED, SUSPECTED = 2, 3
 
 
 def distance(one: str, other: str) -> int:
-    """How many letters are changed, put in, left out, or exchanged with the one beside, to make one name of the other."""
+    """How many letters are changed, put in, left out, or exchanged with the one beside, to make one name of the other; where that are
+    too many for names that are spelled alike, some number that is too large too."""
     above: list[int] = []
     before = list(range(len(other) + 1))
     for at, letter in enumerate(one, 1):
@@ -21,14 +23,20 @@ def distance(one: str, other: str) -> int:
             if above and place > 1 and one[at - 2] == beside and letter == other[place - 2]:
                 least = min(least, above[place - 2] + 1)
             row.append(least)
+        if min(row) > FURTHEST and min(before) > FURTHEST:
+            return min(row)
         above, before = before, row
     return before[-1]
 
 
 def are_comparable(one: str, other: str) -> bool:
     """Whether two names may be one, misspelled. Names that differ in digits alone are those of a series."""
-    one_kind = re.sub("[0-9]+", "", one) == re.sub("[0-9]+", "", other)
-    return not one_kind and abs(len(one) - len(other)) <= FURTHEST
+    return abs(len(one) - len(other)) <= FURTHEST and without_digits(one) != without_digits(other)
+
+
+@lru_cache(1024)
+def without_digits(name: str) -> str:
+    return re.sub("[0-9]+", "", name)
 
 
 def nearest(name: str, others: Iterable[str], share: int = SUGGESTED) -> str | None:

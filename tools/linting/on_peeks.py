@@ -26,11 +26,11 @@ def on_known(sheet: Node) -> Iterator[Finding]:
     if is_unclear(sheet) or not all(it.is_list for it in peeked):
         return
     uses = locations(sheet)
-    shown = [name_of(location_of(it)) for it in peeked]
+    shown = dict.fromkeys(name_of(location_of(it)) for it in peeked)
     told: set[str] = set()
     for location in (node.parts[1] for node in sheet.within() if node.form == KNOWN):
         name, use = name_of(location), uses[name_of(location)]
-        if is_hidden(location) and (use.decks or use.given) and name not in {*shown, *told}:
+        if is_hidden(location) and (use.decks or use.given) and name not in shown and name not in told:
             said = f"Nobody sees the cards of `{name}`, and no `peek` shows them, so that nobody knows one of them."
             yield at_name(location, said + suggestion(name, shown))
             told.add(name)

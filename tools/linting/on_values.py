@@ -12,8 +12,11 @@ GROUP, ENTRY = "(ATTR (BRANCH+))", "(ATTR (VALUE+) N)"
 IS = "(is CARD ATTR VALUE)"
 ASKING = (IS, "(attr CARD ATTR)", "(partition COLL ATTR)")
 
-# The attributes of all cards, each with its values.
-Values = dict[str, list[str]]
+# The attributes of all cards, each with its values in their order.
+Values = dict[str, dict[str, None]]
+
+# An attribute, and a value that it is said to have, or none.
+Asked = tuple[str, str]
 
 
 def on_values(sheet: Node) -> Iterator[Finding]:
@@ -21,12 +24,13 @@ def on_values(sheet: Node) -> Iterator[Finding]:
     if any(node.is_list and not node.form for node in sheet.parts[1].within()):
         return
     values = values_of(sheet)
-    told: set[tuple[str, str]] = set()
+    asked: set[Asked] = set()
+    entered: set[Asked] = set()
     for node in sheet.within():
-        for asked, finding in [*on_question(node, values), *on_entry(node, values)]:
-            if asked not in told:
+        for told, finding in [*on_question(node, values, asked), *on_entry(node, values, entered)]:
+            if told not in asked:
                 yield finding
-            told.add(asked)
+            asked.add(told)
 
 
 def values_of(sheet: Node) -> Values:
@@ -34,34 +38,44 @@ def values_of(sheet: Node) -> Values:
     values: Values = {}
     for group in sheet.within():
         if group.form == GROUP:
-            names = [branch.parts[0] if branch.is_list else branch for branch in group.parts[1].parts]
-            values.setdefault(group.parts[0].text, []).extend(name.text for name in names)
+            values.setdefault(group.parts[0].text, {}).update(dict.fromkeys(names_of(group)))
     return values
 
 
-def on_question(node: Node, values: Values) -> Iterator[tuple[tuple[str, str], Finding]]:
-    """On a list that asks a card for an attribute: what is asked, and what is told of it."""
+def names_of(group: Node) -> list[str]:
+    """The values that a group of a deck names."""
+    return [(branch.parts[0] if branch.is_list else branch).text for branch in group.parts[1].parts]
+
+
+def on_question(node: Node, values: Values, told: set[Asked]) -> Iterator[tuple[Asked, Finding]]:
+    """On a list that asks a card for an attribute: what is asked and wasn't told, and what is told of it."""
     if node.form not in ASKING:
         return
     attribute = node.parts[2]
+    if (attribute.text, "") in told or (node.form == IS and (attribute.text, node.parts[3].text) in told):
+        return
     if attribute.text not in values:
         yield (attribute.text, ""), no_attribute(attribute, values)
     elif node.form == IS and node.parts[3].text not in values[attribute.text]:
         yield (attribute.text, node.parts[3].text), no_value(attribute.text, node.parts[3], values)
 
 
-def on_entry(node: Node, values: Values) -> Iterator[tuple[tuple[str, str], Finding]]:
+def on_entry(node: Node, values: Values, looked_at: set[Asked]) -> Iterator[tuple[Asked, Finding]]:
     """On an entry of a point map. It may name what no card of this deck has, so that it is a mistake only where the spelling, or
-    the attribute of a value, says so."""
+    the attribute of a value, says so. Each pair is looked at once."""
     if node.form != ENTRY:
         return
     attribute = node.parts[0]
     if attribute.text not in values:
-        if nearest(attribute.text, values, SUSPECTED):
+        if (attribute.text, "") not in looked_at and nearest(attribute.text, values, SUSPECTED):
             yield (attribute.text, ""), no_attribute(attribute, values)
+        looked_at.add((attribute.text, ""))
         return
     known = values[attribute.text]
     for value in node.parts[1].parts:
+        if (attribute.text, value.text) in looked_at:
+            continue
+        looked_at.add((attribute.text, value.text))
         is_other = any(value.text in others for others in values.values())
         if value.text not in known and (is_other or nearest(value.text, known, SUSPECTED)):
             yield (attribute.text, value.text), no_value(attribute.text, value, values)

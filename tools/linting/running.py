@@ -4,17 +4,20 @@ import os
 from contextlib import suppress
 
 from faults.places import place_of
+from inputs import SOURCE, TooLong, contents
 from linting.finding import Finding
+from linting.limits import refuse_many
 from linting.on_names import on_locations, on_numbers
 from linting.on_peeks import on_known, on_peeks
 from linting.on_stages import on_stages
 from linting.on_values import on_values
 from linting.on_variables import on_variables
 from linting.trees import Node, Unreadable, read_sheet
+from telling import printable
 
-# The statuses where nothing is told, where something is, where words or lists are faulty, and where a file can't be read or written;
-# the last two are the program's own.
-CLEAN, FOUND, FAILED, READ_FAULT, WRITE_FAULT = 0, 1, 2, 6, 7
+# The statuses where nothing is told, where something is, where words or lists are faulty, and where a file can't be read or written
+# or is too long; the last three are the program's own.
+CLEAN, FOUND, FAILED, READ_FAULT, WRITE_FAULT, TOO_LONG = 0, 1, 2, 6, 7, 8
 
 OUTPUT, ERROR = 1, 2
 
@@ -23,12 +26,13 @@ KINDS = (on_locations, on_numbers, on_values, on_variables, on_stages, on_peeks,
 
 def findings(sheet: Node) -> list[Finding]:
     """All that is told of a sheet, in the order of the text."""
+    refuse_many(sheet)
     return sorted(finding for kind in KINDS for finding in kind(sheet))
 
 
 def told(file: str, source: bytes, finding: Finding) -> str:
     place = place_of(source, finding.at)
-    return f"{file}:{place.line}:{place.column}: {finding.said}\n"
+    return printable(f"{file}:{place.line}:{place.column}: {finding.said}") + "\n"
 
 
 def main(words: list[str]) -> int:
@@ -37,11 +41,12 @@ def main(words: list[str]) -> int:
         return fail("usage: cardhouse lint GAME.sheet")
     file = words[0]
     try:
-        with open(file, "rb") as opened:
-            source = opened.read()
+        source = contents(file, SOURCE)
         found = findings(read_sheet(source))
     except OSError as fault:
         return fail(f"{file} can't be read: {fault.strerror}.", READ_FAULT)
+    except TooLong as fault:
+        return fail(f"{file} can't be a sheet: {fault}.", TOO_LONG)
     except Unreadable as fault:
         return fail(f"{file} can't be read as a sheet: {fault}. `./cardhouse sheet` tells its fault.")
     try:
@@ -52,8 +57,8 @@ def main(words: list[str]) -> int:
 
 
 def write(output: int, text: str) -> None:
-    """Writes to standard output or standard error. What isn't text in the name of the file is written as it was given."""
-    left = text.encode("utf-8", "surrogateescape")
+    """Writes to standard output or standard error."""
+    left = text.encode()
     while left:
         left = left[os.write(output, left) :]
 
@@ -61,5 +66,5 @@ def write(output: int, text: str) -> None:
 def fail(said: str, status: int = FAILED) -> int:
     """Says why nothing could be looked at, where standard error takes it."""
     with suppress(OSError):
-        write(ERROR, f"lint: {said}\n")
+        write(ERROR, f"lint: {printable(said)}\n")
     return status

@@ -5,10 +5,11 @@ from dataclasses import dataclass
 from pathlib import Path
 
 from faults.places import place_of
-from pieces.folder import read
+from inputs import SOURCE
 from pieces.plans import SeriesPlan, plan_of
 from pieces.program import Program, refusal
 from tables.ending import Refused
+from tables.running import read
 
 
 @dataclass(frozen=True)
@@ -45,7 +46,7 @@ class Sources:
 
 
 def sources_of(sheet: Path, plan: Path, duplicate: bool) -> Sources:
-    return Sources(sheet, plan, read(sheet), plan_of(str(plan), read(plan), duplicate))
+    return Sources(sheet, plan, read(sheet, SOURCE), plan_of(str(plan), read(plan, SOURCE), duplicate))
 
 
 def placed(file: Path, text: bytes, at: int) -> str:

@@ -8,6 +8,7 @@ from pieces.whole import matches_of
 from tables.counting import Counts, values_of
 from tables.ending import TEXT, Refused
 from tables.showing import columns, how_many
+from telling import printable
 
 
 def compare(first: Path, second: Path) -> None:
@@ -18,8 +19,8 @@ def compare(first: Path, second: Path) -> None:
     counts = Counts(len(one.plan.strategies), deal_matches(one))
     for before, now in zip(matches_of(one), matches_of(other)):
         counts.add([b - a for a, b in zip(values_of(before), values_of(now))])
-    print(f"{second} less {first}, match by match: {how_many(counts)}, {counts.limits.total:+} ended by the turn limit")
-    print("".join(f"{line}\n" for line in unlike(one, other)), end="")
+    print(printable(f"{second} less {first}, match by match: {how_many(counts)}, {counts.limits.total:+} ended by the turn limit"))
+    print("".join(f"{printable(line)}\n" for line in unlike(one, other)), end="")
     print(columns(counts, "+"), end="")
 
 

@@ -1,17 +1,22 @@
 """The folder of a series: what was split, and what is known of each piece that was played."""
 
 import json
-import os
-from dataclasses import asdict, dataclass
+from dataclasses import dataclass, fields
+from itertools import accumulate
 from pathlib import Path
+from typing import TypeVar, get_args, get_origin
 
+from inputs import SOURCE
 from pieces.plans import plan_of
 from pieces.program import digest
-from tables.ending import READ_FAULT, TEXT, USAGE, Refused
+from tables.ending import TEXT, USAGE, Refused
+from tables.running import read
 
 SHEET, PLAN, WHOLE, SERIES = "game.sheet", "series.plan", "whole.plan", "series.json"
 
 MISSING = "is missing"
+
+MOST_PIECES = 100_000
 
 
 @dataclass(frozen=True)
@@ -52,25 +57,23 @@ class Done:
     note: str
 
 
-def write_whole(file: Path, data: bytes) -> None:
-    """Writes a file so that it is there as a whole or not at all, also where this is cut off."""
-    part = file.with_name(f".{file.name}.{os.uname().nodename}.{os.getpid()}")
-    with part.open("wb") as out:
-        out.write(data)
-        out.flush()
-        os.fsync(out.fileno())
-    part.replace(file)
+Kept = TypeVar("Kept", Piece, Split, Done)
 
 
-def write_object(file: Path, kept: Split | Done) -> None:
-    write_whole(file, json.dumps(asdict(kept), indent=1).encode() + b"\n")
+def made(kind: type[Kept], told: object) -> Kept:
+    """What json told as an object of a kind. Raises a TypeError where a field is missing or too many, or isn't of its type."""
+    found = kind(**told)  # type: ignore[arg-type]
+    if not all(fits(getattr(found, it.name), it.type) for it in fields(found)):
+        raise TypeError(told)
+    return found
 
 
-def read(file: Path) -> bytes:
-    try:
-        return file.read_bytes()
-    except OSError as error:
-        raise Refused(READ_FAULT, f"{file}: {error.strerror}") from None
+def fits(value: object, kind: object) -> bool:
+    """Whether a value that json told is of the type of a field. A list is looked into elsewhere."""
+    if get_origin(kind) is list:
+        return isinstance(value, list)
+    kinds = get_args(kind) or (kind,)
+    return type(value) in kinds or (kind is float and type(value) is int)
 
 
 class Series:
@@ -80,12 +83,30 @@ class Series:
         self.folder = folder
         kept = read(folder / SERIES)
         self.digest = digest(kept)
+        # Lists inside one another, ever deeper, are a RecursionError.
         try:
-            self.split = Split(**json.loads(kept))
-            self.pieces = [Piece(**piece) for piece in self.split.pieces]
-        except (TypeError, ValueError):
-            raise Refused(TEXT, f"{folder / SERIES} isn't what split wrote") from None
-        self.plan = plan_of(PLAN, self.unchanged(folder / PLAN, self.split.plan), self.split.duplicate)
+            self.split = made(Split, json.loads(kept))
+            self.pieces = [made(Piece, piece) for piece in self.split.pieces]
+        except (TypeError, ValueError, RecursionError):
+            raise self.changed(folder / SERIES) from None
+        self.plan = plan_of(str(folder / PLAN), self.unchanged(folder / PLAN, self.split.plan), self.split.duplicate)
+        if self.split.format not in (1, 2) or not self.are_pieces_whole():
+            raise self.changed(folder / SERIES)
+
+    def are_pieces_whole(self) -> bool:
+        """Whether the pieces are the matches of the series, one piece behind the other, each from a match on at which it may begin."""
+        counts = [piece.matches for piece in self.pieces]
+        begins = [0, *accumulate(counts)]
+        return (
+            0 < len(counts) <= MOST_PIECES
+            and min(counts) > 0
+            and begins.pop() == self.plan.matches()
+            and [piece.begin for piece in self.pieces] == begins
+            and not any(begin % len(self.plan.strategies) for begin in begins)
+        )
+
+    def changed(self, file: Path) -> Refused:
+        return Refused(TEXT, f"{file} isn't what split wrote")
 
     def file(self, number: int, ending: str) -> Path:
         return self.folder / f"{number}.{ending}"
@@ -100,22 +121,27 @@ class Series:
 
     def source(self, number: int) -> bytes:
         """The sheet and the plan of a piece, as they were split."""
-        return self.sheet() + b"\n" + self.unchanged(self.file(number, "plan"), self.piece(number).plan)
+        piece = self.piece(number)
+        plan = self.unchanged(self.file(number, "plan"), piece.plan)
+        if plan != self.plan.part(piece.begin, piece.matches):
+            raise self.changed(self.folder / SERIES)
+        return self.sheet() + b"\n" + plan
 
     def unchanged(self, file: Path, known: str) -> bytes:
-        data = read(file)
+        data = read(file, SOURCE)
         if digest(data) != known:
-            raise Refused(TEXT, f"{file} isn't what split wrote")
+            raise self.changed(file)
         return data
 
     def done(self, number: int) -> Done | None:
         """What is kept of a piece, if it was played."""
-        try:
-            return Done(**json.loads(self.file(number, "json").read_bytes()))
-        except FileNotFoundError:
+        file = self.file(number, "json")
+        if not file.exists():
             return None
-        except (TypeError, ValueError):
-            raise Refused(TEXT, f"{self.file(number, 'json')} isn't what run wrote") from None
+        try:
+            return made(Done, json.loads(read(file, SOURCE)))
+        except (TypeError, ValueError, RecursionError):
+            raise Refused(TEXT, f"{file} isn't what run wrote") from None
 
     def played(self) -> int:
         """How many pieces are there."""
@@ -137,4 +163,11 @@ class Series:
             return "was played by another program"
         if done.verdict != "legal":
             return "isn't legal"
-        return None if digest(read(transcript)) == done.transcript else "isn't as it was judged"
+        return None if self.is_transcript(transcript, done) else "isn't as it was judged"
+
+    def is_transcript(self, file: Path, done: Done) -> bool:
+        """Whether a file is the transcript that was judged. It may be one that is too long, or no file any more."""
+        try:
+            return digest(read(file)) == done.transcript
+        except Refused:
+            return False

@@ -6,11 +6,10 @@ from dataclasses import dataclass
 from faults.tokens import tokens
 from tables.ending import PLAN, Refused
 
-# What the program takes: the matches of a plan, these times the turn limit, a seed, and the bytes of a source.
+# What the program takes: the matches of a plan, these times the turn limit, and a seed.
 MATCHES = 4096
 TURNS = 262_144
 SEED = 999_999_999_999_999_999
-SOURCE = 1_048_576
 
 WANTED = "a series is a plan (plan (seats STRATEGY ..) (matches (from DEAL SEATS COUNT)) (turns T))"
 
@@ -79,6 +78,19 @@ class SeriesPlan:
         deal = match // len(self.strategies) if self.duplicate else match
         return self.deal + deal, self.seats + deal
 
+    def length(self, begin: int, matches: int) -> int:
+        """How many bytes `part` has. Nothing is written for it: the plans of a duplicate may have gigabytes."""
+        kept = len(self.text) - (self.end - self.at)
+        if not self.duplicate:
+            return kept + len("(from {} {} {})".format(*self.seeds(begin), matches))
+        return kept + self.bytes_of_pairs(begin + matches) - self.bytes_of_pairs(begin) + matches - 1
+
+    def bytes_of_pairs(self, match: int) -> int:
+        """How many bytes the pairs of seeds of all matches before one have, each pair in parentheses."""
+        deals, more = divmod(match, len(self.strategies))
+        of_deals = 3 * deals + sum(digits_below(seed + deals) - digits_below(seed) for seed in (self.deal, self.seats))
+        return len(self.strategies) * of_deals + more * len("({} {})".format(*self.seeds(match)))
+
     def part(self, begin: int, matches: int) -> bytes:
         """The plan of so many matches from one on, with all else as it stands."""
         if self.duplicate:
@@ -86,6 +98,13 @@ class SeriesPlan:
         else:
             told = "(from {} {} {})".format(*self.seeds(begin), matches)
         return self.text[: self.at] + told.encode() + self.text[self.end :]
+
+
+def digits_below(number: int) -> int:
+    """How many digits all numbers below one have: as many each as this one, less one for each below 10, one for each below 100, and so
+    on."""
+    digits = len(str(number))
+    return digits * number - sum(10**power for power in range(1, digits))
 
 
 def plan_of(name: str, text: bytes, duplicate: bool) -> SeriesPlan:

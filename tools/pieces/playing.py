@@ -7,14 +7,17 @@ import sys
 from pathlib import Path
 from typing import TextIO
 
-from pieces.folder import MISSING, Done, Series, read, write_object, write_whole
+from pieces.folder import MISSING, Done, Series
 from pieces.program import Program, digest
+from pieces.storing import remove_left, write_object, write_whole
 from tables.ending import TEXT, USAGE, Refused
+from tables.running import read
 
 
 def run(folder: Path, number: int) -> None:
     """Plays and judges a piece; does nothing where that is done. What tells that it is done is written last."""
     series = Series(folder)
+    remove_left(folder)
     source = series.source(number)
     fault = series.fault(number)
     if fault:

@@ -2,12 +2,14 @@
 
 import hashlib
 import os
+import signal
 import subprocess
 import sys
 import time
 from dataclasses import dataclass
 from pathlib import Path
 
+from attended import attended, tied
 from tables.ending import Refused
 
 ROOT = Path(__file__).resolve().parent.parent.parent
@@ -50,7 +52,7 @@ class Program:
 
     def call(self, words: list[str], source: bytes) -> subprocess.CompletedProcess[bytes]:
         try:
-            return subprocess.run([self.file, *words], input=source, capture_output=True)
+            return subprocess.run([self.file, *words], input=source, capture_output=True, preexec_fn=tied())
         except OSError as error:
             raise self.missing(error) from None
 
@@ -76,7 +78,8 @@ class Program:
 def build(script: Path) -> None:
     """Has the program built where it isn't, or not of these sources, and passes on what the script says of that."""
     nothing = subprocess.DEVNULL
-    with subprocess.Popen([script, "sheet"], stdin=nothing, stdout=nothing, stderr=subprocess.PIPE) as calling:
+    how = {"stdin": nothing, "stdout": nothing, "stderr": subprocess.PIPE, "preexec_fn": tied(signal.SIGTERM)}
+    with subprocess.Popen([script, "sheet"], **how) as calling, attended(calling):
         assert calling.stderr
         for line in calling.stderr:
             if line.startswith(b"cardhouse: "):

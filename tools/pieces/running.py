@@ -9,17 +9,19 @@ from pathlib import Path
 from pieces.accepting import sources_of
 from pieces.comparing import compare, deal_matches
 from pieces.folder import Series
+from pieces.making import make
+from pieces.measuring import measure
 from pieces.playing import again, picked, run
 from pieces.splitting import split
 from pieces.whole import matches_of, merge
 from tables.ending import status_of
-from tables.running import add_forms, write
+from tables.running import Words, add_forms, write
 
 
 def parser() -> argparse.ArgumentParser:
     """What the words may be."""
     said = "A long series of matches, played in pieces."
-    words = argparse.ArgumentParser("cardhouse series", description=said, allow_abbrev=False)
+    words = Words("cardhouse series", description=said, allow_abbrev=False)
     commands = words.add_subparsers(dest="command", required=True)
     of_split = add(commands, "split", "splits a series into a folder", "DIR")
     of_split.add_argument("sheet", type=Path, metavar="GAME.sheet")
@@ -28,13 +30,18 @@ def parser() -> argparse.ArgumentParser:
     sizes.add_argument("--size", type=positive(int), metavar="N", help="a piece has at most N matches")
     sizes.add_argument("--seconds", type=positive(float), metavar="S", help="a piece takes about S seconds here")
     of_split.add_argument("--format", type=int, choices=(1, 2), default=1, help="the format of the transcripts, 1 where nothing is said")
+    of_split.add_argument("--large", action="store_true", help="the folder may have more than 1 GB")
     of_split.add_argument("--duplicate", action="store_true", help="each deal is played with each strategy in each seat")
+    add(commands, "make", "plays all pieces that aren't done, by make", "DIR").add_argument(
+        "words", nargs=argparse.REMAINDER, metavar="WORD", help="what make is told, as -j 4"
+    )
     add(commands, "run", "plays and judges piece K, if that isn't done", "DIR").add_argument("piece", type=int, metavar="K")
     of_again = add(commands, "again", "plays pieces once more, and says whether they are the same", "DIR")
     which = of_again.add_mutually_exclusive_group(required=True)
     which.add_argument("piece", type=int, nargs="?", metavar="K")
     which.add_argument("--share", type=float, metavar="PART", help="so large a part of the pieces, as 0.05")
     add_forms(add(commands, "table", "writes one table of all matches", "DIR"))
+    add(commands, "measure", "writes the measures of all matches", "DIR")
     add(commands, "merge", "writes the one transcript of all matches", "DIR")
     add(commands, "compare", "compares two series on the same deals", "A", "B")
     return words
@@ -62,13 +69,18 @@ def positive(kind: Callable[[str], float]) -> Callable[[str], float]:
 def command_of(told: argparse.Namespace) -> None:
     """Does what the words say."""
     if told.command == "split":
-        split(told.dir, sources_of(told.sheet, told.plan, told.duplicate), told.size, told.seconds, told.format)
+        sources = sources_of(told.sheet, told.plan, told.duplicate)
+        split(told.dir, sources, told.size, told.seconds, told.format, told.large)
+    elif told.command == "make":
+        make(told.dir, told.words)
     elif told.command == "run":
         run(told.dir, told.piece)
     elif told.command == "again":
         again(told.dir, picked(told.dir, told.share) if told.share is not None else [told.piece])
     elif told.command == "table":
         table(told.dir, told.form)
+    elif told.command == "measure":
+        measure(told.dir)
     elif told.command == "merge":
         merge(told.dir)
     else:

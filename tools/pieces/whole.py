@@ -4,11 +4,12 @@ import re
 import sys
 from pathlib import Path
 
-from pieces.folder import Series, read
+from pieces.folder import Series
 from pieces.program import Program
 from tables.ending import TEXT, Refused
 from tables.grammar import end_of_head
 from tables.house import Match, Reader, standings
+from tables.running import read
 
 # How many pieces are named where several are wrong.
 NAMED = 10

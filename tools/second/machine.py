@@ -32,6 +32,7 @@ class Do:
 
 @dataclass(frozen=True)
 class Stage:
+    number: int
     owner: str
     end: Meaning
     body: tuple
@@ -82,7 +83,7 @@ class Machine(Effects):
     def __init__(self, sheet: Form) -> None:
         _, (_, *setup), *items, (_, best, score) = sheet
         super().__init__(tuple(setup))
-        self.sites = 0
+        self.stages = self.sites = 0
         self.asks: list[tuple] = []
         self.items = tuple(self.item(item) for item in items)
         self.sign = 1 if best == "max" else -1
@@ -94,7 +95,8 @@ class Machine(Effects):
         if form[0] == "do":
             return Do(self.effects(form[1:], {}))
         if form[0] == "stage":
-            return Stage(form[1], self.test(form[2][1], {}), tuple(self.item(it) for it in form[3:]))
+            number, self.stages = self.stages, self.stages + 1
+            return Stage(number, form[1], self.test(form[2][1], {}), tuple(self.item(it) for it in form[3:]))
         site, self.sites = self.sites, self.sites + 1
         return Choice(site, tuple(self.alternative(it, {}) for it in form[1:]))
 
@@ -152,7 +154,7 @@ class Machine(Effects):
                     return stop
             elif isinstance(first, Stage):
                 around = state.innermost(first.owner)
-                state.frames.append(Frame(first.owner, around.member if around else 0))
+                state.frames.append(Frame(first.number, first.owner, around.member if around else 0))
                 state.left = (Round(first), rest)
             else:
                 state.left = rest

@@ -6,18 +6,21 @@ from dataclasses import dataclass
 from itertools import islice
 from pathlib import Path
 
-from second.commands import BENCH, CHECK, MIGRATE, PLAY, SHEET, USAGE, Command, command_of
+from second.commands import BENCH, CHECK, MEASURE, MIGRATE, PLAY, RIVAL, SHEET, USAGE, WATCH, Command, command_of
 from second.forms import form_fault
 from second.judging import Judge
 from second.machine import Machine
+from second.measuring import measured
 from second.naming import legend_of
 from second.parts import top_lists
 from second.plans import REST, SHAPE, plan_fault
-from second.playing import played, replayed
+from second.playing import matches_of, played, replayed
 from second.printing import printed
 from second.refusing import sheet_fault
+from second.searching import rivaled
 from second.sources import Form, lists_of
 from second.strategies import hits_of
+from second.watching import watched
 from tables.grammar import NAMED, first_fault, format_of
 
 TRICKS = Path(__file__).resolve().parent.parent.parent / "bench/tricks.sheet"
@@ -25,9 +28,12 @@ BENCH_PLAN = "(plan (seats (random 1) (rollout 4 2) (random 3) (rollout 4 4)) (m
 
 # The most bytes of a source, by command.
 LONGEST, LONGEST_TEXT = 1_048_576, 33_554_432
-LIMITS = {PLAY: LONGEST, SHEET: LONGEST, CHECK: LONGEST_TEXT, MIGRATE: LONGEST_TEXT}
+LIMITS = dict.fromkeys((PLAY, SHEET, WATCH, RIVAL), LONGEST) | dict.fromkeys((CHECK, MIGRATE, MEASURE), LONGEST_TEXT)
 
-DONE, OF_SHEET, OF_WORDS, OF_PLAN, OF_TEXT, TOO_LONG = 0, 1, 2, 3, 4, 8
+# The commands whose source ends with the plan.
+OF_PLANS = (PLAY, WATCH, RIVAL)
+
+DONE, OF_SHEET, OF_WORDS, OF_PLAN, OF_TEXT, TOO_LONG, OF_ABSENCE = 0, 1, 2, 3, 4, 8, 10
 
 
 @dataclass(frozen=True)
@@ -45,7 +51,7 @@ def refusal(command: str, source: bytes) -> Ended | None:
         return Ended(TOO_LONG, note="too long\n")
     if fault := form_fault(source, 1 if command == SHEET else 2) or first_fault_of_sheet(source):
         return Ended(OF_SHEET, note="sheet {} {}\n".format(*fault))
-    if command != SHEET and (fault := fault_of_plan(source, command == PLAY)):
+    if command != SHEET and (fault := fault_of_plan(source, command in OF_PLANS)):
         return Ended(OF_PLAN, note="plan {} {}\n".format(*fault))
     return None
 
@@ -92,10 +98,30 @@ def ended(command: Command, source: bytes) -> Ended:
     if command.name == PLAY:
         played_text, asks = played(*lists, named=command.format == 2)
         return Ended(DONE, played_text, looks_note(asks, command.room))
+    if command.name == WATCH:
+        return log(*lists, *command.numbers)
+    if command.name == RIVAL:
+        return house_of_rival(*lists, *command.numbers)
     refused, items = judged(*lists, text)
     if refused:
         return refused
+    if command.name == MEASURE:
+        return Ended(DONE, measured(text.decode("latin-1"), Machine(lists[0]).players))
     return Ended(DONE, "legal\n" if command.name == CHECK else replayed(*lists, iter(items), named=True))
+
+
+def log(sheet: Form, plan: Form, seat: int, number: int) -> Ended:
+    """How `watch` ends of an accepted sheet and plan."""
+    if seat >= Machine(sheet).players or number >= len(matches_of(plan)):
+        return Ended(OF_ABSENCE, note="absent\n")
+    return Ended(DONE, watched(sheet, plan, seat, number))
+
+
+def house_of_rival(sheet: Form, plan: Form, strategy: int, depth: int, rounds: int, key: int) -> Ended:
+    """How `rival` ends of an accepted sheet and plan."""
+    if strategy >= Machine(sheet).players:
+        return Ended(OF_ABSENCE, note="absent\n")
+    return Ended(DONE, rivaled(sheet, plan, strategy, depth, rounds, key))
 
 
 def bench(command: Command) -> Ended:

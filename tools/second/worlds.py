@@ -36,8 +36,9 @@ def faces_of(groups: tuple[Form, ...]) -> list[Face]:
 
 @dataclass
 class Frame:
-    """An open stage: its class, who is current, whether it goes backward, and who is named as the next."""
+    """An open stage: its number, its class, who is current, whether it goes backward, and who is named as the next."""
 
+    stage: int
     owner: str
     member: int
     is_back: bool = False

@@ -5,12 +5,15 @@ import sys
 from collections.abc import Callable
 from contextlib import suppress
 
+from telling import printable
+
 DONE = 0
 USAGE = 2
 PLAN = 3
 TEXT = 4
 READ_FAULT = 6
 WRITE_FAULT = 7
+TOO_LONG = 8
 
 
 class Refused(Exception):
@@ -41,5 +44,5 @@ def told(status: int, sentence: str) -> int:
     """Tells a sentence on standard error, where that can be written. Gives the status."""
     if sys.stderr:
         with suppress(OSError):
-            print(sentence, file=sys.stderr, flush=True)
+            print(printable(sentence), file=sys.stderr, flush=True)
     return status

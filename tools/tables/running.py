@@ -3,19 +3,29 @@
 import argparse
 import sys
 from pathlib import Path
+from typing import NoReturn
 
+from inputs import LONGEST, TooLong, contents
 from tables import records
 from tables.counting import counts_of
-from tables.ending import READ_FAULT, TEXT, Refused, status_of
+from tables.ending import READ_FAULT, TEXT, TOO_LONG, Refused, status_of
 from tables.house import Match, Reader
 from tables.showing import table
+from telling import printable
 
 STANDARD_INPUT = "standard input"
 
 
+class Words(argparse.ArgumentParser):
+    """What words may be. Those that may not are told as they can be shown."""
+
+    def error(self, message: str) -> NoReturn:
+        super().error(printable(message))
+
+
 def parser() -> argparse.ArgumentParser:
     """What the words may be."""
-    words = argparse.ArgumentParser(
+    words = Words(
         "cardhouse table", description="One table of all matches that transcripts tell.", allow_abbrev=False
     )
     add_forms(words)
@@ -47,20 +57,26 @@ def matches_of(files: list[Path]) -> list[Match]:
     return found
 
 
-def read(file: Path) -> bytes:
+def read(file: Path, most: int = LONGEST) -> bytes:
+    """The bytes of a file, which may have so many."""
     try:
-        return file.read_bytes()
+        return contents(str(file), most)
     except OSError as error:
         raise Refused(READ_FAULT, f"{file}: {error.strerror}") from None
+    except TooLong as error:
+        raise Refused(TOO_LONG, f"{file}: {error}") from None
 
 
 def read_input() -> bytes:
     if sys.stdin is None:
         raise Refused(READ_FAULT, f"{STANDARD_INPUT}: it is closed")
     try:
-        return sys.stdin.buffer.read()
+        data = sys.stdin.buffer.read(LONGEST + 1)
     except OSError as error:
         raise Refused(READ_FAULT, f"{STANDARD_INPUT}: {error.strerror}") from None
+    if len(data) > LONGEST:
+        raise Refused(TOO_LONG, f"{STANDARD_INPUT}: it has more than {LONGEST} bytes")
+    return data
 
 
 def write(matches: list[Match], form: str | None, is_duplicate: bool) -> None:
