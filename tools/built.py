@@ -6,6 +6,7 @@ import unittest
 from collections.abc import Iterator
 from functools import cache
 from pathlib import Path
+from unittest.mock import patch
 
 ROOT = Path(__file__).resolve().parent.parent
 PROGRAM = ROOT / "crates/rc_main/out/rc_main"
@@ -44,6 +45,16 @@ def skip_unless_built() -> None:
 def is_here() -> bool:
     """Whether the program of this checkout is built."""
     return is_built()
+
+
+def name_program() -> None:
+    """Has the tools called by the tests of a module find the program: the one that the environment names, else that of this checkout,
+    without which the module is skipped."""
+    if not os.environ.get("CARDHOUSE"):
+        skip_unless_built()
+        names = patch.dict(os.environ, {"CARDHOUSE": str(PROGRAM)})
+        names.start()
+        unittest.addModuleCleanup(names.stop)
 
 
 class Built(unittest.TestCase):

@@ -26,23 +26,30 @@ class Sources:
         return self.sheet + b"\n" + self.plan.part(begin, matches)
 
     def accept(self, program: Program, matches: int) -> None:
-        """Asks that the sheet and a plan of so many matches are accepted. Then `check` looks for a transcript behind them, and
-        misses its first line."""
-        judged = program.call(["check"], self.part(0, matches))
-        if (judged.returncode, judged.stderr.splitlines()[-1:]) != (4, [b"text 1"]):
-            refused = refusal(judged)
-            raise Refused(refused.status, self.located(str(refused)))
+        """Asks that the sheet and a plan of so many matches are accepted. In a plan that is one of a series by its shape, only what
+        stands before its matches may be faulty."""
+        accept(program, self.part(0, matches), [(self.sheet_file, self.sheet), (self.plan_file, self.plan.text)])
 
-    def located(self, note: str) -> str:
-        """A note behind the file, the line and the column at which it points. In a plan that is one of a series by its shape, only
-        what stands before its matches may be faulty."""
-        told = re.fullmatch(r"(?:sheet|plan) \w+ (\d+)", note)
-        if not told:
-            return note
-        at, length = int(told[1]), len(self.sheet)
-        if at < length:
-            return f"{placed(self.sheet_file, self.sheet, at)}: {note}"
-        return f"{placed(self.plan_file, self.plan.text, at - length - 1)}: {note}"
+
+def accept(program: Program, source: bytes, texts: list[tuple[Path, bytes]]) -> None:
+    """Asks that a sheet and a plan are accepted, which stand in these files. Then `check` looks for a transcript behind them, and
+    misses its first line."""
+    judged = program.call(["check"], source)
+    if (judged.returncode, judged.stderr.splitlines()[-1:]) != (4, [b"text 1"]):
+        refused = refusal(judged)
+        raise Refused(refused.status, located(str(refused), texts))
+
+
+def located(note: str, texts: list[tuple[Path, bytes]]) -> str:
+    """A note behind the file, the line and the column at which it points: in the sheet, or in the plan a byte behind its end."""
+    told = re.fullmatch(r"(?:sheet|plan) \w+ (\d+)", note)
+    if not told:
+        return note
+    (sheet_file, sheet), (plan_file, plan) = texts
+    at = int(told[1])
+    if at < len(sheet):
+        return f"{placed(sheet_file, sheet, at)}: {note}"
+    return f"{placed(plan_file, plan, at - len(sheet) - 1)}: {note}"
 
 
 def sources_of(sheet: Path, plan: Path, duplicate: bool) -> Sources:

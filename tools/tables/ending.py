@@ -14,6 +14,7 @@ TEXT = 4
 READ_FAULT = 6
 WRITE_FAULT = 7
 TOO_LONG = 8
+ABSENT = 10
 
 
 class Refused(Exception):
