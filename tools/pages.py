@@ -32,6 +32,7 @@ QUOTING = (
     "docs/FORMATS.md",
     "docs/LINT.md",
     "docs/SERIES.md",
+    "docs/SHOW.md",
     "examples/poker.md",
 )
 FREE = ("sh", "text")

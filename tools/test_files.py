@@ -195,7 +195,7 @@ class Script(Scripted):
 
     def test_tools_beside_the_program_are_handed_the_words(self) -> None:
         self.program.unlink()
-        for tool in ("lint", "table", "series"):
+        for tool in ("lint", "table", "show", "report", "series"):
             self.make(self.root / "tools" / tool, '#!/bin/sh\necho "$0 $*"\nexit 9\n')
             ran = self.run_script("--explain", tool, "a.sheet", "--csv")
             self.assertEqual((ran.returncode, ran.stdout), (9, f"{self.root}/tools/{tool} a.sheet --csv\n".encode()))

@@ -59,12 +59,12 @@ class Manual(unittest.TestCase):
         text = MANUAL.read_text("ascii")
         for command in ("play", "check", "sheet", "migrate", "measure"):
             self.assertIn(f"\n.TP\n.B {command}\n", text)
-        for entry in ('.BI bench " N"', '.BI watch " SEAT MATCH"', '.BI rival " K DEPTH ROUNDS KEY"', '.BI \\-\\-workers " N"', '.BI \\-\\-cache " N"', ".B \\-\\-explain", ".B \\-\\-try"):
+        for entry in ('.BI bench " N"', '.BI watch " SEAT MATCH"', '.BI rival " K DEPTH ROUNDS KEY"', '.BI show " SHEET PLAN"', '.BI report " SHEET PLAN"', '.BI \\-\\-workers " N"', '.BI \\-\\-cache " N"', ".B \\-\\-explain", ".B \\-\\-try"):
             self.assertIn(f"\n.TP\n{entry}\n", text)
 
     def test_its_files_are_there(self) -> None:
         names = re.findall(r"^\.I ((?:docs|editors)/\S+)$", MANUAL.read_text("ascii"), re.MULTILINE)
-        self.assertEqual(len(names), 3)
+        self.assertEqual(len(names), 4)
         for name in names:
             self.assertTrue((ROOT / name).is_file(), name)
 

@@ -91,6 +91,12 @@ class Trying(Scripted):
         self.assertEqual((ran.returncode, ran.stdout), (2, b""))
         self.assertTrue(ran.stderr.startswith(b"cardhouse: a series takes the built program"), ran.stderr)
 
+    def test_pages_take_the_built_program(self) -> None:
+        for tool in ("show", "report"):
+            ran = self.run_script("--try", tool, "a.sheet", "a.plan")
+            self.assertEqual((ran.returncode, ran.stdout), (2, b""))
+            self.assertTrue(ran.stderr.startswith(f"cardhouse: '{tool}' has matches played".encode()), ran.stderr)
+
     def test_a_terminal_is_told_how_long_it_takes(self) -> None:
         status, said = self.terminal("--try", "sheet", "a.sheet", kit=ENDED.format(0), status=0)
         self.assertEqual(status, 0)
