@@ -9,7 +9,7 @@ from reports import charts
 from reports.charts import bins
 from reports.intervals import of_share
 from reports.report import Report
-from reports.section import BAD, GOOD, OPEN, Section, of_all, percent
+from reports.section import BAD, GOOD, OPEN, Section, of_all, of_matches, percent
 
 # The share of matches at the turn limit above which a game is said to need a look.
 MANY = 0.01
@@ -30,7 +30,8 @@ def ending(report: Report) -> Section:
 
 def ended(report: Report, most: int) -> tuple[list[str], str, str]:
     """What is said where no match hit the limit."""
-    said = f"All {report.count:,} matches ended by themselves, within {most:,} of {report.plan.turns:,} turns."
+    who = "The only match" if report.count == 1 else f"Each of the {of_matches(report.count)}"
+    said = f"{who} ended by itself, within {most:,} of {report.plan.turns:,} turns."
     if not report.is_sure:
         return [said], "every match ended", OPEN
     high = of_share(0, report.count).high

@@ -6,7 +6,7 @@ from reports import charts
 from reports.charts import Row
 from reports.intervals import of_mean
 from reports.report import Report
-from reports.section import BAD, GOOD, OPEN, TOO_FEW, Section, caption, details, grid, interval_text, percent
+from reports.section import BAD, GOOD, OPEN, TOO_FEW, Section, caption, counted, details, grid, interval_text, of_matches, percent
 from tables.counting import Side
 
 
@@ -24,8 +24,8 @@ def fairness(report: Report) -> Section:
         reach = max(it.interval.reach for it in rows if it.interval)
         said, verdict, mood = [nobody(whom, reach)], f"no {whom} stands out", GOOD
     else:
-        units = "deals" if report.unit > 1 else "matches"
-        said, verdict, mood = [f"Of {report.units} {units} nothing can be said: some hundred are needed."], TOO_FEW, OPEN
+        units = counted(report.units, "deal") if report.unit > 1 else of_matches(report.units)
+        said, verdict, mood = [f"Of {units} nothing can be said: some hundred are needed."], TOO_FEW, OPEN
     chart = charts.dots(rows, " ".join(said), "share of the rank points (dashed: even)")
     table = details(f"Wins and scores by {whom}", wins(rows, sides))
     return Section("fair", "Is it fair?", verdict, mood, said, [(caption(rows), chart)], [table])

@@ -6,7 +6,7 @@ from reports import charts
 from reports.charts import Row, number
 from reports.intervals import Interval, figure_of, of_mean
 from reports.report import Report
-from reports.section import BAD, GOOD, OPEN, TOO_FEW, Section, caption, shortened
+from reports.section import BAD, GOOD, OPEN, TOO_FEW, Section, caption, of_matches, shortened
 
 # What is said, the short answer, and whether it is good.
 Answer = tuple[str, str, str]
@@ -47,7 +47,7 @@ def compared(report: Report, names: list[str]) -> Answer:
         differences.append(sum(points[it] for it in rolling) * len(others) - sum(points[it] for it in others) * len(rolling))
     interval = of_mean(figure_of(differences, report.unit))
     if interval is None:
-        return f"Of {report.units} matches nothing can be said: some hundred are needed.", TOO_FEW, OPEN
+        return f"Of {of_matches(report.units)} nothing can be said: some hundred are needed.", TOO_FEW, OPEN
     who = "A strategy that rolls out" if len(rolling) > 1 else f"Strategy {rolling[0]}, which rolls out,"
     than = "one that doesn't" if len(others) > 1 else "the other"
     return answer(interval.over(len(rolling) * len(others)), who, than)

@@ -8,7 +8,7 @@ from replays.page import joined
 from reports.findings import sections
 from reports.matches import remarkable
 from reports.report import Report
-from reports.section import Section, details
+from reports.section import Section, details, of_matches
 from tables.showing import table
 
 STYLES = ["base.css", "report.css"]
@@ -60,7 +60,7 @@ def told(report: Report) -> str:
     deals = f" ({report.units:,} deals, each once in every seat)" if report.unit > 1 else ""
     strategies = " ".join(dict.fromkeys(plan.strategies))
     shown = strategies if len(strategies) < LONGEST else strategies[: LONGEST - 2] + "…"
-    return f"{report.count:,} matches{deals} · {players} · at most {plan.turns:,} turns · <code>{escape(shown)}</code>"
+    return f"{of_matches(report.count)}{deals} · {players} · at most {plan.turns:,} turns · <code>{escape(shown)}</code>"
 
 
 def tile(it: Section) -> str:

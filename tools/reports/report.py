@@ -38,8 +38,8 @@ class Report:
         if self.count % self.players == 0:
             return ""
         return (
-            f"{self.count} matches aren't a multiple of {self.players}, so some strategies sat in some seats once more than in "
-            "others."
+            f"How many matches there are is no multiple of {self.players}, so some strategies sat in some seats once more than "
+            "in others."
         )
 
     @property

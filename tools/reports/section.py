@@ -40,6 +40,10 @@ def counted(count: float, what: str) -> str:
     return f"{number(count)} {what}{'' if count == 1 else 's'}"
 
 
+def of_matches(count: int) -> str:
+    return "1 match" if count == 1 else f"{count:,} matches"
+
+
 def shortened(text: str, most: int = 17) -> str:
     """The text of a strategy, as long as there is room."""
     return text if len(text) <= most else text[: most - 2] + "…)"
