@@ -75,7 +75,7 @@ others_keep (id ∷ ids) marks j none =
     let two = or_false (id == j) (list_any (λ other. other == j) ids) none in
     others_keep ids (slice_set marks id []) j two.1 ∙ set_other marks id j [] (differ id j two.0)
 
-none_cleared : (ids : List ℕ) (marks : List (List ℕ)) → ((k : ℕ) → k < length ids → marks_of marks (slice_index ids k) ≡ []) → cleared ids marks ≡ marks
+pub none_cleared : (ids : List ℕ) (marks : List (List ℕ)) → ((k : ℕ) → k < length ids → marks_of marks (slice_index ids k) ≡ []) → cleared ids marks ≡ marks
 none_cleared [] marks none = refl
 none_cleared (id ∷ ids) marks none =
     let first : slice_set marks id [] ≡ marks = ap (slice_set marks id) (sym (none 0 (omega arith))) ∙ set-get_or marks id [] in

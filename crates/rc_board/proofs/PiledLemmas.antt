@@ -1,6 +1,6 @@
 -- References stay where they are, and cards go.
-use Rattle.std.proofs.Common.{◌≡◌, ℕ, zero, suc, ◌+◌, ◌<◌, ◌≤◌, true, false, List, [], ◌∷◌, length, take, drop, map, slice_get, All, inl, inr, refl, sym, ap, ◌∙◌, subst, arith}
-use Rattle.std.specs.Prelude.{fold, slice_index}
+use Rattle.std.proofs.Common.{◌≡◌, ℕ, zero, suc, ◌<◌, ◌≤◌, true, false, List, [], ◌∷◌, length, take, map, slice_get, All, inl, inr, refl, sym, ap, ◌∙◌, subst, arith}
+use Rattle.std.specs.Prelude.{fold}
 use Rattle.std.proofs.lemmas.Bool.{cases_lt}
 use Rattle.std.proofs.lemmas.List.{get_or_past, length-map, take_all}
 use Rattle.std.proofs.lemmas.List.Elements.{All-from_recursion, All-get_or, recursion_from_All}
@@ -46,18 +46,3 @@ ids_there shape t loc sound = elim (cases_lt loc (length t.lists)) [
 pub sole_there : (shape : Shape) (t : Table) (loc id : ℕ) → IsSound shape t → list_at t loc ≡ id ∷ [] → id < length shape.faces
 sole_there shape t loc id sound is =
     (recursion_from_All (λ id. id < length shape.faces) (id ∷ []) (subst (All (λ id. id < length shape.faces)) is (ids_there shape t loc sound))).0
-
--- one card more of those that go
-next_goes : (f : Table → ℕ → Table) (ids : List ℕ) (k : ℕ) (now mid last : Table) → k < length ids → f now (slice_index ids k) ≡ mid →
-    fold f now (drop k ids) ≡ last → fold f mid (drop (k + 1) ids) ≡ last
-next_goes f [] k now mid last lt one rest = absurd (omega (arith, lt))
-next_goes f (id ∷ ids) zero now mid last lt one rest = ap (λ t. fold f t ids) (sym one) ∙ rest
-next_goes f (id ∷ ids) (suc k) now mid last lt one rest =
-    let two : suc k + 1 ≡ suc (k + 1) = omega arith in
-    ap (λ m. fold f mid (drop m (id ∷ ids))) two ∙ next_goes f ids k now mid last (omega (arith, lt)) one rest
-
-pub one_goes : (shape shape' : Shape) (to : ℕ) (ids : List ℕ) (k : ℕ) (now mid last : Table) → k < length ids → shape' ≡ shape →
-    mid ≡ put_top shape' (slice_index ids k) to now → fold (λ table id. put_top shape id to table) now (drop k ids) ≡ last →
-    fold (λ table id. put_top shape id to table) mid (drop (k + 1) ids) ≡ last
-one_goes shape shape' to ids k now mid last lt same is rest =
-    next_goes (λ table id. put_top shape id to table) ids k now mid last lt (ap (λ s. put_top s (slice_index ids k) to now) (sym same) ∙ sym is) rest

@@ -4,3 +4,4 @@ pub mod Past
 pub mod PastSeen
 pub mod Board
 pub mod Piled
+pub mod Sides

@@ -4,14 +4,14 @@ use Rattle.rc_model.specs.Clamp.{IsWithinClamp}
 use Rattle.rc_play_model.specs.Shape.{Shape}
 use Rattle.rc_play_model.specs.Bound.{HoldsReferences}
 use Rattle.rc_play_model.specs.Sees.{sees}
-use Rattle.rc_play_model.specs.Table.{Table, IsSound, list_at, loc_of, set_marks, set_number}
+use Rattle.rc_play_model.specs.Table.{Table, IsSound, list_at, loc_of, with_list, set_marks, set_number}
 use Rattle.rc_table.specs.Laid.{Laid, relaid}
 use Rattle.rc_table.specs.Marks.{seats_in}
 use Rattle.rc_table.specs.Restored.{put_at, taken_at, moved_between, relisted}
 
 -- what was before an edit: a card that moved stood at this place, with these marks, and stands at that one now, a number had this
--- value, a location had this list, whose cards had these marks, if some had any, a card had these marks, a reference wasn't there, or
--- one stood at this place. Marks are bytes.
+-- value, a location had this list, whose cards had these marks, if some had any, a card had these marks, a reference wasn't there, one
+-- stood at this place, or two locations had these lists. Marks are bytes.
 pub data Edit : Type 0 where
   moved : (from place to at byte : ℕ) → Edit
   changed : (num : ℕ) (value : ℤ) → Edit
@@ -19,6 +19,7 @@ pub data Edit : Type 0 where
   marked : (id byte : ℕ) → Edit
   noted : (loc at : ℕ) → Edit
   forgotten : (id loc place : ℕ) → Edit
+  gathered : (from : ℕ) (list : List ℕ) (to : ℕ) (other : List ℕ) → Edit
 
 -- a card marked as this byte says
 abbrev pub marked_as : ℕ → ℕ → Table → Table
@@ -43,6 +44,7 @@ undone (ordered loc list bytes) table = all_marked list bytes (relisted loc list
 undone (marked id byte) table = marked_as id byte table
 undone (noted loc at) table = if nat_lt at (length (list_at table loc)) then taken_at loc at table else table
 undone (forgotten id loc place) table = put_at id loc place table
+undone (gathered from list to other) table = with_list (with_list table from list) to other
 
 -- the tables before edits, the last edit first
 abbrev pub before_of : List Edit → Table → List Table
@@ -57,6 +59,7 @@ IsEditOf shape (ordered loc list bytes) = loc < length shape.places
 IsEditOf shape (marked id byte) = Unit {0}
 IsEditOf shape (noted loc at) = HoldsReferences shape loc
 IsEditOf shape (forgotten id loc place) = HoldsReferences shape loc
+IsEditOf shape (gathered from list to other) = (from < length shape.places) × (to < length shape.places) × (from ≡ to → ⊥)
 
 -- a card may have the marks that this byte says, where it stands
 abbrev pub MayMark : Shape → Table → ℕ → ℕ → Type 0
@@ -76,6 +79,7 @@ LeadsThrough shape (ordered loc list bytes) table =
 LeadsThrough shape (marked id byte) table = MayMark shape table id byte
 LeadsThrough shape (noted loc at) table = Unit {0}
 LeadsThrough shape (forgotten id loc place) table = Unit {0}
+LeadsThrough shape (gathered from list to other) table = Unit {0}
 
 -- each edit leads back to a sound table
 abbrev pub CanUndo : Shape → List Edit → Table → Type 0

@@ -1,18 +1,22 @@
 //! A table whose edits can be taken back, or which goes home.
-ghost use Rattle.std.specs.Prelude.{◌≡◌, ◌<◌, ◌≤◌, true, false, List, [], ◌∷◌, length, slice_index, All, None, IsSome, IfOk, OnOk, OnErr, IsOk};
+ghost use Rattle.std.specs.Prelude.{◌≡◌, ℕ, ◌<◌, ◌≤◌, true, false, List, [], ◌∷◌, length, slice_index, replicate, fold, All, None, IsSome, IfOk, OnOk, OnErr, IsOk};
 ghost use Rattle.std.specs.List.Sorted.{IsPermutation};
 ghost use Rattle.rc_model.specs.Numbers.{below};
 ghost use Rattle.rc_model.specs.Clamp.{IsWithinClamp};
 ghost use Rattle.rc_play_model.specs.Bound.{HoldsCards, HoldsReferences};
-ghost use Rattle.rc_play_model.specs.Table.{Table as PureTable, list_at, place_of, without, put_top, put_bottom, remember_top, remember_bottom, forget_in, set_number, set_marks, loc_of, reorder};
+ghost use Rattle.rc_play_model.specs.Table.{Table as PureTable, list_at, place_of, without, put_top, put_bottom, remember_top, remember_bottom, forget_in, set_number, set_marks, loc_of, marks_of, reorder};
 ghost use Rattle.rc_play_model.specs.Sees.{sees};
 ghost use Rattle.rc_table.specs.Marks.{seats_in};
 ghost use Rattle.rc_table.specs.Laid.{relaid};
+ghost use Rattle.rc_model.specs.Limits.{most_in_list};
 ghost use Rattle.rc_table.specs.Restored.{taken_at};
+ghost use Rattle.rc_table.specs.Runs.{put_each, AreFresh};
+ghost use Rattle.rc_board.specs.Sides.{end_of};
 ghost use Rattle.rc_board.specs.Entry.{entry_seen};
 ghost use Rattle.rc_board.specs.Undo.{changed, edited, gone_home, home_at, Keeps, GoesBack};
 
 use crate::entry::{LogEntry, take_back};
+use crate::noting::{Side, put_noted, put_on_table};
 use crate::past::Past;
 use rc_deck::Memory;
 use rc_play_model::edits_keep_tables_sound;
@@ -167,6 +171,71 @@ impl Board {
             Err(Memory) => return Err(Memory),
         }
         self.table.put_bottom(id, loc);
+        Ok(())
+    }
+
+    /// Puts cards on top of a location of cards, one after the other.
+    pub fn put_all_top(&mut self, ids: &[u16], loc: u16) -> Result<(), Memory>
+        requires cards { All (λ id. id < length self.old.laid.shape.faces) ids.now }
+        requires loc { HoldsCards self.old.laid.shape loc }
+        ensures leads { OnOk result (self.new.laid ≡ relaid self.old.laid
+            (fold (λ table id. put_top self.old.laid.shape id loc table) self.old.laid.table ids.now)) }
+        ensures keeps { Keeps self.old self.new }
+        ensures quiet { self.old.notes ≡ false → IsOk result }
+    {
+        if self.past.notes() {
+            return put_noted(self, ids, Side::Top, loc);
+        }
+        self.table.put_all_top(ids, loc);
+        Ok(())
+    }
+
+    /// Puts cards at the bottom of a location of cards, one after the other.
+    pub fn put_all_bottom(&mut self, ids: &[u16], loc: u16) -> Result<(), Memory>
+        requires cards { All (λ id. id < length self.old.laid.shape.faces) ids.now }
+        requires loc { HoldsCards self.old.laid.shape loc }
+        ensures leads { OnOk result (self.new.laid ≡ relaid self.old.laid
+            (fold (λ table id. put_bottom self.old.laid.shape id loc table) self.old.laid.table ids.now)) }
+        ensures keeps { Keeps self.old self.new }
+        ensures quiet { self.old.notes ≡ false → IsOk result }
+    {
+        if self.past.notes() {
+            return put_noted(self, ids, Side::Bottom, loc);
+        }
+        self.table.put_all_bottom(ids, loc);
+        Ok(())
+    }
+
+    // Puts different unmarked cards of one location at an end of another one, by one edit.
+    #[tactic(auto, using(crate::proofs::KeepsLemmas::keeps_all))]
+    pub(crate) fn gather(
+        &mut self,
+        ids: &[u16],
+        from: u16,
+        side: Side,
+        loc: u16,
+    ) -> Result<(), Memory>
+        requires some { 0 < length ids.now }
+        requires cards { All (λ id. id < length self.old.laid.shape.faces) ids.now }
+        requires loc { HoldsCards self.old.laid.shape loc }
+        requires from { All (λ id. loc_of self.old.laid.shape self.old.laid.table id ≡ from) ids.now }
+        requires other { from ≡ loc → ⊥ }
+        requires fresh { AreFresh (replicate most_in_list false) ids.now }
+        requires unmarked { (k : ℕ) → k < length ids.now →
+            marks_of self.old.laid.table.marks (slice_index ids.now k) ≡ [] }
+        ensures leads { OnOk result (self.new ≡ edited self.old
+            (put_each self.old.laid.shape (end_of side) loc ids.now self.old.laid.table)) }
+        ensures keeps { Keeps self.old self.new }
+    {
+        edits_keep_tables_sound();
+        // what a table and its shape keep
+        let _sound = self.table.shape();
+        let _limits = self.table.shape().players();
+        match self.past.note_lists(self.alloc, from, loc, &self.table) {
+            Ok(()) => {}
+            Err(Memory) => return Err(Memory),
+        }
+        put_on_table(&mut self.table, ids, side, loc);
         Ok(())
     }
 

@@ -46,6 +46,13 @@ pub enum LogEntry {
         loc: u16,
         place: u16,
     },
+    /// The lists of two locations, from the one of which unmarked cards went to the other.
+    Gathered {
+        from: u16,
+        list: Vec<u16>,
+        to: u16,
+        other: Vec<u16>,
+    },
 }
 
 /// Takes an edit back.
@@ -68,6 +75,12 @@ pub fn take_back(table: &mut Table, entry: &LogEntry)
         LogEntry::Marked { id, seats } => table.set_marks(*id, *seats),
         LogEntry::Noted { loc, at } => take_away(table, *loc, *at),
         LogEntry::Forgotten { id, loc, place } => table.put_reference(*id, *loc, *place),
+        LogEntry::Gathered {
+            from,
+            list,
+            to,
+            other,
+        } => table.relist_two(*from, list, *to, other),
     }
 }
 

@@ -3,6 +3,7 @@
 
 mod board;
 mod entry;
+mod noting;
 mod past;
 mod piling;
 

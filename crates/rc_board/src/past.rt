@@ -3,7 +3,7 @@ ghost use Rattle.std.specs.Prelude.{◌≡◌, ℕ, ◌<◌, false, List, ◌∷
 ghost use Rattle.rc_play_model.specs.Table.{list_at, marks_of};
 ghost use Rattle.rc_table.specs.Marks.{seats_in};
 ghost use Rattle.rc_table.specs.Laid.{relaid};
-ghost use Rattle.rc_board.specs.Undo.{ordered};
+ghost use Rattle.rc_board.specs.Undo.{ordered, gathered};
 ghost use Rattle.rc_board.specs.Entry.{entry_seen, log_seen};
 ghost use Rattle.rc_board.specs.Past.{home_kept, edits_of, notes_of, home_table, noted_in, moved_to, IsPast, HasShape, TookLast, AreMarks, OrderNoted};
 ghost use Rattle.rc_board.specs.PastSeen.{past_seen};
@@ -94,6 +94,25 @@ impl Past {
         }
     }
 
+    /// Notes that cards, of which none is marked, go from one location to another one.
+    pub fn note_lists(
+        &mut self,
+        alloc: Global,
+        from: u16,
+        to: u16,
+        table: &Table,
+    ) -> Result<(), Memory>
+        ensures noted { OnOk result (past_seen self.new ≡ noted_in
+            (gathered from (list_at table.now.table from) to (list_at table.now.table to)) (past_seen self.old)) }
+        ensures lacking { OnErr result (past_seen self.new ≡ past_seen self.old) }
+    {
+        match self {
+            Past::Nothing => Ok(()),
+            Past::Edits(log) => log_lists(alloc, log, from, to, table),
+            Past::Home(_) => Ok(()),
+        }
+    }
+
     /// Takes the last edit, if one was noted.
     pub fn take_last(&mut self) -> Option<LogEntry>
         ensures { MatchOption result (edits_of (past_seen self.old) ≡ [])
@@ -158,6 +177,39 @@ fn log_order(alloc: Global, log: &mut Vec<LogEntry>, loc: u16, table: &Table) ->
     }
 }
 
+// Puts the lists of two locations behind the others.
+fn log_lists(
+    alloc: Global,
+    log: &mut Vec<LogEntry>,
+    from: u16,
+    to: u16,
+    table: &Table,
+) -> Result<(), Memory>
+    ensures noted { OnOk result (log_seen log.new.items
+        ≡ gathered from (list_at table.now.table from) to (list_at table.now.table to) ∷ log_seen log.old.items) }
+    ensures lacking { OnErr result (log.new.items ≡ log.old.items) }
+{
+    let list = list_of(alloc, table, from)?;
+    let other = list_of(alloc, table, to)?;
+    let entry = LogEntry::Gathered {
+        from,
+        list,
+        to,
+        other,
+    };
+    log_entry(log, entry)
+}
+
+// A copy of a location's list.
+fn list_of(alloc: Global, table: &Table, loc: u16) -> Result<Vec<u16>, Memory>
+    ensures { IfOk result (λ list. list.items ≡ list_at table.now.table loc) }
+{
+    match Vec::from_slice(alloc, table.list(loc)) {
+        Ok(list) => Ok(list),
+        Err(_) => Err(Memory),
+    }
+}
+
 // The marks of these cards, or nothing where none of them is marked.
 fn marks_in(alloc: Global, table: &Table, ids: &[u16]) -> Result<Vec<u8>, Memory>
     requires { All (λ id. id < length table.now.shape.faces) ids.now }
@@ -169,8 +221,8 @@ fn marks_in(alloc: Global, table: &Table, ids: &[u16]) -> Result<Vec<u8>, Memory
     Ok(Vec::new(alloc))
 }
 
-// Whether some of these cards is marked.
-fn some_marked(table: &Table, ids: &[u16]) -> bool
+/// Whether some of these cards is marked.
+pub(crate) fn some_marked(table: &Table, ids: &[u16]) -> bool
     requires { All (λ id. id < length table.now.shape.faces) ids.now }
     ensures { result ≡ false → (k : ℕ) → k < length ids.now → marks_of table.now.table.marks (slice_index ids.now k) ≡ [] }
 {

@@ -71,22 +71,5 @@ fn pile_many(board: &mut Board, from: u16, to: u16) -> Result<(), Memory>
     let _sound = board.table().shape();
     let mut ids: ArrayVec<u16, MOST_IN_LIST> = ArrayVec::new();
     let _fits = ids.try_extend_from_slice(board.table().list(from));
-    put_these(board, ids.as_slice(), to)
-}
-
-// Puts these cards there, the first one first.
-fn put_these(board: &mut Board, ids: &[u16], to: u16) -> Result<(), Memory>
-    requires cards { All (λ id. id < length board.old.laid.shape.faces) ids.now }
-    requires holds { HoldsCards board.old.laid.shape to }
-    ensures leads { OnOk result (board.new.laid ≡ relaid board.old.laid (fold (λ table id. put_top board.old.laid.shape id to table) board.old.laid.table ids.now)) }
-    ensures keeps { Keeps board.old board.new }
-    ensures quiet { board.old.notes ≡ false → IsOk result }
-{
-    for id in ids {
-        match board.put_top(*id, to) {
-            Ok(()) => {}
-            Err(Memory) => return Err(Memory),
-        }
-    }
-    Ok(())
+    board.put_all_top(ids.as_slice(), to)
 }

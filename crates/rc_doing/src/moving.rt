@@ -1,5 +1,6 @@
 //! Cards that go somewhere else.
-ghost use Rattle.std.specs.Prelude.{◌≡◌, false, fold, All, OnOk, IsOk};
+ghost use Rattle.std.specs.Prelude.{◌≡◌, ◌<◌, ◌≤◌, false, length, fold, All, OnOk, IsOk};
+ghost use Rattle.rc_model.specs.Limits.{most_in_collection};
 ghost use Rattle.rc_sheet_model.specs.Sheet.{move, move_all as move_all_of};
 ghost use Rattle.rc_play_model.specs.Bound.{HoldsCards, IsCardOf};
 ghost use Rattle.rc_play_model.specs.Effects.{move_card};
@@ -8,18 +9,25 @@ ghost use Rattle.rc_ast.specs.Names.{loc_seen};
 ghost use Rattle.rc_ast.specs.Expressions.{card_seen, coll_seen};
 ghost use Rattle.rc_ast.specs.Effects.{end_seen};
 ghost use Rattle.rc_table.specs.Laid.{relaid};
+ghost use Rattle.rc_table.specs.Runs.{put_each};
 ghost use Rattle.rc_value.specs.Cards.{value_seen, values_seen};
 ghost use Rattle.rc_state.specs.Context.{scene_in, Stands};
 ghost use Rattle.rc_state.specs.Under.{IsCollUnder, IsEffectUnder};
 ghost use Rattle.rc_state.specs.Leads.{LeadsTo};
 ghost use Rattle.rc_board.specs.Undo.{Keeps};
 
+use arrayvec::ArrayVec;
 use rc_ast::{CardExpr, CollExpr, End, Loc};
 use rc_board::Board;
 use rc_deck::Memory;
 use rc_rules::Frames;
-use rc_state::{Context, FewCards, card_now, cards_now, few_cards_now, loc_now, sole_card_now};
+use rc_state::{
+    Context, FewCards, card_now, cards_now, few_cards_now, held_among, loc_now, sole_card_now,
+};
 use rc_value::{Card, Cards};
+
+/// So many cards at least go in one go. Of fewer, each goes by itself, which is less work.
+const MANY: usize = 8;
 
 /// Moves a card to an end of a location.
 pub fn move_one(
@@ -117,11 +125,60 @@ fn put_many(
     put_all(board, room.as_slice(), end, at)
 }
 
-// Puts these cards there, the first one first.
+// Puts these cards there, the first one first. Many go in one go.
+#[inline(always)]
 fn put_all(board: &mut Board, cards: &[Card], end: End, at: u16) -> Result<(), Memory>
+    requires few { length cards.now ≤ most_in_collection }
     requires cards { All (λ card. IsCardOf board.old.laid.shape (value_seen card)) cards.now }
     requires holds { HoldsCards board.old.laid.shape at }
-    ensures leads { OnOk result (board.new.laid ≡ relaid board.old.laid (fold (move_card board.old.laid.shape (end_seen end) at) board.old.laid.table (values_seen cards.now))) }
+    ensures leads { OnOk result (board.new.laid ≡ relaid board.old.laid
+        (fold (move_card board.old.laid.shape (end_seen end) at) board.old.laid.table (values_seen cards.now))) }
+    ensures keeps { Keeps board.old board.new }
+    ensures quiet { board.old.notes ≡ false → IsOk result }
+{
+    if cards.len() < MANY {
+        return put_one_by_one(board, cards, end, at);
+    }
+    put_held(board, cards, end, at)
+}
+
+// The same of those that are no references, which are listed first.
+#[inline(never)]
+fn put_held(board: &mut Board, cards: &[Card], end: End, at: u16) -> Result<(), Memory>
+    requires few { length cards.now ≤ most_in_collection }
+    requires cards { All (λ card. IsCardOf board.old.laid.shape (value_seen card)) cards.now }
+    requires holds { HoldsCards board.old.laid.shape at }
+    ensures leads { OnOk result (board.new.laid ≡ relaid board.old.laid
+        (fold (move_card board.old.laid.shape (end_seen end) at) board.old.laid.table (values_seen cards.now))) }
+    ensures keeps { Keeps board.old board.new }
+    ensures quiet { board.old.notes ≡ false → IsOk result }
+{
+    let mut ids = ArrayVec::new();
+    held_among(cards, &mut ids);
+    put_ids(board, ids.as_slice(), end, at)
+}
+
+// Puts the cards with these numbers there, the first one first.
+fn put_ids(board: &mut Board, ids: &[u16], end: End, at: u16) -> Result<(), Memory>
+    requires cards { All (λ id. id < length board.old.laid.shape.faces) ids.now }
+    requires holds { HoldsCards board.old.laid.shape at }
+    ensures leads { OnOk result (board.new.laid ≡ relaid board.old.laid
+        (put_each board.old.laid.shape (end_seen end) at ids.now board.old.laid.table)) }
+    ensures keeps { Keeps board.old board.new }
+    ensures quiet { board.old.notes ≡ false → IsOk result }
+{
+    match end {
+        End::Top => board.put_all_top(ids, at),
+        End::Bottom => board.put_all_bottom(ids, at),
+    }
+}
+
+// The same of each by itself.
+fn put_one_by_one(board: &mut Board, cards: &[Card], end: End, at: u16) -> Result<(), Memory>
+    requires cards { All (λ card. IsCardOf board.old.laid.shape (value_seen card)) cards.now }
+    requires holds { HoldsCards board.old.laid.shape at }
+    ensures leads { OnOk result (board.new.laid ≡ relaid board.old.laid
+        (fold (move_card board.old.laid.shape (end_seen end) at) board.old.laid.table (values_seen cards.now))) }
     ensures keeps { Keeps board.old board.new }
     ensures quiet { board.old.notes ≡ false → IsOk result }
 {

@@ -1,5 +1,6 @@
 //! Cards that go somewhere else.
-ghost use Rattle.std.specs.Prelude.{◌≡◌, length, fold, All};
+ghost use Rattle.std.specs.Prelude.{◌≡◌, ◌<◌, ◌≤◌, length, fold, All};
+ghost use Rattle.rc_model.specs.Limits.{most_in_collection};
 ghost use Rattle.rc_sheet_model.specs.Sheet.{move, move_all as move_all_of};
 ghost use Rattle.rc_play_model.specs.Bound.{HoldsCards, IsCardOf};
 ghost use Rattle.rc_play_model.specs.Effects.{move_card};
@@ -7,16 +8,21 @@ ghost use Rattle.rc_ast.specs.Names.{loc_seen};
 ghost use Rattle.rc_ast.specs.Expressions.{card_seen, coll_seen};
 ghost use Rattle.rc_ast.specs.Effects.{end_seen};
 ghost use Rattle.rc_table.specs.Laid.{relaid};
+ghost use Rattle.rc_table.specs.Runs.{put_each};
 ghost use Rattle.rc_value.specs.Cards.{value_seen, values_seen};
 ghost use Rattle.rc_state.specs.Context.{Stands};
 ghost use Rattle.rc_state.specs.Under.{IsEffectUnder};
 ghost use Rattle.rc_state.specs.Leads.{LeadsTo};
 
+use arrayvec::ArrayVec;
 use rc_ast::{CardExpr, CollExpr, End, Loc};
 use rc_rules::Frames;
-use rc_state::{Context, card_now, cards_now, loc_now};
+use rc_state::{Context, card_now, cards_now, held_among, loc_now};
 use rc_table::Table;
 use rc_value::{Card, Cards};
+
+/// So many cards at least go in one go. Of fewer, each goes by itself, which is less work.
+const MANY: usize = 8;
 
 /// Moves a card to an end of a location.
 pub fn move_one(
@@ -63,11 +69,52 @@ pub fn move_all(
     put_all(table, room.as_slice(), end, at);
 }
 
-// Puts these cards there, the first one first.
+// Puts these cards there, the first one first. Many go in one go.
 fn put_all(table: &mut Table, cards: &[Card], end: End, at: u16)
+    requires few { length cards.now ≤ most_in_collection }
     requires cards { All (λ card. IsCardOf table.old.shape (value_seen card)) cards.now }
     requires holds { HoldsCards table.old.shape at }
-    ensures { table.new ≡ relaid table.old (fold (move_card table.old.shape (end_seen end) at) table.old.table (values_seen cards.now)) }
+    ensures { table.new ≡ relaid table.old
+        (fold (move_card table.old.shape (end_seen end) at) table.old.table (values_seen cards.now)) }
+{
+    if cards.len() < MANY {
+        put_one_by_one(table, cards, end, at);
+    } else {
+        put_held(table, cards, end, at);
+    }
+}
+
+// The same of those that are no references, which are listed first.
+fn put_held(table: &mut Table, cards: &[Card], end: End, at: u16)
+    requires few { length cards.now ≤ most_in_collection }
+    requires cards { All (λ card. IsCardOf table.old.shape (value_seen card)) cards.now }
+    requires holds { HoldsCards table.old.shape at }
+    ensures { table.new ≡ relaid table.old
+        (fold (move_card table.old.shape (end_seen end) at) table.old.table (values_seen cards.now)) }
+{
+    let mut ids = ArrayVec::new();
+    held_among(cards, &mut ids);
+    put_ids(table, ids.as_slice(), end, at);
+}
+
+// Puts the cards with these numbers there, the first one first.
+fn put_ids(table: &mut Table, ids: &[u16], end: End, at: u16)
+    requires cards { All (λ id. id < length table.old.shape.faces) ids.now }
+    requires holds { HoldsCards table.old.shape at }
+    ensures { table.new ≡ relaid table.old (put_each table.old.shape (end_seen end) at ids.now table.old.table) }
+{
+    match end {
+        End::Top => table.put_all_top(ids, at),
+        End::Bottom => table.put_all_bottom(ids, at),
+    }
+}
+
+// The same of each by itself.
+fn put_one_by_one(table: &mut Table, cards: &[Card], end: End, at: u16)
+    requires cards { All (λ card. IsCardOf table.old.shape (value_seen card)) cards.now }
+    requires holds { HoldsCards table.old.shape at }
+    ensures { table.new ≡ relaid table.old
+        (fold (move_card table.old.shape (end_seen end) at) table.old.table (values_seen cards.now)) }
 {
     for card in cards {
         put(table, *card, end, at);

@@ -9,3 +9,4 @@ pub mod OwnerLemmas
 pub mod ScoreLemmas
 pub mod ShownLemmas
 pub mod PeekLemmas
+pub mod HeldLemmas

@@ -5,3 +5,4 @@ pub mod Context
 pub mod Leads
 pub mod Bindings
 pub mod Shown
+pub mod Held

@@ -12,3 +12,7 @@ pub mod TopLemmas
 pub mod Others
 pub mod CopiedLists
 pub mod MarkBytes
+pub mod RunLemmas
+pub mod RunEdits
+pub mod RunSteps
+pub mod TwoLists

@@ -7,3 +7,4 @@ pub mod Laid
 pub mod Restored
 pub mod Refilled
 pub mod Whereabouts
+pub mod Runs

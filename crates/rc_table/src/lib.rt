@@ -14,6 +14,7 @@ mod laying;
 mod marks;
 mod place;
 mod rows;
+mod runs;
 mod shape;
 mod sight;
 mod table;

@@ -168,8 +168,8 @@ impl Rows {
         self.ids[from..from + list.len()].copy_from_slice(list);
     }
 
-    // Writes another list over one, of whatever length within the room.
-    fn overwrite(&mut self, at: usize, list: &[u16])
+    /// Writes another list over one, of whatever length within the room.
+    pub(crate) fn overwrite(&mut self, at: usize, list: &[u16])
         requires list { at < length self.old.all }
         requires room { length list.now ≤ slice_index_or self.old.room at 0 }
         ensures { self.new ≡ record { all = slice_set self.old.all at list.now; room = self.old.room } }

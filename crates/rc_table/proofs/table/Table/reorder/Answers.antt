@@ -1,4 +1,4 @@
-use Rattle.std.proofs.Common.{◌≡◌, ◌<◌, length, take, ap, ◌∙◌, sym, subst}
+use Rattle.std.proofs.Common.{◌<◌, length, take, ap, ◌∙◌, sym, subst}
 use Rattle.std.specs.List.Sorted.{IsPermutation}
 use Rattle.rc_model.specs.Numbers.{below}
 use Rattle.rc_play_model.specs.Table.{Table, IsSound, taken, cleared, list_at, reorder}

@@ -4,7 +4,7 @@ use Rattle.rc_play_model.specs.Effects.{move_card}
 use Rattle.rc_ast.specs.Effects.{end_seen}
 use Rattle.rc_value.specs.Cards.{values_seen}
 use Rattle.rc_board.specs.Undo.{Keeps}
-use Rattle.rc_doing.proofs.moving.put_all.Given as goal
+use Rattle.rc_doing.proofs.moving.put_one_by_one.Given as goal
 
 -- what is left to move, from here, leads to what all lead to
 abbrev pub invariant-loop-card : goal.invariant-loop-card

@@ -3,7 +3,7 @@ use Rattle.std.specs.Prelude.{fold}
 use Rattle.rc_play_model.specs.Effects.{move_card}
 use Rattle.rc_ast.specs.Effects.{end_seen}
 use Rattle.rc_value.specs.Cards.{values_seen}
-use Rattle.rc_effects.proofs.moving.put_all.Given as goal
+use Rattle.rc_effects.proofs.moving.put_one_by_one.Given as goal
 
 -- what is left to move, from here, leads to what all lead to
 abbrev pub invariant-loop-card : goal.invariant-loop-card

@@ -2,7 +2,7 @@ use Rattle.std.proofs.Common.{ap, arith}
 use Rattle.std.proofs.lemmas.Grind.{common_steps}
 use Rattle.rc_table.specs.Laid.{Laid}
 use Rattle.rc_board.proofs.KeepsLemmas.{keeps_then}
-use Rattle.rc_doing.proofs.moving.put_all.Goals as goal
+use Rattle.rc_doing.proofs.moving.put_one_by_one.Goals as goal
 
 pub returns-in-Err-clause-keeps : goal.returns-in-Err-clause-keeps
 returns-in-Err-clause-keeps c = keeps_then _ _ _ c.loop-card.invariant.0 c.in-Err.ensures.keeps
