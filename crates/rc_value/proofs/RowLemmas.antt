@@ -1,7 +1,7 @@
 -- Rows of ids, and the cards that they stand for.
 use Rattle.std.proofs.Common.{◌≡◌, ℕ, ◌≤◌, ◌-◌, suc, Bool, true, false, List, [], ◌∷◌, length, map, slice_get, slice_index_or, ℤ, pos, Option, Some, None, option_map, arith, refl, sym, ap, ◌∙◌}
 use mathlib.Core.Path.{fun_ext}
-use Rattle.std.specs.List.{list_any, list_all}
+use Rattle.std.specs.List.{list_any, list_all, filter}
 use Rattle.std.proofs.lemmas.List.{length-map, take_all}
 use Rattle.rc_model.specs.Numbers.{below}
 use Rattle.rc_model.specs.Deck.{value_at}
@@ -16,7 +16,7 @@ use Rattle.rc_value.specs.declared.wanted.Wanted.{Wanted}
 use Rattle.rc_value.specs.Scene.{scene_seen}
 use Rattle.rc_value.specs.Seen.{read_in}
 use Rattle.rc_value.specs.Wanted.{meets, wanted_value}
-use Rattle.rc_value.proofs.Steps.{all-map, any-map}
+use Rattle.rc_value.proofs.Steps.{all-map, any-map, count-map}
 
 id_in : (b : Bool) (loc id : ℕ) → id_of (value_in b loc id) ≡ id
 id_in true loc id = refl
@@ -97,6 +97,14 @@ pub some_met : (s : Scene) (w : Wanted) (row : List (Option ℕ)) (ids : List �
 some_met s w row ids cards here are =
     ap (list_any (λ id. meets w (slice_index_or row id None))) are ∙ any-map (λ id. meets w (slice_index_or row id None)) id_of cards
     ∙ ap (λ f. list_any f cards) (fun_ext (λ c. met_in_row s w c row here))
+
+pub count_met : (s : Scene) (w : Wanted) (row : List (Option ℕ)) (ids : List ℕ) (cards : List CardValue) →
+    Some row ≡ slice_get (rows_seen s.lookup.now.values.items) w.name → ids ≡ map id_of cards →
+    length (filter (λ id. meets w (slice_index_or row id None)) ids) ≡ length (filter (wanted_value (scene_seen s) w) cards)
+count_met s w row ids cards here are =
+    ap (λ is. length (filter (λ id. meets w (slice_index_or row id None)) is)) are
+    ∙ count-map (λ id. meets w (slice_index_or row id None)) id_of cards
+    ∙ ap (λ f. length (filter f cards)) (fun_ext (λ c. met_in_row s w c row here))
 
 -- the ids of what stands in a location
 pub ids_read : (mem : Option ℕ) (ids : List ℕ) → ids ≡ map id_of (map (read_in mem) ids)

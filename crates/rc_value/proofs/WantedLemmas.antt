@@ -1,10 +1,10 @@
 -- Tests of a card's value, which cards are to have.
-use Rattle.std.proofs.Common.{◌≡◌, ℕ, ◌==◌, true, false, List, [], ◌∷◌, ◌++◌, length, map, filter, slice_get, Option, Some, None, option_map, arith, refl, sym, ap, ap₂, subst, ◌∙◌}
+use Rattle.std.proofs.Common.{◌≡◌, ℕ, ◌&&◌, Bool, ◌==◌, true, false, List, [], ◌∷◌, ◌++◌, length, map, filter, slice_get, Option, Some, None, option_map, arith, refl, sym, ap, ap₂, subst, ◌∙◌}
 use Rattle.std.specs.Prelude.{IfSome}
 use mathlib.Core.Path.{fun_ext}
 use Rattle.std.specs.List.{list_any, list_all}
 use Rattle.std.proofs.lemmas.Bool.Decides.{nat_tests}
-use Rattle.rc_sheet_model.specs.Sheet.{Loc, LocName, CardExpr, card_var, top_card, CollExpr, cards_in, Test, eq_attr, has_value}
+use Rattle.rc_sheet_model.specs.Sheet.{Loc, LocName, CardExpr, card_var, top_card, CollExpr, cards_in, Test, eq_attr, eq_card, has_value}
 use Rattle.rc_sheet_model.specs.Naming.{class_of}
 use Rattle.rc_play_model.specs.Owners.{place_among}
 use Rattle.rc_play_model.specs.Scene.{CardValue}
@@ -13,6 +13,8 @@ use Rattle.rc_flow.specs.Reads.{reads_card}
 use Rattle.rc_flow.proofs.Unread.{unread_card}
 use Rattle.rc_value.specs.declared.wanted.Wanted.{Wanted}
 use Rattle.rc_value.specs.Wanted.{wanted_value, IsFixed, IsFixedCollection, IsFixedOwner, IsWanted, IsWantedAt}
+use Rattle.rc_value.specs.Sought.{has_face}
+use Rattle.rc_play_model.specs.Shape.{face_eq}
 use Rattle.rc_value.proofs.Steps.{all-map, any-map}
 
 pub at_end : {B : Type 0} (vars : List B) (m : B) → slice_get (vars ++ m ∷ []) (length vars) ≡ Some m
@@ -37,6 +39,19 @@ fixed_cards loc cards is fixed = λ s vars vars'.
 
 pub fixed_top : (cards : CollExpr) (card : CardExpr) → card ≡ top_card cards → IsFixedCollection cards → IsFixed card
 fixed_top cards card is fixed = λ s vars vars'. ap (card_value s vars) is ∙ ap last_of (fixed s vars vars') ∙ sym (ap (card_value s vars') is)
+
+-- which of two faces comes first is the same
+face_of_turned : (x y : List (ℕ × ℕ)) → face_eq x y ≡ face_eq y x
+face_of_turned [] [] = refl
+face_of_turned [] (q ∷ y) = refl
+face_of_turned (p ∷ x) [] = refl
+face_of_turned (p ∷ x) (q ∷ y) = ap₂ ◌&&◌ (nat_turned p.0 q.0) (ap₂ ◌&&◌ (nat_turned p.1 q.1) (face_of_turned x y))
+
+faces_turned : (a b : Option (List (ℕ × ℕ))) → both face_eq a b ≡ both face_eq b a
+faces_turned None None = refl
+faces_turned None (Some b) = refl
+faces_turned (Some a) None = refl
+faces_turned (Some a) (Some b) = face_of_turned a b
 
 module _ (s : PureScene CardValue) (vars : List (PureBind CardValue)) where
   variable_is : (c : CardValue) (e : CardExpr) → e ≡ card_var (length vars) → card_value s (vars ++ card_bound c ∷ []) e ≡ Some c
@@ -80,9 +95,39 @@ module _ (s : PureScene CardValue) (vars : List (PureBind CardValue)) where
       ap (λ f. list_any f cards) (fun_ext (λ c. sym (h c)))
       ∙ sym (any-map (λ m. test_value s (vars ++ m ∷ []) t) (λ c. card_bound c) cards)
 
-  pub keep_wanted : (t : Test) (w : Wanted) (cards : List CardValue) → IsWanted s vars t w →
-      filter (wanted_value s w) cards ≡ filter (λ c. test_value s (vars ++ card_bound c ∷ []) t) cards
-  keep_wanted t w cards h = ap (λ f. filter f cards) (fun_ext (λ c. sym (h c)))
+  -- what is the same of each card is the same of all, of one of them, and of those that are kept
+  pub all_told : (t : Test) (P : CardValue → Bool) (cards : List CardValue) → ((c : CardValue) → test_value s (vars ++ card_bound c ∷ []) t ≡ P c) →
+      list_all P cards ≡ list_all (λ m. test_value s (vars ++ m ∷ []) t) (map (λ c. card_bound c) cards)
+  all_told t P cards h =
+      ap (λ f. list_all f cards) (fun_ext (λ c. sym (h c)))
+      ∙ sym (all-map (λ m. test_value s (vars ++ m ∷ []) t) (λ c. card_bound c) cards)
+
+  pub any_told : (t : Test) (P : CardValue → Bool) (cards : List CardValue) → ((c : CardValue) → test_value s (vars ++ card_bound c ∷ []) t ≡ P c) →
+      list_any P cards ≡ list_any (λ m. test_value s (vars ++ m ∷ []) t) (map (λ c. card_bound c) cards)
+  any_told t P cards h =
+      ap (λ f. list_any f cards) (fun_ext (λ c. sym (h c)))
+      ∙ sym (any-map (λ m. test_value s (vars ++ m ∷ []) t) (λ c. card_bound c) cards)
+
+  pub kept_told : (t : Test) (P : CardValue → Bool) (cards : List CardValue) → ((c : CardValue) → test_value s (vars ++ card_bound c ∷ []) t ≡ P c) →
+      filter P cards ≡ filter (λ c. test_value s (vars ++ card_bound c ∷ []) t) cards
+  kept_told t P cards h = ap (λ f. filter f cards) (fun_ext (λ c. sym (h c)))
+
+  pub face_is : (t : Test) (a b : CardExpr) (other : Option CardValue) → t ≡ eq_card a b → a ≡ card_var (length vars) →
+      reads_card (length vars) b ≡ false → other ≡ card_value s (vars ++ player_bound 0 ∷ []) b →
+      (c : CardValue) → test_value s (vars ++ card_bound c ∷ []) t ≡ has_face s other c
+  face_is t a b other is variable unread once = λ c.
+      ap (test_value s (vars ++ card_bound c ∷ [])) is
+      ∙ ap₂ (λ x y. both face_eq (option_map s.face x) (option_map s.face y)) (variable_is c a variable)
+      (unread_card s vars (card_bound c) (player_bound 0) [] b unread ∙ sym once)
+
+  pub face_turned : (t : Test) (a b : CardExpr) (other : Option CardValue) → t ≡ eq_card a b → b ≡ card_var (length vars) →
+      reads_card (length vars) a ≡ false → other ≡ card_value s (vars ++ player_bound 0 ∷ []) a →
+      (c : CardValue) → test_value s (vars ++ card_bound c ∷ []) t ≡ has_face s other c
+  face_turned t a b other is variable unread once = λ c.
+      ap (test_value s (vars ++ card_bound c ∷ [])) is
+      ∙ ap₂ (λ x y. both face_eq (option_map s.face x) (option_map s.face y))
+      (unread_card s vars (card_bound c) (player_bound 0) [] a unread ∙ sym once) (variable_is c b variable)
+      ∙ faces_turned (option_map s.face other) (Some (s.face c))
 
 -- the same in all scopes of so many variables
 module _ (s : PureScene CardValue) (place : ℕ) where

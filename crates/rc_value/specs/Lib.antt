@@ -8,5 +8,6 @@ pub mod Picks
 pub mod Groups
 pub mod Current
 pub mod Wanted
+pub mod Sought
 pub mod Holding
 pub mod Comparing

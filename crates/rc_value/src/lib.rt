@@ -19,6 +19,8 @@ mod players;
 mod rows;
 mod scene;
 mod scope;
+mod sought;
+mod tests;
 mod wanted;
 
 pub use arithmetic::{clamped_difference, clamped_product, clamped_sum};
@@ -27,7 +29,7 @@ pub use binding::expressions_bind_few;
 pub use cards::{Card, Cards};
 pub use collection::Collection;
 pub use current::{Current, current_inside, current_of};
-pub use expressions::{card_of, coll_of, int_of, test_of, wanted_of};
+pub use expressions::{card_of, coll_of, int_of};
 pub use groups::{Values, note_values, regroup, value_at};
 pub use hand::{bare, number_at_hand};
 pub use leaves::{attr_of_id, cards_of, value_in};
@@ -36,6 +38,7 @@ pub use players::each_has;
 pub use rows::{ids_of, top_id};
 pub use scene::Scene;
 pub use scope::{Bind, Bindings};
+pub use tests::{test_of, wanted_of};
 pub use wanted::{
     Wanted, all_met_in, all_one_by_one, equal_at, is_fixed_collection, is_fixed_owner, is_so,
     some_met_in, some_one_by_one, wanted_at,

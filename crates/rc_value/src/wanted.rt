@@ -1,7 +1,7 @@
 //! Values that cards are to have.
-ghost use Rattle.std.specs.Prelude.{◌≡◌, ◌+◌, ◌<◌, ◌≤◌, true, false, length, filter, option_map, slice_index_or, None, IfSome, if◌then◌else◌};
+ghost use Rattle.std.specs.Prelude.{◌≡◌, ◌+◌, ◌<◌, ◌≤◌, ◌++◌, ◌∷◌, [], true, false, length, filter, option_map, slice_index_or, None, IfSome, if◌then◌else◌};
 ghost use Rattle.std.specs.List.{list_any, list_all};
-ghost use Rattle.rc_model.specs.Limits.{most_in_list};
+ghost use Rattle.rc_model.specs.Limits.{most_in_collection, most_in_list};
 ghost use Rattle.rc_sheet_model.specs.Sheet.{card_var};
 ghost use Rattle.rc_ast.specs.Names.{who_seen};
 ghost use Rattle.rc_ast.specs.Expressions.{card_seen, coll_seen, test_seen};
@@ -140,21 +140,23 @@ pub fn some_one_by_one(scene: &Scene, wanted: Wanted, cards: &Collection) -> boo
     false
 }
 
-/// How many of the cards are so.
-pub(crate) fn count_as_wanted(scene: &Scene, wanted: Wanted, cards: &Collection) -> usize
-    ensures is { result ≡ length (filter (wanted_value (scene_seen scene.now) wanted) cards.now) }
+/// How many of the cards with these ids are so, by the row of the attribute's values.
+#[inline(always)]
+pub(crate) fn count_met_in(row: &[Option<u16>], wanted: Wanted, ids: &[u16]) -> usize
+    requires few { length ids.now ≤ most_in_collection }
+    ensures is { result ≡ length (filter (λ id. meets wanted (slice_index_or row.now id None)) ids.now) }
     ensures few { result ≤ most_in_list }
 {
     let mut count = 0;
-    for place in 0..cards.len() {
-        count = counted(count, is_as_wanted(scene, wanted, cards.at(place)));
+    for place in 0..ids.len() {
+        count = counted(count, is_met_in(row, wanted, ids[place]));
     }
     count
 }
 
-// One more, where it passes.
+/// One more, where it passes.
 #[inline(always)]
-fn counted(count: usize, passes: bool) -> usize
+pub(crate) fn counted(count: usize, passes: bool) -> usize
     requires { count < most_in_list }
     ensures { result ≡ (if passes then count + 1 else count) }
 {
@@ -193,19 +195,6 @@ pub(crate) fn unwanted(wanted: Option<Wanted>) -> Option<Wanted>
         }),
         None => None,
     }
-}
-
-/// Keeps the cards that are so.
-pub(crate) fn keep_as_wanted(scene: &Scene, wanted: Wanted, cards: &mut Cards)
-    ensures { values_seen cards.new.items ≡ filter (wanted_value (scene_seen scene.now) wanted) (values_seen cards.old.items) }
-{
-    let mut kept = 0;
-    for place in 0..cards.len() {
-        let card = card_at(&*cards, place);
-        let passes = is_as_wanted(scene, wanted, card);
-        kept = keep(cards, kept, card, passes);
-    }
-    cards.truncate(kept);
 }
 
 /// Whether an owner is the same whatever variables stand for.

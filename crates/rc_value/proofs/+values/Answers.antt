@@ -1,4 +1,4 @@
-use Rattle.std.proofs.Common.{◌≡◌, length, ◌++◌, ◌∷◌, [], map, rules, arith, ap, ap₂, sym, ◌∙◌}
+use Rattle.std.proofs.Common.{◌≡◌, length, ◌++◌, ◌∷◌, [], map, rules, arith, refl, ap, ap₂, sym, ◌∙◌}
 use Rattle.std.proofs.lemmas.Grind.{common_steps}
 use Rattle.std.proofs.lemmas.List.{length-map, take-map}
 use Rattle.std.specs.List.{filter, list_all, list_any}
@@ -13,24 +13,25 @@ use Rattle.rc_value.proofs.Passing.{pass_step, pass_end}
 use Rattle.rc_rules.proofs.Elements.{below_length}
 use Rattle.rc_value.proofs.Steps.{players_are, all_stop, all_on, all_end, any_stop, any_on, any_end, player_here, union_on, union_end, colls_here, tests_here, and_here, or_here, union_here, and_depth, or_depth, union_depth, inner_is, tests_on, tests_off, count_on, count_end}
 use Rattle.rc_ast.specs.declared.expressions.CardExpr.TheFolds
-use Rattle.rc_value.proofs.WantedLemmas.{all_wanted, any_wanted, keep_wanted, against_is, against_turned, value_is}
+use Rattle.rc_value.proofs.WantedLemmas.{all_wanted, any_wanted, all_told, any_told, kept_told, face_is, face_turned, against_is, against_turned, value_is}
 use Rattle.rc_flow.specs.Reads.{reads_card}
-use Rattle.rc_value.proofs.expressions.+values.Goals as goal
+use Rattle.rc_value.specs.Sought.{has_face, sought_value}
+use Rattle.rc_value.proofs.+values.Goals as goal
 
-pub test_of-returns-in-And : goal.test_of-returns-in-And
-test_of-returns-in-And t c =
+pub tests::test_of-returns-in-And : goal.tests::test_of-returns-in-And
+tests::test_of-returns-in-And t c =
     let e = and_here c.args.expr.now c.in-And.tests c.in-And.is in grind (arith, common_steps, e)
 
-pub test_of-returns-in-Or : goal.test_of-returns-in-Or
-test_of-returns-in-Or t c =
+pub tests::test_of-returns-in-Or : goal.tests::test_of-returns-in-Or
+tests::test_of-returns-in-Or t c =
     let e = or_here c.args.expr.now c.in-Or.tests c.in-Or.is in grind (arith, common_steps, e)
 
-pub coll_of-returns-in-Union : goal.coll_of-returns-in-Union
-coll_of-returns-in-Union t c =
+pub expressions::coll_of-returns-in-Union : goal.expressions::coll_of-returns-in-Union
+expressions::coll_of-returns-in-Union t c =
     let e = union_here c.args.expr.now c.in-Union.parts c.in-Union.is in grind (arith, common_steps, e)
 
-pub all_tests-loop-test-preserved : goal.all_tests-loop-test-preserved
-all_tests-loop-test-preserved t c =
+pub tests::all_tests-loop-test-preserved : goal.tests::all_tests-loop-test-preserved
+tests::all_tests-loop-test-preserved t c =
     let e = tests_here c.deref-test-items.result.now c.loop-test.test-index c.test-item.result c.loop-test-test.true c.test-item.is in
     record {
       fits = omega arith;
@@ -39,8 +40,8 @@ all_tests-loop-test-preserved t c =
           c.loop-test-test.true c.test-item.is c.test_of.ensures c.if-not-test_of.false c.loop-test.invariant.told;
     }
 
-pub any_test-loop-test-preserved : goal.any_test-loop-test-preserved
-any_test-loop-test-preserved t c =
+pub tests::any_test-loop-test-preserved : goal.tests::any_test-loop-test-preserved
+tests::any_test-loop-test-preserved t c =
     let e = tests_here c.deref-test-items.result.now c.loop-test.test-index c.test-item.result c.loop-test-test.true c.test-item.is in
     record {
       fits = omega arith;
@@ -49,8 +50,8 @@ any_test-loop-test-preserved t c =
           c.loop-test-test.true c.test-item.is c.test_of.ensures c.if-test_of.false c.loop-test.invariant.told;
     }
 
-pub join-loop-part-preserved : goal.join-loop-part-preserved
-join-loop-part-preserved t c =
+pub expressions::join-loop-part-preserved : goal.expressions::join-loop-part-preserved
+expressions::join-loop-part-preserved t c =
     let e = colls_here c.deref-part-items.result.now c.loop-part.part-index c.part-item.result c.loop-part-test.true c.part-item.is in
     record {
       few = c.add.ensures.few;
@@ -61,15 +62,15 @@ join-loop-part-preserved t c =
           c.add.ensures.is c.loop-part.invariant.told;
     }
 
-pub join-returns : goal.join-returns
-join-returns t c =
+pub expressions::join-returns : goal.expressions::join-returns
+expressions::join-returns t c =
     let n = length-map c.loop-part.out.items value_seen in
     union_end (scene_seen c.args.scene.now) c.args.scope.now (values_seen c.loop-part.out.items)
     c.deref-part-items.result.now c.loop-part.part-index c.loop-part-test.false (omega arith) c.loop-part.invariant.told
     ∙ ap (λ xs. cut (colls_value (scene_seen c.args.scene.now) c.args.scope.now (colls_seen xs))) c.deref-part-items.ensures.value
 
-pub all_cards_asked-loop-place-preserved : goal.all_cards_asked-loop-place-preserved
-all_cards_asked-loop-place-preserved t c =
+pub tests::all_cards_asked-loop-place-preserved : goal.tests::all_cards_asked-loop-place-preserved
+tests::all_cards_asked-loop-place-preserved t c =
     record {
       told =
           all_on (λ x. test_value (scene_seen c.args.scene.now) (c.args.scope.now ++ card_bound x ∷ []) (test_seen c.args.test.now))
@@ -78,19 +79,19 @@ all_cards_asked-loop-place-preserved t c =
       inside = (card_bound (value_seen c.at.result), (c.rebind.ensures c.args.scope.now c.loop-place.invariant.inside.0 c.loop-place.invariant.inside.1));
     }
 
-pub all_cards_asked-returns-then-not-test_of : goal.all_cards_asked-returns-then-not-test_of
-all_cards_asked-returns-then-not-test_of t c =
+pub tests::all_cards_asked-returns-then-not-test_of : goal.tests::all_cards_asked-returns-then-not-test_of
+tests::all_cards_asked-returns-then-not-test_of t c =
     all_stop (λ m. test_value (scene_seen c.args.scene.now) (c.args.scope.now ++ m ∷ []) (test_seen c.args.test.now)) (λ x. card_bound x)
     c.args.cards.now c.loop-place.place (value_seen c.at.result) (omega (arith, c.len-place-end.ensures.is)) c.at.ensures
     (inner_is (scene_seen c.args.scene.now) c.args.scope.now c.rebind.new.self (card_bound (value_seen c.at.result)) c.args.test.now c.test_of.result (c.rebind.ensures c.args.scope.now c.loop-place.invariant.inside.0 c.loop-place.invariant.inside.1) c.test_of.ensures ∙ c.if-not-test_of.true) c.loop-place.invariant.told
 
-pub all_cards_asked-returns : goal.all_cards_asked-returns
-all_cards_asked-returns t c =
+pub tests::all_cards_asked-returns : goal.tests::all_cards_asked-returns
+tests::all_cards_asked-returns t c =
     all_end (λ m. test_value (scene_seen c.args.scene.now) (c.args.scope.now ++ m ∷ []) (test_seen c.args.test.now)) (λ x. card_bound x)
     c.args.cards.now c.loop-place.place (omega (arith, c.len-place-end.ensures.is)) c.loop-place.invariant.told
 
-pub all_players_asked-loop-player-preserved : goal.all_players_asked-loop-player-preserved
-all_players_asked-loop-player-preserved t c =
+pub tests::all_players_asked-loop-player-preserved : goal.tests::all_players_asked-loop-player-preserved
+tests::all_players_asked-loop-player-preserved t c =
     let n = below_length c.args.scene.now.sheet.now.players in
     record {
       told =
@@ -100,23 +101,23 @@ all_players_asked-loop-player-preserved t c =
       inside = (player_bound c.loop-player.player, (c.rebind.ensures c.args.scope.now c.loop-player.invariant.inside.0 c.loop-player.invariant.inside.1));
     }
 
-pub all_players_asked-returns-then-not-test_of : goal.all_players_asked-returns-then-not-test_of
-all_players_asked-returns-then-not-test_of t c =
+pub tests::all_players_asked-returns-then-not-test_of : goal.tests::all_players_asked-returns-then-not-test_of
+tests::all_players_asked-returns-then-not-test_of t c =
     let n = below_length c.args.scene.now.sheet.now.players in
     all_stop (λ m. test_value (scene_seen c.args.scene.now) (c.args.scope.now ++ m ∷ []) (test_seen c.args.test.now)) (λ x. player_bound x)
     (below c.args.scene.now.sheet.now.players) c.loop-player.player c.loop-player.player (omega arith) (player_here c.args.scene.now.sheet.now.players c.loop-player.player c.loop-player-test.true)
     (inner_is (scene_seen c.args.scene.now) c.args.scope.now c.rebind.new.self (player_bound c.loop-player.player) c.args.test.now c.test_of.result (c.rebind.ensures c.args.scope.now c.loop-player.invariant.inside.0 c.loop-player.invariant.inside.1) c.test_of.ensures ∙ c.if-not-test_of.true) c.loop-player.invariant.told
     ∙ ap (λ k. list_all (λ m. test_value (scene_seen c.args.scene.now) (c.args.scope.now ++ m ∷ []) (test_seen c.args.test.now)) (map (λ x. player_bound x) (below k))) (sym (players_are c.args.scene.now))
 
-pub all_players_asked-returns : goal.all_players_asked-returns
-all_players_asked-returns t c =
+pub tests::all_players_asked-returns : goal.tests::all_players_asked-returns
+tests::all_players_asked-returns t c =
     let n = below_length c.args.scene.now.sheet.now.players in
     all_end (λ m. test_value (scene_seen c.args.scene.now) (c.args.scope.now ++ m ∷ []) (test_seen c.args.test.now)) (λ x. player_bound x)
     (below c.args.scene.now.sheet.now.players) c.loop-player.player (omega arith) c.loop-player.invariant.told
     ∙ ap (λ k. list_all (λ m. test_value (scene_seen c.args.scene.now) (c.args.scope.now ++ m ∷ []) (test_seen c.args.test.now)) (map (λ x. player_bound x) (below k))) (sym (players_are c.args.scene.now))
 
-pub any_card_asked-loop-place-preserved : goal.any_card_asked-loop-place-preserved
-any_card_asked-loop-place-preserved t c =
+pub tests::any_card_asked-loop-place-preserved : goal.tests::any_card_asked-loop-place-preserved
+tests::any_card_asked-loop-place-preserved t c =
     record {
       told =
           any_on (λ x. test_value (scene_seen c.args.scene.now) (c.args.scope.now ++ card_bound x ∷ []) (test_seen c.args.test.now))
@@ -125,19 +126,19 @@ any_card_asked-loop-place-preserved t c =
       inside = (card_bound (value_seen c.at.result), (c.rebind.ensures c.args.scope.now c.loop-place.invariant.inside.0 c.loop-place.invariant.inside.1));
     }
 
-pub any_card_asked-returns-then-test_of : goal.any_card_asked-returns-then-test_of
-any_card_asked-returns-then-test_of t c =
+pub tests::any_card_asked-returns-then-test_of : goal.tests::any_card_asked-returns-then-test_of
+tests::any_card_asked-returns-then-test_of t c =
     any_stop (λ m. test_value (scene_seen c.args.scene.now) (c.args.scope.now ++ m ∷ []) (test_seen c.args.test.now)) (λ x. card_bound x)
     c.args.cards.now c.loop-place.place (value_seen c.at.result) (omega (arith, c.len-place-end.ensures.is)) c.at.ensures
     (inner_is (scene_seen c.args.scene.now) c.args.scope.now c.rebind.new.self (card_bound (value_seen c.at.result)) c.args.test.now c.test_of.result (c.rebind.ensures c.args.scope.now c.loop-place.invariant.inside.0 c.loop-place.invariant.inside.1) c.test_of.ensures ∙ c.if-test_of.true) c.loop-place.invariant.told
 
-pub any_card_asked-returns : goal.any_card_asked-returns
-any_card_asked-returns t c =
+pub tests::any_card_asked-returns : goal.tests::any_card_asked-returns
+tests::any_card_asked-returns t c =
     any_end (λ m. test_value (scene_seen c.args.scene.now) (c.args.scope.now ++ m ∷ []) (test_seen c.args.test.now)) (λ x. card_bound x)
     c.args.cards.now c.loop-place.place (omega (arith, c.len-place-end.ensures.is)) c.loop-place.invariant.told
 
-pub any_player_asked-loop-player-preserved : goal.any_player_asked-loop-player-preserved
-any_player_asked-loop-player-preserved t c =
+pub tests::any_player_asked-loop-player-preserved : goal.tests::any_player_asked-loop-player-preserved
+tests::any_player_asked-loop-player-preserved t c =
     let n = below_length c.args.scene.now.sheet.now.players in
     record {
       told =
@@ -147,36 +148,36 @@ any_player_asked-loop-player-preserved t c =
       inside = (player_bound c.loop-player.player, (c.rebind.ensures c.args.scope.now c.loop-player.invariant.inside.0 c.loop-player.invariant.inside.1));
     }
 
-pub any_player_asked-returns-then-test_of : goal.any_player_asked-returns-then-test_of
-any_player_asked-returns-then-test_of t c =
+pub tests::any_player_asked-returns-then-test_of : goal.tests::any_player_asked-returns-then-test_of
+tests::any_player_asked-returns-then-test_of t c =
     let n = below_length c.args.scene.now.sheet.now.players in
     any_stop (λ m. test_value (scene_seen c.args.scene.now) (c.args.scope.now ++ m ∷ []) (test_seen c.args.test.now)) (λ x. player_bound x)
     (below c.args.scene.now.sheet.now.players) c.loop-player.player c.loop-player.player (omega arith) (player_here c.args.scene.now.sheet.now.players c.loop-player.player c.loop-player-test.true)
     (inner_is (scene_seen c.args.scene.now) c.args.scope.now c.rebind.new.self (player_bound c.loop-player.player) c.args.test.now c.test_of.result (c.rebind.ensures c.args.scope.now c.loop-player.invariant.inside.0 c.loop-player.invariant.inside.1) c.test_of.ensures ∙ c.if-test_of.true) c.loop-player.invariant.told
     ∙ ap (λ k. list_any (λ m. test_value (scene_seen c.args.scene.now) (c.args.scope.now ++ m ∷ []) (test_seen c.args.test.now)) (map (λ x. player_bound x) (below k))) (sym (players_are c.args.scene.now))
 
-pub any_player_asked-returns : goal.any_player_asked-returns
-any_player_asked-returns t c =
+pub tests::any_player_asked-returns : goal.tests::any_player_asked-returns
+tests::any_player_asked-returns t c =
     let n = below_length c.args.scene.now.sheet.now.players in
     any_end (λ m. test_value (scene_seen c.args.scene.now) (c.args.scope.now ++ m ∷ []) (test_seen c.args.test.now)) (λ x. player_bound x)
     (below c.args.scene.now.sheet.now.players) c.loop-player.player (omega arith) c.loop-player.invariant.told
     ∙ ap (λ k. list_any (λ m. test_value (scene_seen c.args.scene.now) (c.args.scope.now ++ m ∷ []) (test_seen c.args.test.now)) (map (λ x. player_bound x) (below k))) (sym (players_are c.args.scene.now))
 
-pub test_of-all_tests-requires : goal.test_of-all_tests-requires
-test_of-all_tests-requires t c =
+pub tests::test_of-all_tests-requires : goal.tests::test_of-all_tests-requires
+tests::test_of-all_tests-requires t c =
     let e = and_depth c.args.expr.now c.in-And.tests c.in-And.is in (search (rules, TheFolds.the_lemmas), omega arith)
 
-pub test_of-any_test-requires : goal.test_of-any_test-requires
-test_of-any_test-requires t c =
+pub tests::test_of-any_test-requires : goal.tests::test_of-any_test-requires
+tests::test_of-any_test-requires t c =
     let e = or_depth c.args.expr.now c.in-Or.tests c.in-Or.is in (search (rules, TheFolds.the_lemmas), omega arith)
 
-pub coll_of-join-requires : goal.coll_of-join-requires
-coll_of-join-requires t c =
+pub expressions::coll_of-join-requires : goal.expressions::coll_of-join-requires
+expressions::coll_of-join-requires t c =
     let e = union_depth c.args.expr.now c.in-Union.parts c.in-Union.is in
     (search (rules, TheFolds.the_lemmas), (c.requires.empty, omega arith))
 
-pub pass_asked-loop-place-preserved : goal.pass_asked-loop-place-preserved
-pass_asked-loop-place-preserved t c =
+pub expressions::pass_asked-loop-place-preserved : goal.expressions::pass_asked-loop-place-preserved
+expressions::pass_asked-loop-place-preserved t c =
     let n = length-map c.loop-place.out.items value_seen in
     let m = length-map c.args.out.now.items value_seen in
     let h = c.loop-place.invariant.told in
@@ -191,63 +192,85 @@ pass_asked-loop-place-preserved t c =
       inside = (card_bound (value_seen c.card_at-card.result), (c.rebind.ensures c.args.scope.now c.loop-place.invariant.inside.0 c.loop-place.invariant.inside.1));
     }
 
-pub pass_asked-returns : goal.pass_asked-returns
-pass_asked-returns t c =
+pub expressions::pass_asked-returns : goal.expressions::pass_asked-returns
+expressions::pass_asked-returns t c =
     let m = length-map c.args.out.now.items value_seen in
     ap values_seen c.truncate.ensures.items ∙ sym (take-map value_seen c.loop-place.kept c.loop-place.out.items)
     ∙ pass_end (λ x. test_value (scene_seen c.args.scene.now) (c.args.scope.now ++ card_bound x ∷ []) (test_seen c.args.test.now)) (values_seen c.args.out.now.items) _ (values_seen c.loop-place.out.items) c.loop-place.kept c.loop-place.place c.loop-place.invariant.told
     (omega (arith, c.len-place-end.ensures.value))
 
-pub all_cards-returns-in-Some : goal.all_cards-returns-in-Some
-all_cards-returns-in-Some t c =
+pub tests::all_cards-returns-in-Some : goal.tests::all_cards-returns-in-Some
+tests::all_cards-returns-in-Some t c =
     c.all_as_wanted.ensures ∙ all_wanted (scene_seen c.args.scene.now) c.args.scope.now (test_seen c.args.test.now) c.in-Some.wanted c.args.cards.now c.in-Some.ensures
 
-pub all_cards_wanted-returns-in-Some : goal.all_cards_wanted-returns-in-Some
-all_cards_wanted-returns-in-Some t c =
-    c.all_as_wanted.ensures ∙ all_wanted (scene_seen c.args.scene.now) c.args.scope.now (test_seen c.args.test.now) c.in-Some.wanted c.args.cards.now c.in-Some.ensures
+pub tests::all_cards_wanted-returns-in-Some : goal.tests::all_cards_wanted-returns-in-Some
+tests::all_cards_wanted-returns-in-Some t c =
+    c.all_as_sought.ensures ∙ all_told (scene_seen c.args.scene.now) c.args.scope.now (test_seen c.args.test.now) (sought_value (scene_seen c.args.scene.now) c.in-Some.sought) c.args.cards.now c.in-Some.ensures
 
-pub any_card_wanted-returns-in-Some : goal.any_card_wanted-returns-in-Some
-any_card_wanted-returns-in-Some t c =
+pub tests::any_card_wanted-returns-in-Some : goal.tests::any_card_wanted-returns-in-Some
+tests::any_card_wanted-returns-in-Some t c =
+    c.some_as_sought.ensures ∙ any_told (scene_seen c.args.scene.now) c.args.scope.now (test_seen c.args.test.now) (sought_value (scene_seen c.args.scene.now) c.in-Some.sought) c.args.cards.now c.in-Some.ensures
+
+pub tests::any_card-returns-in-Some : goal.tests::any_card-returns-in-Some
+tests::any_card-returns-in-Some t c =
     c.some_as_wanted.ensures ∙ any_wanted (scene_seen c.args.scene.now) c.args.scope.now (test_seen c.args.test.now) c.in-Some.wanted c.args.cards.now c.in-Some.ensures
 
-pub any_card-returns-in-Some : goal.any_card-returns-in-Some
-any_card-returns-in-Some t c =
-    c.some_as_wanted.ensures ∙ any_wanted (scene_seen c.args.scene.now) c.args.scope.now (test_seen c.args.test.now) c.in-Some.wanted c.args.cards.now c.in-Some.ensures
+pub expressions::pass-returns-in-Some : goal.expressions::pass-returns-in-Some
+expressions::pass-returns-in-Some t c =
+    c.keep_as_sought.ensures ∙ kept_told (scene_seen c.args.scene.now) c.args.scope.now (test_seen c.args.test.now) (sought_value (scene_seen c.args.scene.now) c.in-Some.sought) (values_seen c.args.out.now.items) c.in-Some.ensures
 
-pub pass-returns-in-Some : goal.pass-returns-in-Some
-pass-returns-in-Some t c =
-    c.keep_as_wanted.ensures ∙ keep_wanted (scene_seen c.args.scene.now) c.args.scope.now (test_seen c.args.test.now) c.in-Some.wanted (values_seen c.args.out.now.items) c.in-Some.ensures
+pub expressions::pass_from-returns-in-Some : goal.expressions::pass_from-returns-in-Some
+expressions::pass_from-returns-in-Some t c =
+    c.fill_as_sought.ensures ∙ kept_told (scene_seen c.args.scene.now) c.args.scope.now (test_seen c.args.test.now) (sought_value (scene_seen c.args.scene.now) c.in-Some.sought) c.args.all.now c.in-Some.ensures
 
-pub wanted_against-returns-then-is_against : goal.wanted_against-returns-then-is_against
-wanted_against-returns-then-is_against t c =
+pub tests::wanted_against-returns-then-is_against : goal.tests::wanted_against-returns-then-is_against
+tests::wanted_against-returns-then-is_against t c =
     against_is (scene_seen c.args.scene.now) c.args.scope.now (test_seen c.args.test.now) (card_seen c.in-EqAttr.a.value) (card_seen c.in-EqAttr.b.value) c.in-EqAttr.name c.in-EqAttr.other c.value_once.result
     (ap test_seen c.in-EqAttr.is)
     (sym (ap card_seen c.deref.ensures) ∙ c.is_against.ensures.variable c.if-is_against.true ∙ ap card_var c.len.ensures)
     (ap₂ (λ k e. reads_card k (card_seen e)) (sym c.len.ensures) (sym c.deref-in-EqAttr.ensures) ∙ c.is_against.ensures.unread c.if-is_against.true)
     (c.value_once.ensures ∙ ap (λ e. attr_of_any (scene_seen c.args.scene.now) c.in-EqAttr.other (card_value (scene_seen c.args.scene.now) (c.args.scope.now ++ player_bound 0 ∷ []) (card_seen e))) c.deref-then-is_against.ensures)
 
-pub wanted_against-returns-then-is_against-2 : goal.wanted_against-returns-then-is_against-2
-wanted_against-returns-then-is_against-2 t c =
+pub tests::wanted_against-returns-then-is_against-2 : goal.tests::wanted_against-returns-then-is_against-2
+tests::wanted_against-returns-then-is_against-2 t c =
     against_turned (scene_seen c.args.scene.now) c.args.scope.now (test_seen c.args.test.now) (card_seen c.in-EqAttr.a.value) (card_seen c.in-EqAttr.b.value) c.in-EqAttr.name c.in-EqAttr.other c.value_once-then-is_against-2.result
     (ap test_seen c.in-EqAttr.is)
     (sym (ap card_seen c.deref-in-EqAttr-2.ensures) ∙ c.is_against-in-EqAttr.ensures.variable c.if-is_against-2.true ∙ ap card_var c.len-in-EqAttr.ensures)
     (ap₂ (λ k e. reads_card k (card_seen e)) (sym c.len-in-EqAttr.ensures) (sym c.deref-in-EqAttr-3.ensures) ∙ c.is_against-in-EqAttr.ensures.unread c.if-is_against-2.true)
     (c.value_once-then-is_against-2.ensures ∙ ap (λ e. attr_of_any (scene_seen c.args.scene.now) c.in-EqAttr.name (card_value (scene_seen c.args.scene.now) (c.args.scope.now ++ player_bound 0 ∷ []) (card_seen e))) c.deref-then-is_against-2.ensures)
 
-pub wanted_of-returns-then-is_variable : goal.wanted_of-returns-then-is_variable
-wanted_of-returns-then-is_variable t c =
+pub tests::face_against-returns-then-is_against : goal.tests::face_against-returns-then-is_against
+tests::face_against-returns-then-is_against t c = λ x.
+    face_is (scene_seen c.args.scene.now) c.args.scope.now (test_seen c.args.test.now) (card_seen c.in-EqCard.a.value) (card_seen c.in-EqCard.b.value) _
+    (ap test_seen c.in-EqCard.is)
+    (sym (ap card_seen c.deref.ensures) ∙ c.is_against.ensures.variable c.if-is_against.true ∙ ap card_var c.len.ensures)
+    (ap₂ (λ k e. reads_card k (card_seen e)) (sym c.len.ensures) (sym c.deref-in-EqCard.ensures) ∙ c.is_against.ensures.unread c.if-is_against.true)
+    refl x
+    ∙ sym (ap (λ f. f x) (c.like_once.ensures ∙ ap (λ e. has_face (scene_seen c.args.scene.now) (card_value (scene_seen c.args.scene.now) (c.args.scope.now ++ player_bound 0 ∷ []) (card_seen e))) c.deref-then-is_against.ensures))
+
+pub tests::face_against-returns-then-is_against-2 : goal.tests::face_against-returns-then-is_against-2
+tests::face_against-returns-then-is_against-2 t c = λ x.
+    face_turned (scene_seen c.args.scene.now) c.args.scope.now (test_seen c.args.test.now) (card_seen c.in-EqCard.a.value) (card_seen c.in-EqCard.b.value) _
+    (ap test_seen c.in-EqCard.is)
+    (sym (ap card_seen c.deref-in-EqCard-2.ensures) ∙ c.is_against-in-EqCard.ensures.variable c.if-is_against-2.true ∙ ap card_var c.len-in-EqCard.ensures)
+    (ap₂ (λ k e. reads_card k (card_seen e)) (sym c.len-in-EqCard.ensures) (sym c.deref-in-EqCard-3.ensures) ∙ c.is_against-in-EqCard.ensures.unread c.if-is_against-2.true)
+    refl x
+    ∙ sym (ap (λ f. f x) (c.like_once-then-is_against-2.ensures ∙ ap (λ e. has_face (scene_seen c.args.scene.now) (card_value (scene_seen c.args.scene.now) (c.args.scope.now ++ player_bound 0 ∷ []) (card_seen e))) c.deref-then-is_against-2.ensures))
+
+pub tests::wanted_of-returns-then-is_variable : goal.tests::wanted_of-returns-then-is_variable
+tests::wanted_of-returns-then-is_variable t c =
     value_is (scene_seen c.args.scene.now) c.args.scope.now (test_seen c.args.test.now) (card_seen c.in-Is.card.value) c.in-Is.name c.in-Is.value
     (ap test_seen c.in-Is.is)
     (sym (ap card_seen c.deref.ensures) ∙ c.is_variable.ensures c.if-is_variable.true ∙ ap card_var c.len.ensures)
 
-pub value_asked-returns : goal.value_asked-returns
-value_asked-returns t c = c.attr_of_id.ensures _ c.id_now.ensures
+pub expressions::value_asked-returns : goal.expressions::value_asked-returns
+expressions::value_asked-returns t c = c.attr_of_id.ensures _ c.id_now.ensures
 
-pub points_of-returns : goal.points_of-returns
-points_of-returns t c = let e = c.worth_of_id.ensures _ c.id_now.ensures in grind (arith, common_steps, e)
+pub expressions::points_of-returns : goal.expressions::points_of-returns
+expressions::points_of-returns t c = let e = c.worth_of_id.ensures _ c.id_now.ensures in grind (arith, common_steps, e)
 
-pub over_built-returns-in-Coll : goal.over_built-returns-in-Coll
-over_built-returns-in-Coll t c =
+pub tests::over_built-returns-in-Coll : goal.tests::over_built-returns-in-Coll
+tests::over_built-returns-in-Coll t c =
     let e : test_seen c.args.expr.now ≡ all_of (each_card (coll_seen c.in-Coll.cards)) c.in-All.field-1 (test_seen c.in-All.inner.value) =
     ap test_seen c.in-All.is ∙ ap (λ d. all_of (domain_seen d) c.in-All.field-1 (test_seen c.in-All.inner.value)) c.in-Coll.is in
     let b : c.built.result ≡ coll_value (scene_seen c.args.scene.now) c.args.scope.now (coll_seen c.in-Coll.cards) =
@@ -257,8 +280,8 @@ over_built-returns-in-Coll t c =
     ∙ ap (λ xs. list_all (λ m. test_value (scene_seen c.args.scene.now) (c.args.scope.now ++ m ∷ []) (test_seen c.in-All.inner.value)) (map (λ k. card_bound k) xs)) b
     ∙ ap (test_value (scene_seen c.args.scene.now) c.args.scope.now) (sym e)
 
-pub over_built-returns-in-Coll-domain : goal.over_built-returns-in-Coll-domain
-over_built-returns-in-Coll-domain t c =
+pub tests::over_built-returns-in-Coll-domain : goal.tests::over_built-returns-in-Coll-domain
+tests::over_built-returns-in-Coll-domain t c =
     let e : test_seen c.args.expr.now ≡ any_of (each_card (coll_seen c.in-Coll-domain.cards)) c.in-Any.field-1 (test_seen c.in-Any.inner.value) =
     ap test_seen c.in-Any.is ∙ ap (λ d. any_of (domain_seen d) c.in-Any.field-1 (test_seen c.in-Any.inner.value)) c.in-Coll-domain.is in
     let b : c.built-in-Coll-domain.result ≡ coll_value (scene_seen c.args.scene.now) c.args.scope.now (coll_seen c.in-Coll-domain.cards) =
@@ -268,8 +291,8 @@ over_built-returns-in-Coll-domain t c =
     ∙ ap (λ xs. list_any (λ m. test_value (scene_seen c.args.scene.now) (c.args.scope.now ++ m ∷ []) (test_seen c.in-Any.inner.value)) (map (λ k. card_bound k) xs)) b
     ∙ ap (test_value (scene_seen c.args.scene.now) c.args.scope.now) (sym e)
 
-pub over_cards-returns-in-Loc : goal.over_cards-returns-in-Loc
-over_cards-returns-in-Loc t c =
+pub tests::over_cards-returns-in-Loc : goal.tests::over_cards-returns-in-Loc
+tests::over_cards-returns-in-Loc t c =
     let e : test_seen c.args.expr.now ≡ all_of (each_card (cards_in (loc_seen c.in-Loc.loc))) c.in-All.field-1 (test_seen c.in-All.inner.value) =
     ap test_seen c.in-All.is ∙ ap (λ d. all_of (domain_seen d) c.in-All.field-1 (test_seen c.in-All.inner.value)) c.in-Coll.is
     ∙ ap (λ k. all_of (each_card (coll_seen k)) c.in-All.field-1 (test_seen c.in-All.inner.value)) c.in-Loc.is in
@@ -278,8 +301,8 @@ over_cards-returns-in-Loc t c =
     ∙ ap (λ xs. list_all (λ m. test_value (scene_seen c.args.scene.now) (c.args.scope.now ++ m ∷ []) (test_seen c.in-All.inner.value)) (map (λ k. card_bound k) xs)) c.cards_of.ensures
     ∙ ap (test_value (scene_seen c.args.scene.now) c.args.scope.now) (sym e)
 
-pub over_cards-returns-in-Var : goal.over_cards-returns-in-Var
-over_cards-returns-in-Var t c =
+pub tests::over_cards-returns-in-Var : goal.tests::over_cards-returns-in-Var
+tests::over_cards-returns-in-Var t c =
     let e : test_seen c.args.expr.now ≡ all_of (each_card (group_var c.in-Var.var)) c.in-All.field-1 (test_seen c.in-All.inner.value) =
     ap test_seen c.in-All.is ∙ ap (λ d. all_of (domain_seen d) c.in-All.field-1 (test_seen c.in-All.inner.value)) c.in-Coll.is
     ∙ ap (λ k. all_of (each_card (coll_seen k)) c.in-All.field-1 (test_seen c.in-All.inner.value)) c.in-Var.is in
@@ -288,8 +311,8 @@ over_cards-returns-in-Var t c =
     ∙ ap (λ xs. list_all (λ m. test_value (scene_seen c.args.scene.now) (c.args.scope.now ++ m ∷ []) (test_seen c.in-All.inner.value)) (map (λ k. card_bound k) xs)) c.group.ensures
     ∙ ap (test_value (scene_seen c.args.scene.now) c.args.scope.now) (sym e)
 
-pub over_cards-returns-in-Loc-cards : goal.over_cards-returns-in-Loc-cards
-over_cards-returns-in-Loc-cards t c =
+pub tests::over_cards-returns-in-Loc-cards : goal.tests::over_cards-returns-in-Loc-cards
+tests::over_cards-returns-in-Loc-cards t c =
     let e : test_seen c.args.expr.now ≡ any_of (each_card (cards_in (loc_seen c.in-Loc-cards.loc))) c.in-Any.field-1 (test_seen c.in-Any.inner.value) =
     ap test_seen c.in-Any.is ∙ ap (λ d. any_of (domain_seen d) c.in-Any.field-1 (test_seen c.in-Any.inner.value)) c.in-Coll-domain.is
     ∙ ap (λ k. any_of (each_card (coll_seen k)) c.in-Any.field-1 (test_seen c.in-Any.inner.value)) c.in-Loc-cards.is in
@@ -298,8 +321,8 @@ over_cards-returns-in-Loc-cards t c =
     ∙ ap (λ xs. list_any (λ m. test_value (scene_seen c.args.scene.now) (c.args.scope.now ++ m ∷ []) (test_seen c.in-Any.inner.value)) (map (λ k. card_bound k) xs)) c.cards_of-in-Loc-cards.ensures
     ∙ ap (test_value (scene_seen c.args.scene.now) c.args.scope.now) (sym e)
 
-pub over_cards-returns-in-Var-cards : goal.over_cards-returns-in-Var-cards
-over_cards-returns-in-Var-cards t c =
+pub tests::over_cards-returns-in-Var-cards : goal.tests::over_cards-returns-in-Var-cards
+tests::over_cards-returns-in-Var-cards t c =
     let e : test_seen c.args.expr.now ≡ any_of (each_card (group_var c.in-Var-cards.var)) c.in-Any.field-1 (test_seen c.in-Any.inner.value) =
     ap test_seen c.in-Any.is ∙ ap (λ d. any_of (domain_seen d) c.in-Any.field-1 (test_seen c.in-Any.inner.value)) c.in-Coll-domain.is
     ∙ ap (λ k. any_of (each_card (coll_seen k)) c.in-Any.field-1 (test_seen c.in-Any.inner.value)) c.in-Var-cards.is in
@@ -308,17 +331,17 @@ over_cards-returns-in-Var-cards t c =
     ∙ ap (λ xs. list_any (λ m. test_value (scene_seen c.args.scene.now) (c.args.scope.now ++ m ∷ []) (test_seen c.in-Any.inner.value)) (map (λ k. card_bound k) xs)) c.group-in-Var-cards.ensures
     ∙ ap (test_value (scene_seen c.args.scene.now) c.args.scope.now) (sym e)
 
-pub count_of-returns-in-Union-clause-is : goal.count_of-returns-in-Union-clause-is
-count_of-returns-in-Union-clause-is t c =
+pub expressions::count_of-returns-in-Union-clause-is : goal.expressions::count_of-returns-in-Union-clause-is
+expressions::count_of-returns-in-Union-clause-is t c =
     c.count_parts.ensures.is
     ∙ ap (λ x. length (coll_value (scene_seen c.args.scene.now) c.args.scope.now x)) (sym (union_here c.args.expr.now c.in-Union.parts c.in-Union.is))
 
-pub count_of-count_parts-requires : goal.count_of-count_parts-requires
-count_of-count_parts-requires t c =
+pub expressions::count_of-count_parts-requires : goal.expressions::count_of-count_parts-requires
+expressions::count_of-count_parts-requires t c =
     let e = union_depth c.args.expr.now c.in-Union.parts c.in-Union.is in (search (rules, TheFolds.the_lemmas), omega arith)
 
-pub count_parts-loop-part-preserved : goal.count_parts-loop-part-preserved
-count_parts-loop-part-preserved t c =
+pub expressions::count_parts-loop-part-preserved : goal.expressions::count_parts-loop-part-preserved
+expressions::count_parts-loop-part-preserved t c =
     let e = colls_here c.deref-part-items.result.now c.loop-part.part-index c.part-item.result c.loop-part-test.true c.part-item.is in
     record {
       few = omega (arith, c.min-more.ensures, c.loop-part.invariant.few);
@@ -329,17 +352,17 @@ count_parts-loop-part-preserved t c =
           c.count_of.ensures.is c.min-more.ensures c.loop-part.invariant.told;
     }
 
-pub count_parts-returns-clause-is : goal.count_parts-returns-clause-is
-count_parts-returns-clause-is t c =
+pub expressions::count_parts-returns-clause-is : goal.expressions::count_parts-returns-clause-is
+expressions::count_parts-returns-clause-is t c =
     count_end (scene_seen c.args.scene.now) c.args.scope.now c.deref-part-items.result.now c.loop-part.part-index c.loop-part.count
     c.loop-part-test.false c.loop-part.invariant.few c.loop-part.invariant.told
     ∙ ap (λ xs. length (cut (colls_value (scene_seen c.args.scene.now) c.args.scope.now (colls_seen xs)))) c.deref-part-items.ensures.value
 
-pub count_filtered-returns-in-Some-wanted_of-clause-is : goal.count_filtered-returns-in-Some-wanted_of-clause-is
-count_filtered-returns-in-Some-wanted_of-clause-is t c =
+pub expressions::count_filtered-returns-in-Some-sought_of-clause-is : goal.expressions::count_filtered-returns-in-Some-sought_of-clause-is
+expressions::count_filtered-returns-in-Some-sought_of-clause-is t c =
     let told = c.deref-in-Some.result.now in
-    c.count_as_wanted.ensures.is
-    ∙ ap length (keep_wanted (scene_seen c.args.scene.now) c.args.scope.now (test_seen told) c.in-Some-wanted_of.wanted c.in-Some.all c.in-Some-wanted_of.ensures)
+    c.count_as_sought.ensures.is
+    ∙ ap length (kept_told (scene_seen c.args.scene.now) c.args.scope.now (test_seen told) (sought_value (scene_seen c.args.scene.now) c.in-Some-sought_of.sought) c.in-Some.all c.in-Some-sought_of.ensures)
     ∙ ap (λ xs. length (filter (λ x. test_value (scene_seen c.args.scene.now) (c.args.scope.now ++ card_bound x ∷ []) (test_seen told)) xs)) c.in-Some.ensures
     ∙ ap₂ (λ k u. length (coll_value (scene_seen c.args.scene.now) c.args.scope.now (filtered (coll_seen k) c.in-Filter.field-1 (test_seen u)))) c.deref.ensures c.deref-in-Some.ensures
     ∙ ap (λ k. length (coll_value (scene_seen c.args.scene.now) c.args.scope.now k)) (sym (ap coll_seen c.in-Filter.is))
