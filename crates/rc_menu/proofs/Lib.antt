@@ -1,4 +1,5 @@
 pub mod Offers
+pub mod AlikeLemmas
 pub mod AskLemmas
 pub mod RowOffers
 pub mod KnownLemmas

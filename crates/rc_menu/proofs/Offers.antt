@@ -56,9 +56,6 @@ pub put_more : (xs xs' : List PureItem) (x y : PureItem) → xs' ≡ xs ++ x ∷
 put_more xs xs' x y e few is =
     e ∙ ap (λ z. xs ++ z ∷ []) is ∙ sym (take_all 256 (xs ++ y ∷ []) (omega (arith, length-append xs (y ∷ []))))
 
-pub put_none : (xs ys : List PureItem) → length xs ≡ 256 → xs ≡ take 256 (xs ++ ys)
-put_none xs ys full = sym (take-append-le 256 xs ys (omega arith) ∙ take_all 256 xs (omega arith))
-
 pub put_nothing : (xs : List PureItem) → length xs ≤ 256 → xs ≡ take 256 (xs ++ [])
 put_nothing xs few = sym (ap (take 256) (append-nil xs) ∙ take_all 256 xs few)
 
@@ -67,6 +64,30 @@ room_is b n e is le = grind (arith, nat_tests)
 
 pub bound_count : (n : ℕ) → length (map {B = PureBind CardValue} (λ x. player_bound x) (below n)) ≡ n
 bound_count n = length-map {B = PureBind CardValue} (below n) (λ x. player_bound x) ∙ below_length n
+
+-- what is offered of none
+pub none_each : {A : Type 0} (n : ℕ) (xs : List A) → from_each (λ x. []) n xs ≡ []
+none_each n [] = refl
+none_each n (x ∷ xs) = none_each (n + 1) xs
+
+-- as much of each, as many times
+as_many : {A B : Type 0} (i : ℕ) (xs : List A) (ys : List B) → length xs ≡ length ys → from_each (λ x. [] ∷ []) i xs ≡ from_each (λ y. [] ∷ []) i ys
+as_many i [] [] e = refl
+as_many i [] (y ∷ ys) e = absurd (omega arith)
+as_many i (x ∷ xs) [] e = absurd (omega arith)
+as_many i (x ∷ xs) (y ∷ ys) e = ap (λ more. (i ∷ []) ∷ more) (as_many (i + 1) xs ys (omega arith))
+
+pub counted_each : {B : Type 0} (n : ℕ) (ys : List B) → n ≡ length ys → from_each (λ x. [] ∷ []) 0 (below n) ≡ from_each (λ y. [] ∷ []) 0 ys
+counted_each n ys e = as_many 0 (below n) ys (below_length n ∙ e)
+
+-- what is offered of each alike, or of none
+pub alike_each : {M : Type 0} (g : M → List (List ℕ)) (b : Bool) (ms : List M) → ((m : M) → g m ≡ cond b ([] ∷ []) []) → b ≡ true →
+    from_each (λ m. [] ∷ []) 0 ms ≡ from_each g 0 ms
+alike_each g b ms h so = ap (λ f. from_each f 0 ms) (fun_ext (λ m. sym (h m ∙ ap (λ b. cond b ([] ∷ []) []) so)))
+
+pub alike_none : {M : Type 0} (g : M → List (List ℕ)) (b : Bool) (ms : List M) → ((m : M) → g m ≡ cond b ([] ∷ []) []) → b ≡ false →
+    [] ≡ from_each g 0 ms
+alike_none g b ms h so = sym (none_each 0 ms) ∙ ap (λ f. from_each f 0 ms) (fun_ext (λ m. sym (h m ∙ ap (λ b. cond b ([] ∷ []) []) so)))
 
 -- an alternative and those behind it
 abbrev pub begun : ℕ → PureItem
@@ -99,10 +120,6 @@ pub each_mapped : {A B : Type 0} (g : B → List (List ℕ)) (f : A → B) (n : 
 each_mapped g f n [] = refl
 each_mapped g f n (x ∷ xs) = ap (λ more. map (λ s. n ∷ s) (g (f x)) ++ more) (each_mapped g f (n + 1) xs)
 
-pub none_each : {A : Type 0} (n : ℕ) (xs : List A) → from_each (λ x. []) n xs ≡ []
-none_each n [] = refl
-none_each n (x ∷ xs) = none_each (n + 1) xs
-
 pub offered_do : (s : PureScene CardValue) (vars : List (PureBind CardValue)) (alt : PureAlt) (effects : Effects) (cards : List CardValue) → alt ≡ do_alt effects →
     from_each (λ c. [] ∷ []) 0 cards ≡ from_each (λ m. spots_of s (vars ++ m ∷ []) alt) 0 (map (λ c. card_bound c) cards)
 offered_do s vars alt effects cards is =
@@ -127,3 +144,8 @@ extended_none item = ap (λ xs. record { alt = item.alt; spots = xs }) (append-n
 pub first_extended : (item : PureItem) (alt spot : ℕ) (spots : List ℕ) → spots ≡ [] → item ≡ record { alt = alt; spots = spot ∷ [] } →
     item ≡ extended (record { alt = alt; spots = spots }) (spot ∷ [])
 first_extended item alt spot spots none is = is ∙ ap (λ xs. record { alt = alt; spots = xs ++ spot ∷ [] }) (sym none)
+
+-- and one that had one
+pub second_extended : (item : PureItem) (alt first spot : ℕ) (spots : List ℕ) → spots ≡ first ∷ [] → item ≡ record { alt = alt; spots = first ∷ spot ∷ [] } →
+    item ≡ extended (record { alt = alt; spots = spots }) (spot ∷ [])
+second_extended item alt first spot spots one is = is ∙ ap (λ xs. record { alt = alt; spots = xs ++ spot ∷ [] }) (sym one)

@@ -1,5 +1,6 @@
 -- What is offered of the cards of a row.
 use Rattle.std.proofs.Common.{◌≡◌, ℕ, Bool, true, false, not, cond, List, [], ◌∷◌, map, refl, sym, ap, ◌∙◌}
+use mathlib.Core.Path.{fun_ext}
 use Rattle.std.specs.List.{list_all}
 use Rattle.rc_sheet_model.specs.Sheet.{Alt as PureAlt, Test as PureTest, cards_in, if_alt}
 use Rattle.rc_play_model.specs.Menu.{from_each, spots_of}
@@ -48,6 +49,19 @@ module _ (s : PureScene CardValue) (vars : List (PureBind CardValue)) where
   guard_offers alt guard h =
       offered_if s vars (if_alt (guard_meant guard) h.1) (guard_meant guard) h.1 (coll_value s vars (cards_in (loc_seen guard.loc))) refl
       ∙ ap (spots_of s vars) (sym h.2)
+
+-- one answer alone is all of them
+joined_sole : (any b : Bool) → b ≡ joined any (b ∷ [])
+joined_sole true true = refl
+joined_sole true false = refl
+joined_sole false true = refl
+joined_sole false false = refl
+
+pub sole_offers : (ask : CardAsk) (any : Bool) (asks : List CardAsk) (ids : List ℕ) → asks ≡ ask ∷ [] →
+    from_each (λ id. cond (met_value id ask) ([] ∷ []) []) 0 ids ≡ from_each (λ id. cond (joined any (map (met_value id) asks)) ([] ∷ []) []) 0 ids
+sole_offers ask any asks ids is =
+    ap (λ f. from_each f 0 ids)
+    (fun_ext (λ id. ap (λ b. cond b ([] ∷ []) []) (joined_sole any (met_value id ask) ∙ ap (λ xs. joined any (map (met_value id) xs)) (sym is))))
 
 -- what is settled once and for all, and what isn't
 pub settled_offers : (settled any way : Bool) (f : ℕ → Bool) (ids : List ℕ) → not settled ≡ false → any ≡ way →

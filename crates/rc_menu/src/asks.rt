@@ -5,7 +5,7 @@ ghost use Rattle.rc_play_model.specs.Value.{card_bound, both, nat_same, tests_va
 ghost use Rattle.rc_play_model.specs.Scene.{CardValue};
 ghost use Rattle.rc_ast.specs.Expressions.{test_seen, tests_seen};
 ghost use Rattle.rc_menu.specs.Asks.{ask_value, asks_value, met_value, ask_depth, AllFit, joined, told_of, IsJoined, IsInParts};
-ghost use Rattle.rc_menu.specs.declared.asks.CardAsk.TheVariants.{Whole};
+ghost use Rattle.rc_menu.specs.declared.asks.CardAsk.TheVariants.{Value, Whole};
 ghost use Rattle.rc_value.specs.Cards.{value_seen};
 ghost use Rattle.rc_value.specs.Depth.{test_depth, tests_depth};
 ghost use Rattle.rc_value.specs.Scene.{scene_seen};
@@ -91,8 +91,9 @@ fn ask_of<'t>(scene: &'t Scene, scope: &Bindings, test: &'t Test) -> CardAsk<'t>
     }
 }
 
+/// Whether the card with an id has a value.
 #[inline(always)]
-fn has_value(row: &[Option<u16>], value: u16, id: u16) -> bool
+pub(crate) fn has_value(row: &[Option<u16>], value: u16, id: u16) -> bool
     ensures { result ≡ both nat_same (slice_index_or row.now id None) (Some value) }
 {
     value_in(row, id) == Some(value)
@@ -316,6 +317,27 @@ fn is_met(ask: &CardAsk, id: u16) -> bool
         CardAsk::Value { value, row } => has_value(*row, *value, id),
         CardAsk::Wish { equal, value, row } => is_so(*equal, *value, value_in(*row, id)),
         CardAsk::Whole(_) => false,
+    }
+}
+
+/// A value that cards are to have, and the row in which theirs are.
+#[derive(Clone, Copy)]
+pub(crate) struct Sole<'t> {
+    pub(crate) row: &'t [Option<u16>],
+    pub(crate) value: u16,
+}
+
+/// The value, where one value is all that is asked.
+#[inline(always)]
+pub(crate) fn sole_value<'t>(asks: &[CardAsk<'t>]) -> Option<Sole<'t>>
+    ensures { IfSome result (λ sole. asks.now ≡ Value sole.value sole.row ∷ []) }
+{
+    if asks.len() != 1 {
+        return None;
+    }
+    match asks[0] {
+        CardAsk::Value { value, row } => Some(Sole { row, value }),
+        _ => None,
     }
 }
 

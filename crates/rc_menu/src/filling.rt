@@ -57,6 +57,7 @@ pub fn fill_menu_by(
 }
 
 /// The same with alternatives whose guards may be known in parts.
+#[inline(always)]
 pub fn fill_offers_by(
     about: &About,
     current: Current,

@@ -4,6 +4,7 @@
 //! Nothing here takes memory.
 #![tactic(auto)]
 
+mod alike;
 mod asks;
 mod bounds;
 mod filling;

@@ -11,10 +11,12 @@ ghost use Rattle.rc_value.specs.Cards.{values_seen};
 ghost use Rattle.rc_value.specs.Scene.{scene_seen};
 ghost use Rattle.rc_value.specs.Depth.{coll_depth};
 ghost use Rattle.rc_value.specs.Binding.{BindsFew, alt_depth, domains_in};
+ghost use Rattle.rc_menu.specs.Alike.{AreGroups, AreGroupsOf};
 ghost use Rattle.rc_menu.specs.AlikeMenus.{EqualAtAlike};
 ghost use Rattle.rc_menu.specs.Menu.{extended};
 
-use crate::offering::{offer_every, offer_guarded, offer_in_parts, with_spot};
+use crate::alike::{groups_inside, groups_of, offered_alike};
+use crate::offering::{is_filled, offer_count, offer_guarded, offer_in_parts, with_spot};
 use rc_asked::Offer;
 use rc_ast::{Alt, CollExpr, Domain};
 use rc_deck::Memory;
@@ -26,33 +28,42 @@ use rc_value::{
 };
 use std::alloc::Global;
 
-// Puts an item behind the others, where there is room.
+// Puts an item behind the others.
 #[inline(never)]
 fn put(menu: &mut Items, item: &Item)
-    ensures { menu_seen menu.new.items ≡ take most_items (menu_seen menu.old.items ++ extended (item_seen item.now) [] ∷ []) }
+    requires free { length menu.old.items < most_items }
+    ensures { menu_seen menu.new.items ≡ take most_items (menu_seen menu.old.items
+        ++ extended (item_seen item.now) [] ∷ []) }
 {
-    if !menu.is_full() {
-        menu.push(item.copy());
-    }
+    menu.push(item.copy());
 }
 
 // The same where it passes.
 #[inline(never)]
 fn put_if(menu: &mut Items, item: &Item, passes: bool)
-    ensures { menu_seen menu.new.items ≡ take most_items (menu_seen menu.old.items ++ (if passes then extended (item_seen item.now) [] ∷ [] else [])) }
+    requires free { length menu.old.items < most_items }
+    ensures { menu_seen menu.new.items ≡ take most_items (menu_seen menu.old.items
+        ++ (if passes then extended (item_seen item.now) [] ∷ [] else [])) }
 {
-    // what a menu keeps
-    let _count = menu.len();
     if passes {
         put(menu, item);
     }
 }
 
-// The items that an alternative offers behind the positions that are bound so far.
+// The items that an alternative offers behind the positions that are bound so far. How many groups its domain has may be known.
 #[cycle(menu)]
-fn offer(scene: &Scene, scope: &Bindings, alt: &Alt, item: &Item, menu: &mut Items)
+fn offer(
+    scene: &Scene,
+    scope: &Bindings,
+    alt: &Alt,
+    groups: Option<usize>,
+    item: &Item,
+    menu: &mut Items,
+)
+    requires groups { AreGroups (scene_seen scene.now) scope.now (alt_seen alt.now) groups }
     requires fits { length scope.now + alt_depth (alt_seen alt.now) ≤ 5 }
     requires room { length item.now.spots.items + domains_in (alt_seen alt.now) ≤ 4 }
+    requires free { length menu.old.items < most_items }
     ensures { menu_seen menu.new.items ≡ take most_items (menu_seen menu.old.items
         ++ map (extended (item_seen item.now)) (spots_of (scene_seen scene.now) scope.now (alt_seen alt.now))) }
 {
@@ -63,7 +74,7 @@ fn offer(scene: &Scene, scope: &Bindings, alt: &Alt, item: &Item, menu: &mut Ite
             Domain::Players => offer_players(scene, scope, inner, item, menu),
             Domain::Coll(cards) => offer_over(scene, scope, inner, cards, item, menu),
             Domain::Parts(cards, name) => offer_parts(
-                scene, scope, inner, cards, *name, item, menu,
+                scene, scope, inner, cards, *name, groups, item, menu,
             ),
         },
     }
@@ -82,8 +93,10 @@ fn offer_over(
     requires domain { length scope.now + coll_depth (coll_seen cards.now) ≤ 5 }
     requires fits { length scope.now + (1 + alt_depth (alt_seen inner.now)) ≤ 5 }
     requires room { length item.now.spots.items + (1 + domains_in (alt_seen inner.now)) ≤ 4 }
+    requires free { length menu.old.items < most_items }
     ensures { menu_seen menu.new.items ≡ take most_items (menu_seen menu.old.items
-        ++ map (extended (item_seen item.now)) (from_each (λ m. spots_of (scene_seen scene.now) (scope.now ++ m ∷ []) (alt_seen inner.now)) 0
+        ++ map (extended (item_seen item.now)) (from_each
+        (λ m. spots_of (scene_seen scene.now) (scope.now ++ m ∷ []) (alt_seen inner.now)) 0
         (map (λ c. card_bound c) (coll_value (scene_seen scene.now) scope.now (coll_seen cards.now))))) }
 {
     match cards {
@@ -116,8 +129,10 @@ fn offer_built(
     requires domain { length scope.now + coll_depth (coll_seen cards.now) ≤ 5 }
     requires fits { length scope.now + (1 + alt_depth (alt_seen inner.now)) ≤ 5 }
     requires room { length item.now.spots.items + (1 + domains_in (alt_seen inner.now)) ≤ 4 }
+    requires free { length menu.old.items < most_items }
     ensures { menu_seen menu.new.items ≡ take most_items (menu_seen menu.old.items
-        ++ map (extended (item_seen item.now)) (from_each (λ m. spots_of (scene_seen scene.now) (scope.now ++ m ∷ []) (alt_seen inner.now)) 0
+        ++ map (extended (item_seen item.now)) (from_each
+        (λ m. spots_of (scene_seen scene.now) (scope.now ++ m ∷ []) (alt_seen inner.now)) 0
         (map (λ c. card_bound c) (coll_value (scene_seen scene.now) scope.now (coll_seen cards.now))))) }
 {
     let mut room = Cards::new();
@@ -144,12 +159,14 @@ fn offer_cards(
 )
     requires fits { length scope.now + (1 + alt_depth (alt_seen inner.now)) ≤ 5 }
     requires room { length item.now.spots.items + (1 + domains_in (alt_seen inner.now)) ≤ 4 }
+    requires free { length menu.old.items < most_items }
     ensures { menu_seen menu.new.items ≡ take most_items (menu_seen menu.old.items
-        ++ map (extended (item_seen item.now)) (from_each (λ m. spots_of (scene_seen scene.now) (scope.now ++ m ∷ []) (alt_seen inner.now)) 0
+        ++ map (extended (item_seen item.now)) (from_each
+        (λ m. spots_of (scene_seen scene.now) (scope.now ++ m ∷ []) (alt_seen inner.now)) 0
         (map (λ c. card_bound c) cards.now))) }
 {
     match inner {
-        Alt::Do(_) => offer_every(cards, item, menu),
+        Alt::Do(_) => offer_count(cards.len(), item, menu),
         Alt::If(guard, _) => offer_guarded(&*scene, scope, cards, guard, item, menu),
         Alt::Any(_, _, _) => offer_each(scene, scope, cards, inner, item, menu),
     }
@@ -168,55 +185,113 @@ fn offer_each(
 )
     requires fits { length scope.now + (1 + alt_depth (alt_seen inner.now)) ≤ 5 }
     requires room { length item.now.spots.items + (1 + domains_in (alt_seen inner.now)) ≤ 4 }
+    requires free { length menu.old.items < most_items }
     ensures { menu_seen menu.new.items ≡ take most_items (menu_seen menu.old.items
-        ++ map (extended (item_seen item.now)) (from_each (λ m. spots_of (scene_seen scene.now) (scope.now ++ m ∷ []) (alt_seen inner.now)) 0
+        ++ map (extended (item_seen item.now)) (from_each
+        (λ m. spots_of (scene_seen scene.now) (scope.now ++ m ∷ []) (alt_seen inner.now)) 0
         (map (λ c. card_bound c) cards.now))) }
 {
-    // what a menu keeps
-    let _count = menu.len();
+    let groups = groups_inside(scene, scope, inner);
     for place in 0..cards.len() {
-        if menu.is_full() {
+        if is_filled(menu) {
             return;
         }
         offer(
             scene,
             &scope.with(Bind::Card(cards.at(place))),
             inner,
+            groups,
             &with_spot(item, place as u16),
             menu,
         );
     }
 }
 
+// The same with the players.
 #[cycle(menu)]
-#[inline(never)]
 fn offer_players(scene: &Scene, scope: &Bindings, inner: &Alt, item: &Item, menu: &mut Items)
     requires fits { length scope.now + (1 + alt_depth (alt_seen inner.now)) ≤ 5 }
     requires room { length item.now.spots.items + (1 + domains_in (alt_seen inner.now)) ≤ 4 }
+    requires free { length menu.old.items < most_items }
     ensures { menu_seen menu.new.items ≡ take most_items (menu_seen menu.old.items
-        ++ map (extended (item_seen item.now)) (from_each (λ m. spots_of (scene_seen scene.now) (scope.now ++ m ∷ []) (alt_seen inner.now)) 0
+        ++ map (extended (item_seen item.now)) (from_each
+        (λ m. spots_of (scene_seen scene.now) (scope.now ++ m ∷ []) (alt_seen inner.now)) 0
         (map (λ n. player_bound n) (below (scene_seen scene.now).known.sheet.players)))) }
 {
-    // what a menu keeps
-    let _count = menu.len();
+    match offered_alike(scene, scope, inner) {
+        Some(passes) => {
+            if passes {
+                offer_count(scene.sheet.players as usize, item, menu);
+            }
+        }
+        None => offer_each_player(scene, scope, inner, item, menu),
+    }
+}
+
+// The same, one player after the other.
+#[cycle(menu)]
+#[inline(never)]
+fn offer_each_player(scene: &Scene, scope: &Bindings, inner: &Alt, item: &Item, menu: &mut Items)
+    requires fits { length scope.now + (1 + alt_depth (alt_seen inner.now)) ≤ 5 }
+    requires room { length item.now.spots.items + (1 + domains_in (alt_seen inner.now)) ≤ 4 }
+    requires free { length menu.old.items < most_items }
+    ensures { menu_seen menu.new.items ≡ take most_items (menu_seen menu.old.items
+        ++ map (extended (item_seen item.now)) (from_each
+        (λ m. spots_of (scene_seen scene.now) (scope.now ++ m ∷ []) (alt_seen inner.now)) 0
+        (map (λ n. player_bound n) (below (scene_seen scene.now).known.sheet.players)))) }
+{
+    let groups = groups_inside(scene, scope, inner);
     for player in 0..scene.sheet.players {
-        if menu.is_full() {
+        if is_filled(menu) {
             return;
         }
         offer(
             scene,
             &scope.with(Bind::Player(player)),
             inner,
+            groups,
             &with_spot(item, player as u16),
             menu,
         );
     }
 }
 
-// The same with the groups of the cards.
+// The same with the groups of the cards, of which none is made where nothing reads it.
+#[cycle(menu)]
+fn offer_parts(
+    scene: &Scene,
+    scope: &Bindings,
+    inner: &Alt,
+    cards: &CollExpr,
+    name: u16,
+    groups: Option<usize>,
+    item: &Item,
+    menu: &mut Items,
+)
+    requires groups { AreGroupsOf (scene_seen scene.now) scope.now (coll_seen cards.now) name groups }
+    requires domain { length scope.now + coll_depth (coll_seen cards.now) ≤ 5 }
+    requires fits { length scope.now + (1 + alt_depth (alt_seen inner.now)) ≤ 5 }
+    requires room { length item.now.spots.items + (1 + domains_in (alt_seen inner.now)) ≤ 4 }
+    requires free { length menu.old.items < most_items }
+    ensures { menu_seen menu.new.items ≡ take most_items (menu_seen menu.old.items
+        ++ map (extended (item_seen item.now)) (from_each
+        (λ m. spots_of (scene_seen scene.now) (scope.now ++ m ∷ []) (alt_seen inner.now)) 0 (map (λ g. group_bound g)
+        (groups_by (scene_seen scene.now) name (coll_value (scene_seen scene.now) scope.now (coll_seen cards.now)))))) }
+{
+    match offered_alike(scene, scope, inner) {
+        Some(passes) => {
+            if passes {
+                offer_count(groups_of(scene, scope, cards, name, groups), item, menu);
+            }
+        }
+        None => offer_each_group(scene, scope, inner, cards, name, item, menu),
+    }
+}
+
+// The same, one group after the other.
 #[cycle(menu)]
 #[inline(never)]
-fn offer_parts(
+fn offer_each_group(
     scene: &Scene,
     scope: &Bindings,
     inner: &Alt,
@@ -228,12 +303,12 @@ fn offer_parts(
     requires domain { length scope.now + coll_depth (coll_seen cards.now) ≤ 5 }
     requires fits { length scope.now + (1 + alt_depth (alt_seen inner.now)) ≤ 5 }
     requires room { length item.now.spots.items + (1 + domains_in (alt_seen inner.now)) ≤ 4 }
+    requires free { length menu.old.items < most_items }
     ensures { menu_seen menu.new.items ≡ take most_items (menu_seen menu.old.items
-        ++ map (extended (item_seen item.now)) (from_each (λ m. spots_of (scene_seen scene.now) (scope.now ++ m ∷ []) (alt_seen inner.now)) 0
-        (map (λ g. group_bound g) (groups_by (scene_seen scene.now) name (coll_value (scene_seen scene.now) scope.now (coll_seen cards.now)))))) }
+        ++ map (extended (item_seen item.now)) (from_each
+        (λ m. spots_of (scene_seen scene.now) (scope.now ++ m ∷ []) (alt_seen inner.now)) 0 (map (λ g. group_bound g)
+        (groups_by (scene_seen scene.now) name (coll_value (scene_seen scene.now) scope.now (coll_seen cards.now)))))) }
 {
-    // what a menu keeps
-    let _count = menu.len();
     let mut room = Cards::new();
     coll_of(scene, scope, cards, &mut room);
     let all = Collection::built(room.as_slice());
@@ -241,7 +316,7 @@ fn offer_parts(
     note_values(scene, &all, name, &mut values);
     let mut group = Cards::new();
     for place in 0..values.len() {
-        if menu.is_full() {
+        if is_filled(menu) {
             return;
         }
         regroup(scene, &all, name, value_at(&values, place), &mut group);
@@ -268,13 +343,16 @@ fn offer_group(
 )
     requires fits { length scope.now + (1 + alt_depth (alt_seen inner.now)) ≤ 5 }
     requires room { length item.now.spots.items + domains_in (alt_seen inner.now) ≤ 4 }
+    requires free { length menu.old.items < most_items }
     ensures { menu_seen menu.new.items ≡ take most_items (menu_seen menu.old.items
-        ++ map (extended (item_seen item.now)) (spots_of (scene_seen scene.now) (scope.now ++ group_bound (values_seen group.now.items) ∷ []) (alt_seen inner.now))) }
+        ++ map (extended (item_seen item.now)) (spots_of (scene_seen scene.now)
+        (scope.now ++ group_bound (values_seen group.now.items) ∷ []) (alt_seen inner.now))) }
 {
     offer(
         scene,
         &(&*scope).with(Bind::Group(group)),
         inner,
+        None,
         item,
         menu,
     );
@@ -316,11 +394,22 @@ fn offer_all(scene: &Scene, alts: &[Alt], menu: &mut Items)
 {
     let scope = Bindings::empty();
     for number in 0..alts.len() {
-        offer(scene, &scope, &alts[number], &first_item(number), menu);
+        if is_filled(menu) {
+            return;
+        }
+        offer(
+            scene,
+            &scope,
+            &alts[number],
+            None,
+            &first_item(number),
+            menu,
+        );
     }
 }
 
 /// The same with alternatives whose guards may be known in parts.
+#[inline(always)]
 pub(crate) fn fill_offers(scene: &Scene, site: u8, offers: &[Offer], menu: &mut Items)
     requires site { offers.now ≡ alts_at (scene_seen scene.now).known.sheet site }
     ensures { menu_seen menu.new.items ≡ pure_menu_of (scene_seen scene.now) site }
@@ -330,6 +419,7 @@ pub(crate) fn fill_offers(scene: &Scene, site: u8, offers: &[Offer], menu: &mut 
 }
 
 // Puts what they offer into an empty menu.
+#[inline(always)]
 fn make_offers(scene: &Scene, offers: &[Offer], menu: &mut Items)
     requires few { All (BindsFew 0) offers.now }
     requires empty { menu.old.items ≡ [] }
@@ -337,6 +427,9 @@ fn make_offers(scene: &Scene, offers: &[Offer], menu: &mut Items)
 {
     let scope = Bindings::empty();
     for number in 0..offers.len() {
+        if is_filled(menu) {
+            return;
+        }
         make_offer(scene, &scope, &offers[number], &first_item(number), menu);
     }
 }
@@ -347,16 +440,17 @@ fn make_offer(scene: &Scene, scope: &Bindings, one: &Offer, item: &Item, menu: &
     requires outside { scope.now ≡ [] }
     requires few { BindsFew 0 one.now }
     requires bare { item.now.spots.items ≡ [] }
+    requires free { length menu.old.items < most_items }
     ensures { menu_seen menu.new.items ≡ take most_items (menu_seen menu.old.items
         ++ map (extended (item_seen item.now)) (spots_of (scene_seen scene.now) scope.now one.now)) }
 {
     match one.guard() {
         Some(guard) => {
             if !offer_in_parts(scene, scope, guard, item, menu) {
-                offer(scene, scope, one.alt(), item, menu);
+                offer(scene, scope, one.alt(), None, item, menu);
             }
         }
-        None => offer(scene, scope, one.alt(), item, menu),
+        None => offer(scene, scope, one.alt(), None, item, menu),
     }
 }
 

@@ -1,9 +1,10 @@
 //! Menus that grow by the cards of an innermost domain.
-ghost use Rattle.std.specs.Prelude.{◌≡◌, ◌<◌, ◌+◌, ◌≤◌, ◌++◌, ◌∷◌, [], true, false, length, map, take, if◌then◌else◌};
+ghost use Rattle.std.specs.Prelude.{◌≡◌, ◌<◌, ◌+◌, ◌≤◌, ◌++◌, ◌∷◌, [], true, false, length, map, take, slice_index_or, Some, None, IfSome, if◌then◌else◌};
+ghost use Rattle.rc_model.specs.Numbers.{below};
 ghost use Rattle.rc_model.specs.Limits.{most_items, most_in_list};
 ghost use Rattle.rc_sheet_model.specs.Sheet.{cards_in};
 ghost use Rattle.rc_play_model.specs.Menu.{from_each};
-ghost use Rattle.rc_play_model.specs.Value.{coll_value};
+ghost use Rattle.rc_play_model.specs.Value.{both, nat_same, coll_value};
 ghost use Rattle.rc_ast.specs.Names.{loc_seen};
 ghost use Rattle.rc_ast.specs.Expressions.{test_seen};
 ghost use Rattle.rc_asked.specs.Guards.{guard_meant, IsFixedGuard};
@@ -13,7 +14,9 @@ ghost use Rattle.rc_value.specs.Depth.{test_depth};
 ghost use Rattle.rc_menu.specs.Menu.{extended};
 ghost use Rattle.rc_value.specs.Scene.{scene_seen};
 
-use crate::asks::{Asks, CardAsk, Parts, are_sought, joined_answer, joined_met, parts_of};
+use crate::asks::{
+    Asks, CardAsk, Parts, are_sought, has_value, joined_answer, joined_met, parts_of, sole_value,
+};
 use crate::parts::known_parts;
 use rc_asked::Guard;
 use rc_ast::Test;
@@ -29,6 +32,40 @@ pub(crate) fn with_spot(item: &Item, spot: u16) -> Item
     if is_bare(item) {
         return first_spot(item.alt, spot);
     }
+    match sole_spot(item) {
+        Some(first) => second_spot(item.alt, first, spot),
+        None => further_spot(item, spot),
+    }
+}
+
+// Its position, if it has one and no more.
+#[inline(always)]
+fn sole_spot(item: &Item) -> Option<u16>
+    ensures { IfSome result (λ first. item.now.spots.items ≡ first ∷ []) }
+{
+    if item.spots.len() != 1 {
+        return None;
+    }
+    Some(item.spots[0])
+}
+
+// An item with two positions: fewer items have more, and a list is copied in a loop.
+#[inline(always)]
+fn second_spot(alt: usize, first: u16, spot: u16) -> Item
+    ensures { item_seen result ≡ record { alt = alt; spots = first ∷ spot ∷ [] } }
+{
+    let mut spots = Spots::new();
+    spots.push(first);
+    spots.push(spot);
+    Item { alt, spots }
+}
+
+// An item with further positions.
+#[inline(never)]
+fn further_spot(item: &Item, spot: u16) -> Item
+    requires { length item.now.spots.items < 4 }
+    ensures { item_seen result ≡ extended (item_seen item.now) (spot ∷ []) }
+{
     let mut next = item.copy();
     next.spots.push(spot);
     next
@@ -52,28 +89,39 @@ fn first_spot(alt: usize, spot: u16) -> Item
     Item { alt, spots }
 }
 
-// Puts the item with one more position behind the others, where there is room.
+/// Whether nothing more goes into a menu.
 #[inline(always)]
-fn put_at(menu: &mut Items, item: &Item, spot: u16)
-    requires { length item.now.spots.items < 4 }
-    ensures { menu_seen menu.new.items ≡ take most_items (menu_seen menu.old.items ++ extended (extended (item_seen item.now) (spot ∷ [])) [] ∷ []) }
+pub(crate) fn is_filled(menu: &Items) -> bool
+    ensures full { result ≡ true → length menu.now.items ≡ most_items }
+    ensures free { result ≡ false → length menu.now.items < most_items }
 {
-    if menu.is_full() {
-        return;
-    }
+    menu.is_full()
+}
+
+// Puts the item with one more position behind the others, and says whether the menu is full then.
+#[inline(always)]
+fn put_at(menu: &mut Items, item: &Item, spot: u16) -> bool
+    requires spots { length item.now.spots.items < 4 }
+    requires free { length menu.old.items < most_items }
+    ensures is { menu_seen menu.new.items ≡ take most_items (menu_seen menu.old.items
+        ++ extended (extended (item_seen item.now) (spot ∷ [])) [] ∷ []) }
+    ensures full { result ≡ true → length menu.new.items ≡ most_items }
+    ensures free { result ≡ false → length menu.new.items < most_items }
+{
     // each pushes its own item: one that may be either would be put together elsewhere, and copied
     if is_bare(item) {
         menu.push(first_spot(item.alt, spot));
-    } else {
-        push_behind(menu, item, spot);
+        return is_filled(menu);
     }
+    push_behind(menu, item, spot);
+    is_filled(menu)
 }
 
 // Pushes the item with one more position behind those that it has.
 #[inline(never)]
 fn push_behind(menu: &mut Items, item: &Item, spot: u16)
     requires spots { length item.now.spots.items < 4 }
-    requires room { length menu.old.items < most_items }
+    requires free { length menu.old.items < most_items }
     ensures { menu_seen menu.new.items ≡ menu_seen menu.old.items ++ extended (item_seen item.now) (spot ∷ []) ∷ [] }
 {
     menu.push(with_spot(item, spot));
@@ -81,41 +129,33 @@ fn push_behind(menu: &mut Items, item: &Item, spot: u16)
 
 // The same where it passes.
 #[inline(always)]
-fn put_at_if(menu: &mut Items, item: &Item, spot: u16, passes: bool)
-    requires { length item.now.spots.items < 4 }
-    ensures { menu_seen menu.new.items ≡ take most_items (menu_seen menu.old.items ++ (if passes then extended (extended (item_seen item.now) (spot ∷ [])) [] ∷ [] else [])) }
+fn put_at_if(menu: &mut Items, item: &Item, spot: u16, passes: bool) -> bool
+    requires spots { length item.now.spots.items < 4 }
+    requires free { length menu.old.items < most_items }
+    ensures is { menu_seen menu.new.items ≡ take most_items (menu_seen menu.old.items
+        ++ (if passes then extended (extended (item_seen item.now) (spot ∷ [])) [] ∷ [] else [])) }
+    ensures full { result ≡ true → length menu.new.items ≡ most_items }
+    ensures free { result ≡ false → length menu.new.items < most_items }
 {
-    // what a menu keeps
-    let _count = menu.len();
     if passes {
-        put_at(menu, item, spot);
+        return put_at(menu, item, spot);
     }
+    false
 }
 
-// Offers each of the cards with these ids.
-fn offer_ids(ids: &[u16], item: &Item, menu: &mut Items)
-    requires few { length ids.now ≤ most_in_list }
+/// Offers each of so many members of a domain.
+pub(crate) fn offer_count(count: usize, item: &Item, menu: &mut Items)
+    requires few { count ≤ most_in_list }
     requires room { length item.now.spots.items < 4 }
+    requires free { length menu.old.items < most_items }
     ensures { menu_seen menu.new.items ≡ take most_items (menu_seen menu.old.items
-        ++ map (extended (item_seen item.now)) (from_each (λ id. [] ∷ []) 0 ids.now)) }
+        ++ map (extended (item_seen item.now)) (from_each
+        (λ n. [] ∷ []) 0 (below count))) }
 {
-    // what a menu keeps
-    let _count = menu.len();
-    for place in 0..ids.len() {
-        put_at(menu, item, place as u16);
-    }
-}
-
-/// Offers each of the cards.
-pub(crate) fn offer_every(cards: &Collection, item: &Item, menu: &mut Items)
-    requires { length item.now.spots.items < 4 }
-    ensures { menu_seen menu.new.items ≡ take most_items (menu_seen menu.old.items
-        ++ map (extended (item_seen item.now)) (from_each (λ c. [] ∷ []) 0 cards.now)) }
-{
-    // what a menu keeps
-    let _count = menu.len();
-    for place in 0..cards.len() {
-        put_at(menu, item, place as u16);
+    for place in 0..count {
+        if put_at(menu, item, place as u16) {
+            return;
+        }
     }
 }
 
@@ -132,14 +172,17 @@ fn offer_asked(
 )
     requires fits { AllFit scope.now asks.now }
     requires room { length item.now.spots.items < 4 }
+    requires free { length menu.old.items < most_items }
     ensures { menu_seen menu.new.items ≡ take most_items (menu_seen menu.old.items
-        ++ map (extended (item_seen item.now)) (from_each (λ c. if joined any (map (ask_value (scene_seen scene.now) scope.now c) asks.now) then [] ∷ [] else []) 0 cards.now)) }
+        ++ map (extended (item_seen item.now)) (from_each
+        (λ c. if joined any (map (ask_value (scene_seen scene.now) scope.now c) asks.now)
+        then [] ∷ [] else []) 0 cards.now)) }
 {
-    // what a menu keeps
-    let _count = menu.len();
     for place in 0..cards.len() {
         let passes = joined_answer(scene, scope, asks, any, cards.at(place));
-        put_at_if(menu, item, place as u16, passes);
+        if put_at_if(menu, item, place as u16, passes) {
+            return;
+        }
     }
 }
 
@@ -155,8 +198,11 @@ fn offer_some(
 )
     requires fits { AllFit scope.now asks.now }
     requires room { length item.now.spots.items < 4 }
+    requires free { length menu.old.items < most_items }
     ensures { menu_seen menu.new.items ≡ take most_items (menu_seen menu.old.items
-        ++ map (extended (item_seen item.now)) (from_each (λ c. if joined any (map (ask_value (scene_seen scene.now) scope.now c) asks.now) then [] ∷ [] else []) 0 cards.now)) }
+        ++ map (extended (item_seen item.now)) (from_each
+        (λ c. if joined any (map (ask_value (scene_seen scene.now) scope.now c) asks.now)
+        then [] ∷ [] else []) 0 cards.now)) }
 {
     if let Some(ids) = cards.ids() {
         if are_sought(asks) {
@@ -166,18 +212,55 @@ fn offer_some(
     offer_asked(scene, scope, cards, asks, any, item, menu);
 }
 
-// Offers those of the cards with these ids that have the values that are asked for.
+// Offers those of the cards with these ids that have the values that are asked for. One value is asked for most often.
 fn offer_met(asks: &[CardAsk], any: bool, ids: &[u16], item: &Item, menu: &mut Items)
     requires few { length ids.now ≤ most_in_list }
     requires room { length item.now.spots.items < 4 }
+    requires free { length menu.old.items < most_items }
     ensures { menu_seen menu.new.items ≡ take most_items (menu_seen menu.old.items
-        ++ map (extended (item_seen item.now)) (from_each (λ id. if joined any (map (met_value id) asks.now) then [] ∷ [] else []) 0 ids.now)) }
+        ++ map (extended (item_seen item.now)) (from_each
+        (λ id. if joined any (map (met_value id) asks.now) then [] ∷ [] else []) 0 ids.now)) }
 {
-    // what a menu keeps
-    let _count = menu.len();
+    match sole_value(asks) {
+        Some(sole) => offer_having(sole.row, sole.value, ids, item, menu),
+        None => offer_joined(asks, any, ids, item, menu),
+    }
+}
+
+// Offers those that have this value.
+#[inline(never)]
+fn offer_having(row: &[Option<u16>], value: u16, ids: &[u16], item: &Item, menu: &mut Items)
+    requires few { length ids.now ≤ most_in_list }
+    requires room { length item.now.spots.items < 4 }
+    requires free { length menu.old.items < most_items }
+    ensures { menu_seen menu.new.items ≡ take most_items (menu_seen menu.old.items
+        ++ map (extended (item_seen item.now)) (from_each
+        (λ id. if both nat_same (slice_index_or row.now id None) (Some value)
+        then [] ∷ [] else []) 0 ids.now)) }
+{
+    for place in 0..ids.len() {
+        let passes = has_value(row, value, ids[place]);
+        if put_at_if(menu, item, place as u16, passes) {
+            return;
+        }
+    }
+}
+
+// Offers those for which the answers say so.
+#[inline(never)]
+fn offer_joined(asks: &[CardAsk], any: bool, ids: &[u16], item: &Item, menu: &mut Items)
+    requires few { length ids.now ≤ most_in_list }
+    requires room { length item.now.spots.items < 4 }
+    requires free { length menu.old.items < most_items }
+    ensures { menu_seen menu.new.items ≡ take most_items (menu_seen menu.old.items
+        ++ map (extended (item_seen item.now)) (from_each
+        (λ id. if joined any (map (met_value id) asks.now) then [] ∷ [] else []) 0 ids.now)) }
+{
     for place in 0..ids.len() {
         let passes = joined_met(asks, any, ids[place]);
-        put_at_if(menu, item, place as u16, passes);
+        if put_at_if(menu, item, place as u16, passes) {
+            return;
+        }
     }
 }
 
@@ -192,17 +275,18 @@ pub(crate) fn offer_guarded<'t>(
 )
     requires deep { length scope.now + (1 + test_depth (test_seen guard.now)) ≤ 5 }
     requires room { length item.now.spots.items < 4 }
+    requires free { length menu.old.items < most_items }
     ensures { menu_seen menu.new.items ≡ take most_items (menu_seen menu.old.items
-        ++ map (extended (item_seen item.now)) (from_each (λ c. if told_of (scene_seen scene.now) scope.now (test_seen guard.now) c then [] ∷ [] else []) 0 cards.now)) }
+        ++ map (extended (item_seen item.now)) (from_each
+        (λ c. if told_of (scene_seen scene.now) scope.now (test_seen guard.now) c
+        then [] ∷ [] else []) 0 cards.now)) }
 {
-    // what a menu keeps
-    let _count = menu.len();
     let mut asks = Asks::new();
     let parts = parts_of(scene, scope, guard, &mut asks);
     if !parts.settled {
         offer_some(scene, scope, cards, asks.as_slice(), parts.any, item, menu);
     } else if parts.any {
-        offer_every(cards, item, menu);
+        offer_count(cards.len(), item, menu);
     }
 }
 
@@ -211,15 +295,16 @@ pub(crate) fn offer_guarded<'t>(
 fn offer_sought(parts: Parts, asks: &[CardAsk], ids: &[u16], item: &Item, menu: &mut Items)
     requires few { length ids.now ≤ most_in_list }
     requires room { length item.now.spots.items < 4 }
+    requires free { length menu.old.items < most_items }
     ensures { menu_seen menu.new.items ≡ take most_items (menu_seen menu.old.items
-        ++ map (extended (item_seen item.now)) (from_each (λ id. if (if parts.settled then parts.any else joined parts.any (map (met_value id) asks.now)) then [] ∷ [] else []) 0 ids.now)) }
+        ++ map (extended (item_seen item.now)) (from_each
+        (λ id. if (if parts.settled then parts.any else joined parts.any (map (met_value id) asks.now))
+        then [] ∷ [] else []) 0 ids.now)) }
 {
-    // what a menu keeps
-    let _count = menu.len();
     if !parts.settled {
         offer_met(asks, parts.any, ids, item, menu);
     } else if parts.any {
-        offer_ids(ids, item, menu);
+        offer_count(ids.len(), item, menu);
     }
 }
 
@@ -236,8 +321,10 @@ pub(crate) fn offer_in_parts(
     requires outside { scope.now ≡ [] }
     requires fixed { IsFixedGuard guard.now }
     requires room { length item.now.spots.items < 4 }
+    requires free { length menu.old.items < most_items }
     ensures done { result ≡ true → menu_seen menu.new.items ≡ take most_items (menu_seen menu.old.items
-        ++ map (extended (item_seen item.now)) (from_each (λ c. if told_of (scene_seen scene.now) scope.now (guard_meant guard.now) c then [] ∷ [] else []) 0
+        ++ map (extended (item_seen item.now))
+        (from_each (λ c. if told_of (scene_seen scene.now) scope.now (guard_meant guard.now) c then [] ∷ [] else []) 0
         (coll_value (scene_seen scene.now) scope.now (cards_in (loc_seen guard.now.loc))))) }
     ensures left { result ≡ false → menu.new.items ≡ menu.old.items }
 {

@@ -16,15 +16,15 @@ invariant-offer_each-loop-place l = record {
       ≡ take 256 (menu_seen l.fn.menu.items ++ map (extended (item_seen l.item)) (from_each (λ m. spots_of (scene_seen l.scene) (l.scope ++ m ∷ []) (alt_seen l.inner)) 0 (map (λ c. card_bound c) l.cards)));
 }
 
-abbrev pub invariant-offer_players-loop-player : goal.invariant-offer_players-loop-player
-invariant-offer_players-loop-player l = record {
+abbrev pub invariant-offer_each_player-loop-player : goal.invariant-offer_each_player-loop-player
+invariant-offer_each_player-loop-player l = record {
   few : length l.menu.items ≤ 256;
   told : take 256 (menu_seen l.menu.items ++ map (extended (item_seen l.item)) (from_each (λ m. spots_of (scene_seen l.scene) (l.scope ++ m ∷ []) (alt_seen l.inner)) l.player (drop l.player (map (λ n. player_bound n) (below l.scene.sheet.now.players)))))
       ≡ take 256 (menu_seen l.fn.menu.items ++ map (extended (item_seen l.item)) (from_each (λ m. spots_of (scene_seen l.scene) (l.scope ++ m ∷ []) (alt_seen l.inner)) 0 (map (λ n. player_bound n) (below l.scene.sheet.now.players))));
 }
 
-abbrev pub invariant-offer_parts-loop-place : goal.invariant-offer_parts-loop-place
-invariant-offer_parts-loop-place l = record {
+abbrev pub invariant-offer_each_group-loop-place : goal.invariant-offer_each_group-loop-place
+invariant-offer_each_group-loop-place l = record {
   few : length l.menu.items ≤ 256;
   told : take 256 (menu_seen l.menu.items ++ map (extended (item_seen l.item)) (from_each (λ m. spots_of (scene_seen l.scene) (l.scope ++ m ∷ []) (alt_seen l.inner)) l.place (drop l.place (map (λ g. group_bound g) (map (with_value (scene_seen l.scene) l.name l.all) l.values.items)))))
       ≡ take 256 (menu_seen l.fn.menu.items ++ map (extended (item_seen l.item)) (from_each (λ m. spots_of (scene_seen l.scene) (l.scope ++ m ∷ []) (alt_seen l.inner)) 0 (map (λ g. group_bound g) (map (with_value (scene_seen l.scene) l.name l.all) l.values.items))));

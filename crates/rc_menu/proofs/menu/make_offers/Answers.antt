@@ -5,7 +5,7 @@ use Rattle.rc_rules.specs.Menu.{item_seen, menu_seen}
 use Rattle.rc_value.specs.Binding.{BindsFew}
 use Rattle.rc_menu.specs.Menu.{extended}
 use Rattle.rc_value.specs.Scene.{scene_seen}
-use Rattle.rc_menu.proofs.Offers.{begun, offered_alt, offered_alts, cut_few}
+use Rattle.rc_menu.proofs.Offers.{begun, offered_alt, offered_alts, offered_full, cut_few}
 use Rattle.rc_menu.proofs.menu.make_offers.Goals as goal
 
 pub make_offer-requires-clause-few : goal.make_offer-requires-clause-few
@@ -29,6 +29,11 @@ loop-number-preserved c =
           offered_alt (spots_of (scene_seen c.args.scene.now) []) (menu_seen c.loop-number.menu.items) (menu_seen c.make_offer.new.menu.items) _ c.args.offers.now c.loop-number.number c.index-offers-number.result
           c.loop-number-test.true c.index-offers-number.is grown c.loop-number.invariant.told;
     }
+
+pub returns-then-is_filled : goal.returns-then-is_filled
+returns-then-is_filled c =
+    offered_full (menu_seen c.loop-number.menu.items) _ _ (length-map c.loop-number.menu.items item_seen ∙ c.is_filled.ensures.full c.if-is_filled.true) c.loop-number.invariant.told
+    ∙ take-map item_of 256 (paths_of (scene_seen c.args.scene.now) c.args.offers.now)
 
 pub returns : goal.returns
 returns c =

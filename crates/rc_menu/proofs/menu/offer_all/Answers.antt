@@ -7,7 +7,7 @@ use Rattle.rc_value.specs.Binding.{BindsFew}
 use Rattle.rc_menu.specs.Menu.{extended}
 use Rattle.rc_value.specs.Scene.{scene_seen}
 use Rattle.rc_rules.proofs.Elements.{map_here, each_here}
-use Rattle.rc_menu.proofs.Offers.{begun, offered_alt, offered_alts, cut_few}
+use Rattle.rc_menu.proofs.Offers.{begun, offered_alt, offered_alts, offered_full, cut_few}
 use Rattle.rc_menu.proofs.menu.offer_all.Goals as goal
 
 pub offer-requires-clause-fits : goal.offer-requires-clause-fits
@@ -35,6 +35,11 @@ loop-number-preserved c =
           offered_alt (spots_of (scene_seen c.args.scene.now) []) (menu_seen c.loop-number.menu.items) (menu_seen c.offer.new.menu.items) _ (alts_seen c.args.alts.now) c.loop-number.number (alt_seen c.index-alts-number.result)
           (omega (arith, c.loop-number-test.true)) (map_here alt_seen c.args.alts.now c.loop-number.number c.index-alts-number.result c.loop-number-test.true c.index-alts-number.is) grown c.loop-number.invariant.told;
     }
+
+pub returns-then-is_filled : goal.returns-then-is_filled
+returns-then-is_filled c =
+    offered_full (menu_seen c.loop-number.menu.items) _ _ (length-map c.loop-number.menu.items item_seen ∙ c.is_filled.ensures.full c.if-is_filled.true) c.loop-number.invariant.told
+    ∙ take-map item_of 256 (paths_of (scene_seen c.args.scene.now) (alts_seen c.args.alts.now))
 
 pub returns : goal.returns
 returns c =

@@ -8,6 +8,6 @@ use Rattle.rc_menu.proofs.menu.put_if.Goals as goal
 pub returns-else-passes : goal.returns-else-passes
 returns-else-passes c =
     let n = length-map c.args.menu.now.items item_seen in
-    put_nothing (menu_seen c.args.menu.now.items) (omega (arith, c.len-count.ensures.value, c.len-count.ensures.fits))
+    put_nothing (menu_seen c.args.menu.now.items) (omega (arith, c.requires.free))
     ∙ ap (λ b. take 256 (menu_seen c.args.menu.now.items ++ (if b then extended (item_seen c.args.item.now) [] ∷ [] else [])))
     (sym c.if-passes.false)

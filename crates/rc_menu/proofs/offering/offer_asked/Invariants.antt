@@ -1,4 +1,4 @@
-use Rattle.std.proofs.Common.{◌≡◌, ◌≤◌, ◌++◌, ◌∷◌, [], length, map, take, drop}
+use Rattle.std.proofs.Common.{◌≡◌, ◌<◌, ◌++◌, ◌∷◌, [], length, map, take, drop}
 use Rattle.std.specs.Prelude.{if◌then◌else◌}
 use Rattle.rc_play_model.specs.Menu.{from_each}
 use Rattle.rc_rules.specs.Menu.{item_seen, menu_seen}
@@ -9,7 +9,7 @@ use Rattle.rc_menu.proofs.offering.offer_asked.Given as goal
 
 abbrev pub invariant-loop-place : goal.invariant-loop-place
 invariant-loop-place l = record {
-  few : length l.menu.items ≤ 256;
+  free : length l.menu.items < 256;
   told : take 256 (menu_seen l.menu.items ++ map (extended (item_seen l.item)) (from_each (λ c. if joined l.any (map (ask_value (scene_seen l.scene) l.scope c) l.asks) then [] ∷ [] else []) l.place (drop l.place l.cards)))
       ≡ take 256 (menu_seen l.fn.menu.items ++ map (extended (item_seen l.item)) (from_each (λ c. if joined l.any (map (ask_value (scene_seen l.scene) l.scope c) l.asks) then [] ∷ [] else []) 0 l.cards));
 }

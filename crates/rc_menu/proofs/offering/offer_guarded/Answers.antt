@@ -7,7 +7,7 @@ use Rattle.rc_menu.specs.Asks.{ask_value, joined, told_of}
 use Rattle.rc_menu.specs.Menu.{extended}
 use Rattle.rc_value.specs.Scene.{scene_seen}
 use Rattle.rc_menu.proofs.AskLemmas.{told_settled, told_asked}
-use Rattle.rc_menu.proofs.Offers.{put_nothing, none_each, same_offers}
+use Rattle.rc_menu.proofs.Offers.{counted_each, put_nothing, none_each, same_offers}
 use Rattle.rc_menu.proofs.offering.offer_guarded.Goals as goal
 
 pub returns-then-not-parts : goal.returns-then-not-parts
@@ -20,15 +20,16 @@ returns-then-not-parts c =
 
 pub returns-then-parts : goal.returns-then-parts
 returns-then-parts c =
-    c.offer_every.ensures
+    c.offer_count.ensures
     ∙ ap (λ ps. take 256 (menu_seen c.args.menu.now.items ++ map (extended (item_seen c.args.item.now)) ps))
-    (same_offers (λ x. true) (told_of (scene_seen c.args.scene.now) c.args.scope.now (test_seen c.args.guard.now)) c.args.cards.now
+    (counted_each c.len.result c.args.cards.now c.len.ensures.is
+    ∙ same_offers (λ x. true) (told_of (scene_seen c.args.scene.now) c.args.scope.now (test_seen c.args.guard.now)) c.args.cards.now
     (λ x. sym (told_settled _ _ _ _ c.if-not-parts.false (c.parts_of-parts.ensures.is x) ∙ c.if-parts.true)))
 
 pub returns-else-parts : goal.returns-else-parts
 returns-else-parts c =
     let n = length-map c.args.menu.now.items item_seen in
-    put_nothing (menu_seen c.args.menu.now.items) (omega (arith, c.len-count.ensures.value, c.len-count.ensures.fits))
+    put_nothing (menu_seen c.args.menu.now.items) (omega (arith, c.requires.free))
     ∙ ap (λ ps. take 256 (menu_seen c.args.menu.now.items ++ map (extended (item_seen c.args.item.now)) ps))
     (sym (none_each 0 c.args.cards.now) ∙ same_offers (λ x. false) (told_of (scene_seen c.args.scene.now) c.args.scope.now (test_seen c.args.guard.now)) c.args.cards.now
     (λ x. sym (told_settled _ _ _ _ c.if-not-parts.false (c.parts_of-parts.ensures.is x) ∙ c.if-parts.false)))

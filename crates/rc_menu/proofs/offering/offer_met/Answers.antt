@@ -1,30 +1,12 @@
-use Rattle.std.proofs.Common.{◌++◌, ◌∷◌, [], cond, get_or, map, take, refl, arith}
-use Rattle.std.proofs.lemmas.List.{length-map}
-use Rattle.rc_play_model.specs.Menu.{from_each}
+use Rattle.std.proofs.Common.{◌++◌, map, take, ap, ◌∙◌}
 use Rattle.rc_rules.specs.Menu.{item_seen, menu_seen}
-use Rattle.rc_menu.specs.Asks.{joined, met_value}
+use Rattle.rc_menu.specs.declared.asks.CardAsk.TheVariants.{Value}
 use Rattle.rc_menu.specs.Menu.{extended}
-use Rattle.rc_value.proofs.Lists.{here_is}
-use Rattle.rc_menu.proofs.AskLemmas.{grown_if}
-use Rattle.rc_menu.proofs.Offers.{offered, offered_all, cut_few}
+use Rattle.rc_menu.proofs.RowOffers.{sole_offers}
 use Rattle.rc_menu.proofs.offering.offer_met.Goals as goal
 
-pub loop-place-preserved : goal.loop-place-preserved
-loop-place-preserved c =
-    let few = cut_few (menu_seen c.put_at_if.new.menu.items) _ c.put_at_if.ensures in
-    let count = length-map c.put_at_if.new.menu.items item_seen in
-    record {
-      few = omega arith;
-      told =
-          offered (λ id. cond (joined c.args.any (map (met_value id) c.args.asks.now)) ([] ∷ []) []) (item_seen c.args.item.now) (extended (item_seen c.args.item.now) (c.loop-place.place ∷ [])) (menu_seen c.loop-place.menu.items) (menu_seen c.put_at_if.new.menu.items)
-          (take 256 (menu_seen c.args.menu.now.items ++ map (extended (item_seen c.args.item.now)) (from_each (λ id. cond (joined c.args.any (map (met_value id) c.args.asks.now)) ([] ∷ []) []) 0 c.args.ids.now)))
-          c.args.ids.now c.loop-place.place (get_or c.args.ids.now c.loop-place.place 0) c.loop-place-test.true (here_is c.args.ids.now c.loop-place.place 0 c.loop-place-test.true) refl
-          (grown_if (menu_seen c.loop-place.menu.items) (menu_seen c.put_at_if.new.menu.items) (extended (item_seen c.args.item.now) (c.loop-place.place ∷ [])) c.joined_met-passes.result _ c.joined_met-passes.ensures c.put_at_if.ensures)
-          c.loop-place.invariant.told;
-    }
-
-pub returns : goal.returns
-returns c =
-    let count = length-map c.loop-place.menu.items item_seen in
-    offered_all (λ id. cond (joined c.args.any (map (met_value id) c.args.asks.now)) ([] ∷ []) []) (item_seen c.args.item.now) (menu_seen c.loop-place.menu.items) _ c.args.ids.now c.loop-place.place
-    c.loop-place-test.false (omega (arith, c.loop-place.invariant.few)) c.loop-place.invariant.told
+pub returns-in-Some : goal.returns-in-Some
+returns-in-Some c =
+    c.offer_having.ensures
+    ∙ ap (λ ps. take 256 (menu_seen c.args.menu.now.items ++ map (extended (item_seen c.args.item.now)) ps))
+    (sole_offers (Value c.in-Some.sole.value c.in-Some.sole.row) c.args.any c.args.asks.now c.args.ids.now c.in-Some.ensures)

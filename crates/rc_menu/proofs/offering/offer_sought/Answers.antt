@@ -1,9 +1,9 @@
-use Rattle.std.proofs.Common.{◌++◌, true, false, map, take, arith, ap, sym, ◌∙◌}
+use Rattle.std.proofs.Common.{◌++◌, true, false, length, map, take, arith, refl, ap, sym, ◌∙◌}
 use Rattle.std.proofs.lemmas.List.{length-map}
 use Rattle.rc_rules.specs.Menu.{item_seen, menu_seen}
 use Rattle.rc_menu.specs.Asks.{joined, met_value}
 use Rattle.rc_menu.specs.Menu.{extended}
-use Rattle.rc_menu.proofs.Offers.{none_each, put_nothing}
+use Rattle.rc_menu.proofs.Offers.{counted_each, none_each, put_nothing}
 use Rattle.rc_menu.proofs.RowOffers.{asked_offers, settled_offers}
 use Rattle.rc_menu.proofs.offering.offer_sought.Goals as goal
 
@@ -15,14 +15,15 @@ returns-then-not-parts c =
 
 pub returns-then-parts : goal.returns-then-parts
 returns-then-parts c =
-    c.offer_ids.ensures
+    c.offer_count.ensures
     ∙ ap (λ ps. take 256 (menu_seen c.args.menu.now.items ++ map (extended (item_seen c.args.item.now)) ps))
-    (settled_offers c.args.parts.settled c.args.parts.any true (λ id. joined c.args.parts.any (map (met_value id) c.args.asks.now)) c.args.ids.now c.if-not-parts.false c.if-parts.true)
+    (counted_each (length c.args.ids.now) c.args.ids.now refl
+    ∙ settled_offers c.args.parts.settled c.args.parts.any true (λ id. joined c.args.parts.any (map (met_value id) c.args.asks.now)) c.args.ids.now c.if-not-parts.false c.if-parts.true)
 
 pub returns-else-parts : goal.returns-else-parts
 returns-else-parts c =
     let n = length-map c.args.menu.now.items item_seen in
-    put_nothing (menu_seen c.args.menu.now.items) (omega (arith, c.len-count.ensures.value, c.len-count.ensures.fits))
+    put_nothing (menu_seen c.args.menu.now.items) (omega (arith, c.requires.free))
     ∙ ap (λ ps. take 256 (menu_seen c.args.menu.now.items ++ map (extended (item_seen c.args.item.now)) ps))
     (sym (none_each 0 c.args.ids.now)
     ∙ settled_offers c.args.parts.settled c.args.parts.any false (λ id. joined c.args.parts.any (map (met_value id) c.args.asks.now)) c.args.ids.now c.if-not-parts.false c.if-parts.false)

@@ -2,27 +2,20 @@ use Rattle.std.proofs.Common.{◌∷◌, [], arith, ap, sym, ◌∙◌}
 use Rattle.std.proofs.lemmas.List.{length-map, map-append}
 use Rattle.rc_rules.specs.Menu.{item_seen, menu_seen}
 use Rattle.rc_menu.specs.Menu.{extended}
-use Rattle.rc_menu.proofs.Offers.{put_more, put_none, full_is, room_is, extended_none, first_extended}
+use Rattle.rc_menu.proofs.Offers.{put_more, extended_none, first_extended}
 use Rattle.rc_menu.proofs.offering.put_at.Goals as goal
 
-pub returns-then-is_full : goal.returns-then-is_full
-returns-then-is_full c =
+pub returns-then-is_bare-clause-is : goal.returns-then-is_bare-clause-is
+returns-then-is_bare-clause-is c =
     let n = length-map c.args.menu.now.items item_seen in
-    put_none (menu_seen c.args.menu.now.items) _ (n ∙ full_is _ _ c.is_full.ensures.value c.if-is_full.true)
-
-pub returns-then-is_bare : goal.returns-then-is_bare
-returns-then-is_bare c =
-    let n = length-map c.args.menu.now.items item_seen in
-    let r = room_is _ _ c.is_full.ensures.value c.if-is_full.false c.is_full.ensures.fits in
     put_more (menu_seen c.args.menu.now.items) (menu_seen c.push.new.self.items) _ _
-    (ap menu_seen c.push.ensures.items ∙ map-append item_seen c.args.menu.now.items _) (omega arith)
+    (ap menu_seen c.push.ensures.items ∙ map-append item_seen c.args.menu.now.items _) (omega (arith, c.requires.free))
     (first_extended (item_seen c.first_spot.result) c.args.item.now.alt c.args.spot c.args.item.now.spots.items (c.is_bare.ensures c.if-is_bare.true) c.first_spot.ensures
     ∙ sym (extended_none (extended (item_seen c.args.item.now) (c.args.spot ∷ []))))
 
-pub returns-else-is_bare : goal.returns-else-is_bare
-returns-else-is_bare c =
+pub returns-clause-is : goal.returns-clause-is
+returns-clause-is c =
     let n = length-map c.args.menu.now.items item_seen in
-    let r = room_is _ _ c.is_full.ensures.value c.if-is_full.false c.is_full.ensures.fits in
     put_more (menu_seen c.args.menu.now.items) (menu_seen c.push_behind.new.menu.items) _ _
-    c.push_behind.ensures (omega arith)
+    c.push_behind.ensures (omega (arith, c.requires.free))
     (sym (extended_none (extended (item_seen c.args.item.now) (c.args.spot ∷ []))))
