@@ -1,12 +1,11 @@
 -- Words by their bytes.
 use Rattle.std.proofs.Common.{◌≡◌, ℕ, Bool, true, false, nat_eq, List, [], ◌∷◌, ◌++◌, take, cond, append_assoc, refl, ap, ◌∙◌}
 use Rattle.std.specs.Borrow.{Bor}
-use Rattle.std.specs.List.{list_any}
 use Rattle.std.specs.Str.{bytes_eq}
 use Rattle.std.specs.Cmp.Lexicographic.{pointwise}
 use Rattle.std.proofs.lemmas.List.{take-map, map-append}
-use Rattle.indexmap.specs.IndexSet.{insert_key}
-use Rattle.rc_faults.specs.Seen.{words_seen}
+use Rattle.rc_firsts.specs.Firsts.{has_key, with_first}
+use Rattle.rc_faults.specs.Seen.{words_seen, entries_seen}
 use Rattle.rc_faults.specs.SecondNames.{is_named}
 use Rattle.rc_model.specs.Words.{with_word}
 
@@ -18,24 +17,30 @@ take_words n words = take-map (λ word. word.now) n words
 bytes_alike : (a b : List ℕ) → pointwise nat_eq a b ≡ bytes_eq a b
 bytes_alike a b = refl
 
--- the look-up of a word in a set
-pub named_words : (word : List ℕ) (words : List (Bor (List ℕ))) → list_any (λ other. pointwise nat_eq word other.now) words
-    ≡ is_named word (words_seen words)
-named_words word [] = refl
-named_words word (other ∷ words) = rw (bytes_alike word other.now, named_words word words) refl
+-- slices are the same where their bytes are
+abbrev same_slice : Bor (List ℕ) → Bor (List ℕ) → Bool
+same_slice a b = pointwise nat_eq a.now b.now
 
--- the words of one set or another
-words_chosen : (known : Bool) (word : Bor (List ℕ)) (words : List (Bor (List ℕ)))
-    → words_seen (cond known words (words ++ word ∷ [])) ≡ cond known (words_seen words) (words_seen words ++ word.now ∷ [])
-words_chosen true word words = refl
-words_chosen false word words = map-append (λ other. other.now) words (word ∷ [])
+-- the look-up of a word among entries
+pub named_entries : {V : Type 0} (word : Bor (List ℕ)) (entries : List (Bor (List ℕ) × V))
+    → has_key same_slice word entries ≡ is_named word.now (entries_seen entries)
+named_entries word [] = refl
+named_entries word (entry ∷ entries) = rw (bytes_alike word.now entry.0.now, named_entries word entries) refl
 
--- a set with one more word
-pub words_inserted : (word : Bor (List ℕ)) (words : List (Bor (List ℕ)))
-    → words_seen (insert_key (λ a b. pointwise nat_eq a.now b.now) words word) ≡ with_word (words_seen words) word.now
-words_inserted word words =
-    words_chosen (list_any (λ other. pointwise nat_eq word.now other.now) words) word words
-    ∙ ap (λ known. cond known (words_seen words) (words_seen words ++ word.now ∷ [])) (named_words word.now words)
+-- the words of these entries, or of these and one more
+words_chosen : {V : Type 0} (known : Bool) (entry : Bor (List ℕ) × V) (entries : List (Bor (List ℕ) × V))
+    → entries_seen (cond known entries (entries ++ entry ∷ []))
+    ≡ cond known (entries_seen entries) (entries_seen entries ++ entry.0.now ∷ [])
+words_chosen true entry entries = refl
+words_chosen false entry entries = map-append (λ other. other.0.now) entries (entry ∷ [])
+
+-- the words of entries with the first one of a word
+pub words_inserted : {V : Type 0} (word : Bor (List ℕ)) (value : V) (entries : List (Bor (List ℕ) × V))
+    → entries_seen (with_first same_slice entries word value) ≡ with_word (entries_seen entries) word.now
+words_inserted word value entries =
+    let words = entries_seen entries in
+    words_chosen (has_key same_slice word entries) (word, value) entries
+    ∙ ap (λ known. cond known words (words ++ word.now ∷ [])) (named_entries word entries)
 
 -- these, those and more
 pub attach : (these those more : List (List ℕ)) → (these ++ those) ++ more ≡ these ++ (those ++ more)

@@ -23,6 +23,10 @@ part_seen (Some part) = tree_of part.now
 abbrev pub words_seen : List (Bor (List ℕ)) → List (List ℕ)
 words_seen words = map (λ word. word.now) words
 
+-- the words of entries, by their bytes
+abbrev pub entries_seen : {V : Type 0} → List (Bor (List ℕ) × V) → List (List ℕ)
+entries_seen entries = map (λ entry. entry.0.now) entries
+
 abbrev pub variable_seen : BoundVariable → PureVariable
 variable_seen variable = record { word = variable.word.now; sort = variable.sort }
 

@@ -24,7 +24,8 @@ use std::alloc::Global;
 /// without cards. Of two faults of one part it is the one that stands earlier in that row.
 ///
 /// One walk learns what the whole form gives, and a second looks at its parts in the order of the text and stops at the first
-/// fault. Both take time in line with the form, but for look-ups in a face's attributes and among at most 256 names.
+/// fault. Both take time in line with the form, but for look-ups: in an ordered index of the names that the setup gives, in a
+/// face's attributes, and among at most 256 names.
 pub fn check_semantics(alloc: Global, form: &Form) -> Result<(), SheetFail>
     requires shaped { faults Symbol.Sheet (tree_of form.now) ≡ [] }
     ensures fine { IfOk result (λ _. second_faults (tree_of form.now) ≡ []) }

@@ -24,7 +24,7 @@ pub fn atom_kind<'a>(
     whole: &Whole<'a>,
     seen: &Summary<'a>,
     at: &Setting<'_, 'a>,
-    word: &[u8],
+    word: &'a [u8],
 ) -> Option<SheetKind>
     ensures { (above : List (List ℕ)) (from : ℕ) → result
         ≡ spec.kind_by whole.now seen.now (parts_spec.atom (standing_seen at.now above) word.now from) }
@@ -49,7 +49,7 @@ fn is_unknown_atom<'a>(
     whole: &Whole<'a>,
     seen: &Summary<'a>,
     at: &Setting<'_, 'a>,
-    word: &[u8],
+    word: &'a [u8],
 ) -> bool
     ensures { (above : List (List ℕ)) → result
         ≡ spec.is_unknown_atom whole.now seen.now (standing_seen at.now above) word.now }

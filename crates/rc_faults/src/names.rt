@@ -8,7 +8,7 @@ ghost use Rattle.rc_model.specs.Words.{with_word};
 ghost use Rattle.rc_faults.specs.Seen.{words_seen};
 
 use crate::fault::SheetFail;
-use indexmap::IndexSet;
+use rc_firsts::Firsts;
 use rc_form::Form;
 use std::alloc::Global;
 use std::marker::Model;
@@ -144,7 +144,7 @@ fn contains_word(words: &[&[u8]], word: &[u8]) -> bool
 
 /// Different words of a form, in the order in which they came first. Contracts see the list of them.
 pub struct DifferentNames<'a> {
-    words: IndexSet<&'a [u8]>,
+    words: Firsts<&'a [u8], ()>,
 }
 
 impl Drop for DifferentNames<'_> {
@@ -159,9 +159,9 @@ impl<'a> Model for DifferentNames<'a> {
 
     ghost Value = { List (List ℕ) };
 
-    ghost use Rattle.rc_faults.specs.Seen.{words_seen};
+    ghost use Rattle.rc_faults.specs.Seen.{entries_seen};
 
-    ghost view = { λ names. words_seen names.words.keys };
+    ghost view = { λ names. entries_seen names.words };
 }
 
 impl<'a> DifferentNames<'a> {
@@ -170,7 +170,7 @@ impl<'a> DifferentNames<'a> {
         ensures { result ≡ [] }
     {
         DifferentNames {
-            words: IndexSet::new(alloc),
+            words: Firsts::new(alloc),
         }
     }
 
@@ -182,10 +182,10 @@ impl<'a> DifferentNames<'a> {
     }
 
     /// Whether this is one of them.
-    pub fn contains(&self, word: &[u8]) -> bool
+    pub fn contains(&self, word: &'a [u8]) -> bool
         ensures { result ≡ is_named word.now self.now }
     {
-        self.words.contains(&word)
+        self.words.contains(word)
     }
 
     /// Takes a word, where it is a new one.
@@ -193,7 +193,7 @@ impl<'a> DifferentNames<'a> {
         ensures after { OnOk result (self.new ≡ with_word self.old word.now) }
         ensures memory { OnErr result (result ≡ Err SheetFail.Memory) }
     {
-        self.words.insert(word)?;
+        self.words.insert(word, ())?;
         Ok(())
     }
 }

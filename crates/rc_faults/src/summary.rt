@@ -167,7 +167,7 @@ impl<'a> Summary<'a> {
     }
 
     /// Whether a point map of this name stood.
-    pub fn has_map(&self, word: &[u8]) -> bool
+    pub fn has_map(&self, word: &'a [u8]) -> bool
         ensures { result ≡ is_named word.now self.now.maps }
     {
         self.maps.contains(word)
@@ -189,7 +189,7 @@ impl<'a> Summary<'a> {
     }
 
     /// Whether a value that the setup gives is one too many.
-    pub fn is_value_over(&self, role: Role, word: &[u8]) -> bool
+    pub fn is_value_over(&self, role: Role, word: &'a [u8]) -> bool
         ensures { result ≡ spec.is_value_over self.now role word.now }
     {
         role == Role::GivenValue && is_name_over(&self.values, word)
@@ -219,7 +219,7 @@ impl<'a> Summary<'a> {
 }
 
 /// Whether a word is one too many among these.
-fn is_name_over(names: &DifferentNames<'_>, word: &[u8]) -> bool
+fn is_name_over<'a>(names: &DifferentNames<'a>, word: &'a [u8]) -> bool
     ensures { result ≡ spec.goes_over MOST_NAMES (length names.now) (spec.new_words word.now names.now) }
 {
     let more = if names.contains(word) { 0 } else { 1 };

@@ -82,7 +82,7 @@ impl<'a> Whole<'a> {
     }
 
     /// Whether an expression uses an attribute, a value or a point map that the setup doesn't give.
-    pub fn lacks(&self, role: Role, word: &[u8]) -> bool
+    pub fn lacks(&self, role: Role, word: &'a [u8]) -> bool
         ensures { result ≡ spec.is_not_given self.now role word.now }
     {
         match role {

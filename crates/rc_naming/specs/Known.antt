@@ -1,6 +1,7 @@
 -- The names that are known after some mentions, and what the parts of a form add to them.
 use Rattle.std.specs.Prelude.{ℕ, Bool, false, ◌&&◌, Option, Some, None, if◌then◌else◌, List, [], ◌∷◌, ◌++◌, map, flat_map, fold, codes, bytes_eq}
 use Rattle.std.specs.List.{list_any}
+use Rattle.std.specs.Map.{keys_of}
 use Rattle.rc_model.specs.Tree.{Tree, word, list, Trees, nil, cons}
 use Rattle.rc_sheet_model.specs.Naming.{Naming, kind_word}
 use Rattle.rc_sheet_model.specs.StandsSetup.{begins_with, lines_with}
@@ -221,10 +222,10 @@ num_seen entry = record { name = entry.0; kind = codes "sto"; class = entry.1 }
 abbrev pub known_seen : Fields → Mentions
 known_seen known =
     record {
-      attrs = known.attrs.keys;
-      values = known.values.keys;
-      maps = known.maps.keys;
-      locs = map loc_seen known.locs.entries;
-      nums = map num_seen known.nums.entries;
-      vars = known.vars.keys;
+      attrs = keys_of known.attrs;
+      values = keys_of known.values;
+      maps = keys_of known.maps;
+      locs = map loc_seen known.locs;
+      nums = map num_seen known.nums;
+      vars = keys_of known.vars;
     }

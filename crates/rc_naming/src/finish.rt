@@ -1,5 +1,6 @@
 //! The naming that the known names are.
 ghost use Rattle.std.specs.Prelude.{◌≡◌, ◌≤◌, length, map, IfOk};
+ghost use Rattle.std.specs.Map.{keys_of};
 ghost use Rattle.rc_ast.specs.Names.{loc_name_seen, num_name_seen};
 ghost use Rattle.rc_naming.specs.Known.{naming_by, loc_seen, num_seen};
 ghost use Rattle.rc_naming.specs.Naming.{naming_seen, loc_names, num_names};
@@ -7,8 +8,8 @@ ghost use Rattle.rc_naming.specs.Naming.{naming_seen, loc_names, num_names};
 use crate::known::Known;
 use crate::numbering::Naming;
 use crate::uses::Located;
-use indexmap::IndexMap;
 use rc_ast::{Class, LocName, Names, NumName};
+use rc_firsts::OrderedWord;
 use rc_form::Word;
 use std::alloc::{AllocError, Global};
 
@@ -20,45 +21,56 @@ impl Known {
         ensures { IfOk result (λ naming. naming_seen naming ≡ naming_by self.now) }
     {
         let names = Names {
-            attrs: Vec::from_slice(alloc, self.attrs.as_slice())?,
-            values: Vec::from_slice(alloc, self.values.as_slice())?,
-            maps: Vec::from_slice(alloc, self.maps.as_slice())?,
-            locs: Vec::from_slice(alloc, self.locs.keys().as_slice())?,
-            nums: Vec::from_slice(alloc, self.nums.keys().as_slice())?,
-            vars: Vec::from_slice(alloc, self.vars.as_slice())?,
+            attrs: words_of(alloc, self.attrs.entries())?,
+            values: words_of(alloc, self.values.entries())?,
+            maps: words_of(alloc, self.maps.entries())?,
+            locs: words_of(alloc, self.locs.entries())?,
+            nums: words_of(alloc, self.nums.entries())?,
+            vars: words_of(alloc, self.vars.entries())?,
         };
         Ok(Naming {
             names,
-            locs: loc_names(alloc, &self.locs)?,
-            nums: num_names(alloc, &self.nums)?,
+            locs: loc_names(alloc, self.locs.entries())?,
+            nums: num_names(alloc, self.nums.entries())?,
         })
     }
 }
 
-fn loc_names(alloc: Global, locs: &IndexMap<Word, Located>) -> Result<Vec<LocName>, AllocError>
-    requires { length locs.now.entries ≤ 65536 }
-    ensures { IfOk result (λ list. map loc_name_seen list.items ≡ loc_names 0 (map loc_seen locs.now.entries)) }
+/// The words of entries.
+fn words_of<V>(alloc: Global, entries: &[(OrderedWord, V)]) -> Result<Vec<Word>, AllocError>
+    ensures { IfOk result (λ words. words.items ≡ keys_of entries.now) }
+{
+    let mut words = Vec::with_capacity(alloc, entries.len())?;
+    for entry in entries {
+        words.push(entry.0.word())?;
+    }
+    Ok(words)
+}
+
+fn loc_names(alloc: Global, locs: &[(OrderedWord, Located)]) -> Result<Vec<LocName>, AllocError>
+    requires { length locs.now ≤ 65536 }
+    ensures { IfOk result (λ list. map loc_name_seen list.items ≡ loc_names 0 (map loc_seen locs.now)) }
 {
     let mut list = Vec::with_capacity(alloc, locs.len())?;
-    for (_, located) in locs.iter() {
+    for entry in locs {
         list.push(LocName {
             name: list.len() as u16,
-            kind: located.kind,
-            class: located.class,
+            kind: entry.1.kind,
+            class: entry.1.class,
         })?;
     }
     Ok(list)
 }
 
-fn num_names(alloc: Global, nums: &IndexMap<Word, Class>) -> Result<Vec<NumName>, AllocError>
-    requires { length nums.now.entries ≤ 65536 }
-    ensures { IfOk result (λ list. map num_name_seen list.items ≡ num_names 0 (map num_seen nums.now.entries)) }
+fn num_names(alloc: Global, nums: &[(OrderedWord, Class)]) -> Result<Vec<NumName>, AllocError>
+    requires { length nums.now ≤ 65536 }
+    ensures { IfOk result (λ list. map num_name_seen list.items ≡ num_names 0 (map num_seen nums.now)) }
 {
     let mut list = Vec::with_capacity(alloc, nums.len())?;
-    for (_, class) in nums.iter() {
+    for entry in nums {
         list.push(NumName {
             name: list.len() as u16,
-            class: *class,
+            class: entry.1,
         })?;
     }
     Ok(list)

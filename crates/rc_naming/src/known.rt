@@ -1,13 +1,14 @@
 //! The names that are known so far.
 ghost use Rattle.std.specs.Prelude.{◌≡◌, [], OnOk, option_map, option_to_list};
+ghost use Rattle.std.specs.Map.{keys_of};
 ghost use Rattle.rc_form.specs.Form.{tree_of, trees_of, packed};
 ghost use Rattle.rc_sheet_model.specs.FormMentions.{word_of};
 ghost use Rattle.rc_naming.specs.Mentions.{loc_mention};
 ghost use Rattle.rc_naming.specs.Known.{with_first, with_words, with_all, own, none, in_deck_of, maps_alone, locs_alone, nums_alone, variables, loc_seen, num_seen};
 
 use crate::uses::{Located, attr_in, loc_in, map_in, num_in, value_in, word_of};
-use indexmap::{IndexMap, IndexSet};
 use rc_ast::Class;
+use rc_firsts::{Firsts, OrderedWord};
 use rc_form::{Form, Word};
 use std::alloc::{AllocError, Global};
 use std::marker::Model;
@@ -16,12 +17,12 @@ use std::marker::Model;
 /// mention of a location or of a stored number says.
 #[derive(Drop)]
 pub struct Known {
-    pub(crate) attrs: IndexSet<Word>,
-    pub(crate) values: IndexSet<Word>,
-    pub(crate) maps: IndexSet<Word>,
-    pub(crate) locs: IndexMap<Word, Located>,
-    pub(crate) nums: IndexMap<Word, Class>,
-    pub(crate) vars: IndexSet<Word>,
+    pub(crate) attrs: Firsts<OrderedWord, ()>,
+    pub(crate) values: Firsts<OrderedWord, ()>,
+    pub(crate) maps: Firsts<OrderedWord, ()>,
+    pub(crate) locs: Firsts<OrderedWord, Located>,
+    pub(crate) nums: Firsts<OrderedWord, Class>,
+    pub(crate) vars: Firsts<OrderedWord, ()>,
 }
 
 impl Model for Known {
@@ -40,12 +41,12 @@ impl Known {
         ensures { result ≡ none }
     {
         Known {
-            attrs: IndexSet::new(alloc),
-            values: IndexSet::new(alloc),
-            maps: IndexSet::new(alloc),
-            locs: IndexMap::new(alloc),
-            nums: IndexMap::new(alloc),
-            vars: IndexSet::new(alloc),
+            attrs: Firsts::new(alloc),
+            values: Firsts::new(alloc),
+            maps: Firsts::new(alloc),
+            locs: Firsts::new(alloc),
+            nums: Firsts::new(alloc),
+            vars: Firsts::new(alloc),
         }
     }
 
@@ -120,26 +121,22 @@ impl Known {
 
 /// Adds a word, unless it is known.
 #[inline(always)]
-fn add_word(words: &mut IndexSet<Word>, word: Option<Word>) -> Result<(), AllocError>
-    ensures { OnOk result (words.new.keys ≡ with_words words.old.keys (option_to_list word)) }
+fn add_word(words: &mut Firsts<OrderedWord, ()>, word: Option<Word>) -> Result<(), AllocError>
+    ensures { OnOk result (keys_of words.new ≡ with_words (keys_of words.old) (option_to_list word)) }
 {
     if let Some(word) = word {
-        words.insert(word)?;
+        words.insert(OrderedWord::of(word), ())?;
     }
     Ok(())
 }
 
 /// Adds a word with what its mention says, unless the word is known.
-fn add_entry<V: Drop>(
-    entries: &mut IndexMap<Word, V>,
+fn add_entry<V: Copy>(
+    entries: &mut Firsts<OrderedWord, V>,
     word: Word,
     said: V,
 ) -> Result<(), AllocError>
-    ensures { OnOk result (entries.new.entries ≡ with_first (λ e. e.0) entries.old.entries (word, said)) }
+    ensures { OnOk result (entries.new ≡ with_first (λ e. e.0) entries.old (word, said)) }
 {
-    if entries.contains_key(&word) {
-        return Ok(());
-    }
-    entries.insert(word, said)?;
-    Ok(())
+    entries.insert(OrderedWord::of(word), said)
 }

@@ -1,6 +1,8 @@
 -- The fields of a reader and of a scope.
 use Rattle.std.specs.Prelude.{◌≡◌, ◌≤◌, ℕ, List, length, map, position, bytes_eq}
-use Rattle.std.specs.Map.{lookup}
+use Rattle.std.specs.BTreeMap.{BTreeMap, get}
+use Rattle.std.specs.Cmp.Lexicographic.{slice_cmp}
+use Rattle.std.specs.Ordering.{nat_cmp}
 use Rattle.rc_model.specs.Limits.{most_attrs, most_values, most_maps, most_locations, most_numbers}
 use Rattle.rc_sheet_model.specs.Naming.{Naming}
 use Rattle.rc_sheet_model.specs.Naming.{Variable as PureVariable}
@@ -28,9 +30,9 @@ naming_seen reader =
       nums = map num_name_seen reader.nums.items;
     }
 
--- entries give each of these words its first place, and no other word a number
-abbrev pub Numbers : List (List ℕ) → List (List ℕ × ℕ) → Type 0
-Numbers words entries = (word : List ℕ) → lookup (bytes_eq word) entries ≡ position (bytes_eq word) words
+-- the map gives each of these words its first place, and no other word a number
+abbrev pub Numbers : List (List ℕ) → BTreeMap (List ℕ) ℕ → Type 0
+Numbers words numbers = (word : List ℕ) → get (slice_cmp nat_cmp) numbers word ≡ position (bytes_eq word) words
 
 -- there are few names of each kind, but of variables, and each variable is found
 pub record IsReader (reader : Fields) : Type 0 where
@@ -40,4 +42,4 @@ pub record IsReader (reader : Fields) : Type 0 where
   pub locs : length reader.names.locs.items ≤ most_locations
   pub nums : length reader.names.nums.items ≤ most_numbers
   pub vars : length reader.names.vars.items ≤ 4294967295
-  pub numbers : Numbers reader.names.vars.items reader.variables.entries
+  pub numbers : Numbers reader.names.vars.items reader.variables

@@ -162,7 +162,7 @@ impl Reader {
         ensures { Gives (λ all. alts_seen all.items) result (reading.alts_at self.now (packed (trees_of forms.now))) }
     {
         let scope = Scope::empty(alloc);
-        let mut all = Vec::new(alloc);
+        let mut all = Vec::with_capacity(alloc, forms.len())?;
         for form in forms {
             all.push(self.alternative(alloc, &scope, form)?)?;
         }

@@ -274,7 +274,7 @@ impl Reader {
         ensures { Gives (λ all. effects_seen all.items) result
             (reading.effects_at self.now scope.now (packed (trees_of forms.now))) }
     {
-        let mut all = Vec::new(alloc);
+        let mut all = Vec::with_capacity(alloc, forms.len())?;
         for form in forms {
             all.push(self.effect(alloc, scope, form)?)?;
         }

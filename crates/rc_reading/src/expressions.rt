@@ -273,7 +273,7 @@ impl Reader {
         let [_, forms @ ..] = parts else {
             return Err(Unread::Meaningless);
         };
-        let mut all = Vec::new(alloc);
+        let mut all = Vec::with_capacity(alloc, forms.len())?;
         for form in forms {
             all.push(self.collection(alloc, scope, form)?)?;
         }
@@ -503,7 +503,7 @@ impl Reader {
         let [_, forms @ ..] = parts else {
             return Err(Unread::Meaningless);
         };
-        let mut all = Vec::new(alloc);
+        let mut all = Vec::with_capacity(alloc, forms.len())?;
         for form in forms {
             all.push(self.test(alloc, scope, form)?)?;
         }

@@ -221,7 +221,7 @@ impl Reader {
         ensures { Gives items_read result
             (reading.items_at self.now (begun_seen begun) (packed (trees_of forms.now))) }
     {
-        let mut all = Vec::new(alloc);
+        let mut all = Vec::with_capacity(alloc, forms.len())?;
         let mut behind = begun;
         for form in forms {
             let (item, after) = self.item(alloc, behind, form)?;

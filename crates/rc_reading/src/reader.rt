@@ -2,9 +2,9 @@
 ghost use Rattle.std.specs.Prelude.{◌≡◌, ◌≤◌, ◌<◌, length, position, bytes_eq, IfOk, IfSome, IfNone};
 ghost use Rattle.rc_model.specs.Limits.{most_attrs, most_values, most_maps, most_locations, most_numbers};
 
-use crate::variables::numbers_of;
-use indexmap::IndexMap;
+use crate::variables::{NumbersByWord, numbers_of};
 use rc_ast::{LocName, Names, NumName};
+use rc_firsts::OrderedWord;
 use rc_form::Word;
 use rc_naming::Naming;
 use std::alloc::{AllocError, Global};
@@ -19,7 +19,7 @@ pub struct Reader {
     pub(crate) names: Names,
     pub(crate) locs: Vec<LocName>,
     pub(crate) nums: Vec<NumName>,
-    variables: IndexMap<Word, u32>,
+    variables: NumbersByWord,
 }
 
 impl Model for Reader {
@@ -66,6 +66,6 @@ impl Reader {
         ensures number { result ≡ position (bytes_eq word.now) self.now.names.vars }
         ensures within { IfSome result (λ number. number < length self.now.names.vars) }
     {
-        self.variables.get(word).copied()
+        self.variables.get(&OrderedWord::of(*word)).copied()
     }
 }

@@ -2,16 +2,20 @@
 ghost use Rattle.std.specs.Prelude.{◌≡◌, ◌≤◌, ◌++◌, ◌∷◌, [], ℕ, List, OnOk, IfOk, length};
 ghost use Rattle.rc_reading.specs.Reader.{Numbers};
 
-use indexmap::IndexMap;
+use rc_firsts::OrderedWord;
 use rc_form::Word;
 use std::alloc::{AllocError, Global};
+use std::collections::BTreeMap;
 
-/// The number of each of these words, which is its first place. The time is linear in their number.
-pub fn numbers_of(alloc: Global, words: &[Word]) -> Result<IndexMap<Word, u32>, AllocError>
+/// Words with their numbers, in the order of their bytes.
+pub type NumbersByWord = BTreeMap<OrderedWord, u32>;
+
+/// The number of each of these words, which is its first place.
+pub fn numbers_of(alloc: Global, words: &[Word]) -> Result<NumbersByWord, AllocError>
     requires few { length words.now ≤ 4294967295 }
-    ensures { IfOk result (λ numbers. Numbers words.now numbers.entries) }
+    ensures { IfOk result (λ numbers. Numbers words.now numbers) }
 {
-    let mut numbers = IndexMap::with_capacity(alloc, words.len())?;
+    let mut numbers = BTreeMap::new(alloc);
     for (place, word) in words.iter().enumerate() {
         add_first(&mut numbers, *word, place as u32)?;
     }
@@ -19,10 +23,11 @@ pub fn numbers_of(alloc: Global, words: &[Word]) -> Result<IndexMap<Word, u32>, 
 }
 
 /// Gives a word its number, unless it has one.
-fn add_first(numbers: &mut IndexMap<Word, u32>, word: Word, number: u32) -> Result<(), AllocError>
-    ensures { (words : List (List ℕ)) → Numbers words numbers.old.entries → number ≡ length words
-        → OnOk result (Numbers (words ++ word ∷ []) numbers.new.entries) }
+fn add_first(numbers: &mut NumbersByWord, word: Word, number: u32) -> Result<(), AllocError>
+    ensures { (words : List (List ℕ)) → Numbers words numbers.old → number ≡ length words
+        → OnOk result (Numbers (words ++ word ∷ []) numbers.new) }
 {
+    let word = OrderedWord::of(word);
     if numbers.contains_key(&word) {
         return Ok(());
     }

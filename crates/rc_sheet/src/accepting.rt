@@ -22,7 +22,7 @@ use std::alloc::Global;
 /// Makes the sheet of a form. The error is the form's first fault, or that there was no memory: the first fault of its shape
 /// and its numbers, or else the first of its names, sorts and limits.
 ///
-/// The time is linear in the form, as far as hashes differ: a variable is found by its hash, and each other name by a search
+/// The time is linear in the form, but for names: each is found in an ordered index of all that were mentioned, or by a search
 /// among at most 256.
 pub fn sheet_of(alloc: Global, form: &Form) -> Result<Sheet, SheetFail>
     requires placed { (size : ℕ) × IsPlaced size (tree_of form.now) }

@@ -1,5 +1,6 @@
-use Rattle.std.proofs.Common.{◌≡◌, ℕ, ◌+◌, List, [], ◌∷◌, ◌++◌, length, map, refl, arith, rules}
+use Rattle.std.proofs.Common.{◌≡◌, ℕ, ◌+◌, List, [], ◌∷◌, ◌++◌, length, map, drop, refl, sym, ap, ◌∙◌, arith, rules}
 use Rattle.std.proofs.lemmas.Grind.{common_steps}
+use Rattle.std.proofs.lemmas.List.{at_drop_more}
 use Rattle.rc_sheet_model.specs.Sheet.{LocName}
 use Rattle.rc_ast.specs.Names.{loc_name_seen}
 use Rattle.rc_ast.specs.declared.names.LocName.{LocName as CodeName}
@@ -19,14 +20,20 @@ said hloc = refl
 said mem = refl
 
 -- one more name is listed
-one_more : (front more : List CodeName) (name : CodeName) (left rest : List (List ℕ × Located)) (entry : (List ℕ × Located)) (whole : List LocName)
-    (count : ℕ) → more ≡ front ++ name ∷ [] → left ≡ entry ∷ rest → name.name ≡ length front → (name.kind ≡ kind_by (kind_word entry.1.kind)) × (name.class ≡ entry.1.class)
-    → (map loc_name_seen front ++ loc_names (length front) (map loc_seen left) ≡ whole) × (length front + length left ≡ count)
-    → (map loc_name_seen more ++ loc_names (length more) (map loc_seen rest) ≡ whole) × (length more + length rest ≡ count)
-one_more front more name left rest entry whole count pushed taken number told before = grind (arith, common_steps)
+one_more : (front more : List CodeName) (name : CodeName) (left rest : List (List ℕ × Located)) (entry : (List ℕ × Located))
+    (whole : List LocName) (i : ℕ) → more ≡ front ++ name ∷ [] → left ≡ entry ∷ rest → name.name ≡ length front
+    → (name.kind ≡ kind_by (kind_word entry.1.kind)) × (name.class ≡ entry.1.class)
+    → (map loc_name_seen front ++ loc_names i (map loc_seen left) ≡ whole) × (length front ≡ i)
+    → (map loc_name_seen more ++ loc_names (i + 1) (map loc_seen rest) ≡ whole) × (length more ≡ i + 1)
+one_more front more name left rest entry whole i pushed taken number told before = grind (arith, common_steps)
 
-pub loop-located-preserved : goal.loop-located-preserved
-loop-located-preserved c =
-    let number : c.len-in-loop-located.result ≡ length c.loop-located.list.items = search rules in
-    one_more c.loop-located.list.items c.push.new.self.items _ c.loop-located.located-iterator c.next.new.self _ _ _
-    c.in_ok-push.ensures.items c.in-Some.ensures.steps number (said c.in-Some.located.now.kind, refl) c.loop-located.invariant
+pub loop-entry-preserved : goal.loop-entry-preserved
+loop-entry-preserved c =
+    let locs = c.args.locs.now in
+    let i = c.loop-entry.entry-index in
+    let number : c.len.result ≡ length c.loop-entry.list.items = search rules in
+    let left : drop i locs ≡ c.entry-item.result ∷ drop (i + 1) locs =
+    at_drop_more (λ left. left) locs i c.entry-item.result c.loop-entry-test.true
+    ∙ ap (λ entry. entry ∷ drop (i + 1) locs) (sym c.entry-item.is) in
+    one_more c.loop-entry.list.items c.push.new.self.items _ (drop i locs) (drop (i + 1) locs) c.entry-item.result _ i
+    c.in_ok-push.ensures.items left number (said c.entry-item.result.1.kind, refl) c.loop-entry.invariant

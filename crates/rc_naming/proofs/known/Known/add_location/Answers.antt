@@ -1,4 +1,5 @@
 use Rattle.std.proofs.Common.{◌≡◌, ◌∙◌, ap, sym, map, ◌∷◌, [], option_map, option_to_list}
+use Rattle.std.specs.Map.{keys_of}
 use Rattle.rc_naming.specs.Known.{with_all, with_mentions, locs_alone, loc_seen, num_seen}
 use Rattle.rc_naming.proofs.Firsts.{seen_added}
 use Rattle.rc_naming.proofs.Stored.{on_ok}
@@ -9,17 +10,17 @@ returns-in-Some c =
     let known = c.self.inside in
     let entry = c.in-Some.entry in
     on_ok c.add_entry.result c.add_entry.ensures (λ added.
-    let locs : map loc_seen c.add_entry.new.entries.entries
-    ≡ with_mentions (map loc_seen known.locs.entries) (loc_seen entry ∷ []) =
-    ap (map loc_seen) added ∙ seen_added loc_seen (λ mention. mention.name) known.locs.entries (entry ∷ []) in
+    let locs : map loc_seen c.add_entry.new.entries
+    ≡ with_mentions (map loc_seen known.locs) (loc_seen entry ∷ []) =
+    ap (map loc_seen) added ∙ seen_added loc_seen (λ mention. mention.name) known.locs (entry ∷ []) in
     ap
     (λ locs. record {
-      attrs = known.attrs.keys;
-      values = known.values.keys;
-      maps = known.maps.keys;
+      attrs = keys_of known.attrs;
+      values = keys_of known.values;
+      maps = keys_of known.maps;
       locs = locs;
-      nums = map num_seen known.nums.entries;
-      vars = known.vars.keys;
+      nums = map num_seen known.nums;
+      vars = keys_of known.vars;
     })
     locs
     ∙ ap (λ old. with_all old (locs_alone (loc_seen entry ∷ []))) c.self.view_is

@@ -11,5 +11,5 @@ invariant_of-result c =
       locs = c.requires.locs;
       nums = c.requires.nums;
       vars = grind (arith);
-      numbers = subst (λ words. Numbers words c.in_ok-variables.variables.entries) c.deref.ensures.value c.in_ok-variables.ensures;
+      numbers = subst (λ words. Numbers words c.in_ok-variables.variables) c.deref.ensures.value c.in_ok-variables.ensures;
     }
