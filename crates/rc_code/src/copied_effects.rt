@@ -49,7 +49,7 @@ pub(crate) fn copy_effect(alloc: Global, effect: &Effect) -> Result<Effect, Memo
 fn copy_effects(alloc: Global, effects: &Vec<Effect>) -> Result<Vec<Effect>, Memory>
     ensures { IfOk result (λ copy. map effect_seen copy.items ≡ map effect_seen effects.now.items) }
 {
-    let mut copies = Vec::new(alloc);
+    let mut copies = Vec::with_capacity(alloc, effects.len())?;
     for effect in effects {
         let copy = copy_effect(alloc, effect)?;
         copies.push(copy)?;
@@ -61,7 +61,7 @@ fn copy_effects(alloc: Global, effects: &Vec<Effect>) -> Result<Vec<Effect>, Mem
 pub(crate) fn copy_offers(alloc: Global, alts: &Vec<Alt>) -> Result<Vec<Offer>, Memory>
     ensures { IfOk result (λ copy. copy.items ≡ map alt_seen alts.now.items) }
 {
-    let mut copies = Vec::new(alloc);
+    let mut copies = Vec::with_capacity(alloc, alts.len())?;
     for alt in alts {
         let copy = copy_alt(alloc, alt)?;
         copies.push(Offer::new(copy))?;

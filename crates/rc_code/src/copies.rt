@@ -58,7 +58,7 @@ fn boxed_coll(alloc: Global, cards: &CollExpr) -> Result<Box<CollExpr>, Memory>
 fn copy_colls(alloc: Global, parts: &Vec<CollExpr>) -> Result<Vec<CollExpr>, Memory>
     ensures { IfOk result (λ copy. map coll_seen copy.items ≡ map coll_seen parts.now.items) }
 {
-    let mut copies = Vec::new(alloc);
+    let mut copies = Vec::with_capacity(alloc, parts.len())?;
     for cards in parts {
         let copy = copy_coll(alloc, cards)?;
         copies.push(copy)?;
@@ -137,7 +137,7 @@ pub(crate) fn boxed_test(alloc: Global, test: &Test) -> Result<Box<Test>, Memory
 fn copy_tests(alloc: Global, tests: &Vec<Test>) -> Result<Vec<Test>, Memory>
     ensures { IfOk result (λ copy. map test_seen copy.items ≡ map test_seen tests.now.items) }
 {
-    let mut copies = Vec::new(alloc);
+    let mut copies = Vec::with_capacity(alloc, tests.len())?;
     for test in tests {
         let copy = copy_test(alloc, test)?;
         copies.push(copy)?;
