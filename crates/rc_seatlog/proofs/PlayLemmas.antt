@@ -1,5 +1,5 @@
 -- A play goes from choice to choice.
-use Rattle.std.proofs.Common.{◌≡◌, ℕ, ◌+◌, ◌<◌, List, [], ◌∷◌, ◌++◌, append_assoc, length, map, drop, get_or, unwrap_or, Some, sym, ap, ◌∙◌, subst, arith}
+use Rattle.std.proofs.Common.{◌≡◌, ℕ, zero, suc, ◌+◌, ◌<◌, List, [], ◌∷◌, ◌++◌, append_assoc, length, map, take, drop, get_or, unwrap_or, Option, None, Some, refl, sym, ap, ◌∙◌, subst, arith}
 use Rattle.std.proofs.lemmas.List.{at_drop_more}
 use Rattle.rc_model.specs.Transcript.{Pick}
 use Rattle.rc_play_model.specs.About.{About, menu_at}
@@ -76,3 +76,25 @@ sees_on about dealing seat picks i d at next before after view less e is leads =
     ∙ append_assoc before (view_of about.shape seat at.config.table at.config.control ∷ []) (views_from about dealing seat rest (Some next))
     ∙ ap (λ o. before ++ (view_of about.shape seat at.config.table at.config.control ∷ views_from about dealing seat rest o)) (sym leads)
     ∙ ap (λ ps. before ++ views_from about dealing seat ps (Some at)) (sym (at_drop_more (map pick_seen) picks i d less))
+
+-- the first choices of a play are a play, and give the first views
+first_leads : (about : About) (dealing : Dealing ℕ) (n : ℕ) (picks : List Pick) (at end : Stopped ℕ) → Leads about dealing picks at end →
+    (last : Stopped ℕ) × Leads about dealing (take n picks) at last
+first_leads about dealing zero picks at end leads = (at, refl)
+first_leads about dealing (suc n) [] at end leads = (end, leads)
+first_leads about dealing (suc n) (p ∷ picks) at end leads =
+    let rest = first_leads about dealing n picks leads.1 end leads.3 in (rest.0, (leads.0, leads.1, leads.2, rest.1))
+
+pub first_play : (about : About) (dealing : Dealing ℕ) (n : ℕ) (picks : List Pick) → IsPlayOf about dealing picks → IsPlayOf about dealing (take n picks)
+first_play about dealing n picks play =
+    let leads = first_leads about dealing n picks play.first play.end play.leads in
+    record { first = play.first; end = leads.0; begins = play.begins; leads = leads.1 }
+
+pub first_views : (about : About) (dealing : Dealing ℕ) (seat n : ℕ) (picks : List Pick) (at : Option (Stopped ℕ)) →
+    views_from about dealing seat (take n picks) at ≡ take n (views_from about dealing seat picks at)
+first_views about dealing seat zero picks at = refl
+first_views about dealing seat (suc n) [] at = refl
+first_views about dealing seat (suc n) (p ∷ picks) None = refl
+first_views about dealing seat (suc n) (p ∷ picks) (Some at) =
+    ap (λ views. view_of about.shape seat at.config.table at.config.control ∷ views)
+    (first_views about dealing seat n picks (stop_behind about dealing (choose about dealing at.dealer p.item at.config)))

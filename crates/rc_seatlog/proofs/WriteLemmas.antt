@@ -8,7 +8,7 @@ use Rattle.rc_view.specs.declared.view.View.{View}
 use Rattle.rc_view.specs.Seen.{sight_seen, view_seen}
 use Rattle.rc_play_model.specs.View.{Sight as PureSight, View as PureView}
 use Rattle.rc_log_model.specs.Lines.{header_text, opening_text, place_text, total_text}
-use Rattle.rc_log_model.specs.Log.{most_told, place_lines, block_lines, blocks_from, log}
+use Rattle.rc_log_model.specs.Log.{most_told, place_lines, block_lines, blocks_from, text_of, log}
 
 place_lines_more : (n : ℕ) (lists : List PureSight) (sight : PureSight) (m : ℕ) → n + length lists ≡ m → place_lines n (lists ++ sight ∷ []) ≡ place_lines n lists ++ place_text m sight ∷ []
 place_lines_more n [] sight m e = let same : n ≡ m = omega (arith, e) in ap (λ k. place_text k sight ∷ []) same
@@ -61,21 +61,24 @@ blocks_step old out new views i d less so_far is =
     is ∙ ap (λ t. t ++ flat_map line block) so_far ∙ append_assoc old (flat_map line front) (flat_map line block)
     ∙ ap (λ t. old ++ t) (sym (ap (flat_map line) more ∙ flat_map-append line front block))
 
-pub log_is : (seat number : ℕ) (views : List View) (stops : ℕ) (out₀ out₁ out₂ out₃ bytes : List ℕ) → out₀ ≡ [] → out₁ ≡ out₀ ++ (line header_text ++ line (opening_text seat number)) →
-    out₂ ≡ out₁ ++ flat_map line (blocks_from 0 (seen_of (take most_told views))) → out₃ ≡ out₂ ++ line (total_text stops) → bytes ≡ out₃ → stops ≡ length views →
-    bytes ≡ log seat number (map view_seen views)
-log_is seat number views stops out₀ out₁ out₂ out₃ bytes e₀ e₁ e₂ e₃ e count =
+-- the parts of a log make its text
+pub text_is : (seat number : ℕ) (views : List View) (stops : ℕ) (out₀ out₁ out₂ out₃ bytes : List ℕ) → out₀ ≡ [] → out₁ ≡ out₀ ++ (line header_text ++ line (opening_text seat number)) →
+    out₂ ≡ out₁ ++ flat_map line (blocks_from 0 (seen_of views)) → out₃ ≡ out₂ ++ line (total_text stops) → bytes ≡ out₃ →
+    bytes ≡ text_of (record { seat = seat; number = number; views = seen_of views; stops = stops })
+text_is seat number views stops out₀ out₁ out₂ out₃ bytes e₀ e₁ e₂ e₃ e =
     let h = line header_text in
     let o = line (opening_text seat number) in
-    let b = flat_map line (blocks_from 0 (seen_of (take most_told views))) in
+    let blocks = blocks_from 0 (seen_of views) in
+    let b = flat_map line blocks in
     let t = line (total_text stops) in
-    let first : seen_of (take most_told views) ≡ take most_told (seen_of views) =
-    sym (take-map view_seen most_told views) in
-    let all : stops ≡ length (seen_of views) = omega (arith, count, length-map views view_seen) in
-    let blocks = blocks_from 0 (take most_told (seen_of views)) in
     e ∙ e₃ ∙ ap (λ x. x ++ t) (e₂ ∙ ap (λ x. x ++ b) (e₁ ∙ ap (λ x. x ++ (h ++ o)) e₀))
     ∙ append_assoc (h ++ o) b t ∙ append_assoc h o (b ++ t)
-    ∙ ap (λ vs. h ++ (o ++ (flat_map line (blocks_from 0 vs) ++ t))) first
-    ∙ ap (λ n. h ++ (o ++ (flat_map line blocks ++ line (total_text n)))) all
-    ∙ ap (λ x. h ++ (o ++ x))
-    (sym (flat_map-append line blocks (total_text (length (seen_of views)) ∷ []) ∙ ap (λ x. flat_map line blocks ++ x) (append-nil (line (total_text (length (seen_of views)))))))
+    ∙ ap (λ x. h ++ (o ++ x)) (sym (flat_map-append line blocks (total_text stops ∷ []) ∙ ap (λ x. b ++ x) (append-nil t)))
+
+-- with the first views and the number of all, it is that of all
+pub log_is : (seat number : ℕ) (views first : List View) → first ≡ take most_told views →
+    text_of (record { seat = seat; number = number; views = seen_of first; stops = length views }) ≡ log seat number (map view_seen views)
+log_is seat number views first few =
+    let told : seen_of first ≡ take most_told (seen_of views) = ap seen_of few ∙ sym (take-map view_seen most_told views) in
+    let all : length views ≡ length (seen_of views) = sym (length-map views view_seen) in
+    λ i. text_of (record { seat = seat; number = number; views = told i; stops = all i })

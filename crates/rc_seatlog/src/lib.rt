@@ -10,5 +10,5 @@ mod write;
 
 pub use reading::{LogFail, read_log};
 pub use told::LogText;
-pub use views::views_of;
-pub use write::write_log;
+pub use views::{first_views_of, views_of};
+pub use write::{write_first, write_log};

@@ -1,5 +1,5 @@
 //! The text of a log. Every line ends with LF.
-ghost use Rattle.std.specs.Prelude.{◌≡◌, ◌<◌, ◌≤◌, ◌+◌, ◌++◌, length, map, take, flat_map, codes, string_bytes, All};
+ghost use Rattle.std.specs.Prelude.{◌≡◌, ◌<◌, ◌≤◌, ◌+◌, ◌++◌, length, map, flat_map, codes, string_bytes, All};
 ghost use Rattle.std.specs.Prelude.{IsSome, IfOk, OnOk};
 ghost use Rattle.rc_model.specs.Transcript.{line};
 ghost use Rattle.rc_rules.specs.Control.{frame_seen};
@@ -8,16 +8,14 @@ ghost use Rattle.rc_play_model.specs.View.{with_faces, partly};
 ghost use Rattle.rc_log_model.specs.Shown.{site_shown, cards_shown};
 ghost use Rattle.rc_log_model.specs.Lines.{header_text, opening_text, total_text, stop_text, made_text, frame_text};
 ghost use Rattle.rc_log_model.specs.Lines.{numbers_text, card_text, place_text};
-ghost use Rattle.rc_log_model.specs.Log.{block_lines, blocks_from, place_lines, log};
+ghost use Rattle.rc_log_model.specs.Log.{block_lines, blocks_from, place_lines, log, text_of};
 
+use crate::told::first_told;
 use rc_deck::Memory;
 use rc_rules::Frame;
 use rc_view::{Sight, View};
 use std::alloc::{AllocError, Global};
 use std::fmt::Write;
-
-/// How many stops a log tells one by one.
-const MOST_TOLD: usize = 1000;
 
 /// The log of a seat in a match: the first views, and how many there are.
 ///
@@ -28,22 +26,30 @@ pub fn write_log(alloc: Global, seat: u8, number: u32, views: &[View]) -> Result
     requires sites { All (λ v. IsSome v.control.site) views.now }
     ensures { IfOk result (λ bytes. bytes.items ≡ log seat number (map view_seen views.now)) }
 {
-    let mut out = String::new(alloc);
-    write_head(&mut out, seat, number)?;
-    write_blocks(&mut out, first_views(views, MOST_TOLD))?;
-    write_total(&mut out, views.len())?;
-    Ok(out.into_bytes())
+    write_first(alloc, seat, number, first_told(views), views.len())
 }
 
-// At most so many of the views.
-fn first_views(views: &[View], most: usize) -> &[View]
-    ensures { result.now ≡ take most views.now }
+/// The log that tells these views, of so many that there are.
+///
+/// # Errors
+///
+/// No memory is left.
+pub fn write_first(
+    alloc: Global,
+    seat: u8,
+    number: u32,
+    views: &[View],
+    stops: usize,
+) -> Result<Vec<u8>, Memory>
+    requires sites { All (λ v. IsSome v.control.site) views.now }
+    ensures { IfOk result (λ bytes. bytes.items
+        ≡ text_of (record { seat = seat; number = number; views = map view_seen views.now; stops = stops })) }
 {
-    if views.len() <= most {
-        views
-    } else {
-        &views[..most]
-    }
+    let mut out = String::new(alloc);
+    write_head(&mut out, seat, number)?;
+    write_blocks(&mut out, views)?;
+    write_total(&mut out, stops)?;
+    Ok(out.into_bytes())
 }
 
 // The format's line, and whose log it is.

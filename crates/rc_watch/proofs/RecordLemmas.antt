@@ -1,5 +1,5 @@
 -- What the record of a match says of its log.
-use Rattle.std.proofs.Common.{◌≡◌, ℕ, ◌<◌, Some, ap, subst, arith}
+use Rattle.std.proofs.Common.{◌≡◌, ℕ, ◌<◌, length, Some, sym, ap, ◌∙◌, subst, arith}
 use Rattle.rc_model.specs.Transcript.{Record}
 use Rattle.rc_sheet_model.specs.Sight.{IsInSight}
 use Rattle.rc_sheet_model.specs.WellFormed.{IsWellFormed}
@@ -8,7 +8,7 @@ use Rattle.rc_play_model.specs.About.{About}
 use Rattle.rc_play_model.specs.Plan.{Plan}
 use Rattle.rc_play_model.specs.Keyed.{dealing_of, keyed_match}
 use Rattle.rc_log_model.specs.Laws.{AllCount}
-use Rattle.rc_log_model.specs.MatchLaws.{IsWatchable, RecordsTellViews, MatchViewsCount}
+use Rattle.rc_log_model.specs.MatchLaws.{IsWatchable, RecordsTellViews, ChoicesHaveViews, MatchViewsCount}
 use Rattle.rc_log_model.specs.Views.{views_in}
 
 -- an about keeps a well formed sheet in sight with its shape, and its turn limit is a word
@@ -26,3 +26,8 @@ watchable about kept counted turns same same' shape well sight is le =
 pub views_count : (about : About) (plan : Plan) (m seat : ℕ) (r : Record) → IsWatchable about → RecordsTellViews → MatchViewsCount → keyed_match about plan m ≡ Some r →
     AllCount about.shape seat (views_in about (dealing_of r.deal) seat r.picks)
 views_count about plan m seat r is tell count recorded = subst (AllCount about.shape seat) (tell about plan m seat r recorded) (count about plan m seat is)
+
+-- and there is one for each of these
+pub each_viewed : (about : About) (plan : Plan) (m seat : ℕ) (r : Record) → IsWatchable about → RecordsTellViews → ChoicesHaveViews → keyed_match about plan m ≡ Some r →
+    length (views_in about (dealing_of r.deal) seat r.picks) ≡ length r.picks
+each_viewed about plan m seat r is tell each recorded = ap length (sym (tell about plan m seat r recorded)) ∙ each about plan m seat r is recorded

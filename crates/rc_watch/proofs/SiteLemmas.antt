@@ -1,5 +1,5 @@
 -- Views that may stand in a log stand at a choice site.
-use Rattle.std.proofs.Common.{◌≡◌, ℕ, List, [], ◌∷◌, map, Option, Some, None, refl, sym, subst}
+use Rattle.std.proofs.Common.{◌≡◌, ℕ, zero, suc, List, [], ◌∷◌, map, take, Option, Some, None, refl, sym, subst}
 use Rattle.std.specs.Prelude.{All, IsSome}
 use Rattle.std.specs.List.{AllByRecursion}
 use Rattle.std.proofs.lemmas.List.Elements.{All-from_recursion}
@@ -17,7 +17,14 @@ stand : (shape : Shape) (seat : ℕ) (views : List View) → AllByRecursion (Cou
 stand shape seat [] all = tt
 stand shape seat (v ∷ views) all = (site_there v.control.site all.0.site, stand shape seat views all.1)
 
-pub all_stand : (shape : Shape) (seat : ℕ) (views : List View) (seen : List PureView) → map view_seen views ≡ seen → AllByRecursion (Counts shape seat) seen →
+first_all : {A : Type 0} (P : A → Type 0) (n : ℕ) (xs : List A) → AllByRecursion P xs → AllByRecursion P (take n xs)
+first_all P zero xs all = tt
+first_all P (suc n) [] all = tt
+first_all P (suc n) (x ∷ xs) all = (all.0, first_all P n xs all.1)
+
+-- so do the first of them
+pub first_stand : (shape : Shape) (seat n : ℕ) (views : List View) (seen : List PureView) → map view_seen views ≡ take n seen → AllByRecursion (Counts shape seat) seen →
     All (λ (v : View). IsSome v.control.site) views
-all_stand shape seat views seen is all =
-    All-from_recursion (λ (v : View). IsSome v.control.site) views (stand shape seat views (subst (AllByRecursion (Counts shape seat)) (sym is) all))
+first_stand shape seat n views seen is all =
+    All-from_recursion (λ (v : View). IsSome v.control.site) views
+    (stand shape seat views (subst (AllByRecursion (Counts shape seat)) (sym is) (first_all (Counts shape seat) n seen all)))

@@ -20,7 +20,7 @@ use rc_log_model::{records_tell_views, views_of_matches_count};
 use rc_records::{record_of, shared_about};
 use rc_rollout::{Blank, Choices, shared_code};
 use rc_rules::{About, MatchRecord, Plan};
-use rc_seatlog::{views_of, write_log};
+use rc_seatlog::{first_views_of, write_first};
 use rc_steps::Steps;
 use std::alloc::Global;
 use std::marker::Brand;
@@ -118,7 +118,8 @@ fn record_alone<L: Ledger>(
     Ok(played.record)
 }
 
-// The log of a seat in the match of this number, of which this is the record.
+// The log of a seat in the match of this number, of which this is the record. There is a view for each choice, and only
+// those are made that the log tells.
 fn told(
     alloc: Global,
     about: &About,
@@ -132,10 +133,12 @@ fn told(
     requires play { IsPlayOf about.now (dealing_of played.now.deal) (record_seen played.now).picks }
     requires counts { AllCount about.now.shape seat
         (views_in about.now (dealing_of played.now.deal) seat (record_seen played.now).picks) }
+    requires each { length (views_in about.now (dealing_of played.now.deal) seat (record_seen played.now).picks)
+        ≡ length (record_seen played.now).picks }
     ensures { IfOk result (λ bytes. bytes.items
         ≡ log seat number (views_in about.now (dealing_of played.now.deal) seat (record_seen played.now).picks)) }
 {
     let machine = FlatMachine::onward_start(alloc, code, about)?;
-    let views = views_of(alloc, about.shape(), played, machine, seat)?;
-    write_log(alloc, seat, number, &views)
+    let views = first_views_of(alloc, about.shape(), played, machine, seat)?;
+    write_first(alloc, seat, number, &views, played.picks.len())
 }

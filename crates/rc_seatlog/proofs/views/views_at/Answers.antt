@@ -7,7 +7,7 @@ use Rattle.rc_play_model.specs.Stop.{Stopped, stop_of}
 use Rattle.rc_play_model.specs.Play.{stop_behind}
 use Rattle.rc_play_model.specs.Decision.{choose}
 use Rattle.rc_play_model.specs.View.{view_of}
-use Rattle.rc_log_model.specs.Views.{views_from, views_in}
+use Rattle.rc_log_model.specs.Views.{views_from}
 use Rattle.rc_rules.specs.Control.{stop_seen}
 use Rattle.rc_rules.specs.Record.{pick_seen}
 use Rattle.rc_rules.specs.Machine.{StandsAtDecision, StandsWhereItStops, menu_here}
@@ -15,13 +15,13 @@ use Rattle.rc_rules.specs.declared.record.Pick.{Pick}
 use Rattle.rc_log_model.specs.Plays.{IsPlayOf}
 use Rattle.rc_view.specs.Seen.{view_seen}
 use Rattle.rc_seatlog.proofs.PlayLemmas.{goes, stands_there, offered_there, begins, goes_on, sees_on}
-use Rattle.rc_seatlog.proofs.views.views_of.Goals as goal
+use Rattle.rc_seatlog.proofs.views.views_at.Goals as goal
 
 pub loop-pick-init : goal.loop-pick-init
 loop-pick-init g c =
     let about = g.M.Machine.about c.args.machine in
-    let deal = dealing_of c.args.played.now.deal in
-    let picks = c.deref-pick-items.result.now in
+    let deal = dealing_of c.args.deal in
+    let picks = c.args.picks.now in
     let stop = stop_seen c.in_ok-advance.field-0 in
     let config = g.M.Machine.config c.advance.new.self in
     let k = c.advance.new.dealer.count in
@@ -30,7 +30,7 @@ loop-pick-init g c =
     let same : stop_of about deal 0 (start about) ≡ stop_of about (dealing_of c.new-dealer.result.deal) c.new-dealer.result.count (g.M.Machine.config c.args.machine) =
     λ i. stop_of about (dealing_of (d i).deal) (d i).count (s i) in
     let e = same ∙ c.in_ok-advance.ensures.leads in
-    let play : IsPlayOf about deal (map pick_seen picks) = subst (λ ps. IsPlayOf about deal (map pick_seen ps)) (sym c.deref-pick-items.ensures.value) c.requires.legal in (
+    let play : IsPlayOf about deal (map pick_seen picks) = c.requires.legal in (
       stop,
       record {
         fresh = c.in_ok-advance.ensures.spent;
@@ -60,28 +60,28 @@ pub go_on-requires-clause-decision : goal.go_on-requires-clause-decision
 go_on-requires-clause-decision g c =
     let inv = c.loop-pick.invariant.1 in
     let about = g.M.Machine.about c.args.machine in
-    let picks = c.deref-pick-items.result.now in
+    let picks = c.args.picks.now in
     let config = g.M.Machine.config c.loop-pick.machine in
     let d : Pick = record { seat = 0; site = 0; item = 0; size = 0 } in
-    let made = goes about (dealing_of c.args.played.now.deal) picks c.loop-pick.pick-index d _ inv.leads.0 c.loop-pick-test.true inv.leads.1 in
+    let made = goes about (dealing_of c.args.deal) picks c.loop-pick.pick-index d _ inv.leads.0 c.loop-pick-test.true inv.leads.1 in
     subst (λ about. StandsAtDecision about config) (sym inv.same) (stands_there about _ c.loop-pick.invariant.0 config inv.stands made.0)
 
 pub go_on-requires-clause-offered : goal.go_on-requires-clause-offered
 go_on-requires-clause-offered g c =
     let inv = c.loop-pick.invariant.1 in
     let about = g.M.Machine.about c.args.machine in
-    let picks = c.deref-pick-items.result.now in
+    let picks = c.args.picks.now in
     let config = g.M.Machine.config c.loop-pick.machine in
     let d : Pick = record { seat = 0; site = 0; item = 0; size = 0 } in
-    let made = goes about (dealing_of c.args.played.now.deal) picks c.loop-pick.pick-index d _ inv.leads.0 c.loop-pick-test.true inv.leads.1 in
+    let made = goes about (dealing_of c.args.deal) picks c.loop-pick.pick-index d _ inv.leads.0 c.loop-pick-test.true inv.leads.1 in
     subst (λ about. (get_or picks c.loop-pick.pick-index d).item < length (menu_here about config)) (sym inv.same) (offered_there about _ c.loop-pick.invariant.0 config inv.stands made.0)
 
 pub loop-pick-preserved : goal.loop-pick-preserved
 loop-pick-preserved g c =
     let inv = c.loop-pick.invariant.1 in
     let about = g.M.Machine.about c.args.machine in
-    let deal = dealing_of c.args.played.now.deal in
-    let picks = c.deref-pick-items.result.now in
+    let deal = dealing_of c.args.deal in
+    let picks = c.args.picks.now in
     let i = c.loop-pick.pick-index in
     let d : Pick = record { seat = 0; site = 0; item = 0; size = 0 } in
     let config = g.M.Machine.config c.loop-pick.machine in
@@ -112,9 +112,9 @@ pub returns : goal.returns
 returns g c =
     let inv = c.loop-pick.invariant.1 in
     let about = g.M.Machine.about c.args.machine in
-    let deal = dealing_of c.args.played.now.deal in
-    let picks = c.deref-pick-items.result.now in
+    let deal = dealing_of c.args.deal in
+    let picks = c.args.picks.now in
     let views = map view_seen c.loop-pick.views.items in
     let at : Stopped ℕ = record { stop = c.loop-pick.invariant.0; config = g.M.Machine.config c.loop-pick.machine; dealer = c.loop-pick.dealer.count } in
     sym (append-nil views) ∙ ap (λ ps. views ++ views_from about deal c.args.seat (map pick_seen ps) (Some at)) (sym (drop_all c.loop-pick.pick-index picks c.loop-pick-test.false))
-    ∙ inv.seen ∙ ap (λ ps. views_in about deal c.args.seat (map pick_seen ps)) c.deref-pick-items.ensures.value
+    ∙ inv.seen
