@@ -1,3 +1,4 @@
 pub mod MarkLemmas
 pub mod HomeLemmas
+pub mod GoingLemmas
 mod NamingLemmas

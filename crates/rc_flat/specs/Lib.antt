@@ -4,3 +4,4 @@ pub mod Codes
 pub mod MachineSeen
 pub mod Home
 pub mod HomeSeen
+pub mod Moments

@@ -7,10 +7,12 @@ mod decisions;
 mod homing;
 mod machine;
 mod making;
+mod moments;
 mod naming;
 mod steps;
 mod undoing;
 
 pub use homing::HomeMachine;
 pub use machine::FlatMachine;
+pub use moments::Moment;
 pub use rc_stand::Mark;

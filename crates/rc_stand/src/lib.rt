@@ -12,6 +12,6 @@ mod there;
 pub use marks::Mark;
 pub use place::Position;
 pub use site::{place_of, site_of};
-pub use stand::{Stand, write_menu};
+pub use stand::{Stand, write_control, write_menu};
 pub use state::State;
 pub use there::{ChoiceThere, StageThere, behind, choice_there};

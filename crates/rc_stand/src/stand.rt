@@ -52,8 +52,8 @@ impl State {
     }
 }
 
-// Writes a control over another one. What isn't in its lists isn't copied.
-fn write_control(from: &Control, to: &mut Control)
+/// Writes a control over another one. What isn't in its lists isn't copied.
+pub fn write_control(from: &Control, to: &mut Control)
     ensures { control_seen to.new ≡ control_seen from.now }
 {
     to.site = from.site;
