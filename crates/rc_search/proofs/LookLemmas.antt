@@ -1,6 +1,8 @@
 -- Looking behind the items of a decision.
-use Rattle.std.proofs.Common.{◌≡◌, ℕ, zero, suc, ◌+◌, ◌-◌, ◌≤◌, max, min, nat_lt, if◌then◌else◌, List, length, map, slice_index, ℤ, Some, unwrap_or, sym, ap, ◌∙◌, subst, arith}
+use Rattle.std.proofs.Common.{◌≡◌, ℕ, zero, suc, ◌+◌, ◌-◌, ◌≤◌, max, min, nat_lt, if◌then◌else◌, List, length, map, slice_index, ℤ, Option, Some, unwrap_or, sym, ap, ◌∙◌, subst, arith}
 use Rattle.std.specs.Prelude.{fold}
+use Rattle.std.specs.Global.{Global}
+use Rattle.std.specs.Prelude.{Box}
 use Rattle.std.proofs.lemmas.List.{length-map}
 use Rattle.std.proofs.lemmas.List.FromFn.{length-range_with_len, length-map-range_with_len}
 use Rattle.std.proofs.lemmas.List.Sums.{fold_push}
@@ -15,10 +17,12 @@ use Rattle.rc_play_model.specs.Play.{stop_behind}
 use Rattle.rc_play_model.specs.Scores.{score_of, scores_of}
 use Rattle.rc_rules.specs.Machine.{menu_here}
 use Rattle.rc_rules.proofs.PointLemmas.{mapped_push, summed_push}
-use Rattle.rc_stand.specs.declared.marks.Mark.{Mark}
 use Rattle.rc_flat.specs.Machine.{Machine, KeepsTables}
-use Rattle.rc_flat.specs.Marks.{IsMark}
-use Rattle.rc_flat.proofs.MarkLemmas.{keeps_then, keeps_mark}
+use Rattle.rc_flat.specs.Moments.{IsMoment, StaysInMatch}
+use Rattle.rc_search.specs.Keeping.{IsKept}
+use Rattle.rc_flat.specs.declared.moments.Moment.{Moment}
+use Rattle.rc_flat.proofs.MarkLemmas.{keeps_then}
+use Rattle.rc_flat.proofs.GoingLemmas.{stays_then, stays_kept}
 use Rattle.rc_search_model.specs.Search.{best_for, next_behind}
 use Rattle.rc_search_model.proofs.BestPoints.{best_push, best_alone}
 use Rattle.rc_search.specs.declared.dealer.Way.{Way}
@@ -36,12 +40,18 @@ next_is about a0 a1 dealing d0 d1 c c' c'' made k0 item k' k'' stop same same' d
     ∙ sym (ap (λ a. stop_of a d1 k' c') same' ∙ ap (λ d. stop_of about d k' c') deals')
     ∙ next
 
--- a machine keeps its tables on the way behind an item and back to where it stopped
-pub kept : (m0 m1 m2 m3 : Machine) → KeepsTables m0 m1 → KeepsTables m1 m2 → m3 ≡ m2 → KeepsTables m0 m3
-kept m0 m1 m2 m3 first next back = subst (KeepsTables m0) (sym back) (keeps_then m0 m1 m2 first next)
+-- a machine stays in its match on the way behind an item
+pub stays_behind : (m0 m1 m2 m3 : Machine) → KeepsTables m0 m1 → KeepsTables m1 m2 → StaysInMatch m2 m3 → StaysInMatch m0 m3
+stays_behind m0 m1 m2 m3 first next last = stays_then m0 m2 m3 (stays_kept m0 m2 (keeps_then m0 m1 m2 first next)) last
 
-pub marked_on : (m0 m1 m2 m3 : Machine) (mark : Mark) → IsMark m0 mark m0.config → KeepsTables m0 m1 → KeepsTables m1 m2 → m3 ≡ m2 → IsMark m3 mark m0.config
-marked_on m0 m1 m2 m3 mark is first next back = keeps_mark m0 m3 mark m0.config (kept m0 m1 m2 m3 first next back) is
+-- what is kept for a machine is kept wherever it stays in its match
+pub kept_on : (m0 m1 : Machine) (config : Config) (kept : Option (Box Moment Global)) → StaysInMatch m0 m1 → IsKept m0.about m0.code config kept → IsKept m1.about m1.code config kept
+kept_on m0 m1 config kept stays is =
+    subst (λ a. IsKept a m1.code config kept) (sym stays.about) (subst (λ code. IsKept m0.about code config kept) (sym stays.code) is)
+
+pub moment_on : (m0 m1 : Machine) (config : Config) (moment : Moment) → StaysInMatch m0 m1 → IsMoment m0.about m0.code config moment → IsMoment m1.about m1.code config moment
+moment_on m0 m1 config moment stays is =
+    subst (λ a. IsMoment a m1.code config moment) (sym stays.about) (subst (λ code. IsMoment m0.about code config moment) (sym stays.code) is)
 
 -- counts that are told
 pub told_still : (applied steps : ℕ) → applied ≤ 18446744073709551615 → Tells applied applied steps steps

@@ -1,6 +1,6 @@
 -- Rounds of a search: where a machine stands at the root of one, what items are worth there, and the totals of the
 -- first ones.
-use Rattle.std.specs.Prelude.{◌≡◌, ℕ, false, true, length, slice_index}
+use Rattle.std.specs.Prelude.{◌≡◌, ℕ, false, length, slice_index, IsSome}
 use Rattle.rc_play_model.specs.About.{About}
 use Rattle.rc_play_model.specs.View.{View}
 use Rattle.rc_play_model.specs.Table.{Table}
@@ -11,10 +11,18 @@ use Rattle.rc_play_model.specs.Decision.{at_site}
 use Rattle.rc_play_model.specs.Strategy.{menu_size}
 use Rattle.rc_rules.specs.Machine.{StandsAtDecision, menu_here}
 use Rattle.rc_table.specs.Laid.{Laid}
+use Rattle.rc_redraw.specs.Redraws.{Redrawn}
 use Rattle.rc_flat.specs.Machine.{Machine}
+use Rattle.rc_flat.specs.Moments.{IsMoment}
+use Rattle.rc_flat.specs.declared.moments.Moment.{Moment}
 use Rattle.rc_search_model.specs.Search.{Rival}
 use Rattle.rc_search.specs.declared.dealer.Way.{Way}
 use Rattle.rc_search.specs.Looking.{worth_behind, tried_with}
+
+-- tables are redrawn for a view
+pub record IsDealing (about : About) (seen : View) (r : Redrawn) : Type 0 where
+  pub shape : r.shape ≡ about.shape
+  pub view : r.view ≡ seen
 
 -- the same search over so many rounds
 abbrev pub in_rounds : ℕ → Rival → Rival
@@ -49,4 +57,11 @@ module _ (about : About) (way : Way) (view : View) where
     pub decides : StandsAtDecision about m.config
     pub size : length (menu_here about m.config) ≡ menu_size about view
     pub fresh : m.spent ≡ false
-    pub notes : m.notes ≡ true
+    pub home : IsSome m.home
+
+-- A machine goes from moment to moment in matches of this about, and this moment is the decision of a view with some table.
+pub record GoesFromRoot (about : About) (view : View) (m : Machine) (root : Moment) : Type 0 where
+  pub same : m.about ≡ about
+  pub home : IsSome m.home
+  pub table : Table
+  pub there : IsMoment about m.code (at_site about table view.control) root

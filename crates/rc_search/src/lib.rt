@@ -6,7 +6,10 @@ mod plain;
 mod playing;
 mod pruned;
 mod rival;
+mod rooms;
 mod root;
+mod sides;
+mod stand;
 mod totals;
 
 pub use playing::{has_two_teams, play_rival};

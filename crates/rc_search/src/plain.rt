@@ -1,13 +1,17 @@
 //! What stops are worth, with no item left out.
 ghost use Rattle.std.specs.Prelude.{◌≡◌, ◌<◌, ◌≤◌, ◌+◌, nat_lt, true, false, min, if◌then◌else◌};
-ghost use Rattle.std.specs.Prelude.{length, slice_index, IfOk, OnOk};
+ghost use Rattle.std.specs.Prelude.{length, slice_index, IsSome, IfOk, OnOk};
 ghost use Rattle.rc_play_model.specs.About.{menu_at};
 ghost use Rattle.rc_rules.specs.Control.{stop_seen};
 ghost use Rattle.rc_rules.specs.Machine.{Decides, StandsAtDecision, StandsWhereItStops, menu_here};
 ghost use Rattle.rc_search_model.specs.Search.{best_for, all_points as points_there};
+ghost use Rattle.rc_flat.specs.Moments.{StaysInMatch};
+ghost use Rattle.rc_search.specs.Keeping.{AreOfShape};
 ghost use Rattle.rc_search.specs.Looking.{Tells, tried_at, tried_behind, tried_with, worth_at, worth_behind, worths};
 
 use crate::dealer::{SearchDealer, Way};
+use crate::rooms::Rooms;
+use crate::stand::{give_back, keep_for, stand_for};
 use arrayvec::ArrayVec;
 use rc_deck::Memory;
 use rc_flat::FlatMachine;
@@ -18,8 +22,8 @@ use std::sync::ledger::Ledger;
 /// Rank points, one for each player.
 pub(crate) type Points = ArrayVec<u8, 8>;
 
-/// What an item is worth to each player, so many decisions deep behind it. The machine stands at its decision, where it
-/// stands again behind this. Each item that is tried is a step.
+/// What an item is worth to each player, so many decisions deep behind it. The machine stands at its decision, and can
+/// go back there behind this. Each item that is tried is a step.
 #[cycle(plain)]
 pub(crate) fn behind<L: Ledger>(
     about: &About,
@@ -28,36 +32,40 @@ pub(crate) fn behind<L: Ledger>(
     item: u16,
     made: u64,
     machine: &mut FlatMachine,
+    rooms: &mut Rooms,
     steps: &mut Steps<L>,
     applied: &mut u64,
 ) -> Result<Points, Memory>
     requires about { machine.old.about ≡ about.now }
     requires fresh { machine.old.spent ≡ false }
-    requires notes { machine.old.notes ≡ true }
+    requires home { IsSome machine.old.home }
     requires decides { StandsAtDecision about.now machine.old.config }
     requires offered { item < length (menu_here about.now machine.old.config) }
     requires made { made < 281474976710656 }
+    requires rooms { AreOfShape about.now.shape rooms.old }
     requires few { applied.old ≤ 18446744073709551615 }
     ensures is { IfOk result (λ found. found.items
         ≡ worth_behind about.now way.now depth machine.old.config made item) }
-    ensures back { OnOk result (machine.new ≡ machine.old) }
+    ensures stays { OnOk result (StaysInMatch machine.old machine.new) }
+    ensures rooms { OnOk result (AreOfShape about.now.shape rooms.new) }
     ensures counted { OnOk result (steps.new
         ≡ steps.old + 1 + tried_behind about.now way.now depth machine.old.config made item) }
     ensures told { OnOk result (Tells applied.old applied.new steps.old steps.new) }
 {
-    let mark = machine.mark();
     let mut dealer = SearchDealer::new(way, made);
     machine.apply(item, &mut dealer)?;
     steps.add(1);
     count_one(applied);
     let stop = machine.advance(&mut dealer)?;
     let made = dealer.made();
-    let found = worth(about, way, depth, stop, made, machine, steps, applied)?;
-    machine.undo_to(mark);
+    let found = worth(
+        about, way, depth, stop, made, machine, rooms, steps, applied,
+    )?;
     Ok(found)
 }
 
 // What the stop where a machine stands is worth to each player, so many decisions deep.
+#[tactic(auto, using(rc_flat::proofs::GoingLemmas::stays_still))]
 #[cycle(plain)]
 fn worth<L: Ledger>(
     about: &About,
@@ -66,18 +74,21 @@ fn worth<L: Ledger>(
     stop: Stop,
     made: u64,
     machine: &mut FlatMachine,
+    rooms: &mut Rooms,
     steps: &mut Steps<L>,
     applied: &mut u64,
 ) -> Result<Points, Memory>
     requires about { machine.old.about ≡ about.now }
     requires fresh { machine.old.spent ≡ false }
-    requires notes { machine.old.notes ≡ true }
+    requires home { IsSome machine.old.home }
     requires stands { StandsWhereItStops about.now (stop_seen stop) machine.old.config }
     requires made { made < 281474976710656 }
+    requires rooms { AreOfShape about.now.shape rooms.old }
     requires few { applied.old ≤ 18446744073709551615 }
     ensures is { IfOk result (λ found. found.items
         ≡ worth_at about.now way.now depth (stop_seen stop) machine.old.config made) }
-    ensures back { OnOk result (machine.new ≡ machine.old) }
+    ensures stays { OnOk result (StaysInMatch machine.old machine.new) }
+    ensures rooms { OnOk result (AreOfShape about.now.shape rooms.new) }
     ensures counted { OnOk result (steps.new
         ≡ steps.old + tried_at about.now way.now depth (stop_seen stop) machine.old.config made) }
     ensures told { OnOk result (Tells applied.old applied.new steps.old steps.new) }
@@ -97,6 +108,7 @@ fn worth<L: Ledger>(
                 site,
                 made,
                 machine,
+                rooms,
                 steps,
                 applied,
             )
@@ -115,29 +127,37 @@ fn best<L: Ledger>(
     site: u8,
     made: u64,
     machine: &mut FlatMachine,
+    rooms: &mut Rooms,
     steps: &mut Steps<L>,
     applied: &mut u64,
 ) -> Result<Points, Memory>
     requires about { machine.old.about ≡ about.now }
     requires fresh { machine.old.spent ≡ false }
-    requires notes { machine.old.notes ≡ true }
+    requires home { IsSome machine.old.home }
     requires decides { Decides about.now seat site machine.old.config }
     requires made { made < 281474976710656 }
+    requires rooms { AreOfShape about.now.shape rooms.old }
     requires few { applied.old ≤ 18446744073709551615 }
     ensures is { IfOk result (λ found. found.items ≡ best_for seat
         (worths about.now way.now depth machine.old.config made
         (length (menu_at about.now site machine.old.config.table machine.old.config.control)))) }
-    ensures back { OnOk result (machine.new ≡ machine.old) }
+    ensures stays { OnOk result (StaysInMatch machine.old machine.new) }
+    ensures rooms { OnOk result (AreOfShape about.now.shape rooms.new) }
     ensures counted { OnOk result (steps.new ≡ steps.old + tried_with about.now way.now depth machine.old.config made
         (length (menu_at about.now site machine.old.config.table machine.old.config.control))) }
     ensures told { OnOk result (Tells applied.old applied.new steps.old steps.new) }
 {
     let size = machine.menu_size() as u16;
-    let mut best = behind(about, way, depth, 0, made, machine, steps, applied)?;
+    let kept = keep_for(size, machine, rooms)?;
+    let mut best = behind(about, way, depth, 0, made, machine, rooms, steps, applied)?;
     for item in 1..size {
-        let found = behind(about, way, depth, item, made, machine, steps, applied)?;
+        stand_for(item, &kept, machine);
+        let found = behind(
+            about, way, depth, item, made, machine, rooms, steps, applied,
+        )?;
         best = better(seat, best, found);
     }
+    give_back(kept, rooms);
     Ok(best)
 }
 

@@ -9,14 +9,22 @@ ghost use Rattle.rc_search_model.specs.Laws.{HasTwoTeams};
 ghost use Rattle.rc_search_model.specs.Search.{totals, plain_steps};
 ghost use Rattle.rc_search.specs.Looking.{Tells};
 ghost use Rattle.rc_search.specs.Rival.{rival_seen, CanBeSearched, IsRival};
-ghost use Rattle.rc_search.specs.Rounds.{in_rounds, tried_on, way_in};
+ghost use Rattle.rc_flat.specs.Moments.{IsMoment, StaysInMatch};
+ghost use Rattle.rc_search.specs.Keeping.{AreOfShape};
+ghost use Rattle.rc_search.specs.Rounds.{in_rounds, tried_on, way_in, GoesFromRoot, IsDealing, StandsAtRoot};
+ghost use Rattle.rc_search.specs.Sides.{AreSides};
 
 use crate::dealer::Way;
 use crate::rival::{Found, Rival, Seen};
-use crate::root::{gain_of, machine_at};
+use crate::rooms::Rooms;
+use crate::root::{deal_root, gain_of, machine_at};
+use crate::sides::{Sides, sides_of};
+use crate::stand::stand_at;
 use rc_code::Code;
 use rc_deck::Memory;
+use rc_flat::{FlatMachine, Moment};
 use rc_play_model::{menu_sizes_are_functions_of_views, menus_list_what_is_offered};
+use rc_redraw::Redraws;
 use rc_rules::{About, Machine};
 use rc_steps::Steps;
 use rc_view::View;
@@ -107,31 +115,50 @@ fn totals_of<L: Ledger>(
     menu_sizes_are_functions_of_views();
     // what an about keeps
     let _sheet = about.sheet();
-    let totals = no_totals(alloc, about, code, view, seed, rival)?;
+    let sides = sides_of(about.sheet());
+    let mut redraws = Redraws::new(alloc, about.shape(), view)?;
+    let way = way_of(rival, seed, view, 0);
+    let mut machine = machine_at(alloc, about, code, view, &way, &mut redraws)?;
+    let mut root = machine.moment(alloc)?;
+    let mut rooms = Rooms::new(alloc);
+    let totals = no_totals(alloc, about, view, &way, &machine)?;
     let mut found = Found { totals, applied: 0 };
     for round in 0..rival.rounds {
         add_round(
-            alloc, about, code, view, seed, rival, pruning, round, &mut found, steps,
+            alloc,
+            about,
+            &sides,
+            view,
+            seed,
+            rival,
+            pruning,
+            round,
+            &mut redraws,
+            &mut machine,
+            &mut root,
+            &mut rooms,
+            &mut found,
+            steps,
         )?;
     }
     Ok(found)
 }
 
-// A total of 0 for each item.
+// A total of 0 for each item of the menu where a machine stands, at the root of a round.
 fn no_totals(
     alloc: Global,
     about: &About,
-    code: &Arc<Code>,
     view: &View,
-    seed: u64,
-    rival: &Rival,
+    way: &Way,
+    machine: &FlatMachine,
 ) -> Result<Vec<u32>, Memory>
-    requires at { IsAtDecision about.now (view_seen view.now) }
-    requires code { StandsFor about.now.sheet (code_seen code.now.value) }
+    requires { StandsAtRoot about.now way.now (view_seen view.now) machine.now }
     ensures { IfOk result (λ zeros. zeros.items ≡ replicate (menu_size about.now (view_seen view.now)) 0) }
 {
-    let way = way_of(rival, seed, view, 0);
-    let machine = machine_at(alloc, about, code, view, &way)?;
+    // only contracts speak of these
+    let _about = about;
+    let _view = view;
+    let _way = way;
     zeros(alloc, machine.menu_size())
 }
 
@@ -158,23 +185,84 @@ fn way_of(rival: &Rival, seed: u64, view: &View, round: u16) -> Way
 fn add_round<L: Ledger>(
     alloc: Global,
     about: &About,
-    code: &Arc<Code>,
+    sides: &Sides,
     view: &View,
     seed: u64,
     rival: &Rival,
     pruning: bool,
     round: u16,
+    redraws: &mut Redraws,
+    machine: &mut FlatMachine,
+    root: &mut Moment,
+    rooms: &mut Rooms,
     found: &mut Found,
     steps: &mut Steps<L>,
 ) -> Result<(), Memory>
     requires at { IsAtDecision about.now (view_seen view.now) }
-    requires code { StandsFor about.now.sheet (code_seen code.now.value) }
+    requires sides { AreSides about.now.sheet sides.now.items }
     requires rival { IsRival rival.now }
     requires two { pruning ≡ true → HasTwoTeams about.now.sheet }
+    requires deals { IsDealing about.now (view_seen view.now) redraws.old }
+    requires goes { GoesFromRoot about.now (view_seen view.now) machine.old root.old }
+    requires rooms { AreOfShape about.now.shape rooms.old }
     requires few { found.old.applied ≤ 18446744073709551615 }
     requires before { found.old.totals.items
         ≡ totals about.now (in_rounds round (rival_seen rival.now)) seed (view_seen view.now) }
     requires small { All (λ total. total ≤ 255 * round) found.old.totals.items }
+    ensures deals { IsDealing about.now (view_seen view.now) redraws.new }
+    ensures goes { OnOk result (GoesFromRoot about.now (view_seen view.now) machine.new root.new) }
+    ensures rooms { OnOk result (AreOfShape about.now.shape rooms.new) }
+    ensures after { OnOk result (found.new.totals.items
+        ≡ totals about.now (in_rounds (round + 1) (rival_seen rival.now)) seed (view_seen view.now)) }
+    ensures small { OnOk result (All (λ total. total ≤ 255 * (round + 1)) found.new.totals.items) }
+    ensures exact { OnOk result (pruning ≡ false → steps.new ≡ steps.old
+        + tried_on about.now (way_in (rival_seen rival.now) seed (view_seen view.now) round) (view_seen view.now)
+        (rival.now.depth - 1)) }
+    ensures bounded { OnOk result (steps.new ≤ steps.old
+        + tried_on about.now (way_in (rival_seen rival.now) seed (view_seen view.now) round) (view_seen view.now)
+        (rival.now.depth - 1)) }
+    ensures told { OnOk result (Tells found.old.applied found.new.applied steps.old steps.new) }
+{
+    let way = way_of(rival, seed, view, round);
+    deal_root(about, view, &way, redraws, machine, root);
+    add_gains(
+        alloc, about, sides, view, &way, seed, rival, pruning, round, machine, root, rooms, found,
+        steps,
+    )?;
+    Ok(())
+}
+
+// Adds what each item is worth on the way of a round, at whose root the machine stands.
+fn add_gains<L: Ledger>(
+    alloc: Global,
+    about: &About,
+    sides: &Sides,
+    view: &View,
+    way: &Way,
+    seed: u64,
+    rival: &Rival,
+    pruning: bool,
+    round: u16,
+    machine: &mut FlatMachine,
+    root: &Moment,
+    rooms: &mut Rooms,
+    found: &mut Found,
+    steps: &mut Steps<L>,
+) -> Result<(), Memory>
+    requires at { IsAtDecision about.now (view_seen view.now) }
+    requires sides { AreSides about.now.sheet sides.now.items }
+    requires rival { IsRival rival.now }
+    requires two { pruning ≡ true → HasTwoTeams about.now.sheet }
+    requires way { way.now ≡ way_in (rival_seen rival.now) seed (view_seen view.now) round }
+    requires stands { StandsAtRoot about.now way.now (view_seen view.now) machine.old }
+    requires root { IsMoment about.now machine.old.code machine.old.config root.now }
+    requires rooms { AreOfShape about.now.shape rooms.old }
+    requires few { found.old.applied ≤ 18446744073709551615 }
+    requires before { found.old.totals.items
+        ≡ totals about.now (in_rounds round (rival_seen rival.now)) seed (view_seen view.now) }
+    requires small { All (λ total. total ≤ 255 * round) found.old.totals.items }
+    ensures stays { OnOk result (StaysInMatch machine.old machine.new) }
+    ensures rooms { OnOk result (AreOfShape about.now.shape rooms.new) }
     ensures after { OnOk result (found.new.totals.items
         ≡ totals about.now (in_rounds (round + 1) (rival_seen rival.now)) seed (view_seen view.now)) }
     ensures small { OnOk result (All (λ total. total ≤ 255 * (round + 1)) found.new.totals.items) }
@@ -190,19 +278,24 @@ fn add_round<L: Ledger>(
     menus_list_what_is_offered();
     // what an about keeps
     let _sheet = about.sheet();
-    let way = way_of(rival, seed, view, round);
+    // only contracts speak of these
+    let _seed = seed;
+    let _round = round;
     let depth = rival.depth - 1;
-    let mut machine = machine_at(alloc, about, code, view, &way)?;
     let mut more = Vec::new(alloc);
     for item in 0..found.totals.len() {
+        let place = item as u16;
+        stand_at(place, root, machine);
         let gain = gain_of(
             about,
+            sides,
             view,
-            &way,
+            way,
             depth,
             pruning,
-            item as u16,
-            &mut machine,
+            place,
+            machine,
+            rooms,
             steps,
             &mut found.applied,
         )?;

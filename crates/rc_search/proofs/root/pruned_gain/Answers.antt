@@ -1,9 +1,11 @@
-use Rattle.std.proofs.Common.{◌≡◌, ◌+◌, ◌≤◌, IfOk, OnOk, ap, ◌∙◌, subst, arith}
+use Rattle.std.proofs.Common.{◌≡◌, ◌+◌, ◌≤◌, IfOk, OnOk, sym, ap, ◌∙◌, subst, arith}
 use Rattle.rc_play_model.specs.Draws.{key32, drawn_for, search_redraws}
 use Rattle.rc_play_model.specs.Redraw.{redraw}
 use Rattle.rc_view.specs.Seen.{view_seen}
 use Rattle.rc_search_model.specs.Value.{most_points}
 use Rattle.rc_search_model.proofs.Alternate.{two_teams}
+use Rattle.rc_sheet_model.specs.Sheet.{Sheet}
+use Rattle.rc_search.specs.Sides.{AreSides}
 use Rattle.rc_search.specs.Shuffling.{dealing_on}
 use Rattle.rc_search.specs.Looking.{value_behind, tried_behind}
 use Rattle.rc_search.specs.Pruning.{bounded_to}
@@ -39,3 +41,6 @@ pub returns-clause-bounded : goal.returns-clause-bounded
 returns-clause-bounded g c =
     subst (λ here. OnOk c.behind_within.result (c.behind_within.new.steps
     ≤ c.args.steps.now + 1 + tried_behind c.args.about.now c.args.way.now c.args.depth here 0 c.args.item)) c.requires.stands.there c.behind_within.ensures.counted
+
+pub most_points-most-requires-clause-sides : goal.most_points-most-requires-clause-sides
+most_points-most-requires-clause-sides g c = subst (λ (s : Sheet). AreSides s c.args.sides.now.items) (sym c.sheet-sheet.ensures.same) c.requires.sides
