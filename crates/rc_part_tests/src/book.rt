@@ -157,9 +157,14 @@ fn control_of(decision: &Decision) -> Control {
 
 /// What the rollouts of the plan ask at a decision. There are no numbers.
 fn ask_at(alloc: Global, decision: &Decision) -> Result<Ask, AllocError> {
+    ask_of(alloc, decision, control_of(decision))
+}
+
+/// What they would ask there if the match stood here.
+fn ask_of(alloc: Global, decision: &Decision, control: Control) -> Result<Ask, AllocError> {
     let view = View {
         seat: decision.seat,
-        control: control_of(decision),
+        control,
         numbers: Vec::new(alloc),
         sights: sights_of(alloc, decision.locations)?,
     };
@@ -272,4 +277,79 @@ fn workers_look_up_what_their_matches_ask(rt: HostRuntime) -> Result<(), Fail> {
     let plan = plan_in(rt.alloc())?;
     assert!(rt; about.sheet().players == 2);
     expect_book::<Brand, HostRuntime>(&rt, Fresh::new(2), &about, &plan)
+}
+
+/// What is otherwise than at the first decision in where a match stands.
+#[derive(Clone, Copy, PartialEq, Eq)]
+enum Otherwise {
+    Nothing,
+    Site,
+    NoSite,
+    Stage,
+    Member,
+    Back,
+    Named,
+    Inner,
+    Turn,
+    Made,
+}
+
+const OTHERWISE: [Otherwise; 10] = [
+    Otherwise::Nothing,
+    Otherwise::Site,
+    Otherwise::NoSite,
+    Otherwise::Stage,
+    Otherwise::Member,
+    Otherwise::Back,
+    Otherwise::Named,
+    Otherwise::Inner,
+    Otherwise::Turn,
+    Otherwise::Made,
+];
+
+/// Where a match stands at the first decision, but for this.
+fn control_but(other: Otherwise) -> Control {
+    let frame = Frame {
+        stage: u16::from(other == Otherwise::Stage),
+        member: u8::from(other == Otherwise::Member),
+        back: other == Otherwise::Back,
+        named: if other == Otherwise::Named {
+            Some(0)
+        } else {
+            None
+        },
+    };
+    let mut frames = ArrayVec::new();
+    frames.push(frame);
+    if other == Otherwise::Inner {
+        frames.push(frame);
+    }
+    let mut made = ArrayVec::new();
+    made.push(0);
+    made.push(u32::from(other == Otherwise::Made));
+    Control {
+        site: match other {
+            Otherwise::NoSite => None,
+            Otherwise::Site => Some(1),
+            _ => Some(0),
+        },
+        frames,
+        turn: if other == Otherwise::Turn { 2 } else { 1 },
+        made,
+    }
+}
+
+#[test]
+fn asks_that_differ_in_where_a_match_stands_alone_are_told_apart(
+    rt: HostRuntime,
+) -> Result<(), Fail> {
+    let first = DECISIONS[0];
+    for one in OTHERWISE {
+        let ask = ask_of(rt.alloc(), &first, control_but(one))?;
+        for other in OTHERWISE {
+            let asked = ask_of(rt.alloc(), &first, control_but(other))?;
+            expect_same(&rt, same_ask(&ask, &asked), one == other);
+        }
+    }
+    Ok(())
 }

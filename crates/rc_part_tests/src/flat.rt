@@ -4,6 +4,7 @@ ghost use Rattle.rc_code.specs.Seen.{code_seen};
 ghost use Rattle.rc_code.specs.Stands.{StandsFor};
 
 use crate::expect::expect_same;
+use crate::moves::MOVES;
 use rc_games::{
     DRAWS, Game, MAGPIE, OPEN_CARD, Observed, Playouts, Returns, STAIRCASE, game_in, replay,
 };
@@ -125,8 +126,9 @@ fn each_playout_of_a_match_goes_back_to_its_decision(rt: HostRuntime) -> Result<
 }
 
 /// Games and short plans for them: cards that are shuffled, dealt, drawn, remembered and moved; stages inside one another, a member
-/// that is named and a direction that turns; ends, and turn limits before a round and before a decision.
-const GAMES: [(&[u8], &[u8]); 5] = [
+/// that is named and a direction that turns; ends, turn limits before a round and before a decision; and many cards that are moved
+/// at once.
+const GAMES: [(&[u8], &[u8]); 6] = [
     (
         DRAWS,
         b"(plan (seats (script 1) (rollout 2 7)) (matches (from 1 1 2)) (turns 40))",
@@ -146,6 +148,10 @@ const GAMES: [(&[u8], &[u8]); 5] = [
     (
         OPEN_CARD,
         b"(plan (seats (rollout 1 1) (random 2) (rollout 2 3)) (matches (0 0)) (turns 12))",
+    ),
+    (
+        MOVES,
+        b"(plan (seats (random 1) (rollout 2 3)) (matches (from 0 0 2)) (turns 12))",
     ),
 ];
 

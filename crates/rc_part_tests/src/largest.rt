@@ -3,7 +3,7 @@
 ghost use Rattle.std.specs.Prelude.{◌≡◌, false, IfOk};
 ghost use Rattle.rc_play_model.specs.Shape.{shape_of as shape_for};
 ghost use Rattle.rc_play_model.specs.Step.{start};
-ghost use Rattle.rc_rules.specs.Machine.{CanDecide};
+ghost use Rattle.rc_rules.specs.Machine.{CanDecide, StandsAtDecision};
 ghost use Rattle.rc_plain.specs.Plain.{config_of};
 ghost use Rattle.rc_code.specs.Seen.{code_seen};
 ghost use Rattle.rc_code.specs.Stands.{StandsFor};
@@ -95,7 +95,7 @@ fn made_at_first(
 }
 
 /// The code of a sheet.
-fn code_on(alloc: Global, basis: &Basis) -> Result<Arc<Code>, Fail>
+pub fn code_on(alloc: Global, basis: &Basis) -> Result<Arc<Code>, Fail>
     ensures { IfOk result (λ code. StandsFor basis.now.checked.value (code_seen code.value)) }
 {
     let code = compile(alloc, &basis.checked)?;
@@ -122,7 +122,7 @@ fn flat_there(
 }
 
 /// A flat machine that is made by its parts at the start of a match goes on to its first decision.
-fn flat_first(
+pub fn flat_first(
     alloc: Global,
     basis: &Basis,
     code: &Arc<Code>,
@@ -131,6 +131,7 @@ fn flat_first(
     requires shape { basis.now.shape.value ≡ shape_for basis.now.checked.value }
     requires code { StandsFor basis.now.checked.value (code_seen code.now.value) }
     ensures fresh { IfOk result (λ m. m.spent ≡ false) }
+    ensures decision { IfOk result (λ m. StandsAtDecision m.about m.config) }
 {
     let mut machine = FlatMachine::start(alloc, code, &basis.checked, &basis.shape, 100)?;
     match machine.advance(dealer) {

@@ -1,5 +1,5 @@
 //! Tests of calls below the commands: readers and writers of std, decks, forms, draws and claims; machines side by
-//! side, and the ways back of playouts; redrawn tables, what seats see, the bytes of views, and logs of seats;
+//! side, and the ways back of playouts; menus; redrawn tables, what seats see, the bytes of views, and logs of seats;
 //! measures; when a gate is asked; and what matches remember: in a house over events, in the book that workers share,
 //! and in a memo that forgets.
 #![tactic(auto)]
@@ -30,6 +30,10 @@ mod logs;
 mod matches;
 #[cfg(test)]
 mod measures;
+#[cfg(test)]
+mod menus;
+#[cfg(test)]
+mod moves;
 #[cfg(test)]
 mod outside;
 #[cfg(test)]
