@@ -7,6 +7,9 @@ import re
 import shutil
 import subprocess
 import tempfile
+from collections.abc import Iterator
+from concurrent.futures import Future, ThreadPoolExecutor
+from contextlib import contextmanager
 from dataclasses import dataclass
 from html import escape, unescape
 from pathlib import Path
@@ -15,13 +18,13 @@ NAMES = ("chromium", "chromium-browser", "chromium-headless-shell", "google-chro
 
 # Without its sandbox it runs for root too, as gates do: it draws nothing but the pages of tests.
 WORDS = ("--headless=new", "--no-sandbox", "--disable-gpu", "--hide-scrollbars", "--enable-logging=stderr")
-SECONDS = 120
+SECONDS = 600
 
 # How Chromium is told which colours the reader prefers.
 SCHEMES = {"light": "--blink-settings=preferredColorScheme=1", "dark": "--blink-settings=preferredColorScheme=0"}
 
-# At how many decisions of each page its own check looks.
-MOST = 8
+# At how many decisions of each page its own check looks, but at two for each seat's view at least.
+MOST = 3
 
 # What a script of a page says goes to the log with this word.
 OF_PAGE = "CONSOLE"
@@ -83,6 +86,13 @@ def drawn(pages: list[tuple[str, int]], scheme: str) -> tuple[list[Drawn], list[
         raise AssertionError(f"the pages weren't drawn: {ended.stderr[-500:]}")
     said = [line for line in ended.stderr.splitlines() if OF_PAGE in line]
     return [Drawn(**it) for it in json.loads(unescape(found[1]))], said
+
+
+@contextmanager
+def drawing(pages: list[tuple[list[tuple[str, int]], str]]) -> Iterator[list[Future[tuple[list[Drawn], list[str]]]]]:
+    """Has several lists of pages drawn, each by a browser of its own, while the block goes on."""
+    with ThreadPoolExecutor(max(1, len(pages))) as pool:
+        yield [pool.submit(drawn, of_scheme, scheme) for of_scheme, scheme in pages]
 
 
 def picture(page: Path, address: str, out: Path, width: int, height: int) -> None:

@@ -20,7 +20,7 @@ from pathlib import Path
 from subprocess import TimeoutExpired
 from textwrap import dedent
 
-from built import NOT_BUILT, is_built
+from checkout import NOT_BUILT, is_built
 from started import run
 
 ROOT = Path(__file__).resolve().parent.parent

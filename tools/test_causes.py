@@ -123,7 +123,7 @@ class Sides(Told):
     def test_a_word_that_is_meant_as_a_value(self) -> None:
         self.item("Number", "(do (if (= (attr (top (game hloc S)) R) ^A) (cycle reverse)))", "asked by `(is CARD ATTR VALUE)`")
         self.item("Number", "(do (repeat ^'N (cycle reverse)))", "is no number", "beside")
-        self.item("Number", "(do (repeat ^many (cycle reverse)))", "A whole number in the range of its place")
+        self.item("Number", "(do (repeat ^many (cycle reverse)))", "the sum `(+ INT INT)`")
 
 
 class Sight(Told):
@@ -201,6 +201,40 @@ class Places(Told):
         ):
             part = Part("plan", source, source.index(word))
             self.assertEqual((part.forms, part.meant), (forms, meant))
+
+
+class Words(Told):
+    """What is said of words that stand where others belong."""
+
+    def test_a_head_that_is_misspelled(self) -> None:
+        self.item("Shape", "(do ^(remembr 'C (top (game mem M))))", "No list begins with `remembr` here. Is `remember` meant?")
+        self.item("Shape", "(do (forget ^(tpo (game vloc P))))", "No list begins with `tpo` here. Is `top` meant?")
+        self.item("Shape", "(do ^(discard 'C))", "No list begins with `discard` here. The list around it", "meant?")
+        self.item("Shape", "(do (if ^(remember 'C 'D) (cycle reverse)))", "No list begins with `remember` here.", "meant?")
+
+    def test_a_word_behind_the_head_that_is_misspelled(self) -> None:
+        self.item("Shape", "(do (forget (max (game vloc P) ^usign W)))", "`usign` doesn't belong here. Is `using` meant?")
+        self.item("Shape", "(do (shuffle (game ^hlco S)))", "`hlco` doesn't belong here. Is `hloc` meant?")
+        self.item("Shape", "(stage ^playr (end (= 0 1)) (cycle reverse))", "Is `player` meant?")
+        self.check("Shape", SHEET.format("", "(do (cycle reverse))").replace("max", "^mxa"), "Is `max` meant?")
+        self.item("Shape", "(do (shuffle ^STOCK))", "This isn't written as its place asks", "meant?")
+
+    def test_a_plan_before_the_sheet(self) -> None:
+        plan = "(plan (seats (script) (script)) (matches (0 0)) (turns 9))"
+        self.check("Shape", f"^{plan}\n{SHEET.format('', '')}", "Sheet and plan are exchanged: the sheet stands first", "No list")
+        self.check("Shape", f"; A plan.\n^{plan}", "A plan begins here, where a sheet is to stand", "exchanged")
+
+    def test_a_sheet_in_the_place_of_the_plan(self) -> None:
+        sheet = SHEET.format("", "(do (cycle reverse))")
+        source = f"{sheet}\n{sheet}"
+        said = " ".join(explanation(f"plan Shape {len(sheet) + 1}", source.encode(), ["play"]))
+        self.assertIn("A sheet begins here, where the plan is to stand", said)
+
+    def test_an_amount(self) -> None:
+        told = "An amount is to stand here: a number from -1000000000 to 1000000000, a stored one as `(game sto N)`"
+        for text in ("(do (set (game sto N) ^M))", "(do (inc (game sto N) (+ 1 ^M)))", "(do (if (< ^M 1) (cycle reverse)))"):
+            self.item("Number", text, told)
+        self.item("Number", "(do (all player 'P (set (game sto N) ^'P)))", "A variable stands for a player", "An amount")
 
 
 class Mentions(unittest.TestCase):

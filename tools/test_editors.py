@@ -2,6 +2,7 @@
 indented, faults are found, and snippets are of the language."""
 
 import json
+import os
 import re
 import shutil
 import tempfile
@@ -237,14 +238,16 @@ class Indenting(InFolder):
 
 @unittest.skipUnless(shutil.which("vim"), "no Vim on the path")
 class Making(InFolder):
-    def made(self, program: str) -> list[str]:
+    def made(self, program: str, name: str = "program", sheet: str = "a b.sheet", *before: str, text: str = "") -> list[str]:
         """What `:make` tells by this program, and where it jumps to."""
-        (self.folder / "a b.sheet").write_text("(game\n  (stage player\n    (end (= 1 2))\n")
-        (self.folder / "program").write_text(f"#!/bin/sh\n{program}\n")
-        (self.folder / "program").chmod(0o755)
+        for file in (name, sheet):
+            (self.folder / file).parent.mkdir(parents=True, exist_ok=True)
+        (self.folder / sheet).write_text(text or "(game\n  (stage player\n    (end (= 1 2))\n")
+        (self.folder / name).write_text(f"#!/bin/sh\n{program}\n")
+        (self.folder / name).chmod(0o755)
         self.vim(
-            "let g:cardhouse = './program'",
-            "edit a\\ b.sheet",
+            *(before or ["let g:cardhouse = './program'"]),
+            f"edit {sheet.replace(' ', chr(92) + ' ')}",
             "call cursor(1, 1)",
             "silent make",
             "let rows = []",
@@ -275,6 +278,29 @@ class Making(InFolder):
         """
         self.assertEqual(self.made(program), ["a b.sheet 2 3 One.", "a b.sheet 3 10 Another.", "2 3"])
 
+    def test_the_program_is_found_from_any_folder(self) -> None:
+        program = 'echo "$3:3:5: No such list." >&2; exit 1'
+        told = ["x, y/deep/a b.sheet 3 5 No such list.", "3 5"]
+        self.assertEqual(self.made(program, "cardhouse", "x, y/deep/a b.sheet", "set nobackup"), told)
+        (self.folder / "cardhouse").rename(self.folder / "elsewhere")
+        self.assertEqual(self.made(program, "x, y/cardhouse", "x, y/deep/a b.sheet", "set nobackup"), told)
+        (self.folder / "x, y/cardhouse").unlink()
+        copied = self.folder / "plugin"
+        shutil.copytree(VIM, copied)
+        on_path = f"let $PATH = '{self.folder}/bin:' .. $PATH"
+        words = (f"set runtimepath-={VIM} runtimepath^={copied}", on_path)
+        self.assertEqual(self.made(program, "bin/cardhouse", "x, y/deep/a b.sheet", *words), told)
+
+    def test_a_parenthesis_comes_first(self) -> None:
+        text = "(game\n  (setup\n    (create players 2)\n    (create deck (game hloc S)\n      (deck (R (A))))\n  (do\n    (cycle reverse))\n  (scoring max 0))\n"
+        explain = f'exec {ROOT}/tools/explain "$0".told sheet "$3"'
+        (self.folder / "program.told").write_text("#!/bin/sh\ncat >/dev/null\necho 'sheet Unclosed 0' >&2\nexit 1\n")
+        (self.folder / "program.told").chmod(0o755)
+        said = self.made(explain, text=text)
+        self.assertTrue(said[0].startswith("a b.sheet 5 22 By the indentation a `)` is likely missing"), said)
+        self.assertTrue(said[1].startswith("a b.sheet 1 1 This list is still open"), said)
+        self.assertEqual(said[2], "5 21")
+
     def test_where_there_is_nothing_it_stays(self) -> None:
         self.assertEqual(self.made("exit 0"), ["1 1"])
 
@@ -299,6 +325,18 @@ class Extension(unittest.TestCase):
         (task,) = json.loads((VSCODE / "tasks.json").read_text("ascii"))["tasks"]
         (matcher,) = contributed()["problemMatchers"]
         self.assertEqual(task["problemMatcher"], f"${matcher['name']}")
+
+    def test_the_task_runs_the_program_of_the_folder_or_of_the_path(self) -> None:
+        (task,) = json.loads((VSCODE / "tasks.json").read_text("ascii"))["tasks"]
+        with tempfile.TemporaryDirectory() as folder:
+            for name, said in (("bin/cardhouse", "of the path"), ("cardhouse", "of the folder")):
+                program = Path(folder, name)
+                program.parent.mkdir(exist_ok=True)
+                program.write_text(f'#!/bin/sh\n[ "$1" != lint ] || echo "{said}: $*"\n')
+                program.chmod(0o755)
+                names = {**os.environ, "PATH": f"{folder}/bin:{os.environ['PATH']}"}
+                ran = run(["sh", "-c", task["command"].replace("${file}", "a b")], seconds=60, text=True, cwd=folder, env=names)
+                self.assertEqual((ran.returncode, ran.stdout), (0, f"{said}: lint a b\n"))
 
     def test_the_matcher_finds_places(self) -> None:
         pattern = contributed()["problemMatchers"][0]["pattern"]

@@ -143,6 +143,15 @@ class Sentences(unittest.TestCase):
         self.assertIn("a.sheet:12:63: By the indentation this `)`, or one before it in this line, is likely too many: it ends the "
                       "list of line 2, column 1, and line 14 is written as if it stood inside.", said)
 
+    def test_it_comes_first(self) -> None:
+        text = altered("HAND))))))\n", "HAND)))))\n")
+        note = f"sheet Unclosed {text.index(b'(game')}"
+        places = [line for line in explanation(note, text, ["sheet"]) if line.startswith("line ")]
+        self.assertEqual(places, ["line 12, column 62:", "line 2, column 1:"])
+        files = (File("a.sheet", 0),)
+        said = [line.partition(": ")[0] for line in explanation(note, text, ["sheet"], files) if line.startswith("a.sheet")]
+        self.assertEqual(said, ["a.sheet:12:62", "a.sheet:2:1"])
+
     def test_several(self) -> None:
         said = self.said(altered("HAND))))))\n", "HAND))))\n"), "Unclosed", b"(game")
         self.assertIn("2 `)` are likely missing between line 10, column 5 and here", said)

@@ -72,7 +72,8 @@ class Locations(Telling):
         self.check(staged("(choice (if (= (size (game mem ^LEAD)) 0) (cycle reverse)))"), said)
 
     def test_what_is_remembered_fills_a_mem(self) -> None:
-        self.silent(staged("(choice (if (= (size (game mem LEAD)) 0) (remember (top (game hloc STOCK)) (top (game mem LEAD)))))"))
+        remember = "(if (= (size (game mem LEAD)) 0) (remember (top (game hloc STOCK)) (top (game mem LEAD))))"
+        self.silent(staged(f"(choice {remember} (do (forget (top (game mem LEAD)))))"))
 
     def test_the_place_from_which_is_moved_is_read(self) -> None:
         self.silent(sheet("(do (move (top ('P iloc HAND)) (top (game vloc PILE))))"))
@@ -368,6 +369,76 @@ class Peeks(Telling):
         known = "(choice (if (> (size (known (game hloc STOCK))) 0) (cycle reverse)))"
         self.silent(staged(f"(do (look (game hloc STOCK) (current player))) {known}"))
         self.silent(staged("(do (peek (game vloc PILE) (current team player)))"))
+
+
+class Maps(Telling):
+    """The decks have ranks ACE, KING and 10, and suits CLUBS and HEARTS."""
+
+    LOOK = "(do (set (game sto N) {}) (if (> (game sto N) 0) (cycle reverse)))"
+
+    def mapped(self, entries: str, used: str = "(sum (game hloc STOCK) using W)") -> str:
+        return sheet(self.LOOK.format(used), f"(put points ^W ({entries}))")
+
+    def test_the_one_value_that_has_no_entry(self) -> None:
+        said = "`W` has no entry for `10` of `RANK`, and one for each other value."
+        self.check(self.mapped("(RANK (ACE) 11) (RANK (KING) 4)"), said)
+        self.check(self.mapped("(RANK (ACE KING) 11) (SUIT (CLUBS) 1)"), said)
+
+    def test_where_several_have_none_or_there_are_two_values_nothing_is_told(self) -> None:
+        for entries in ("(RANK (ACE) 11)", "(SUIT (CLUBS) 1)", "(RANK (ACE KING 10) 1)", "(RANK (ACE KING) 2) (RANK (10) 0)"):
+            self.silent(self.mapped(entries))
+
+    def test_a_value_that_stands_twice(self) -> None:
+        said = "`ACE` of `RANK` has an entry of `W` before, and such a card is worth both together."
+        self.check(self.mapped("(RANK (ACE KING 10) 11) (RANK (^ACE) 4)").replace("^W", "W"), said)
+        said = "`KING` stands twice in this entry of `W`, and counts once."
+        self.check(self.mapped("(RANK (KING ^KING) 11)").replace("^W", "W"), said)
+        self.silent(self.mapped("(RANK (ACE) 11) (SUIT (CLUBS) 1)"))
+
+    def placed(self, use: str, more: str = "") -> str:
+        """A sheet with tokens of a GEM beside the cards, of which one goes to SHOWN, and the cards to HANDs."""
+        tokens = "(create deck (game vloc GEMS) (deck (GEM (1 2)))) (put points W ((GEM (1) 1) (GEM (2) 2)))"
+        item = f"(do (move (top (game vloc GEMS)) (top (game vloc SHOWN))) {more} (set (game sto N) {use}))"
+        return sheet(item + "(do (if (> (game sto N) 0) (cycle reverse)))", tokens)
+
+    def test_a_map_for_no_card_of_the_place(self) -> None:
+        said = "No card that may lie there has points by `W`."
+        hand = "(all player 'P (inc (game sto N) {}))"
+        for use in ("(sum ('P iloc HAND) using ^W)", "(points (top ('P iloc HAND)) using ^W)", "(points (max ('P iloc HAND) using ^W) using ^W)"):
+            self.check(self.placed("0", hand.format(use)), *[said] * use.count("^"))
+        self.check(self.placed("0", "(all (game hloc STOCK) 'C (inc (game sto N) (points 'C using ^W)))"), said)
+
+    def test_a_map_for_some_card_of_the_place(self) -> None:
+        for use in ("(sum (game vloc SHOWN) using W)", "(sum (union (game hloc STOCK) (game vloc GEMS)) using W)"):
+            self.silent(self.placed(use))
+        self.silent(self.placed("(sum (game hloc STOCK) using W)", "(move all (game vloc SHOWN) (bottom (game hloc STOCK)))"))
+        shown = "(all (game vloc GEMS) 'G (remember 'G (top (game mem SEEN)))) (move (top (game mem SEEN)) (top (game hloc STOCK)))"
+        self.silent(self.placed("(sum (game hloc STOCK) using W)", shown))
+        self.silent(self.placed("(sum (game hloc STOCK) using W)", "(do (nothing known))"))
+
+
+class References(Telling):
+    SAID = "Nothing of `LED` is ever forgotten, so that once something is remembered there it is never empty again."
+
+    def remembered(self, test: str, forget: str = "") -> str:
+        item = f"(if {test} (remember (top ('P iloc HAND)) (top (game mem ^LED))))"
+        return staged(f"(do (all player 'P {item} {forget}))")
+
+    def test_one_that_is_never_forgotten(self) -> None:
+        for test in ("(= (size (game mem LED)) 0)", "(> (size (game mem LED)) 0)", "(= 0 (size (game mem LED)))"):
+            self.check(self.remembered(test), self.SAID)
+
+    def test_one_that_is_forgotten(self) -> None:
+        for forget in ("(forget (top (game mem LED)))", "(all (game mem LED) 'C (forget 'C))", "(forget (top (union (game mem LED))))"):
+            self.silent(self.remembered("(= (size (game mem LED)) 0)", forget))
+
+    def test_where_nothing_asks_whether_it_is_empty_it_may_stay(self) -> None:
+        for test in ("(is (top (game mem LED)) RANK ACE)", "(= (size (game mem LED)) 4)"):
+            self.silent(self.remembered(test))
+
+    def test_before_all_stages_it_is_remembered_once(self) -> None:
+        remember = "(do (remember (bottom (game hloc STOCK)) (top (game mem LED))))"
+        self.silent(sheet(remember + STAGE.format("(do (if (= (size (game mem LED)) 0) (cycle reverse)))")))
 
 
 class Names(unittest.TestCase):

@@ -5,6 +5,7 @@ import re
 import sys
 import tempfile
 import unittest
+from concurrent.futures import Future
 from contextlib import redirect_stderr
 from functools import cache
 from html import unescape
@@ -59,8 +60,17 @@ ALWAYS_THE_FIRST = b"(plan (seats (script) (script)) (matches (from 1 1 40)) (tu
 ENDLESS = PLANTED.replace(b"(end (= (game sto WON) 1))", b"(end (= (game sto GONE) 1))")
 
 
+# What a browser tells of a report once it has drawn it, which it does while other tests run.
+DRAWN: list[Future[tuple[list[browser.Drawn], list[str]]]] = []
+
+
 def setUpModule() -> None:
     name_program()
+    if browser.browser():
+        page = report_page(eights(), "x", {}, "./cardhouse show x.sheet x.plan")
+        begun = browser.drawing([([(page, 1280), (page, 390)], "dark")])
+        DRAWN.extend(begun.__enter__())
+        unittest.addModuleCleanup(begun.__exit__, None, None, None)
 
 
 def sheet_of(game: str) -> Sheet:
@@ -203,6 +213,12 @@ class Pages(unittest.TestCase):
         self.assertNotRegex(page, r"\bnan\b|inf |None")
         self.assertNotIn("<script", page)
 
+    def test_one_match_is_one(self) -> None:
+        for plan in (b"(plan (seats (script) (script)) (matches (1 1)) (turns 9))", b"(plan (seats (script) (script)) (matches (1 1)) (turns 2))"):
+            page = report_page(report_of(Sheet(PLANTED), plan), "x", {}, "show")
+            self.assertNotRegex(page, r"\b1 (matches|deals)|In half of")
+            self.assertIn("over 1 match;", page)
+
     def test_markup_is_shown_as_text(self) -> None:
         text = PLANTED.replace(b"=Never offered", b"<img src=x onerror=alert(1)>").replace(b"End it", b"</table><script>x</script>")
         page = report_page(report_of(Sheet(text), ALWAYS_THE_FIRST), "<b>T</b>", {}, "show '<i>'")
@@ -214,8 +230,7 @@ class Pages(unittest.TestCase):
         if not browser.browser():
             print("\nthe reports aren't drawn: no browser is installed", file=sys.stderr)
             self.skipTest("no browser is installed")
-        page = report_page(eights(), "x", {}, "./cardhouse show x.sheet x.plan")
-        shown, said = browser.drawn([(page, 1280), (page, 390)], "dark")
+        shown, said = DRAWN[0].result()
         self.assertEqual(said, [])
         for it in shown:
             self.assertEqual((it.fault, it.is_dark, it.is_wide), ("", True, False))

@@ -17,6 +17,7 @@ from unittest.mock import patch
 
 import started
 from built import PROGRAM, ROOT, Built, skip_unless_built
+from counting import bytes_of, is_linear, steps_of
 from inputs import LONGEST
 from pieces.folder import Done, Piece, Series, Split
 from pieces.making import MAKEFILE
@@ -67,8 +68,8 @@ def ended(command: list[object], given: str = "", **environment: str) -> End:
 
 
 def table_of(text: str, *options: str) -> str:
-    """The table of a transcript."""
-    return ended([ROOT / "tools/table", *options], text).stdout
+    """The table of a transcript of the sheet."""
+    return ended([ROOT / "tools/table", "--sheet", SHEET, *options], text).stdout
 
 
 class Plans(unittest.TestCase):
@@ -281,6 +282,30 @@ class Folders(unittest.TestCase):
             merge(self.folder)
         self.assertIn("with 40 turns it has at most 4096", str(caught.exception))
 
+    def write_played(self, pieces: int) -> None:
+        """Writes a series whose pieces are all played: matches of two seats without a choice."""
+        self.write(pieces)
+        kept = json.loads((self.folder / "series.json").read_text())
+        (self.folder / "game.sheet").write_bytes(SHEET.read_bytes())
+        (self.folder / "series.json").write_text(json.dumps(kept | {"sheet": digest(SHEET.read_bytes())}))
+        scores = "end done 1\nscore 0 0 1\nscore 1 0 1\n"
+        for number, piece in enumerate(kept["pieces"]):
+            seeds = [(1 + 2 * number + match, 5 + 2 * number + match) for match in range(2)]
+            matches = "".join(f"match {match} deal {deal} seats {seat}\n{scores}" for match, (deal, seat) in enumerate(seeds))
+            text = f"house 1\n{matches}standing 1 strategy 0 points 2\nstanding 1 strategy 1 points 2\n".encode()
+            (self.folder / f"{number}.transcript").write_bytes(text)
+            write_object(self.folder / f"{number}.json", Done(piece["plan"], digest(text), "", "legal", HOST, 0.1, ""))
+
+    def test_a_table_takes_as_much_as_there_are_pieces(self) -> None:
+        steps, read = [], []
+        for pieces in (8, 16, 32):
+            self.write_played(pieces)
+            self.assertTrue(ran("table", self.folder).stdout.startswith(f"{2 * pieces} matches, 0 ended"))
+            steps.append(steps_of(lambda: ran("table", self.folder)))
+            read.append(bytes_of(lambda: ran("table", self.folder)))
+        self.assertTrue(is_linear(steps), steps)
+        self.assertTrue(is_linear(read), read)
+
     def test_lines_that_differ(self) -> None:
         self.assertEqual([line_of(b"a\nb\n", it) for it in (b"x\nb\n", b"a\nx\n", b"a\n", b"a\nb\nc")], [1, 2, 2, 3])
 
@@ -321,6 +346,20 @@ class Sizes(unittest.TestCase):
         self.assertEqual((end.returncode, told), (0, f"3 pieces of at most 102 matches, {in_units(size)} to write"))
         self.assertEqual(written, f"written: `series make {self.root / 'out'} -j 4` plays four at a time")
 
+    def test_there_are_as_many_pieces_as_processors(self) -> None:
+        for count, told in ((1, "1 piece of at most 300"), (7, "8 pieces of at most 42"), (64, "75 pieces of at most 4"), (999, "150 pieces of at most 2")):
+            with self.subTest(processors=count), patch("pieces.splitting.processors", lambda count=count: count):
+                self.assertTrue(self.split(PLAN).stdout.startswith(f"{told} matches, "))
+                shutil.rmtree(self.root / "out")
+        with patch("pieces.splitting.processors", lambda: 7):
+            self.assertTrue(self.split(PLAN, "--size", 102).stdout.startswith("3 pieces of at most 102 matches, "))
+
+    def test_so_it_is_where_seconds_are_told(self) -> None:
+        with patch("pieces.splitting.processors", lambda: 4), patch("pieces.splitting.matches_in", lambda *_: self.matches):
+            for self.matches, told in ((9999, "5 pieces of at most 74"), (10, "30 pieces of at most 10")):
+                self.assertTrue(self.split(PLAN, "--seconds", 5).stdout.startswith(f"{told} matches, "))
+                shutil.rmtree(self.root / "out")
+
     def test_more_than_a_gigabyte_is_refused(self) -> None:
         plan = PLAN.replace("1 5 300", f"{9 * 10**17} {9 * 10**17} 204800000")
         said = "100000 pieces of at most 4096 matches have plans of 16.4 GB, more than 1 GB; `--large` writes them all the same\n"
@@ -349,32 +388,44 @@ class Sizes(unittest.TestCase):
 
 
 class Programs(unittest.TestCase):
-    """Which program plays. The script of a checkout is one of a few lines here."""
+    """Which program plays. The script of a checkout, or of a release, stands for its program."""
 
     def setUp(self) -> None:
         folder = tempfile.TemporaryDirectory()
         self.addCleanup(folder.cleanup)
         self.root = Path(folder.name).resolve()
         (self.root / "crates/rc_main/out").mkdir(parents=True)
-        self.script = self.root / "cardhouse"
 
-    def program(self, last: str) -> tuple[Program, str]:
-        """The program of a script that ends so, and what was told."""
-        self.script.write_text(f"#!/bin/sh\necho 'cardhouse: builds' >&2\necho 'sheet Shape 0' >&2\n{last}\n")
-        self.script.chmod(0o755)
-        notes = io.StringIO()
-        with patch.dict(os.environ, {"CARDHOUSE": str(self.script)}), redirect_stderr(notes):
-            return Program(), notes.getvalue()
+    def make(self, name: str, text: str) -> Path:
+        file = self.root / name
+        file.write_text(text)
+        file.chmod(0o755)
+        return file
 
-    def test_a_script_has_its_program_built_first(self) -> None:
-        program, told = self.program('echo built >"$(dirname "$0")/crates/rc_main/out/rc_main"; exit 1')
-        self.assertEqual((program.file, told), (self.root / "crates/rc_main/out/rc_main", "cardhouse: builds\n"))
-        self.assertEqual(program.digest(), digest(b"built\n"))
+    def program(self) -> Program:
+        """The program that the script names."""
+        with patch.dict(os.environ, {"CARDHOUSE": str(self.root / "cardhouse")}):
+            return Program()
 
-    def test_a_script_without_a_program(self) -> None:
+    def test_a_script_stands_for_the_program_of_its_checkout(self) -> None:
+        built = self.make("crates/rc_main/out/rc_main", "built")
+        program = self.program()
+        self.assertEqual((program.file, program.digest()), (built, digest(b"built")))
+
+    def test_a_script_stands_for_the_program_of_its_release(self) -> None:
+        self.make("RELEASE", "version 1\n")
+        self.make("program", "built")
+        self.assertEqual((self.program().file, self.program().digest()), (self.root / "program", digest(b"built")))
+
+    def test_nothing_is_built_unasked(self) -> None:
+        self.make("cardhouse", "#!/bin/sh\necho builds >&2\n")
         with self.assertRaises(Refused) as caught:
-            self.program("exit 127")
-        self.assertEqual(caught.exception.status, 127)
+            self.program()
+        self.assertEqual((caught.exception.status, "./cardhouse build" in str(caught.exception)), (127, True))
+        self.make("crates/rc_main/out/rc_main", "built")
+        source = self.make("crates/rc_main/lib.rt", "")
+        os.utime(source, (2e9, 2e9))
+        self.assertRaises(Refused, self.program)
 
 
 class Named(unittest.TestCase):
@@ -415,7 +466,7 @@ class Named(unittest.TestCase):
 
     def test_a_program_that_measures_nothing(self) -> None:
         folder = self.root / "whole"
-        self.ran("split", folder, SHEET, self.root / "series.plan")
+        self.ran("split", folder, SHEET, self.root / "series.plan", "--size", 8)
         self.ran("run", folder, 0)
         for script, status, said in (("echo usage: x >&2; exit 2", 2, "usage: x"), ("echo measure 2", 127, "no measures that are known")):
             program = self.root / "program"
@@ -587,7 +638,7 @@ class Compared(Housed):
         super().setUpClass()
         for name, strategy in (("a", "(random 7)"), ("b", "(script)")):
             (cls.root / name).with_suffix(".plan").write_text(PLAN.replace("300", "10").replace("(random 7)", strategy))
-            ran("split", cls.root / name, SHEET, cls.root / f"{name}.plan", "--duplicate", "--seconds", 100)
+            ran("split", cls.root / name, SHEET, cls.root / f"{name}.plan", "--duplicate", "--size", 20)
             ran("run", cls.root / name, 0)
 
     def rows(self, *words: object) -> list[list[str]]:

@@ -5,7 +5,7 @@ import re
 import sys
 import tempfile
 import unittest
-from concurrent.futures import ThreadPoolExecutor
+from concurrent.futures import Future
 from contextlib import redirect_stderr
 from functools import cache
 from io import StringIO
@@ -82,8 +82,20 @@ MARKUP = f"""; <b>A game</b> of "markup".
 """.encode()
 
 
+# How the pages of all games are drawn: in which scheme, and how wide.
+WAYS = (("light", 1280), ("dark", 390))
+
+# What the browsers tell of these pages once they have drawn them, which they do while other tests run.
+DRAWN: list[Future[tuple[list[browser.Drawn], list[str]]]] = []
+
+
 def setUpModule() -> None:
     name_program()
+    if browser.browser():
+        pages = [replay_page(whole(game)) for game in GAMES] + [replay_page(of_seat("whist")[0])]
+        begun = browser.drawing([([(page, width) for page in pages], scheme) for scheme, width in WAYS])
+        DRAWN.extend(begun.__enter__())
+        unittest.addModuleCleanup(begun.__exit__, None, None, None)
 
 
 @cache
@@ -378,6 +390,7 @@ class Commands(unittest.TestCase):
             (10, "absent: the sheet has the seats 0 to 3\n", (sheet, plan, "--seat", 4)),
             (1, "faulty\\x1b.sheet:2:2: sheet Shape 2\n", (faulty, plan)),
             (3, f"whist.sheet:8:1: plan Shape {sheet.stat().st_size + 1 + sheet.read_bytes().index(b'(game')}\n", (sheet, sheet)),
+            (1, ": sheet and plan are exchanged\n", (plan, sheet)),
             (6, "it is a folder\n", (sheet, self.root)),
             (7, "No such file or directory\n", (sheet, plan, "-o", self.root / "no/a.html")),
         ):  # fmt: skip
@@ -396,11 +409,8 @@ class Drawing(unittest.TestCase):
             raise unittest.SkipTest("no browser is installed")
 
     def test_all_games_in_both_schemes_and_on_a_phone(self) -> None:
-        pages = [replay_page(whole(game)) for game in GAMES] + [replay_page(of_seat("whist")[0])]
-        ways = (("light", 1280), ("dark", 390))
-        with ThreadPoolExecutor() as pool:
-            drawn = pool.map(lambda way: browser.drawn([(page, way[1]) for page in pages], way[0]), ways)
-        for (scheme, width), (found, said) in zip(ways, drawn):
+        for (scheme, width), begun in zip(WAYS, DRAWN):
+            found, said = begun.result()
             self.assertEqual(said, [])
             for name, it in zip([*GAMES, "a seat"], found):
                 with self.subTest(name, scheme=scheme, width=width):

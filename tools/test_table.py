@@ -6,10 +6,13 @@ import re
 import subprocess
 import tempfile
 import unittest
+from contextlib import redirect_stdout
+from io import StringIO
 from pathlib import Path
 
 from cases.rows import read_groups
 from cases.texts import altered
+from counting import bytes_of, is_linear, steps_of
 from faults.tokens import gap_end
 from tables import records
 from tables.counting import Counts, counts_of, values_of
@@ -18,7 +21,7 @@ from tables.figure import Figure
 from tables.grammar import RANGES, first_fault
 from tables.house import Match, Reader
 from tables.numbers import up_to
-from tables.running import players_of_deals
+from tables.running import matches_of, players_of_deals, write
 from tables.showing import table
 
 ROOT = Path(__file__).resolve().parent.parent
@@ -77,6 +80,18 @@ strategy 0            4    2.000  0.000     2    1.000  0.000  3.500  0.500
 strategy 1            0    0.000  0.000     0    0.000  0.000  1.000  0.000
 seat 0                2    1.000  1.000     1    0.500  0.500  2.000  1.000
 seat 1                2    1.000  1.000     1    0.500  0.500  2.500  1.500
+"""
+
+
+# Choice 0 stands in a stage of a stage, and choice 1 in a stage behind it.
+STAGED = """\
+(game (setup (create players 2) (create deck (game hloc S) (deck (R (A)))))
+  (stage player (end (= 1 2))
+    (stage team (end (= 1 2))
+      (choice (do (cycle reverse)))))
+  (stage player (end (= 1 2))
+    (choice (do (cycle reverse))))
+  (scoring max 0))
 """
 
 
@@ -151,8 +166,8 @@ class Refusing(unittest.TestCase):
 class Texts(Refusing):
     def test_matches(self) -> None:
         first, second = Reader("a", TEXT.encode()).matches()
-        self.assertEqual(first, Match(0, 5, 7, "done", 4, 2, 0, (3, 1), (2, 0)))
-        self.assertEqual(second, Match(1, 6, 8, "limit", 8, 1, 3, (1, 4), (0, 2)))
+        self.assertEqual(first, Match(0, 5, 7, "done", 4, 2, 0, (3, 1), (2, 0), 0))
+        self.assertEqual(second, Match(1, 6, 8, "limit", 8, 1, 3, (1, 4), (0, 2), 0))
         self.assertEqual((first.strategies(), second.strategies()), ((0, 1), (1, 0)))
 
     def test_the_transcripts_that_ship_are_read(self) -> None:
@@ -286,6 +301,54 @@ class Records(unittest.TestCase):
         self.assertEqual((second["strategies"], second["scores"], second["points"]), ([1, 0], [1, 4], [0, 2]))
 
 
+class Costs(unittest.TestCase):
+    """What a table takes grows as its text does, whatever of the text grows."""
+
+    def text(self, matches: int, choices: int, named: bool = False) -> bytes:
+        line, house = ("choose 0 0 0 2 c1\n", "house 2\nface 0 R A\nface 1 R K\n") if named else ("choose 0 0 0 2\n", "house 1\n")
+        told = (f"match {number} deal 1 seats 1\n{line * choices}end limit 9\nscore 0 1 0\nscore 1 2 2\n" for number in range(matches))
+        # Of an even number of matches each strategy has half of the points.
+        return f"{house}{''.join(told)}standing 1 strategy 0 points {matches}\nstanding 1 strategy 1 points {matches}\n".encode()
+
+    def costs(self, text: bytes, form: str | None) -> tuple[int, int]:
+        """The steps of a table, and the bytes that are read."""
+
+        def call() -> None:
+            with redirect_stdout(StringIO()):
+                write(matches_of([Path(file.name)]), form, False)
+
+        with tempfile.NamedTemporaryFile() as file:
+            file.write(text)
+            file.flush()
+            return steps_of(call), bytes_of(call)
+
+    def test_they_grow_with_the_matches(self) -> None:
+        for named in (False, True):
+            for form in (None, "csv", "jsonl"):
+                with self.subTest(named=named, form=form):
+                    texts = [self.text(matches, 3, named) for matches in (64, 128, 256)]
+                    steps, read = zip(*(self.costs(text, form) for text in texts))
+                    self.assertEqual(list(read), list(map(len, texts)))
+                    self.assertTrue(is_linear(list(steps)), steps)
+
+    def test_choices_are_counted_and_not_looked_at(self) -> None:
+        steps = [self.costs(self.text(8, choices), None)[0] for choices in (10, 1000)]
+        self.assertEqual(len(set(steps)), 1)
+
+    def test_a_fault_behind_many_lines(self) -> None:
+        steps = []
+        for matches in (64, 128, 256):
+            text = self.text(matches, 3).replace(b"standing 1 strategy 1", b"standing 1  strategy 1")
+            steps.append(steps_of(lambda text=text: self.assertRaises(Refused, Reader("a", text).matches)))
+            # The lines of the text before the last one are house 1 and seven for each match, and the standing above it.
+            with self.assertRaises(Refused) as caught:
+                Reader("a", text).matches()
+            self.assertTrue(str(caught.exception).startswith(f"a:{1 + 7 * matches + 2}: "), caught.exception)
+        self.assertTrue(is_linear(steps), steps)
+
+
+
+
 class Commands(unittest.TestCase):
     def setUp(self) -> None:
         folder = tempfile.TemporaryDirectory()
@@ -303,6 +366,27 @@ class Commands(unittest.TestCase):
         self.assertEqual(self.ran(given=NAMED), (0, TABLE, ""))
         status, written, _ = self.ran(self.file, "--csv", self.file)
         self.assertEqual((status, len(written.splitlines())), (0, 5))
+
+    def test_the_stage_that_was_open_at_the_limit(self) -> None:
+        sheet = self.file.with_name("a.sheet")
+        sheet.write_text(STAGED)
+        told = "open at the last choice of it: the team stage of line 3 in 1\n"
+        self.assertEqual(self.ran(self.file, "--sheet", sheet), (0, TABLE.replace("limit\n", f"limit\n{told}"), ""))
+        unsited = TEXT.replace("choose 0 0 0 1\n", "")
+        text = TEXT.replace("choose 0 0 0 1", "choose 0 1 0 1").replace("end done 4", "end limit 4")
+        for given, line in (
+            (TEXT.replace("end limit", "end done"), ""),
+            (text, "open at the last choice of these: the team stage of line 3 in 1, the player stage of line 5 in 1\n"),
+            (unsited, "open at the last choice of it: no choice was made in 1\n"),
+        ):
+            status, written, _ = self.ran("--sheet", sheet, given=given)
+            first, _, rest = written.partition("\n")
+            self.assertEqual((status, rest.partition("\n\n" if line else "\n")[0]), (0, line.rstrip("\n")))
+        refused = f"{sheet}: it has 2 choices, and the matches have one with the number 2\n"
+        self.assertEqual(self.ran("--sheet", sheet, given=TEXT.replace("choose 0 0 0 1", "choose 0 2 0 1")), (4, "", refused))
+        told = f"{self.file} can't be read as a sheet: `house` stands outside of all lists\n"
+        self.assertEqual(self.ran("--sheet", self.file, given=TEXT), (4, "", told))
+        self.assertEqual(self.ran("--sheet", f"{sheet}s", self.file)[0], 6)
 
     def test_refusals(self) -> None:
         self.assertEqual(self.ran(given="house 1\n"), (4, "", "standard input:2: no transcript has this line here\n"))

@@ -89,7 +89,7 @@ class Script(Scripted):
         self.write("docs/times.txt", "rc_a proof 700 alone\n")
         (self.root / os.fsdecode(NAME)).write_text("(game)")
         leader, follower = pty.openpty()
-        self.run_script("sheet", NAME, stderr=follower)
+        self.run_script("--proved", "sheet", NAME, stderr=follower)
         os.close(follower)
         said = os.read(leader, 65536)
         os.close(leader)

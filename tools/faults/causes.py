@@ -1,9 +1,12 @@
 """Sentences on the cause of a fault whose kind has several: what the text before the part and around it shows."""
 
+from __future__ import annotations
+
 from faults.forms import forms_of, parts_of
 from faults.mentions import STORED, Mention, mention_at, mentions
 from faults.parts import Part
 from faults.places import place_of
+from faults.spelling import on_shape
 
 LOC, NUM = "(HOLDER KIND NAME)", "(HOLDER sto NAME)"
 EQUATIONS = ("(= SIDE SIDE)", "(!= SIDE SIDE)")
@@ -31,6 +34,8 @@ def cause_of(kind: str, part: Part) -> str | None:
     """What is wrong with a part, if the text tells it."""
     if kind == "WrongKind":
         return on_wrong_kind(part)
+    if kind == "Shape":
+        return on_shape(part)
     return on_sight(part) if kind == "Unseen" else None
 
 

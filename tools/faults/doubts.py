@@ -1,5 +1,7 @@
 """Which doubt on a text's parentheses tells of a fault, and a sentence on it."""
 
+from __future__ import annotations
+
 from faults.indentation import Doubt, doubts_on
 from faults.parts import Part
 from faults.sources import Source

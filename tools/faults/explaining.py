@@ -1,5 +1,7 @@
 """What is said beside the line of a refusal."""
 
+from __future__ import annotations
+
 import os
 import re
 import textwrap
@@ -46,18 +48,15 @@ def wrapped(sentence: str | None) -> list[str]:
 
 def on_part(what: str, kind: str, at: int, source: Source) -> list[str]:
     """On a fault of a sheet or a plan: its place, its line, a sentence, and where its shape is wrong how it is written. Where the
-    indentation tells of a `)` that is missing or too many, this is told too."""
+    indentation tells of a `)` that is missing or too many, this comes first: it is where the text is to be mended."""
     part = Part(what, source.text, at)
     said = kinds.sentence_on(kind, part)
     if said is None:
         return []
-    behind = behind_sheet(source.text, at) if what == "plan" else ""
-    lines = pointed(source, at, said, behind)
-    if kind == "Shape" and part.word:
-        lines += written(part)
-    if doubt := doubt_about(kind, part, source):
-        lines += pointed(source, doubt.at, sentence_on_doubt(doubt, source))
-    return lines
+    doubt = doubt_about(kind, part, source)
+    lines = pointed(source, doubt.at, sentence_on_doubt(doubt, source)) if doubt else []
+    lines += pointed(source, at, said, behind_sheet(source.text, at) if what == "plan" else "")
+    return lines + written(part) if kind == "Shape" and part.word else lines
 
 
 def pointed(source: Source, at: int, said: str, behind: str = "") -> list[str]:
@@ -76,8 +75,7 @@ def behind_sheet(text: bytes, at: int) -> str:
 
 def written(part: Part) -> list[str]:
     """How a list with this head is written in its place, and the list around it, and what belongs in this place of that."""
-    lines = [f"No list begins with `{part.head}` here."] if part.is_head_unknown() else []
-    lines += with_title("This list is written:", part.forms)
+    lines = with_title("This list is written:", part.forms)
     if not part.around:
         return lines
     lines += with_title("The list around it is written:", part.around[-1].forms)

@@ -1,5 +1,7 @@
 """The files that words name, put together as one text on standard input."""
 
+from __future__ import annotations
+
 import os
 
 from faults.sources import File

@@ -1,8 +1,9 @@
 """Where a `)` is likely missing, or one too many, by how the lines of a text are indented."""
 
+from __future__ import annotations
+
 from collections.abc import Iterator
 from dataclasses import dataclass
-from itertools import pairwise
 
 from faults.tokens import Token, tokens
 
@@ -134,7 +135,8 @@ class Reading:
 def with_heads(text: bytes, begin: int) -> Iterator[tuple[Token, str]]:
     """The tokens from a place on, a `(` with the word behind it."""
     behind = Token("", len(text))
-    for token, after in pairwise([*tokens(text, begin), behind]):
+    found = [*tokens(text, begin), behind]
+    for token, after in zip(found, found[1:]):
         yield token, after.text if token.text == "(" else ""
 
 

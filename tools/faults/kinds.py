@@ -1,5 +1,7 @@
 """A sentence on each kind of fault, with what would mend it."""
 
+from __future__ import annotations
+
 from faults.causes import cause_of
 from faults.parts import Part
 
@@ -116,8 +118,8 @@ WHOLE = {
         "These words are no command: write `play`, `check`, `sheet`, `migrate` or `measure`, `bench N` with N from 1 to 1000, "
         "`watch SEAT MATCH` with numbers from 0 on, up to 7 and 4095, or `rival K DEPTH ROUNDS KEY` with K from 0 to 7, DEPTH from "
         "1 to 4, ROUNDS from 1 to 100 and a KEY of up to 18 digits; `play` and `bench` take `--workers N` (1 to 64) and "
-        "`--cache N` (1 to 65536) behind that, and `play` takes `--format N` (1 or 2). The other commands are `lint`, `table` and "
-        "`series`."
+        "`--cache N` (1 to 65536) behind that, and `play` takes `--format N` (1 or 2). The other commands are `lint`, `fmt`, "
+        "`table`, `show`, `report` and `series`, and in a checkout `build` and `release`: `./cardhouse --help` tells of all."
     ),
 }
 
@@ -138,6 +140,10 @@ EXACT = {
     ("Number", "SIDE"): (
         "A word beside `=` or `!=` is a variable or a number from -1000000000 to 1000000000; whether a card has a value is "
         "asked by `(is CARD ATTR VALUE)`."
+    ),
+    ("Number", "INT"): (
+        "An amount is to stand here: a number from -1000000000 to 1000000000, a stored one as `(game sto N)`, or what makes one, as "
+        "the sum `(+ INT INT)` or `(size COLL)`."
     ),
     ("Number", "'"): (
         "A variable stands for a player, a card or a group, and is no number: write a number from -1000000000 to 1000000000, "
@@ -205,16 +211,18 @@ def looks(part: Part) -> list[str]:
     """What tells the sentence on a part, from the most exact to the least."""
     around = [f"in {form}" for it in part.around[-1:] for form in it.forms]
     begins = f"({part.head}" if part.word == "(" else part.word[:1]
-    return [*part.forms, *around, *part.meant, begins]
+    # A variable is no amount whatever its name.
+    meant = [it for it in part.meant if (it, begins) != ("INT", "'")]
+    return [*part.forms, *around, *meant, begins]
 
 
 def sentence_on(kind: str, part: Part) -> str | None:
     """The sentence on a fault of this kind, if it is known."""
     if kind == "Shape" and not part.word:
         return MISSING[part.what]
-    if part.what == "plan":
-        return PLAN.get(kind)
     cause = cause_of(kind, part)
+    if part.what == "plan":
+        return cause or PLAN.get(kind)
     sentences = (EXACT.get((kind, look)) for look in looks(part))
     rule = next((sentence for sentence in sentences if sentence), SHEET.get(kind))
     return f"{cause} {rule}" if cause and kind == "Unseen" else cause or rule

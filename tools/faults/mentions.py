@@ -1,5 +1,7 @@
 """Locations and stored numbers, as a source writes them."""
 
+from __future__ import annotations
+
 from collections.abc import Iterator
 from dataclasses import dataclass
 

@@ -1,5 +1,7 @@
 """Sentences on the lines of a transcript by which it names cards: its legend, and the marks of what items take."""
 
+from __future__ import annotations
+
 import re
 import signal
 from collections.abc import Iterator

@@ -1,5 +1,7 @@
 """Names that are spelled alike."""
 
+from __future__ import annotations
+
 import re
 from collections.abc import Iterable
 from functools import lru_cache

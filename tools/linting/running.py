@@ -7,8 +7,10 @@ from faults.places import place_of
 from inputs import SOURCE, TooLong, contents
 from linting.finding import Finding
 from linting.limits import refuse_many
+from linting.on_maps import on_maps
 from linting.on_names import on_locations, on_numbers
 from linting.on_peeks import on_known, on_peeks
+from linting.on_references import on_references
 from linting.on_stages import on_stages
 from linting.on_values import on_values
 from linting.on_variables import on_variables
@@ -21,7 +23,7 @@ CLEAN, FOUND, FAILED, READ_FAULT, WRITE_FAULT, TOO_LONG = 0, 1, 2, 6, 7, 8
 
 OUTPUT, ERROR = 1, 2
 
-KINDS = (on_locations, on_numbers, on_values, on_variables, on_stages, on_peeks, on_known)
+KINDS = (on_locations, on_numbers, on_values, on_maps, on_variables, on_stages, on_references, on_peeks, on_known)
 
 
 def findings(sheet: Node) -> list[Finding]:

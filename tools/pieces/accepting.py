@@ -2,9 +2,11 @@
 
 import re
 from dataclasses import dataclass
+from itertools import islice
 from pathlib import Path
 
 from faults.places import place_of
+from faults.tokens import tokens
 from inputs import SOURCE
 from pieces.plans import SeriesPlan, plan_of
 from pieces.program import Program, refusal
@@ -48,8 +50,15 @@ def located(note: str, texts: list[tuple[Path, bytes]]) -> str:
     (sheet_file, sheet), (plan_file, plan) = texts
     at = int(told[1])
     if at < len(sheet):
-        return f"{placed(sheet_file, sheet, at)}: {note}"
+        told = ": sheet and plan are exchanged" if (head_of(sheet), head_of(plan)) == ("plan", "game") else ""
+        return f"{placed(sheet_file, sheet, at)}: {note}{told}"
     return f"{placed(plan_file, plan, at - len(sheet) - 1)}: {note}"
+
+
+def head_of(text: bytes) -> str:
+    """The word with which the first list of a text begins; nothing where it begins otherwise."""
+    first, head = (*(token.text for token in islice(tokens(text), 2)), "", "")[:2]
+    return head if first == "(" else ""
 
 
 def sources_of(sheet: Path, plan: Path, duplicate: bool) -> Sources:

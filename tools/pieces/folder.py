@@ -4,7 +4,7 @@ import json
 from dataclasses import dataclass, fields
 from itertools import accumulate
 from pathlib import Path
-from typing import TypeVar, get_args, get_origin
+from typing import Optional, TypeVar, get_args, get_origin
 
 from inputs import SOURCE
 from pieces.plans import plan_of
@@ -36,8 +36,8 @@ class Split:
     sheet: str
     plan: str
     program: str
-    commit: str | None
-    kit: str | None
+    commit: Optional[str]
+    kit: Optional[str]
     duplicate: bool
     pieces: list[Piece]
     format: int = 1
@@ -133,7 +133,7 @@ class Series:
             raise self.changed(file)
         return data
 
-    def done(self, number: int) -> Done | None:
+    def done(self, number: int) -> Optional[Done]:
         """What is kept of a piece, if it was played."""
         file = self.file(number, "json")
         if not file.exists():
@@ -148,7 +148,7 @@ class Series:
         names = {file.name for file in self.folder.iterdir()}
         return sum(f"{number}.json" in names for number in range(len(self.pieces)))
 
-    def fault(self, number: int) -> str | None:
+    def fault(self, number: int) -> Optional[str]:
         """Why a piece doesn't count; nothing where it is there as it was played by the series' program and judged legal."""
         piece, transcript = self.piece(number), self.file(number, "transcript")
         try:

@@ -2,7 +2,6 @@
 
 import re
 from collections.abc import Iterator
-from itertools import pairwise
 from pathlib import Path
 
 from pieces.folder import Series, read
@@ -74,7 +73,7 @@ def changes(matches: list[Match]) -> int:
         for strategy, gained in zip(match.strategies(), match.points):
             points[strategy] += gained
         leaders.append(points.index(max(points)))
-    return sum(before != now for before, now in pairwise(leaders))
+    return sum(before != now for before, now in zip(leaders, leaders[1:]))
 
 
 def lines(measures: Measures) -> Iterator[str]:

@@ -1,22 +1,18 @@
 """The program that plays and judges: where it is, which one it is, and calls of it."""
 
+from __future__ import annotations
+
 import hashlib
 import os
-import signal
 import subprocess
-import sys
 import time
 from dataclasses import dataclass
 from pathlib import Path
 
-from attended import attended, tied
-from tables.ending import Refused
-
-ROOT = Path(__file__).resolve().parent.parent.parent
-NOT_BUILT = 127
-
-# What the program ends with where it is to read a sheet and there is none.
-NO_SHEET = 1
+import checkout
+from attended import tied
+from checkout import ROOT
+from tables.ending import NOT_BUILT, Refused
 
 
 def digest(data: bytes) -> str:
@@ -33,16 +29,16 @@ class Played:
 
 
 class Program:
-    """What plays and judges: the program of this checkout; or what the environment has in CARDHOUSE, a program, or the script
-    `cardhouse` of another checkout, whose program it is then. A script is called first, which has the program built."""
+    """What plays and judges: the program of this checkout or release; or what the environment has in CARDHOUSE, a program, or the
+    script `cardhouse` of another checkout or release, whose program it is then."""
 
     def __init__(self) -> None:
         command = Path(os.environ.get("CARDHOUSE") or ROOT / "cardhouse").resolve()
-        crate = command.parent / "crates/rc_main"
         self.file = command
-        if crate.is_dir():
-            self.file = crate / "out/rc_main"
-            build(command)
+        if checkout.is_release(command.parent) or (command.parent / "crates/rc_main").is_dir():
+            self.file = checkout.program_of(command.parent)
+            if not checkout.is_built(command.parent):
+                raise Refused(NOT_BUILT, checkout.NOT_BUILT)
 
     def digest(self) -> str:
         try:
@@ -75,19 +71,6 @@ class Program:
             raise refusal(judged)
 
 
-def build(script: Path) -> None:
-    """Has the program built where it isn't, or not of these sources, and passes on what the script says of that."""
-    nothing = subprocess.DEVNULL
-    how = {"stdin": nothing, "stdout": nothing, "stderr": subprocess.PIPE, "preexec_fn": tied(signal.SIGTERM)}
-    with subprocess.Popen([script, "sheet"], **how) as calling, attended(calling):
-        assert calling.stderr
-        for line in calling.stderr:
-            if line.startswith(b"cardhouse: "):
-                print(line.decode("utf-8", "replace"), end="", file=sys.stderr, flush=True)
-    if calling.returncode != NO_SHEET:
-        raise Refused(NOT_BUILT, f"{script} has no program that runs")
-
-
 def refusal(ended: subprocess.CompletedProcess[bytes]) -> Refused:
     """What the program told, with its status."""
     told = ended.stderr.decode("utf-8", "replace").strip() or f"the program ended with {ended.returncode}"
@@ -104,10 +87,11 @@ def told_by(*command: str) -> str | None:
 
 
 def commit() -> str | None:
-    """The commit of this checkout, with `-dirty` behind it where files differ from it."""
-    return told_by("git", "describe", "--always", "--abbrev=40", "--exclude=*", "--dirty")
+    """The commit of this release or checkout, with `-dirty` behind it where files of a checkout differ from it."""
+    described = ("git", "describe", "--always", "--abbrev=40", "--exclude=*", "--dirty")
+    return checkout.facts_of(ROOT).get("commit") or told_by(*described)
 
 
 def kit() -> str | None:
-    """The line by which the kit is known."""
-    return told_by("rt", "version")
+    """The line of the kit that proved the program of this release, or by which the kit here is known."""
+    return checkout.facts_of(ROOT).get("kit") or told_by("rt", "version")

@@ -1,5 +1,7 @@
 """The command `series`."""
 
+from __future__ import annotations
+
 import argparse
 import signal
 import sys
@@ -8,7 +10,7 @@ from pathlib import Path
 
 from pieces.accepting import sources_of
 from pieces.comparing import compare, deal_matches
-from pieces.folder import Series
+from pieces.folder import SHEET, Series
 from pieces.making import make
 from pieces.measuring import measure
 from pieces.playing import again, picked, run
@@ -16,6 +18,7 @@ from pieces.splitting import split
 from pieces.whole import matches_of, merge
 from tables.ending import status_of
 from tables.running import Words, add_forms, write
+from tables.stages import at_limit
 
 
 def parser() -> argparse.ArgumentParser:
@@ -88,9 +91,11 @@ def command_of(told: argparse.Namespace) -> None:
 
 
 def table(folder: Path, form: str | None) -> None:
-    """Writes the table of a series, with errors by deal where it is a duplicate."""
+    """Writes the table of a series, with errors by deal where it is a duplicate, and which stages of its sheet were open where the
+    turn limit ended matches."""
     series = Series(folder)
-    write(matches_of(series), form, deal_matches(series) > 1)
+    matches = matches_of(series)
+    write(matches, form, deal_matches(series) > 1, at_limit(str(folder / SHEET), series.sheet(), matches))
 
 
 def main(words: list[str]) -> int:

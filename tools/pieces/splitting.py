@@ -1,5 +1,7 @@
 """Splits a series into pieces: a folder with a plan for each."""
 
+from __future__ import annotations
+
 import json
 import os
 import shlex
@@ -10,7 +12,7 @@ from pathlib import Path
 from inputs import SOURCE
 from pieces.accepting import Sources
 from pieces.folder import MOST_PIECES, PLAN, SERIES, SHEET, WHOLE, Piece, Split
-from pieces.plans import size_of
+from pieces.plans import SeriesPlan, size_of
 from pieces.program import Program, commit, digest, kit
 from pieces.storing import remove_left, whole_folder, write_object
 from tables.ending import TOO_LONG, WRITE_FAULT, Refused
@@ -31,7 +33,7 @@ def split(folder: Path, sources: Sources, size: int | None, seconds: float | Non
     refuse_there(folder)
     program, plan = Program(), sources.plan
     sources.accept(program, min(size_of(plan, plan.most()), plan.matches()))
-    wanted = size or (matches_in(seconds, program, sources, format) if seconds else plan.most())
+    wanted = size or min(even(plan, processors()), matches_in(seconds, program, sources, format) if seconds else plan.most())
     pieces = list(pieces_of(sources, size_of(plan, wanted)))
     told = f"{len(pieces)} pieces" if len(pieces) > 1 else "1 piece"
     told += f" of at most {pieces[0].matches} matches"
@@ -43,6 +45,16 @@ def split(folder: Path, sources: Sources, size: int | None, seconds: float | Non
     print(f"{told}, {in_units(of_plans + bytes_beside_plans(sources, kept))} to write", flush=True)
     write(folder, sources, kept)
     print(printable(f"written: `series make {shlex.quote(str(folder))} -j 4` plays four at a time"))
+
+
+def processors() -> int:
+    """How many processors this process may use."""
+    return len(os.sched_getaffinity(0))
+
+
+def even(plan: SeriesPlan, pieces: int) -> int:
+    """How many matches a piece has at most where there are to be so many pieces, but at least one for each strategy."""
+    return max(len(plan.strategies), plan.matches() // pieces)
 
 
 def refuse_there(folder: Path) -> None:

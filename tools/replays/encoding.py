@@ -4,7 +4,7 @@ from __future__ import annotations
 
 from collections.abc import Iterator
 from itertools import groupby
-from typing import Any
+from typing import Any, Union
 
 from linting.trees import Node
 from replays.deriving import Piece
@@ -16,7 +16,7 @@ from replays.texts import Face, Stop
 from replays.words import alternative_label, alternative_words, domains, site_label, stage_label
 
 # A place: nothing that a seat sees; a face that those see who see the place by its kind; or a face and a mask of seats.
-Place = int | list[int]
+Place = Union[int, list[int]]
 UNSEEN = -1
 
 # What a decision tells that only who chooses may know; the running scores, which may count what nobody sees; and what tells of all.

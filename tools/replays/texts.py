@@ -52,21 +52,21 @@ def transcript_of(text: bytes) -> Transcript:
     told = Transcript()
     for line in text.decode("ascii").split("\n"):
         words = line.split(" ")
-        match words[0]:
-            case "face":
-                told.places[int(words[1])] = len(told.faces)
-                told.faces.append(list(zip(words[2::2], words[3::2])))
-            case "match":
-                told.matches.append(Record(int(words[1]), int(words[3]), int(words[5])))
-            case "choose":
-                told.matches[-1].picks.append(Pick(*map(int, words[1:5]), tuple(words[5:])))
-            case "shuffles":
-                told.matches[-1].shuffles = int(words[1])
-            case "end":
-                told.matches[-1].end, told.matches[-1].turn = words[1], int(words[2])
-            case "score":
-                told.matches[-1].scores.append(int(words[2]))
-                told.matches[-1].points.append(int(words[3]))
+        word = words[0]
+        if word == "face":
+            told.places[int(words[1])] = len(told.faces)
+            told.faces.append(list(zip(words[2::2], words[3::2])))
+        elif word == "match":
+            told.matches.append(Record(int(words[1]), int(words[3]), int(words[5])))
+        elif word == "choose":
+            told.matches[-1].picks.append(Pick(*map(int, words[1:5]), tuple(words[5:])))
+        elif word == "shuffles":
+            told.matches[-1].shuffles = int(words[1])
+        elif word == "end":
+            told.matches[-1].end, told.matches[-1].turn = words[1], int(words[2])
+        elif word == "score":
+            told.matches[-1].scores.append(int(words[2]))
+            told.matches[-1].points.append(int(words[3]))
     return told
 
 
@@ -105,16 +105,15 @@ def log_of(text: bytes) -> Log:
     count = 0
     for line in text.decode("ascii").split("\n"):
         word, *words = line.split(" ")
-        match word:
-            case "stop":
-                stops.append(Stop(int(words[2]), int(words[4])))
-            case "frame":
-                named = None if words[3] == "none" else int(words[3])
-                stops[-1].frames.append(Frame(int(words[0]), int(words[1]), words[2] == "back", named))
-            case "numbers":
-                stops[-1].numbers = list(map(int, words))
-            case "place":
-                stops[-1].places.append([None if it == "-" else int(it) for it in words[1:]])
-            case "stops":
-                count = int(words[0])
+        if word == "stop":
+            stops.append(Stop(int(words[2]), int(words[4])))
+        elif word == "frame":
+            named = None if words[3] == "none" else int(words[3])
+            stops[-1].frames.append(Frame(int(words[0]), int(words[1]), words[2] == "back", named))
+        elif word == "numbers":
+            stops[-1].numbers = list(map(int, words))
+        elif word == "place":
+            stops[-1].places.append([None if it == "-" else int(it) for it in words[1:]])
+        elif word == "stops":
+            count = int(words[0])
     return Log(stops, count)

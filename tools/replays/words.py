@@ -57,36 +57,35 @@ def domains(node: Node) -> list[Node]:
 def effect_words(node: Node) -> str:
     parts = node.parts
     head = parts[0].text if parts else node.text
-    match head:
-        case "move" if parts[1].text == "all":
-            return f"{card_words(parts[2], many=True)} → {spot_words(parts[3])}"
-        case "move":
-            return f"{card_words(parts[1])} → {spot_words(parts[2])}"
-        case "remember":
-            return f"note {card_words(parts[1])} in {spot_words(parts[2])}"
-        case "forget":
-            return f"forget {card_words(parts[1])}"
-        case "shuffle":
-            return f"shuffle {place_words(parts[1])}"
-        case "set":
-            return f"{place_words(parts[1])} = {amount_words(parts[2])}"
-        case "inc":
-            return f"{place_words(parts[1])} + {amount_words(parts[2])}"
-        case "dec":
-            return f"{place_words(parts[1])} − {amount_words(parts[2])}"
-        case "if":
-            return "if it applies: " + effect_words(parts[2]) + (" …" if len(parts) > 3 else "")
-        case "repeat":
-            return f"{amount_words(parts[1])} times: " + effect_words(parts[2]) + (" …" if len(parts) > 3 else "")
-        case "all":
-            whom = "each player" if parts[1].text == "player" else f"each of {card_words(parts[1], many=True)}"
-            return f"{whom}: " + effect_words(parts[3]) + (" …" if len(parts) > 4 else "")
-        case "cycle" if parts[1].text == "reverse":
-            return "turn the direction"
-        case "cycle":
-            return f"{owner_words(parts[2])} is next"
-        case "peek":
-            return f"{owner_words(parts[2])} peeks at {card_words(parts[1], many=True)}"
+    if head == "move" and parts[1].text == "all":
+        return f"{card_words(parts[2], many=True)} → {spot_words(parts[3])}"
+    if head == "move":
+        return f"{card_words(parts[1])} → {spot_words(parts[2])}"
+    if head == "remember":
+        return f"note {card_words(parts[1])} in {spot_words(parts[2])}"
+    if head == "forget":
+        return f"forget {card_words(parts[1])}"
+    if head == "shuffle":
+        return f"shuffle {place_words(parts[1])}"
+    if head == "set":
+        return f"{place_words(parts[1])} = {amount_words(parts[2])}"
+    if head == "inc":
+        return f"{place_words(parts[1])} + {amount_words(parts[2])}"
+    if head == "dec":
+        return f"{place_words(parts[1])} − {amount_words(parts[2])}"
+    if head == "if":
+        return "if it applies: " + effect_words(parts[2]) + (" …" if len(parts) > 3 else "")
+    if head == "repeat":
+        return f"{amount_words(parts[1])} times: " + effect_words(parts[2]) + (" …" if len(parts) > 3 else "")
+    if head == "all":
+        whom = "each player" if parts[1].text == "player" else f"each of {card_words(parts[1], many=True)}"
+        return f"{whom}: " + effect_words(parts[3]) + (" …" if len(parts) > 4 else "")
+    if head == "cycle" and parts[1].text == "reverse":
+        return "turn the direction"
+    if head == "cycle":
+        return f"{owner_words(parts[2])} is next"
+    if head == "peek":
+        return f"{owner_words(parts[2])} peeks at {card_words(parts[1], many=True)}"
     return "…"
 
 
@@ -118,17 +117,17 @@ def card_words(node: Node, many: bool = False) -> str:
         return "the cards" if many else f"the card {node.text[1:]}".removesuffix(" C")
     if is_location(node):
         return f"all of {place_words(node)}" if many else place_words(node)
-    match node.parts[0].text:
-        case "top" | "bottom" as end:
-            return f"the {end} card of {card_words(node.parts[1])}"
-        case "max" | "min" as which:
-            return f"the {'best' if which == 'max' else 'least'} card of {card_words(node.parts[1])}"
-        case "filter":
-            return f"some of {card_words(node.parts[1])}"
-        case "union":
-            return " and ".join(card_words(it) for it in node.parts[1:])
-        case "known":
-            return f"known cards of {card_words(node.parts[1])}"
+    head = node.parts[0].text
+    if head in ("top", "bottom"):
+        return f"the {head} card of {card_words(node.parts[1])}"
+    if head in ("max", "min"):
+        return f"the {'best' if head == 'max' else 'least'} card of {card_words(node.parts[1])}"
+    if head == "filter":
+        return f"some of {card_words(node.parts[1])}"
+    if head == "union":
+        return " and ".join(card_words(it) for it in node.parts[1:])
+    if head == "known":
+        return f"known cards of {card_words(node.parts[1])}"
     return "cards"
 
 
@@ -137,11 +136,11 @@ def amount_words(node: Node) -> str:
         return node.text
     if is_number(node):
         return place_words(node)
-    match node.parts[0].text:
-        case "size":
-            return f"how many in {card_words(node.parts[1])}"
-        case "sum" | "points":
-            return f"what {card_words(node.parts[1])} counts"
-        case "+" | "-" | "*" as sign:
-            return f"{amount_words(node.parts[1])} {sign.replace('*', '×').replace('-', '−')} {amount_words(node.parts[2])}"
+    head = node.parts[0].text
+    if head == "size":
+        return f"how many in {card_words(node.parts[1])}"
+    if head in ("sum", "points"):
+        return f"what {card_words(node.parts[1])} counts"
+    if head in ("+", "-", "*"):
+        return f"{amount_words(node.parts[1])} {head.replace('*', '×').replace('-', '−')} {amount_words(node.parts[2])}"
     return "…"

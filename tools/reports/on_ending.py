@@ -42,7 +42,7 @@ def limited(report: Report) -> tuple[list[str], str, str]:
     """What is said where some did."""
     limits = report.counts.limits.total
     share = of_share(limits, report.count)
-    said = f"{of_all(limits, report.count, 'matches')} ({percent(share.mean)}) hit the turn limit of {report.plan.turns:,}"
+    said = f"{of_all(limits, report.count)} ({percent(share.mean)}) hit the turn limit of {report.plan.turns:,}"
     said += f"; in the long run that is {percent(share.low)} to {percent(share.high)} (95 %)." if report.is_sure else "."
     mood = BAD if share.low > MANY or limits == report.count else OPEN
     return [said, *open_stages(report)], f"{percent(share.mean)} hit the limit", mood

@@ -23,8 +23,11 @@ def tension(report: Report) -> Section:
     margins = [margin(it.scores, report.teams, report.sheet.best) for it in report.told.matches]
     middle = median(margins)
     who = "team" if report.is_team_game else "player"
-    level = of_all(sum(it == 0 for it in margins), report.count, "matches")
-    said = f"In half of the matches the best {who} is {number(middle)} ahead of the next, or less; {level} end level at the top."
+    level = sum(it == 0 for it in margins)
+    said = f"In half of the matches the best {who} is {number(middle)} ahead of the next, or less; "
+    said += f"{of_all(level, report.count)} end level at the top."
+    if report.count == 1:
+        said = "It ends level at the top." if level else f"The best {who} is {number(middle)} ahead of the next."
     section = Section("tense", "Is it tense?", f"{number(middle)} between first and second", OPEN, [said])
     if len(set(margins)) > 1:
         across = "score of the first less that of the second"

@@ -57,7 +57,7 @@ def report_page(report: Report, title: str, links: dict[int, str], command: str)
 def told(report: Report) -> str:
     plan = report.plan
     players = "1 player" if report.players == 1 else f"{report.players} players"
-    deals = f" ({report.units:,} deals, each once in every seat)" if report.unit > 1 else ""
+    deals = f" ({report.units:,} deal{'' if report.units == 1 else 's'}, each once in every seat)" if report.unit > 1 else ""
     strategies = " ".join(dict.fromkeys(plan.strategies))
     shown = strategies if len(strategies) < LONGEST else strategies[: LONGEST - 2] + "…"
     return f"{of_matches(report.count)}{deals} · {players} · at most {plan.turns:,} turns · <code>{escape(shown)}</code>"
@@ -108,9 +108,9 @@ def foot(report: Report) -> str:
     followed = len(report.told.courses)
     is_part = 0 < followed < report.count
     sampled = f" How scores stood, what was offered and which tests held is told by {followed:,} of the matches." if is_part else ""
-    unit = "deals" if report.unit > 1 else "matches"
+    units = f"{report.units:,} {'deal' if report.units == 1 else 'deals'}" if report.unit > 1 else of_matches(report.units)
     return (
-        f"An interval is made by the standard error over {report.units:,} {unit}; it counts chance alone, and not that this plan is "
+        f"An interval is made by the standard error over {units}; it counts chance alone, and not that this plan is "
         f"one of many that could have been taken. Where an interval leaves a thing open, no sentence says it.{sampled} Choices, "
         "sizes, points and measures are those that the program wrote."
     )

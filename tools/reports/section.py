@@ -32,8 +32,8 @@ def percent(share: float) -> str:
     return f"{value:.0f} %" if value >= 10 or value == int(value) else f"{value:.2g} %"
 
 
-def of_all(count: int, all_of: int, what: str) -> str:
-    return f"{count:,} of {all_of:,} {what}"
+def of_all(count: int, all_of: int) -> str:
+    return f"{count:,} of {of_matches(all_of)}"
 
 
 def counted(count: float, what: str) -> str:

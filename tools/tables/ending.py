@@ -15,6 +15,7 @@ READ_FAULT = 6
 WRITE_FAULT = 7
 TOO_LONG = 8
 ABSENT = 10
+NOT_BUILT = 127
 
 
 class Refused(Exception):

@@ -1,5 +1,7 @@
 """The arithmetic of a table: one figure of each match, its mean, and the error of the mean."""
 
+from __future__ import annotations
+
 import math
 
 

@@ -1,5 +1,7 @@
 """The lines of house texts in both formats, the ranges of their numbers, and which line may stand behind which."""
 
+from __future__ import annotations
+
 import os
 import re
 

@@ -1,5 +1,7 @@
 """House texts of both formats, as `play` writes them: the matches that they tell."""
 
+from __future__ import annotations
+
 import re
 from collections.abc import Iterator
 from typing import NamedTuple
@@ -11,7 +13,8 @@ NO_LINE = "no transcript has this line here"
 
 
 class Match(NamedTuple):
-    """What came of a match, and by which seeds it was played."""
+    """What came of a match, and by which seeds it was played; `last` is the number of the sheet's choice at which the last decision
+    was, if there was one."""
 
     number: int
     deal: int
@@ -22,6 +25,7 @@ class Match(NamedTuple):
     shuffles: int
     scores: tuple[int, ...]
     points: tuple[int, ...]
+    last: int | None = None
 
     def strategies(self) -> tuple[int, ...]:
         """The strategy of each seat: in match m seat i has strategy i + m, counted round."""
@@ -55,7 +59,7 @@ class Reader:
         scores = [(int(player), int(score), int(points)) for player, score, points in SCORE.findall(told)]
         match = Match(
             int(number), int(deal), int(seats), end.decode(), int(turns), choices.count(b"\n"), int(shuffles or 0),
-            tuple(score for _, score, _ in scores), tuple(points for _, _, points in scores),
+            tuple(score for _, score, _ in scores), tuple(points for _, _, points in scores), last_site(choices),
         )  # fmt: skip
         if match.number != len(before):
             raise self.fault(f"match {len(before)} is to stand here")
@@ -83,6 +87,12 @@ class Reader:
         """A fault at a line, or at the place where the reader stands."""
         number = line or self.text[: self.at].count(b"\n") + 1
         return Refused(TEXT, f"{self.name}:{number}: {sentence}")
+
+
+def last_site(choices: bytes) -> int | None:
+    """The second number of the last line `choose`."""
+    last = choices.rfind(b"choose ")
+    return int(choices[last:].split(b" ", 3)[2]) if last >= 0 else None
 
 
 def standings(matches: list[Match]) -> Iterator[str]:

@@ -1,16 +1,19 @@
 """The command `table`."""
 
+from __future__ import annotations
+
 import argparse
 import sys
 from pathlib import Path
 from typing import NoReturn
 
-from inputs import LONGEST, TooLong, contents
+from inputs import LONGEST, SOURCE, TooLong, contents
 from tables import records
 from tables.counting import counts_of
 from tables.ending import READ_FAULT, TEXT, TOO_LONG, Refused, status_of
 from tables.house import Match, Reader
 from tables.showing import table
+from tables.stages import at_limit
 from telling import printable
 
 STANDARD_INPUT = "standard input"
@@ -30,6 +33,8 @@ def parser() -> argparse.ArgumentParser:
     )
     add_forms(words)
     words.add_argument("--duplicate", action="store_true", help="each strategy played each deal in each seat: errors by deal")
+    of_sheet = "the sheet of these matches: tell which of its stages was open where the turn limit ended them"
+    words.add_argument("--sheet", type=Path, metavar="GAME.sheet", help=of_sheet)
     words.add_argument("texts", nargs="*", type=Path, metavar="TEXT", help="a file with what `play` wrote; none: standard input")
     return words
 
@@ -43,7 +48,15 @@ def add_forms(words: argparse.ArgumentParser) -> None:
 
 def main(words: list[str]) -> int:
     options = parser().parse_intermixed_args(words)
-    return status_of(lambda: write(matches_of(options.texts), options.form, options.duplicate))
+    return status_of(lambda: command_of(options))
+
+
+def command_of(options: argparse.Namespace) -> None:
+    """Does what the words say. The sheet is read only where the table is written, which tells of it."""
+    matches = matches_of(options.texts)
+    is_told = options.sheet and not options.form
+    said = at_limit(str(options.sheet), read(options.sheet, SOURCE), matches) if is_told else ""
+    write(matches, options.form, options.duplicate, said)
 
 
 def matches_of(files: list[Path]) -> list[Match]:
@@ -79,12 +92,12 @@ def read_input() -> bytes:
     return data
 
 
-def write(matches: list[Match], form: str | None, is_duplicate: bool) -> None:
-    """Writes what is asked for: the table, or a line for each match."""
+def write(matches: list[Match], form: str | None, is_duplicate: bool, said_at_limit: str = "") -> None:
+    """Writes what is asked for: the table, with a line on the turn limit, or a line for each match."""
     if form:
         sys.stdout.write(records.csv(matches) if form == "csv" else records.jsonl(matches))
     else:
-        sys.stdout.write(table(counts_of(matches, players_of_deals(matches) if is_duplicate else 1)))
+        sys.stdout.write(table(counts_of(matches, players_of_deals(matches) if is_duplicate else 1), said_at_limit))
 
 
 def players_of_deals(matches: list[Match]) -> int:

@@ -7,9 +7,9 @@ LENGTHS = ["", "mean", "error", "least", "most"]
 SIDES = ["", "rank points", "a match", "error", "wins", "a match", "error", "score", "error"]
 
 
-def table(counts: Counts) -> str:
-    """The table of what was counted."""
-    return f"{how_many(counts)}, {counts.limits.total} ended by the turn limit\n{columns(counts)}"
+def table(counts: Counts, at_limit: str = "") -> str:
+    """The table of what was counted, with a line on the turn limit, if one is told."""
+    return f"{how_many(counts)}, {counts.limits.total} ended by the turn limit\n{at_limit}{columns(counts)}"
 
 
 def how_many(counts: Counts) -> str:

@@ -1,0 +1,1 @@
+"""Lays out sheets over lines."""
