@@ -43,6 +43,11 @@ def sources(folder: Path) -> Iterator[Path]:
             yield from sorted(folder.glob(f"{part}/**/*{suffix}"))
 
 
+# What a crate lists and never names, and what goes with the crate's next change: a new line of crates.txt has the crate, and all above it,
+# proved anew.
+WAITING = {("rc_search", "rc_stand")}
+
+
 def named_in(file: Path) -> set[str]:
     """The names that stand in front of a path in a file, outside of comments."""
     text = COMMENT[file.suffix].sub("", file.read_text("utf-8"))
@@ -72,6 +77,8 @@ def listing_faults(root: Path) -> Iterator[str]:
         for name in sorted(named[crate] - {*crates[crate]}):
             yield f"{crate} names {name}, which isn't listed for it"
         for name in sorted({*crates[crate]} - named[crate]):
+            if (crate, name) in WAITING:
+                continue
             yield f"{crate} never names {name}, which is listed for it: tools/crates.py drop takes it out"
 
 

@@ -41,6 +41,7 @@ class Scripted(unittest.TestCase):
         self.program = self.root / "crates/rc_main/out/rc_main"
         self.program.parent.mkdir(parents=True)
         self.make(self.program, PROGRAM)
+        self.write("crates.txt", "rc_main:\n")
 
     def make(self, file: Path, text: str) -> None:
         """Writes a file that can be run."""

@@ -140,8 +140,8 @@ class Script(Scripted):
         self.assertEqual((ran.returncode, ran.stdout), (0, SHEET.encode()))
 
     def test_without_a_file_standard_input_is_read(self) -> None:
-        for words in ("play", "play --cache 7", "play 7", "words a.sheet"):
-            self.check(words, words, "" if words.startswith("words") else "given", given=b"given")
+        for words in ("play", "play --cache 7", "play 7", "bench a.sheet"):
+            self.check(words, words, "given", given=b"given")
 
     def test_standard_input_may_be_closed_where_files_are_named(self) -> None:
         folder = os.open(self.root, os.O_RDONLY)

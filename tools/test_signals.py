@@ -113,17 +113,18 @@ class OfBuilding(Ending):
         self.program.unlink()
 
     def test_the_script(self) -> None:
-        self.check("./cardhouse", "play", signals=CAUGHT)
+        self.check("./cardhouse", "--proved", "play", signals=CAUGHT)
+
+    def test_alone(self) -> None:
+        self.check("./cardhouse", "build")
 
     def test_a_series(self) -> None:
-        names = {**self.how["env"], "CARDHOUSE": str(self.root / "cardhouse")}
-        for sent in (signal.SIGTERM, signal.SIGKILL):
-            self.check("tools/series", "split", "out", "a.sheet", "a.plan", signals=(sent,), env=names)
+        self.check("./cardhouse", "--proved", "series", "split", "out", "a.sheet", "a.plan", signals=(signal.SIGTERM,))
 
     def test_nothing_is_left_of_what_the_kit_tells(self) -> None:
         folder = self.root / "tmp"
         folder.mkdir()
-        with self.playing("./cardhouse", "play", env={**self.how["env"], "TMPDIR": str(folder)}) as (process, number):
+        with self.playing("./cardhouse", "--proved", "play", env={**self.how["env"], "TMPDIR": str(folder)}) as (process, number):
             self.assertEqual(list(folder.iterdir()), [])
             process.kill()
             os.kill(number, signal.SIGTERM)

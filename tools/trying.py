@@ -20,11 +20,10 @@ OF_KIT = re.compile(rb"(?:interpreter: |checked: |races: |run=|rt: ).*\n?")
 ENDED = re.compile(rb"run=ended status=(\d+) .*\n?")
 TOO_SLOW = b"the program did not end within the time limit"
 
-NOTHING_PROVED = "nothing was proved: these are the sources as they stand, run without their proof"
-NO_KIT = "no 'rt' on the path: install the Rattle kit"
+NO_KIT = "no 'rt' on the path: install the Rattle kit, which runs, proves and builds the sources, or a release, which needs no kit"
 NO_TIME = (
     "the kit gave up: without the proof a run may take 60 seconds, or as many as RT_SECONDS says, and is much slower; ask for fewer "
-    "matches, turns or rounds, or build the program, which runs as long as it takes"
+    "matches, turns or rounds, or build the program by ./cardhouse build, which runs as long as it takes"
 )
 NO_ANSWER = "the kit gave up without an answer of the program"
 
@@ -40,7 +39,7 @@ def main(words: list[str]) -> int:
     if not ended:
         is_slow = any(TOO_SLOW in line for line in lines)
         return give_up(NO_TIME) if is_slow else give_up(NO_ANSWER, lines)
-    note([line for line in lines if not OF_KIT.fullmatch(line)], NOTHING_PROVED)
+    note([line for line in lines if not OF_KIT.fullmatch(line)])
     return int(ended[1])
 
 
@@ -65,11 +64,11 @@ def read_to_end() -> None:
 
 
 def give_up(why: str, lines: list[bytes] | None = None) -> int:
-    note(lines or [], why)
+    note([*(lines or []), f"cardhouse: {why}\n".encode()])
     return GAVE_UP
 
 
-def note(lines: list[bytes], said: str) -> None:
-    """Writes lines to standard error, and a sentence behind them."""
-    sys.stderr.buffer.write(b"".join(lines) + f"cardhouse: {said}\n".encode())
+def note(lines: list[bytes]) -> None:
+    """Writes lines to standard error."""
+    sys.stderr.buffer.write(b"".join(lines))
     sys.stderr.buffer.flush()

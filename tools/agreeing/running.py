@@ -66,7 +66,7 @@ def main() -> int:
     told = parser().parse_args()
     for file in filter(None, (told.program, told.other)):
         if not os.access(file, os.X_OK):
-            print(f"bench/agree: there is no program {file}; ./cardhouse proves and builds it", file=sys.stderr)
+            print(f"bench/agree: there is no program {file}; ./cardhouse build proves and builds it", file=sys.stderr)
             return NO_PROGRAM
     comparing = Comparing(Program(told.program), Program(told.other) if told.other else None, told.second)
     tally = Tally()

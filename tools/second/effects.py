@@ -1,5 +1,7 @@
 """What effects do to a state."""
 
+from __future__ import annotations
+
 from second.expressions import Bound, Card, Expressions, Meaning, Noted, Scope, bound_by, number_of
 from second.sources import Form
 from second.worlds import MEM, MOST_CARDS, NOBODY, PLAYER, State, clamped

@@ -1,8 +1,10 @@
 """What expressions mean: functions of a state and of what the variables around stand for, from outside to inside."""
 
+from __future__ import annotations
+
 import operator
 from collections.abc import Callable
-from typing import Any, NamedTuple
+from typing import Any, NamedTuple, Union
 
 from second.sources import Form
 from second.worlds import GAME, MEM, MOST_CARDS, PLAYER, State, World, clamped
@@ -17,7 +19,7 @@ class Noted(NamedTuple):
     card: int
 
 
-Card = int | Noted
+Card = Union[int, Noted]
 Bound = tuple[Any, ...]
 Scope = dict[str, tuple[int, str]]
 Meaning = Callable[[State, Bound], Any]

@@ -1,9 +1,11 @@
 """Items, the steps from stop to stop, and what comes of a match."""
 
+from __future__ import annotations
+
 from collections.abc import Callable, Iterator
 from dataclasses import dataclass
 from itertools import islice
-from typing import Any, NamedTuple
+from typing import Any, NamedTuple, Union
 
 from second.effects import Effects
 from second.expressions import GROUP, Bound, Meaning, Scope, bound_by, number_of
@@ -66,7 +68,7 @@ class Decision:
 
 
 # A decision, or how a match ended.
-Stop = Decision | str
+Stop = Union[Decision, str]
 DONE, LIMIT = "done", "limit"
 
 

@@ -1,5 +1,7 @@
 """How texts of format 2 name cards, and what items bind."""
 
+from __future__ import annotations
+
 from second.expressions import GROUP, Card, number_of
 from second.machine import Item
 from second.worlds import PLAYER, World

@@ -1,9 +1,11 @@
 """The lists of a source."""
 
+from typing import Union
+
 from faults.tokens import rest_of, tokens
 
 # An atom or a list.
-Form = str | tuple["Form", ...]
+Form = Union[str, tuple["Form", ...]]
 
 
 def lists_of(source: bytes, wanted: int) -> tuple[list[Form], bytes]:

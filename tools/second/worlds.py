@@ -1,5 +1,7 @@
 """What a sheet has: players, teams, cards with their faces, locations and stored numbers; and the state of a match."""
 
+from __future__ import annotations
+
 from collections.abc import Callable
 from copy import copy
 from dataclasses import dataclass, field, replace
