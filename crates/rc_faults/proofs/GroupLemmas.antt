@@ -1,5 +1,5 @@
 -- Groups of decks by their parts.
-use Rattle.std.proofs.Common.{◌≡◌, ℕ, ◌<◌, ◌≤◌, ◌+◌, ◌*◌, List, [], ◌∷◌, ◌++◌, length, get_or, refl, sym, ap, ◌∙◌, arith}
+use Rattle.std.proofs.Common.{◌≡◌, ℕ, ◌<◌, ◌≤◌, ◌*◌, List, [], ◌∷◌, ◌++◌, length, get_or, refl, sym, ap, ◌∙◌, arith}
 use Rattle.std.specs.Prelude.{Vec}
 use Rattle.std.specs.Global.{Global}
 use Rattle.rc_model.specs.Tree.{Tree, Trees, nil, cons, word, list}
@@ -10,7 +10,7 @@ use Rattle.rc_form.specs.declared.form.Span.{Span}
 use Rattle.rc_faults.proofs.FormLemmas.{tree_of_atom, tree_of_list}
 use Rattle.rc_faults.specs.SecondParts.{attributes_of, attributes_below}
 use Rattle.rc_faults.specs.SecondNames.{written_faces, written_branches}
-use Rattle.rc_faults.specs.Groups.{faces_by, branch_by, attributes_in}
+use Rattle.rc_faults.specs.Groups.{faces_by, attributes_in}
 
 -- two forms
 pub two_forms : (forms : List Form) (first second : Form) → 2 ≤ length forms → length forms < 3 → first ≡ get_or forms 0 first

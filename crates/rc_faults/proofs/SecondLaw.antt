@@ -1,12 +1,12 @@
 -- One walk finds the first fault.
-use Rattle.std.proofs.Common.{◌≡◌, Bool, true, false, cond, List, [], ◌∷◌, ◌++◌, Option, Some, None, Result, Ok, Err, refl, sym, ap, ◌∙◌}
+use Rattle.std.proofs.Common.{◌≡◌, Bool, true, false, cond, List, [], ◌∷◌, ◌++◌, Option, Some, None, Result, refl, sym, ap, ◌∙◌}
 use Rattle.std.specs.Option.{option_map}
 use Rattle.rc_model.specs.Tree.{Tree}
 use Rattle.rc_grammar.specs.Faults.{first, fault_of}
 use Rattle.rc_faults.specs.SecondParts.{Part, offset_of, parts_of}
-use Rattle.rc_faults.specs.SecondFaults.{is_twice, is_unknown, is_wrong_kind, is_too_many, lacks_cards, fault_where, faults_of, faults_behind, second_faults, or_fault}
+use Rattle.rc_faults.specs.SecondFaults.{is_twice, is_unknown, is_wrong_kind, is_too_many, lacks_cards, fault_where, faults_of, faults_behind, or_fault}
 use Rattle.rc_faults.specs.Summary.{Whole, whole_of, Summary, nothing_seen, see, summary_of, is_again, is_not_known, is_wrong, is_over, fault_by, or_on, check_all}
-use Rattle.rc_faults.specs.SecondWalk.{check_form, FindsFirst}
+use Rattle.rc_faults.specs.SecondWalk.{FindsFirst}
 use Rattle.rc_faults.proofs.Known.{Knows, Knows-whole}
 use Rattle.rc_faults.proofs.Seen.{Recalls, Recalls-summary}
 use Rattle.rc_faults.proofs.FaultTests.{again_is_twice, not_known_is_unknown, wrong_is_wrong_kind, without_deck}

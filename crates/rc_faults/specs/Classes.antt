@@ -1,7 +1,7 @@
 -- The owners, sorts and scopes that a form writes.
-use Rattle.std.specs.Prelude.{ℕ, ◌+◌, Bool, true, false, if◌then◌else◌, List, [], ◌∷◌, ◌++◌, Option, Some}
+use Rattle.std.specs.Prelude.{ℕ, ◌+◌, if◌then◌else◌, List, [], ◌∷◌, ◌++◌, Option, Some}
 use Rattle.rc_model.specs.Tree.{Tree, word, list}
-use Rattle.rc_sheet_model.specs.Sheet.{Class, game_class, player_class, team_class, Sort, player_sort, card_sort, group_sort}
+use Rattle.rc_sheet_model.specs.Sheet.{Class, game_class, player_class, team_class, Sort}
 use Rattle.rc_sheet_model.specs.WellFormed.{Around}
 use Rattle.rc_grammar.specs.Faults.{is_word, rule_of}
 use Rattle.rc_grammar.specs.declared.keyword.Keyword.TheVariants as keyword

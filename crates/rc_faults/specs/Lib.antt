@@ -6,6 +6,7 @@ pub mod FirstFault
 pub mod Summary
 pub mod Groups
 pub mod SecondWalk
+pub mod Settled
 pub mod Seen
 pub mod Views
 pub mod Checks

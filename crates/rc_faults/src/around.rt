@@ -21,8 +21,8 @@ pub struct BoundVariable<'a> {
     pub sort: Sort,
 }
 
-/// What is around a place: the variables in scope, from outside to inside, how many binders, whether player stages and team
-/// stages, and how many repeats.
+/// What is around a place: the variables in scope, from outside to inside, how many binders, whether player stages and
+/// team stages, and how many repeats.
 #[derive(Drop)]
 pub struct Around<'a> {
     scope: Vec<BoundVariable<'a>>,
@@ -42,8 +42,8 @@ impl<'a> Model for Around<'a> {
     ghost view = { around_seen };
 }
 
-/// What is around the parts of a form: what is around the form itself, another thing, or that other thing behind the part
-/// at an index alone.
+/// What is around the parts of a form: what is around the form itself, another thing, or that other thing behind the
+/// part at an index alone.
 #[derive(Drop)]
 pub enum Inner<'a> {
     Same,
@@ -144,7 +144,7 @@ impl<'a> Around<'a> {
         &self,
         alloc: Global,
         rule: Rule,
-        parts: &'a [Form],
+        parts: &[Form<'a>],
     ) -> Result<Inner<'a>, SheetFail>
         requires { faults.is_deep self.now rule ≡ false }
         ensures around { (index : ℕ) → IfOk result (λ inner.

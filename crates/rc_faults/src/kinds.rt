@@ -23,7 +23,7 @@ use rc_names::limits::{MOST_REPEATS, MOST_VARIABLES};
 pub fn atom_kind<'a>(
     whole: &Whole<'a>,
     seen: &Summary<'a>,
-    at: &Setting<'_, 'a>,
+    at: &Setting<'_, '_, 'a>,
     word: &'a [u8],
 ) -> Option<SheetKind>
     ensures { (above : List (List ℕ)) (from : ℕ) → result
@@ -44,11 +44,12 @@ pub fn atom_kind<'a>(
     None
 }
 
-/// A variable that isn't in scope, a name that the setup doesn't give, or a member of a team who is none of the players.
+/// A variable that isn't in scope, a name that the setup doesn't give, or a member of a team who is none of the
+/// players.
 fn is_unknown_atom<'a>(
     whole: &Whole<'a>,
     seen: &Summary<'a>,
-    at: &Setting<'_, 'a>,
+    at: &Setting<'_, '_, 'a>,
     word: &'a [u8],
 ) -> bool
     ensures { (above : List (List ℕ)) → result
@@ -61,9 +62,10 @@ fn is_unknown_atom<'a>(
 }
 
 /// A variable of another sort than its place takes, or a second side of another sort than the first.
-fn is_wrong_atom(at: &Setting<'_, '_>, word: &[u8]) -> bool
+fn is_wrong_atom(at: &Setting<'_, '_, '_>, word: &[u8]) -> bool
     ensures { (above : List (List ℕ)) → result
-        ≡ (faults.is_misused (standing_seen at.now above) word.now || faults.is_other_side (standing_seen at.now above) at.now.role) }
+        ≡ (faults.is_misused (standing_seen at.now above) word.now || faults.is_other_side
+        (standing_seen at.now above) at.now.role) }
 {
     is_misused(at, word) || is_other_side(at)
 }
@@ -72,13 +74,14 @@ fn is_wrong_atom(at: &Setting<'_, '_>, word: &[u8]) -> bool
 pub fn form_kind<'a>(
     whole: &Whole<'a>,
     seen: &Summary<'a>,
-    at: &Setting<'_, 'a>,
+    at: &Setting<'_, '_, 'a>,
     above: &WordList<'a>,
     rule: Rule,
-    parts: &'a [Form],
+    parts: &[Form<'a>],
 ) -> Option<SheetKind>
     ensures kind { (from : ℕ) → result
-        ≡ spec.kind_by whole.now seen.now (parts_spec.form (standing_seen at.now above.now) rule (packed (trees_of parts.now)) from) }
+        ≡ spec.kind_by whole.now seen.now
+        (parts_spec.form (standing_seen at.now above.now) rule (packed (trees_of parts.now)) from) }
     ensures shallow { IfNone result (faults.is_deep at.now.around.now rule ≡ false) }
 {
     if is_form_again(seen, at, above, rule, parts) {
@@ -99,13 +102,14 @@ pub fn form_kind<'a>(
     None
 }
 
-/// A second line for the players or the teams, a point map's name again, an attribute again in a face, or a variable again.
+/// A second line for the players or the teams, a point map's name again, an attribute again in a face, or a variable
+/// again.
 fn is_form_again<'a>(
     seen: &Summary<'a>,
-    at: &Setting<'_, 'a>,
+    at: &Setting<'_, '_, 'a>,
     above: &WordList<'a>,
     rule: Rule,
-    parts: &'a [Form],
+    parts: &[Form<'a>],
 ) -> bool
     ensures { result ≡ spec.is_form_again seen.now (standing_seen at.now above.now) rule (packed (trees_of parts.now)) }
 {
@@ -124,7 +128,7 @@ fn is_unknown_form<'a>(
     seen: &Summary<'a>,
     around: &Around<'a>,
     rule: Rule,
-    parts: &'a [Form],
+    parts: &[Form<'a>],
 ) -> bool
     ensures { (at : parts_spec.Standing) → at.around ≡ around.now
         → result ≡ spec.is_unknown_form whole.now seen.now at rule (packed (trees_of parts.now)) }

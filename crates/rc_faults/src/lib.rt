@@ -1,5 +1,5 @@
-//! The second round of faults of a form whose shape is right: what stands twice, is unknown, is of the wrong kind or is too
-//! many, and a form without cards. Its definition stands whole in `specs/SecondFaults.antt`.
+//! The second round of faults of a form whose shape is right: what stands twice, is unknown, is of the wrong kind or is
+//! too many, and a form without cards. Its definition stands whole in `specs/SecondFaults.antt`.
 #![tactic(auto)]
 
 mod around;

@@ -65,7 +65,7 @@ impl<'a> WordList<'a> {
     /// Takes the attribute of a group, and those of the groups in its branches.
     #[cycle(attributes)]
     #[tactic(auto, using(crate::proofs::Words::attach))]
-    pub fn push_attributes(&mut self, group: &'a Form) -> Result<(), SheetFail>
+    pub fn push_attributes(&mut self, group: &Form<'a>) -> Result<(), SheetFail>
         ensures after { OnOk result (self.new ≡ self.old ++ attributes_of (tree_of group.now)) }
         ensures memory { OnErr result (result ≡ Err SheetFail.Memory) }
     {
@@ -88,7 +88,7 @@ impl<'a> WordList<'a> {
     /// Takes the attributes of the groups in these branches.
     #[cycle(attributes)]
     #[tactic(auto, using(crate::proofs::Words::attach, crate::proofs::GroupLemmas::below_more))]
-    fn push_inner_attributes(&mut self, branches: &'a [Form]) -> Result<(), SheetFail>
+    fn push_inner_attributes(&mut self, branches: &[Form<'a>]) -> Result<(), SheetFail>
         ensures after { OnOk result (self.new ≡ self.old ++ attributes_below (packed (trees_of branches.now))) }
         ensures memory { OnErr result (result ≡ Err SheetFail.Memory) }
     {
@@ -100,7 +100,7 @@ impl<'a> WordList<'a> {
 
     /// Takes the attributes of the groups in this branch.
     #[cycle(attributes)]
-    fn push_branch_attributes(&mut self, branch: &'a Form) -> Result<(), SheetFail>
+    fn push_branch_attributes(&mut self, branch: &Form<'a>) -> Result<(), SheetFail>
         ensures after { OnOk result (self.new ≡ self.old ++ attributes_in (tree_of branch.now)) }
         ensures memory { OnErr result (result ≡ Err SheetFail.Memory) }
     {
@@ -112,7 +112,7 @@ impl<'a> WordList<'a> {
 
     /// Takes the attributes of the groups among these.
     #[cycle(attributes)]
-    fn push_all_attributes(&mut self, groups: &'a [Form]) -> Result<(), SheetFail>
+    fn push_all_attributes(&mut self, groups: &[Form<'a>]) -> Result<(), SheetFail>
         ensures after { OnOk result (self.new ≡ self.old ++ attributes_among (packed (trees_of groups.now))) }
         ensures memory { OnErr result (result ≡ Err SheetFail.Memory) }
     {

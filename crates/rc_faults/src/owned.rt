@@ -5,6 +5,7 @@ ghost use Rattle.rc_sheet_model.specs.WellFormed as model;
 ghost use Rattle.rc_faults.specs.Classes as classes;
 ghost use Rattle.rc_faults.specs.SecondFaults as faults;
 ghost use Rattle.rc_faults.specs.SecondNames as names;
+ghost use Rattle.rc_faults.specs.Settled as settled;
 ghost use Rattle.rc_faults.specs.Summary as spec;
 ghost use Rattle.rc_faults.specs.Seen.{part_seen, mention_seen};
 
@@ -18,7 +19,8 @@ use rc_names::{Class, is_same};
 use std::alloc::Global;
 use std::marker::Model;
 
-/// A mention of a location or of a stored number: its name, the word of its kind, and the class of its owner as it is written.
+/// A mention of a location or of a stored number: its name, the word of its kind, and the class of its owner as it is
+/// written.
 #[derive(Clone, Copy)]
 pub struct Mention<'a> {
     pub name: &'a [u8],
@@ -27,7 +29,7 @@ pub struct Mention<'a> {
 }
 
 /// The mention that a list of these parts is.
-pub fn mention_of<'a>(parts: &'a [Form]) -> Mention<'a>
+pub fn mention_of<'a>(parts: &[Form<'a>]) -> Mention<'a>
     ensures { mention_seen result ≡ names.mention_of (packed (trees_of parts.now)) }
 {
     Mention {
@@ -50,7 +52,8 @@ pub fn class_at(part: Option<&Form>) -> Class
     }
 }
 
-/// Whether a place doesn't take a location: a deck's is the game's, and cards and references have locations of their own.
+/// Whether a place doesn't take a location: a deck's is the game's, and cards and references have locations of their
+/// own.
 pub fn is_misplaced(role: Role, mention: &Mention<'_>) -> bool
     ensures { result ≡ faults.is_misplaced role (mention_seen mention.now) }
 {
@@ -62,8 +65,8 @@ pub fn is_misplaced(role: Role, mention: &Mention<'_>) -> bool
     }
 }
 
-/// The first mention of each name, and how many locations, or numbers, there are of all owners, counted no further than one
-/// above the limit.
+/// The first mention of each name, and how many locations, or numbers, there are of all owners, counted no further than
+/// one above the limit.
 #[derive(Drop)]
 pub struct Owned<'a> {
     firsts: Vec<Mention<'a>>,
@@ -101,6 +104,16 @@ impl<'a> Owned<'a> {
         }
     }
 
+    /// Whether the name stood earlier, and first with the same kind and class.
+    pub fn repeats(&self, mention: &Mention<'a>) -> bool
+        ensures { result ≡ settled.is_repeated self.now (mention_seen mention.now) }
+    {
+        match first_among(&self.firsts, mention.name) {
+            Some(first) => is_same(mention.kind, first.kind) && mention.class == first.class,
+            None => false,
+        }
+    }
+
     /// Whether the name stood earlier.
     fn is_mentioned(&self, mention: &Mention<'a>) -> bool
         ensures { result ≡ spec.is_mentioned (mention_seen mention.now) self.now }
@@ -111,7 +124,8 @@ impl<'a> Owned<'a> {
     /// Whether there are too many with a mention.
     pub fn goes_over(&self, whole: &Whole<'a>, most: u64, mention: &Mention<'a>) -> bool
         requires { most < 2 ^ 32 }
-        ensures { result ≡ spec.goes_over most self.now.total (spec.new_owned whole.now (mention_seen mention.now) self.now) }
+        ensures { result ≡ spec.goes_over most self.now.total
+            (spec.new_owned whole.now (mention_seen mention.now) self.now) }
     {
         if self.is_mentioned(mention) {
             return goes_over(most, self.total, 0);
@@ -127,7 +141,8 @@ impl<'a> Owned<'a> {
         mention: Mention<'a>,
     ) -> Result<(), SheetFail>
         requires { most < 2 ^ 32 }
-        ensures after { OnOk result (self.new ≡ spec.with_mention whole.now most (mention_seen mention.entry) self.old) }
+        ensures after { OnOk result (self.new
+            ≡ spec.with_mention whole.now most (mention_seen mention.entry) self.old) }
         ensures memory { OnErr result (result ≡ Err SheetFail.Memory) }
     {
         if self.is_mentioned(&mention) {

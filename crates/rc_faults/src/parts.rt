@@ -11,14 +11,14 @@ use rc_form::{Form, integer};
 use rc_grammar::Rule;
 
 /// The part at this index, where there is one.
-pub fn part_at(index: usize, parts: &[Form]) -> Option<&Form>
+pub fn part_at<'s, 'a>(index: usize, parts: &'s [Form<'a>]) -> Option<&'s Form<'a>>
     ensures { part_seen result ≡ spec.part_at index (packed (trees_of parts.now)) }
 {
     parts.get(index)
 }
 
 /// The bytes of the part at this index, where it is an atom, or else none.
-pub fn word_in(index: usize, parts: &[Form]) -> &[u8]
+pub fn word_in<'a>(index: usize, parts: &[Form<'a>]) -> &'a [u8]
     ensures { result.now ≡ spec.word_in index (packed (trees_of parts.now)) }
 {
     match part_at(index, parts) {

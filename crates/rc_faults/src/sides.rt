@@ -1,8 +1,10 @@
 //! Variables at their places, and sides of equations.
 ghost use Rattle.std.specs.Prelude.{◌≡◌, ℕ, List, Some, option_map, option_and_then};
 ghost use Rattle.std.specs.List.{list_any};
+ghost use Rattle.rc_form.specs.Form.{tree_of};
 ghost use Rattle.rc_sheet_model.specs.Sheet.{same_sort};
 ghost use Rattle.rc_faults.specs.SecondFaults as faults;
+ghost use Rattle.rc_faults.specs.Settled as settled;
 ghost use Rattle.rc_faults.specs.SecondNames.{some_of};
 ghost use Rattle.rc_faults.specs.Seen.{part_seen, standing_seen};
 
@@ -15,14 +17,14 @@ use rc_grammar::{Rule, Symbol, is_variable, rule_of};
 use rc_names::Sort;
 
 /// Whether a variable that a place takes isn't in scope.
-pub fn is_unbound(at: &Setting<'_, '_>, word: &[u8]) -> bool
+pub fn is_unbound(at: &Setting<'_, '_, '_>, word: &[u8]) -> bool
     ensures { (above : List (List ℕ)) → result ≡ faults.is_unbound (standing_seen at.now above) word.now }
 {
     is_variable(word) && takes_variables(at.place) && !at.around.binds(word)
 }
 
 /// Whether a place takes variables, and the variable has another sort than those that it takes.
-pub fn is_misused(at: &Setting<'_, '_>, word: &[u8]) -> bool
+pub fn is_misused(at: &Setting<'_, '_, '_>, word: &[u8]) -> bool
     ensures { (above : List (List ℕ)) → result ≡ faults.is_misused (standing_seen at.now above) word.now }
 {
     is_variable(word)
@@ -31,6 +33,38 @@ pub fn is_misused(at: &Setting<'_, '_>, word: &[u8]) -> bool
             Some(sort) => !takes_sort(at.place, sort),
             None => false,
         }
+}
+
+/// Whether a part at this place and of this role is an atom that is at no fault and leaves nothing behind: the place
+/// takes no variable and no member of a team, and the role names nothing.
+#[inline(always)]
+pub fn is_quiet(part: &Form, place: Symbol, role: Role) -> bool
+    ensures { result ≡ settled.is_quiet (tree_of part.now) place role }
+{
+    match part {
+        Form::Atom { .. } => names_nothing(role) && !is_member(place) && !takes_variables(place),
+        Form::List { .. } => false,
+    }
+}
+
+/// Whether the place is that of a member of a team.
+fn is_member(place: Symbol) -> bool
+    ensures { result ≡ settled.is_member place }
+{
+    match place {
+        Symbol::Member => true,
+        _ => false,
+    }
+}
+
+/// Whether an atom of this role names nothing that the setup gives, and is no second side.
+fn names_nothing(role: Role) -> bool
+    ensures { result ≡ settled.names_nothing role }
+{
+    match role {
+        Role::No | Role::DeckLocation | Role::CardLocation | Role::ReferenceLocation => true,
+        _ => false,
+    }
 }
 
 /// Whether a place takes variables.
@@ -58,7 +92,7 @@ fn takes_sort(place: Symbol, sort: Sort) -> bool
 }
 
 /// Whether a part is the second side of an equation, and of another sort than the first.
-pub fn is_other_side(at: &Setting<'_, '_>) -> bool
+pub fn is_other_side(at: &Setting<'_, '_, '_>) -> bool
     ensures { (above : List (List ℕ)) → result ≡ faults.is_other_side (standing_seen at.now above) at.now.role }
 {
     if at.role != Role::SecondSide {

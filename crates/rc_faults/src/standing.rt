@@ -11,27 +11,30 @@ use rc_grammar::{Rule, Symbol};
 
 /// Where a part stands: its place in the grammar, its role, all parts of its list, and what is around it.
 #[derive(Clone, Copy)]
-pub struct Setting<'s, 'a> {
+pub struct Setting<'s, 'f, 'a> {
     pub place: Symbol,
     pub role: Role,
-    pub beside: &'a [Form],
+    pub beside: &'f [Form<'a>],
     pub around: &'s Around<'a>,
 }
 
-/// Where the part of a form at this index stands, if anywhere. The form has this role, this around it and that around its parts.
+/// Where the part of a form at this index stands, if anywhere. The form has this role, this around it and that around
+/// its parts.
 #[tactic(auto, using(crate::proofs::Counts::count_packed))]
-pub fn standing_in<'s, 'a>(
+pub fn standing_in<'s, 'f, 'a>(
     role: Role,
     around: &'s Around<'a>,
     inner: &'s Inner<'a>,
     rule: Rule,
-    parts: &'a [Form],
+    parts: &'f [Form<'a>],
     index: usize,
-) -> Option<Setting<'s, 'a>>
+) -> Option<Setting<'s, 'f, 'a>>
     requires inside { index < length parts.now }
-    requires inner { inner_seen around.now inner.now index ≡ spec.around_in around.now rule (packed (trees_of parts.now)) index }
+    requires inner { inner_seen around.now inner.now index
+        ≡ spec.around_in around.now rule (packed (trees_of parts.now)) index }
     ensures { (outer : spec.Standing) → outer.role ≡ role → outer.around ≡ around.now
-        → option_map (λ at. standing_seen at (spec.above_in outer.above rule (packed (trees_of parts.now)) index)) result
+        → option_map (λ at. standing_seen at
+        (spec.above_in outer.above rule (packed (trees_of parts.now)) index)) result
         ≡ spec.standing_in outer rule (packed (trees_of parts.now)) index }
 {
     let place = rule.place_at(parts.len(), index)?;
@@ -44,6 +47,7 @@ pub fn standing_in<'s, 'a>(
 }
 
 /// The role of the part of a form at this index. The location of a spot takes what the spot takes.
+#[inline(always)]
 pub fn role_in(role: Role, rule: Rule, index: usize) -> Role
     ensures { result ≡ spec.role_in role rule index }
 {
@@ -58,6 +62,7 @@ pub fn role_in(role: Role, rule: Rule, index: usize) -> Role
 }
 
 /// The roles of the first parts of each form.
+#[inline(always)]
 fn front_roles(rule: Rule) -> &'static [Role]
     ensures { result.now ≡ spec.front_roles rule }
 {

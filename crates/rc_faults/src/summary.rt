@@ -4,6 +4,7 @@ ghost use Rattle.rc_sheet_model.specs.WellFormed.{is_among};
 ghost use Rattle.rc_faults.specs.SecondNames.{is_named};
 ghost use Rattle.rc_form.specs.Form.{trees_of, packed};
 ghost use Rattle.rc_faults.specs.Seen.{standing_seen, mention_seen};
+ghost use Rattle.rc_faults.specs.Settled.{is_settled, is_plain};
 ghost use Rattle.rc_faults.specs.Summary as spec;
 
 use crate::faces::faces_of;
@@ -36,8 +37,8 @@ const MOST_STAGES: u64 = limits::MOST_STAGES as u64;
 const MOST_CHOICES: u64 = limits::MOST_SITES as u64;
 
 /// Whether a line of players stood, and a line of teams; whether just one line of teams did; the players in teams; the
-/// different point maps, attributes and values; locations and numbers; and how many cards, stages and choices there are,
-/// counted no further than one above their limits.
+/// different point maps, attributes and values; locations and numbers; and how many cards, stages and choices there
+/// are, counted no further than one above their limits.
 #[derive(Drop)]
 pub struct Summary<'a> {
     has_players: bool,
@@ -86,7 +87,7 @@ impl<'a> Summary<'a> {
     }
 
     /// Takes an atom.
-    pub fn see_atom(&mut self, at: &Setting<'_, 'a>, word: &'a [u8]) -> Result<(), SheetFail>
+    pub fn see_atom(&mut self, at: &Setting<'_, '_, 'a>, word: &'a [u8]) -> Result<(), SheetFail>
         ensures after { OnOk result (self.new ≡ spec.see_atom self.old (standing_seen at.now []) word.now) }
         ensures memory { OnErr result (result ≡ Err SheetFail.Memory) }
     {
@@ -104,7 +105,7 @@ impl<'a> Summary<'a> {
         &mut self,
         whole: &Whole<'a>,
         rule: Rule,
-        parts: &'a [Form],
+        parts: &[Form<'a>],
     ) -> Result<(), SheetFail>
         ensures after { OnOk result (self.new ≡ spec.see_form whole.now self.old rule (packed (trees_of parts.now))) }
         ensures memory { OnErr result (result ≡ Err SheetFail.Memory) }
@@ -173,8 +174,9 @@ impl<'a> Summary<'a> {
         self.maps.contains(word)
     }
 
-    /// Whether the name of a location or of a number stood with another kind or class, or its place doesn't take the location.
-    pub fn is_wrong_mention(&self, at: &Setting<'_, 'a>, rule: Rule, parts: &'a [Form]) -> bool
+    /// Whether the name of a location or of a number stood with another kind or class, or its place doesn't take the
+    /// location.
+    pub fn is_wrong_mention(&self, at: &Setting<'_, '_, 'a>, rule: Rule, parts: &[Form<'a>]) -> bool
         ensures { (above : List (List ℕ)) → result
             ≡ spec.is_wrong_mention self.now (standing_seen at.now above) rule (packed (trees_of parts.now)) }
     {
@@ -188,6 +190,24 @@ impl<'a> Summary<'a> {
         }
     }
 
+    /// Whether a form of this role is at no fault, whatever is around it, and leaves nothing behind: none of the tests
+    /// is about it, or it mentions a location or a number as the first mention of that name does.
+    pub fn settles(&self, role: Role, rule: Rule, parts: &[Form<'a>]) -> bool
+        ensures { result ≡ is_settled self.now role rule (packed (trees_of parts.now)) }
+    {
+        if role == Role::SecondSide {
+            return false;
+        }
+        match rule {
+            Rule::Location => {
+                let mention = mention_of(parts);
+                self.locations.repeats(&mention) && !is_misplaced(role, &mention)
+            }
+            Rule::Counter => self.numbers.repeats(&mention_of(parts)),
+            _ => is_plain(rule),
+        }
+    }
+
     /// Whether a value that the setup gives is one too many.
     pub fn is_value_over(&self, role: Role, word: &'a [u8]) -> bool
         ensures { result ≡ spec.is_value_over self.now role word.now }
@@ -196,7 +216,7 @@ impl<'a> Summary<'a> {
     }
 
     /// Whether a form makes one too many of what it counts for.
-    pub fn is_form_over(&self, whole: &Whole<'a>, rule: Rule, parts: &'a [Form]) -> bool
+    pub fn is_form_over(&self, whole: &Whole<'a>, rule: Rule, parts: &[Form<'a>]) -> bool
         ensures { result ≡ spec.is_form_over whole.now self.now rule (packed (trees_of parts.now)) }
     {
         match rule {
@@ -215,6 +235,38 @@ impl<'a> Summary<'a> {
             Rule::Choice => goes_over(MOST_CHOICES, self.choices, 1),
             _ => false,
         }
+    }
+}
+
+/// Whether none of the tests is about this form, and it leaves nothing behind.
+fn is_plain(rule: Rule) -> bool
+    ensures { result ≡ is_plain rule }
+{
+    match rule {
+        Rule::Setup
+        | Rule::CreatePlayers
+        | Rule::CreateTeams
+        | Rule::CreateDeck
+        | Rule::PutPoints
+        | Rule::Group
+        | Rule::Entry
+        | Rule::PlayerStage
+        | Rule::TeamStage
+        | Rule::Choice
+        | Rule::AnyOf
+        | Rule::Repeat
+        | Rule::Each
+        | Rule::Next
+        | Rule::Reverse
+        | Rule::Location
+        | Rule::Counter
+        | Rule::CurrentPlayer
+        | Rule::CurrentTeam
+        | Rule::Filter
+        | Rule::Known
+        | Rule::ForAll
+        | Rule::ForAny => false,
+        _ => true,
     }
 }
 

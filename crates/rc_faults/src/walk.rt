@@ -13,10 +13,11 @@ use crate::fault::SheetFail;
 use crate::kinds::{atom_kind, form_kind};
 use crate::names::WordList;
 use crate::parts::word_in;
+use crate::sides::is_quiet;
 use crate::standing::{Setting, standing_in};
 use crate::summary::Summary;
 use crate::whole::Whole;
-use rc_form::{Form, Word};
+use rc_form::{Form, WordRef};
 use rc_grammar::{Rule, rule_of};
 use std::alloc::Global;
 
@@ -42,15 +43,17 @@ impl<'a> Walk<'a> {
     }
 
     /// Looks at a part and at those in it.
+    #[inline(always)]
     #[cycle(walking)]
     pub fn part(
         &mut self,
         whole: &Whole<'a>,
-        at: &Setting<'_, 'a>,
-        part: &'a Form,
+        at: &Setting<'_, '_, 'a>,
+        part: &Form<'a>,
     ) -> Result<(), SheetFail>
         ensures walked { Checks (spec.check_all whole.now self.old.seen
-            (parts_spec.parts_at (Some (standing_seen at.now self.old.above)) (tree_of part.now))) result self.new.seen }
+            (parts_spec.parts_at (Some (standing_seen at.now self.old.above))
+            (tree_of part.now))) result self.new.seen }
         ensures above { OnOk result (self.new.above ≡ self.old.above) }
     {
         match part {
@@ -63,8 +66,8 @@ impl<'a> Walk<'a> {
     fn atom(
         &mut self,
         whole: &Whole<'a>,
-        at: &Setting<'_, 'a>,
-        word: &'a Word,
+        at: &Setting<'_, '_, 'a>,
+        word: &WordRef<'a>,
         from: u32,
     ) -> Result<(), SheetFail>
         ensures walked { Checks (spec.check_all whole.now self.old.seen
@@ -77,17 +80,20 @@ impl<'a> Walk<'a> {
         self.seen.see_atom(at, word.bytes())
     }
 
-    /// Looks at a list and at its parts.
+    /// Looks at a list and at its parts. It is called for lists alone: most parts are atoms, which are looked at in the
+    /// loop.
+    #[inline(never)]
     #[cycle(walking)]
     fn list(
         &mut self,
         whole: &Whole<'a>,
-        at: &Setting<'_, 'a>,
-        parts: &'a [Form],
+        at: &Setting<'_, '_, 'a>,
+        parts: &[Form<'a>],
         from: u32,
     ) -> Result<(), SheetFail>
         ensures walked { (to : ℕ) → Checks (spec.check_all whole.now self.old.seen
-            (parts_spec.parts_at (Some (standing_seen at.now self.old.above)) (list (packed (trees_of parts.now)) from to)))
+            (parts_spec.parts_at (Some (standing_seen at.now self.old.above))
+            (list (packed (trees_of parts.now)) from to)))
             result self.new.seen }
         ensures above { OnOk result (self.new.above ≡ self.old.above) }
     {
@@ -104,9 +110,9 @@ impl<'a> Walk<'a> {
     fn form(
         &mut self,
         whole: &Whole<'a>,
-        at: &Setting<'_, 'a>,
+        at: &Setting<'_, '_, 'a>,
         rule: Rule,
-        parts: &'a [Form],
+        parts: &[Form<'a>],
         from: u32,
     ) -> Result<(), SheetFail>
         ensures walked { Checks (spec.check_all whole.now self.old.seen
@@ -115,6 +121,9 @@ impl<'a> Walk<'a> {
         ensures shallow { OnOk result (faults.is_deep at.now.around.now rule ≡ false) }
         ensures above { OnOk result (self.new.above ≡ self.old.above) }
     {
+        if self.seen.settles(at.role, rule, parts) {
+            return Ok(());
+        }
         if let Some(kind) = form_kind(whole, &self.seen, at, &self.above, rule, parts) {
             return Err(SheetFail::new(kind, from));
         }
@@ -126,9 +135,9 @@ impl<'a> Walk<'a> {
     fn parts(
         &mut self,
         whole: &Whole<'a>,
-        at: &Setting<'_, 'a>,
+        at: &Setting<'_, '_, 'a>,
         rule: Rule,
-        parts: &'a [Form],
+        parts: &[Form<'a>],
     ) -> Result<(), SheetFail>
         requires { faults.is_deep at.now.around.now rule ≡ false }
         ensures walked { Checks (spec.check_all whole.now self.old.seen
@@ -158,27 +167,32 @@ impl<'a> Walk<'a> {
     }
 
     /// Looks at a part and at those in it, where it stands somewhere.
+    #[inline(always)]
     #[cycle(walking)]
     fn part_in(
         &mut self,
         whole: &Whole<'a>,
-        standing: Option<Setting<'_, 'a>>,
-        part: &'a Form,
+        standing: Option<Setting<'_, '_, 'a>>,
+        part: &Form<'a>,
     ) -> Result<(), SheetFail>
         ensures walked { Checks (spec.check_all whole.now self.old.seen
-            (parts_spec.parts_at (option_map (λ at. standing_seen at self.old.above) standing.entry) (tree_of part.now)))
+            (parts_spec.parts_at (option_map (λ at. standing_seen at self.old.above) standing.entry)
+            (tree_of part.now)))
             result self.new.seen }
         ensures above { OnOk result (self.new.above ≡ self.old.above) }
     {
-        match standing {
-            Some(at) => self.part(whole, &at, part),
-            None => Ok(()),
+        let Some(at) = standing else {
+            return Ok(());
+        };
+        if is_quiet(part, at.place, at.role) {
+            return Ok(());
         }
+        self.part(whole, &at, part)
     }
 
     /// The attribute of a group may stand before its branches.
     #[tactic(auto, using(crate::proofs::Above::at_start))]
-    fn enter(&mut self, rule: Rule, parts: &'a [Form]) -> Result<(), SheetFail>
+    fn enter(&mut self, rule: Rule, parts: &[Form<'a>]) -> Result<(), SheetFail>
         ensures above { OnOk result (self.new.above ≡ self.old.above ++ entered rule (packed (trees_of parts.now))) }
         ensures seen { self.new.seen ≡ self.old.seen }
         ensures memory { OnErr result (result ≡ Err SheetFail.Memory) }
@@ -190,8 +204,9 @@ impl<'a> Walk<'a> {
     }
 
     /// The attributes of a group of a face may stand before the groups behind it.
-    fn leave(&mut self, rule: Rule, part: &'a Form) -> Result<(), SheetFail>
-        ensures above { OnOk result (self.new.above ≡ self.old.above ++ parts_spec.attributes_behind rule (tree_of part.now)) }
+    fn leave(&mut self, rule: Rule, part: &Form<'a>) -> Result<(), SheetFail>
+        ensures above { OnOk result (self.new.above
+            ≡ self.old.above ++ parts_spec.attributes_behind rule (tree_of part.now)) }
         ensures seen { self.new.seen ≡ self.old.seen }
         ensures memory { OnErr result (result ≡ Err SheetFail.Memory) }
     {

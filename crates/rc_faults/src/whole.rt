@@ -17,8 +17,8 @@ use rc_grammar::{Rule, Symbol, rule_of};
 use std::alloc::Global;
 use std::marker::Model;
 
-/// What is known of the whole form: how many players its first line of players says, and how many teams its first line of
-/// teams; the different attributes, values and point maps that its setup gives; and whether a line makes a deck.
+/// What is known of the whole form: how many players its first line of players says, and how many teams its first line
+/// of teams; the different attributes, values and point maps that its setup gives; and whether a line makes a deck.
 #[derive(Drop)]
 pub struct Whole<'a> {
     players: Option<u64>,
@@ -41,7 +41,7 @@ impl<'a> Model for Whole<'a> {
 
 impl<'a> Whole<'a> {
     /// What is known of a form.
-    pub fn of(alloc: Global, form: &'a Form) -> Result<Whole<'a>, SheetFail>
+    pub fn of(alloc: Global, form: &Form<'a>) -> Result<Whole<'a>, SheetFail>
         ensures known { IfOk result (λ whole. whole ≡ spec.whole_of (parts_spec.parts_of (tree_of form.now))) }
         ensures memory { OnErr result (result ≡ Err SheetFail.Memory) }
     {
@@ -95,7 +95,7 @@ impl<'a> Whole<'a> {
 
     /// Learns of a part and of those in it.
     #[cycle(learning)]
-    fn learn(&mut self, place: Symbol, role: Role, form: &'a Form) -> Result<(), SheetFail>
+    fn learn(&mut self, place: Symbol, role: Role, form: &Form<'a>) -> Result<(), SheetFail>
         ensures known { (at : Standing) → at.place ≡ place → at.role ≡ role
             → OnOk result (self.new ≡ spec.know_all self.old (parts_spec.parts_at (Some at) (tree_of form.now))) }
         ensures memory { OnErr result (result ≡ Err SheetFail.Memory) }
@@ -108,7 +108,7 @@ impl<'a> Whole<'a> {
 
     /// Learns of a list and of its parts.
     #[cycle(learning)]
-    fn learn_list(&mut self, place: Symbol, role: Role, parts: &'a [Form]) -> Result<(), SheetFail>
+    fn learn_list(&mut self, place: Symbol, role: Role, parts: &[Form<'a>]) -> Result<(), SheetFail>
         ensures known { (at : Standing) (from to : ℕ) → at.place ≡ place → at.role ≡ role
             → OnOk result (self.new
             ≡ spec.know_all self.old (parts_spec.parts_at (Some at) (list (packed (trees_of parts.now)) from to))) }
@@ -127,7 +127,7 @@ impl<'a> Whole<'a> {
 
     /// Learns of the parts of a form.
     #[cycle(learning)]
-    fn learn_parts(&mut self, role: Role, rule: Rule, parts: &'a [Form]) -> Result<(), SheetFail>
+    fn learn_parts(&mut self, role: Role, rule: Rule, parts: &[Form<'a>]) -> Result<(), SheetFail>
         ensures known { (at : Standing) → at.role ≡ role
             → OnOk result (self.new ≡ spec.know_all self.old
             (parts_spec.parts_in at rule (packed (trees_of parts.now)) 0 (packed (trees_of parts.now)))) }
@@ -143,7 +143,8 @@ impl<'a> Whole<'a> {
 
     /// Learns of an atom of this role.
     fn learn_atom(&mut self, role: Role, word: &'a [u8]) -> Result<(), SheetFail>
-        ensures known { OnOk result (self.new ≡ record self.old { values = spec.with_value role word.now self.old.values }) }
+        ensures known { OnOk result (self.new
+            ≡ record self.old { values = spec.with_value role word.now self.old.values }) }
         ensures memory { OnErr result (result ≡ Err SheetFail.Memory) }
     {
         if role == Role::GivenValue {
@@ -154,7 +155,7 @@ impl<'a> Whole<'a> {
 
     /// Learns of a form, but for its parts.
     #[tactic(auto, using(crate::proofs::Counts::count_packed))]
-    fn learn_form(&mut self, rule: Rule, parts: &'a [Form]) -> Result<(), SheetFail>
+    fn learn_form(&mut self, rule: Rule, parts: &[Form<'a>]) -> Result<(), SheetFail>
         ensures known { OnOk result (self.new ≡ spec.know_form self.old rule (packed (trees_of parts.now))) }
         ensures memory { OnErr result (result ≡ Err SheetFail.Memory) }
     {

@@ -4,3 +4,4 @@ pub mod Lexer
 pub mod Read
 pub mod Reader
 pub mod SameForm
+pub mod WordRef

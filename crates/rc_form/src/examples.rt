@@ -1,5 +1,5 @@
-//! The definitions of forms that are the same, and of open and complete lists, computed on small texts. No function here does
-//! anything: each has a contract that the check proves by computing.
+//! The definitions of forms that are the same, and of open and complete lists, computed on small texts. No function
+//! here does anything: each has a contract that the check proves by computing.
 ghost use Rattle.std.specs.Prelude.{◌≡◌, [], codes, replicate};
 ghost use Rattle.rc_model.specs.Token.{tokens, closing, opening};
 ghost use Rattle.rc_model.specs.Tree.{word, list, nil, cons};
@@ -22,13 +22,15 @@ pub fn counted_lists()
 
 /// Forms are the same where their words and lists are, wherever they stand.
 pub fn same_forms()
-    ensures offsets { SameForm (list (cons (word (codes "a") 1 2) nil) 0 3) (list (cons (word (codes "a") 7 8) nil) 5 9) }
+    ensures offsets { SameForm (list (cons (word (codes "a") 1 2) nil) 0 3)
+        (list (cons (word (codes "a") 7 8) nil) 5 9) }
     ensures words { SameForm (word (codes "a") 0 1) (word (codes "b") 0 1) → ⊥ }
     ensures longer_word { SameForm (word (codes "a") 0 1) (word (codes "aa") 0 2) → ⊥ }
     ensures list_for_word { SameForm (list nil 0 2) (word (codes "a") 0 1) → ⊥ }
     ensures more_parts { SameForm (list nil 0 2) (list (cons (list nil 1 3) nil) 0 4) → ⊥ }
     ensures fewer_parts { SameForm (list (cons (list nil 1 3) nil) 0 4) (list nil 0 2) → ⊥ }
-    ensures inner_words { SameForm (list (cons (word (codes "a") 1 2) nil) 0 3) (list (cons (word (codes "b") 1 2) nil) 0 3) → ⊥ }
+    ensures inner_words { SameForm (list (cons (word (codes "a") 1 2) nil) 0 3)
+        (list (cons (word (codes "b") 1 2) nil) 0 3) → ⊥ }
 {}
 
 /// An atom has 1 to 64 bytes that may stand in one.

@@ -2,7 +2,7 @@
 ghost use Rattle.std.specs.Prelude.{◌≡◌};
 ghost use Rattle.rc_form.specs.Form.{tree_of, atom_tree, list_tree};
 
-use rc_names::Word;
+use crate::word::WordRef;
 
 /// Where a form stands: the offset of its first byte, and the offset behind its last byte.
 #[derive(Clone, Copy, PartialEq, Eq, Debug)]
@@ -11,21 +11,21 @@ pub struct Span {
     pub to: u32,
 }
 
-/// An atom, or a list of forms. Contracts see it as a tree, by `tree_of`.
+/// An atom, or a list of forms, of a text. Contracts see it as a tree, by `tree_of`.
 #[derive(Drop)]
-pub enum Form {
-    Atom { word: Word, span: Span },
-    List { items: Vec<Form>, span: Span },
+pub enum Form<'t> {
+    Atom { word: WordRef<'t>, span: Span },
+    List { items: Vec<Form<'t>>, span: Span },
 }
 
-pub(crate) fn atom_form(word: Word, span: Span) -> Form
-    ensures { tree_of result ≡ atom_tree word span }
+pub(crate) fn atom_form<'t>(word: WordRef<'t>, span: Span) -> Form<'t>
+    ensures { tree_of result ≡ atom_tree word.entry span }
 {
     Form::Atom { word, span }
 }
 
-pub(crate) fn list_form(items: Vec<Form>, span: Span) -> Form
-    ensures { tree_of result ≡ list_tree items span }
+pub(crate) fn list_form<'t>(items: Vec<Form<'t>>, span: Span) -> Form<'t>
+    ensures { tree_of result ≡ list_tree items.entry span }
 {
     Form::List { items, span }
 }

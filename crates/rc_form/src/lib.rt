@@ -9,6 +9,7 @@ mod literal;
 mod print;
 mod reader;
 mod reading;
+mod word;
 
 pub use examples::{atoms, counted_lists, same_forms};
 pub use fault::{FormFail, FormFault, FormKind};
@@ -17,3 +18,4 @@ pub use literal::{integer, natural};
 pub use print::{FormMemory, print_form, printed_form_reads_back};
 pub use rc_names::Word;
 pub use reading::{Forms, read_forms, texts_are_spelled_or_faulty};
+pub use word::WordRef;

@@ -6,34 +6,48 @@ ghost use Rattle.rc_model.specs.Limits.{longest_text};
 use crate::fault::{FormFail, FormKind};
 use crate::form::{Form, Span, atom_form, list_form};
 use crate::lexer::{atom_end, may_stand_in_atom};
-use rc_names::Word;
+use crate::word::WordRef;
 use rc_names::limits::{MOST_BYTES, MOST_OPEN};
 use std::alloc::{AllocError, Global};
 
 /// A list whose `)` hasn't come yet.
 #[derive(Drop)]
-pub struct OpenList {
+pub struct OpenList<'t> {
     from: u32,
-    items: Vec<Form>,
+    items: Vec<Form<'t>>,
 }
 
 /// What is read so far. The innermost open list is the last.
 #[derive(Drop)]
-pub struct FormReader {
+pub struct FormReader<'t> {
     alloc: Global,
     want: usize,
-    list: Vec<Form>,
-    open_lists: Vec<OpenList>,
+    list: Vec<Form<'t>>,
+    open_lists: Vec<OpenList<'t>>,
 }
 
-impl FormReader {
+/// These forms, with room for one more at most unless memory ran out. Most lists are short, and a text may have very
+/// many of them. What has more room is copied into just enough, and its memory serves the next list: a part cut off
+/// behind would not.
+fn without_spare<'t>(mut forms: Vec<Form<'t>>) -> Vec<Form<'t>>
+    ensures { result.items ≡ forms.entry.items }
+{
+    if forms.capacity() - forms.len() > 1
+        && let Ok(kept) = forms.split_off(0)
+    {
+        return kept;
+    }
+    forms
+}
+
+impl<'t> FormReader<'t> {
     ghost use Rattle.rc_form.specs.Read.{read};
     ghost use Rattle.rc_form.specs.Reader.{reads, reads_with, is_reading, FaultIs};
     ghost use Rattle.rc_form.specs.Form.{tree_of, trees_of};
     ghost use Rattle.rc_form.specs.Lexer.{tokens_at, begins_token};
 
     /// A reader that has read nothing, and wants this number of lists.
-    pub fn new(alloc: Global, want: usize) -> FormReader
+    pub fn new(alloc: Global, want: usize) -> FormReader<'t>
         ensures { (ts : List Token) → reads result ts ≡ read want [] [] ts }
     {
         FormReader {
@@ -73,8 +87,8 @@ impl FormReader {
 
     /// Puts a form into the innermost open list, or where none is open behind the complete lists.
     #[inline(always)]
-    fn put(&mut self, form: Form) -> Result<(), AllocError>
-        ensures { (ts : List Token) → OnOk result (reads_with self.old (tree_of form) ts ≡ reads self.new ts) }
+    fn put(&mut self, form: Form<'t>) -> Result<(), AllocError>
+        ensures { (ts : List Token) → OnOk result (reads_with self.old (tree_of form.entry) ts ≡ reads self.new ts) }
     {
         match self.open_lists.last_mut() {
             Some(inner) => inner.items.push(form)?,
@@ -91,31 +105,29 @@ impl FormReader {
         ensures took { (ts : List Token) → OnOk result (reads self.old (closing at ∷ ts) ≡ reads self.new ts) }
         ensures fault { (ts : List Token) → IfErr result (FaultIs (reads self.old (closing at ∷ ts))) }
     {
-        let Some(mut inner) = self.open_lists.pop() else {
+        let Some(inner) = self.open_lists.pop() else {
             return Err(FormFail::at(FormKind::Stray, at));
         };
-        // Most lists are short, and a text may have very many of them. Room for one more part costs less than giving it back.
-        if inner.items.capacity() - inner.items.len() > 1 {
-            inner.items.shrink_to_fit();
-        }
+        let items = without_spare(inner.items);
         let span = Span {
             from: inner.from,
             to: at + 1,
         };
-        match self.put(list_form(inner.items, span)) {
+        match self.put(list_form(items, span)) {
             Ok(()) => Ok(at as usize + 1),
             Err(_) => Err(FormFail::Memory),
         }
     }
 
     /// Takes the atom that begins at this offset, and returns the offset behind it.
-    fn atom(&mut self, text: &[u8], from: usize) -> Result<usize, FormFail>
+    fn atom(&mut self, text: &'t [u8], from: usize) -> Result<usize, FormFail>
         requires reading { IsTrue (is_reading self.old) }
         requires small { length text.now ≤ longest_text }
         requires inside { from < length text.now }
         requires part { IsTrue (is_part (slice_index text.now from)) }
         ensures forward { IfOk result (λ to. (from < to) × (to ≤ length text.now)) }
-        ensures took { IfOk result (λ to. reads self.old (tokens_at text.now from) ≡ reads self.new (tokens_at text.now to)) }
+        ensures took { IfOk result (λ to. reads self.old (tokens_at text.now from)
+            ≡ reads self.new (tokens_at text.now to)) }
         ensures fault { IfErr result (FaultIs (reads self.old (tokens_at text.now from))) }
     {
         let to = atom_end(text, from);
@@ -129,7 +141,7 @@ impl FormReader {
             from: from as u32,
             to: to as u32,
         };
-        let word = Word::of(&text[from..to]);
+        let word = WordRef::of(&text[from..to]);
         match self.put(atom_form(word, span)) {
             Ok(()) => Ok(to),
             Err(_) => Err(FormFail::Memory),
@@ -137,13 +149,14 @@ impl FormReader {
     }
 
     /// Takes the token that begins at this offset, and returns the offset behind it.
-    pub fn take(&mut self, text: &[u8], at: usize) -> Result<usize, FormFail>
+    pub fn take(&mut self, text: &'t [u8], at: usize) -> Result<usize, FormFail>
         requires reading { IsTrue (is_reading self.old) }
         requires small { length text.now ≤ longest_text }
         requires inside { at < length text.now }
         requires begins { IsTrue (begins_token (slice_index text.now at)) }
         ensures forward { IfOk result (λ to. (at < to) × (to ≤ length text.now)) }
-        ensures took { IfOk result (λ to. reads self.old (tokens_at text.now at) ≡ reads self.new (tokens_at text.now to)) }
+        ensures took { IfOk result (λ to. reads self.old (tokens_at text.now at)
+            ≡ reads self.new (tokens_at text.now to)) }
         ensures fault { IfErr result (FaultIs (reads self.old (tokens_at text.now at))) }
     {
         let byte = text[at];
@@ -160,11 +173,11 @@ impl FormReader {
     }
 
     /// The complete lists, where no more are wanted or no token is left.
-    pub fn finish(self) -> Result<Vec<Form>, FormFail>
-        ensures complete { (ts : List Token) → (IsTrue (is_reading self) → ts ≡ [])
-            → IfOk result (λ list. reads self ts ≡ Ok (trees_of list.items, ts)) }
-        ensures fault { (ts : List Token) → (IsTrue (is_reading self) → ts ≡ [])
-            → IfErr result (FaultIs (reads self ts)) }
+    pub fn finish(self) -> Result<Vec<Form<'t>>, FormFail>
+        ensures complete { (ts : List Token) → (IsTrue (is_reading self.entry) → ts ≡ [])
+            → IfOk result (λ list. reads self.entry ts ≡ Ok (trees_of list.items, ts)) }
+        ensures fault { (ts : List Token) → (IsTrue (is_reading self.entry) → ts ≡ [])
+            → IfErr result (FaultIs (reads self.entry ts)) }
     {
         match self.open_lists.last() {
             Some(inner) => Err(FormFail::at(FormKind::Unclosed, inner.from)),

@@ -20,17 +20,17 @@ use std::alloc::Global;
 
 /// The lists that a text begins with, and the offset of what follows them.
 #[derive(Drop)]
-pub struct Forms {
-    pub list: Vec<Form>,
+pub struct Forms<'t> {
+    pub list: Vec<Form<'t>>,
     pub rest: usize,
 }
 
 /// Reads up to `want` lists from the front of a text: fewer where the text ends before.
 ///
-/// White space is space, tab, CR, LF and comma; a comment runs from `;` to the next LF. An atom has at most 64 bytes, and
-/// at most 64 lists are open at one place. The text has at most 33,554,432 bytes. Where memory runs out, nothing is said of
-/// the text.
-pub fn read_forms(alloc: Global, text: &[u8], want: usize) -> Result<Forms, FormFail>
+/// White space is space, tab, CR, LF and comma; a comment runs from `;` to the next LF. An atom has at most 64 bytes,
+/// and at most 64 lists are open at one place. The text has at most 33,554,432 bytes. Where memory runs out, nothing is
+/// said of the text.
+pub fn read_forms<'t>(alloc: Global, text: &'t [u8], want: usize) -> Result<Forms<'t>, FormFail>
     requires { length text.now ≤ longest_text }
     ensures spelled { IfOk result (λ f. Spelled text.now want (trees_of f.list.items) f.rest) }
     ensures within { IfOk result (λ f. f.rest ≤ length text.now) }
@@ -65,9 +65,10 @@ pub fn texts_are_spelled_or_faulty()
 {}
 
 /// The wanted lists, or the first fault of the text.
-fn read_lists(alloc: Global, text: &[u8], want: usize) -> Result<Forms, FormFail>
+fn read_lists<'t>(alloc: Global, text: &'t [u8], want: usize) -> Result<Forms<'t>, FormFail>
     requires { length text.now ≤ longest_text }
-    ensures reads { IfOk result (λ f. read want [] [] (tokens text.now) ≡ Ok (trees_of f.list.items, tokens_at text.now f.rest)) }
+    ensures reads { IfOk result (λ f. read want [] [] (tokens text.now)
+        ≡ Ok (trees_of f.list.items, tokens_at text.now f.rest)) }
     ensures rest { IfOk result (λ f. f.rest ≡ next_offset (tokens_at text.now f.rest) (length text.now)) }
     ensures within { IfOk result (λ f. f.rest ≤ length text.now) }
     ensures fault { IfErr result (FaultIs (read want [] [] (tokens text.now))) }

@@ -3,3 +3,5 @@ pub mod FirstFault
 pub mod InOrder
 pub mod OneForm
 pub mod ToldLemmas
+pub mod Heads
+pub mod Spelled

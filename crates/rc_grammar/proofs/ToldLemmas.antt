@@ -1,8 +1,8 @@
 -- Only forms with two fixed words are told by the second.
-use Rattle.std.proofs.Common.{◌≡◌, Bool, true, false, ◌&&◌, not, List, [], ◌∷◌, Option, Some, None, is_none, refl, ap, ◌∙◌, arith}
+use Rattle.std.proofs.Common.{◌≡◌, Bool, true, false, ◌&&◌, not, List, [], ◌∷◌, Option, Some, None, is_none, refl, arith}
 use Rattle.std.proofs.lemmas.Grind.{common_steps}
 use Rattle.std.specs.List.{filter, find}
-use Rattle.rc_model.specs.Tree.{Tree, Trees, nil, cons}
+use Rattle.rc_model.specs.Tree.{Tree, Trees}
 use Rattle.rc_grammar.specs.Faults.{begins, is_told, second_word, has_second_word}
 use Rattle.rc_grammar.specs.declared.keyword.Keyword.{Keyword}
 use Rattle.rc_grammar.specs.declared.grammar.Rule.{Rule}

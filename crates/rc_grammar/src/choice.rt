@@ -4,9 +4,12 @@ ghost use Rattle.rc_form.specs.Form.{tree_of, trees_of, packed};
 ghost use Rattle.rc_grammar.specs.Grammar.{forms_of};
 ghost use Rattle.rc_grammar.specs.Faults as spec;
 ghost use Rattle.rc_grammar.specs.Faults.{has_second_word};
+ghost use Rattle.rc_grammar.specs.Head.{tree_by};
+ghost use Rattle.rc_grammar.specs.declared.grammar.Rule.{Rule};
 
 use crate::atoms::{atom_kind, is_word};
 use crate::grammar::{Rule, Symbol};
+use crate::head::{Head, head_of, plain_form, wants_second};
 use crate::keyword::Keyword;
 use rc_form::Form;
 
@@ -106,13 +109,28 @@ impl Symbol {
 }
 
 /// The form that a list of these parts is to be, where it may be one.
+#[tactic(auto, using(crate::proofs::Heads::plain_same))]
 pub fn rule_of(place: Symbol, parts: &[Form]) -> Option<Rule>
     ensures { result ≡ spec.rule_of place (packed (trees_of parts.now)) }
 {
-    let (head, others) = parts.split_first()?;
-    match told_rule(place, head, others) {
+    let (first, others) = parts.split_first()?;
+    let head = head_of(first);
+    match told_form(place, head, first, others) {
         Some(rule) => Some(rule),
-        None => plain_rule(place, head),
+        None => plain_form(place, head),
+    }
+}
+
+/// The form that the word behind the first part tells. It is looked for where such a word may tell one alone.
+#[inline(always)]
+fn told_form(place: Symbol, head: Head, first: &Form, others: &[Form]) -> Option<Rule>
+    requires head { (rule : Rule) → spec.begins (tree_of first.now) rule ≡ spec.begins (tree_by head) rule }
+    ensures { result ≡ spec.told_rule place (tree_of first.now) (packed (trees_of others.now)) }
+{
+    if wants_second(head) {
+        told_rule(place, first, others)
+    } else {
+        None
     }
 }
 
@@ -122,18 +140,6 @@ fn told_rule(place: Symbol, head: &Form, others: &[Form]) -> Option<Rule>
 {
     for rule in place.two_word_forms() {
         if begins(head, *rule) && is_told(rule.second_word(), others) {
-            return Some(*rule);
-        }
-    }
-    None
-}
-
-/// The form that no word behind the head tells.
-fn plain_rule(place: Symbol, head: &Form) -> Option<Rule>
-    ensures { result ≡ spec.plain_rule place (tree_of head.now) }
-{
-    for rule in place.forms() {
-        if begins(head, *rule) && rule.second_word().is_none() {
             return Some(*rule);
         }
     }
@@ -151,8 +157,8 @@ fn begins(head: &Form, rule: Rule) -> bool
     }
 }
 
-/// Whether a list may begin with this part, where this is the place of its first part. Fixed words and holders alone tell a
-/// form; any other part is looked at with those behind it.
+/// Whether a list may begin with this part, where this is the place of its first part. Fixed words and holders alone
+/// tell a form; any other part is looked at with those behind it.
 #[inline(always)]
 fn may_begin(place: Symbol, head: &Form) -> bool
     ensures { result ≡ spec.may_begin place (tree_of head.now) }

@@ -548,6 +548,7 @@ impl Rule {
     }
 
     /// The place of each further part, of which there is one at least, where there may be any.
+    #[inline(always)]
     pub fn more(self) -> Option<Symbol>
         ensures { result ≡ more_of self }
     {

@@ -5,9 +5,11 @@ mod atoms;
 mod choice;
 mod fault;
 mod grammar;
+mod head;
 mod keyword;
 mod laws;
 mod shape;
+mod spelling;
 
 pub use atoms::{is_variable, is_word};
 pub use choice::{is_form_word, rule_of};

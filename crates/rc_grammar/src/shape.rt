@@ -13,8 +13,8 @@ use crate::grammar::{Rule, Symbol};
 use crate::keyword::Keyword;
 use rc_form::{Form, Span};
 
-/// Looks at the shape of a form that is to be a sheet. The error is the fault with the smallest offset: a part that is no
-/// form of its place, or an atom that is no number in the range of its place.
+/// Looks at the shape of a form that is to be a sheet. The error is the fault with the smallest offset: a part that is
+/// no form of its place, or an atom that is no number in the range of its place.
 ///
 /// The offsets of the form's parts rise in the order of the text, as those of all forms do that are read.
 pub fn check_shape(form: &Form) -> Result<(), SheetFault>
@@ -29,6 +29,7 @@ pub fn check_shape(form: &Form) -> Result<(), SheetFault>
 }
 
 /// The first fault of a form at a place, in the order of the text.
+#[inline(always)]
 #[cycle(shapes)]
 fn check_form(place: Symbol, form: &Form) -> Result<(), SheetFault>
     ensures { spec.fault_of result ≡ spec.first (spec.faults place (tree_of form.now)) }
@@ -45,10 +46,13 @@ fn check_form(place: Symbol, form: &Form) -> Result<(), SheetFault>
     }
 }
 
-/// The first fault of a list at a place.
+/// The first fault of a list at a place. It is called for lists alone: most parts are atoms, which are looked at in the
+/// loop.
+#[inline(never)]
 #[cycle(shapes)]
 fn check_list(place: Symbol, parts: &[Form], span: Span) -> Result<(), SheetFault>
-    ensures { spec.fault_of result ≡ spec.first (spec.faults place (list (packed (trees_of parts.now)) span.from span.to)) }
+    ensures { spec.fault_of result ≡ spec.first
+        (spec.faults place (list (packed (trees_of parts.now)) span.from span.to)) }
 {
     match rule_of(place, parts) {
         Some(rule) => check_rule(rule, parts, span.from),
@@ -60,7 +64,9 @@ fn check_list(place: Symbol, parts: &[Form], span: Span) -> Result<(), SheetFaul
 #[cycle(shapes)]
 #[tactic(auto, using(crate::proofs::Counts::count_packed))]
 fn check_rule(rule: Rule, parts: &[Form], from: u32) -> Result<(), SheetFault>
-    ensures { spec.fault_of result ≡ spec.first (spec.rule_faults from (packed (trees_of parts.now)) (spec.part_faults rule (packed (trees_of parts.now))) rule) }
+    ensures { spec.fault_of result ≡ spec.first
+        (spec.rule_faults from (packed (trees_of parts.now))
+        (spec.part_faults rule (packed (trees_of parts.now))) rule) }
 {
     if !rule.fits(parts.len()) {
         return Err(SheetFault::shape(from));
@@ -83,6 +89,7 @@ fn check_parts(rule: Rule, parts: &[Form]) -> Result<(), SheetFault>
 }
 
 /// The first fault of a part, where there is a place for it.
+#[inline(always)]
 #[cycle(shapes)]
 fn check_part(place: Option<Symbol>, part: &Form) -> Result<(), SheetFault>
     ensures { spec.fault_of result ≡ spec.first (spec.faults_at place (tree_of part.now)) }
@@ -124,8 +131,8 @@ fn names_players(line: &Form) -> bool
     is_form_word(Keyword::Create, head) && is_told(Some(Keyword::Players), others)
 }
 
-/// Where a list is at fault that is to be no form: at the part behind its head, where a fixed word is missing there and a
-/// form with that head has as many parts; else the list itself.
+/// Where a list is at fault that is to be no form: at the part behind its head, where a fixed word is missing there and
+/// a form with that head has as many parts; else the list itself.
 #[tactic(auto, using(crate::proofs::Counts::count_packed))]
 fn fault_place(place: Symbol, parts: &[Form], from: u32) -> u32
     ensures { result ≡ spec.fault_place place from (packed (trees_of parts.now)) }

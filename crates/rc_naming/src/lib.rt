@@ -1,7 +1,7 @@
 //! The names of a sheet's form, numbered by their first mention.
 //!
-//! [`naming_of`] goes over a form whose shape is right, and gives the words of each kind in the order in which the printed
-//! form mentions them first. What a form mentions is defined in `rc_sheet_model`'s `FormMentions`.
+//! [`naming_of`] goes over a form whose shape is right, and gives the words of each kind in the order in which the
+//! printed form mentions them first. What a form mentions is defined in `rc_sheet_model`'s `FormMentions`.
 #![tactic(auto)]
 
 mod finish;

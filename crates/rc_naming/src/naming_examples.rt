@@ -1,5 +1,5 @@
-//! Namings, computed on texts that are known. No function here does anything: each has a contract that the check proves by
-//! computing.
+//! Namings, computed on texts that are known. No function here does anything: each has a contract that the check proves
+//! by computing.
 ghost use Rattle.std.specs.Prelude.{◌≡◌, ◌∷◌, [], codes};
 ghost use Rattle.rc_sheet_model.specs.Sheet.{vloc, iloc, mem, game_class, player_class, team_class};
 ghost use Rattle.rc_sheet_model.specs.Naming as sheet;
@@ -13,15 +13,16 @@ pub fn namings_of_sheets()
     ensures any_order { naming_of (form_of swapped_text) ≡ sheet.sheet_naming swapped }
 {}
 
-/// The first mention in the printed order says what a name stands for: a deck's location before the items, an owner's inner
-/// list as it is written.
+/// The first mention in the printed order says what a name stands for: a deck's location before the items, an owner's
+/// inner list as it is written.
 pub fn first_mentions()
     ensures kinds { (naming_of (form_of (codes "(game (setup (create deck (game vloc B) (deck (A (X))))) (do (shuffle ((current player) iloc C)) (shuffle (game vloc B)) (remember 'X (top ((team of 'P) mem D)))))"))).locs
         ≡ record { name = 0; kind = vloc; class = game_class }
         ∷ record { name = 1; kind = iloc; class = player_class }
         ∷ record { name = 2; kind = mem; class = team_class }
         ∷ [] }
-    ensures numbers { (naming_of (form_of (codes "(game (setup) (do (set (game sto N) ('P sto M)) (set ((current team) sto L) (game sto N))))"))).nums
+    ensures numbers { (naming_of (form_of
+        (codes "(game (setup) (do (set (game sto N) ('P sto M)) (set ((current team) sto L) (game sto N))))"))).nums
         ≡ record { name = 0; class = game_class }
         ∷ record { name = 1; class = player_class }
         ∷ record { name = 2; class = team_class }

@@ -12,8 +12,8 @@ use rc_ast::{LocName, Names, NumName};
 use rc_form::Form;
 use std::alloc::{AllocError, Global};
 
-/// What the numbers in a sheet stand for: its words, each numbered by its place in its list, and of each name of a location
-/// or of a stored number what its first mention says.
+/// What the numbers in a sheet stand for: its words, each numbered by its place in its list, and of each name of a
+/// location or of a stored number what its first mention says.
 #[derive(Debug, Drop)]
 pub struct Naming {
     pub names: Names,
@@ -21,9 +21,9 @@ pub struct Naming {
     pub nums: Vec<NumName>,
 }
 
-/// The naming of a form whose shape is right. Names are numbered by their first mention in the printed order, in which decks
-/// come first, then points, then what follows the setup. The time is linear in the length of the form, but for names: each is
-/// found in an ordered index of those before.
+/// The naming of a form whose shape is right. Names are numbered by their first mention in the printed order, in which
+/// decks come first, then points, then what follows the setup. The time is linear in the length of the form, but for
+/// names: each is found in an ordered index of those before.
 ///
 /// The only error is want of memory.
 pub fn naming_of(alloc: Global, form: &Form) -> Result<Naming, AllocError>

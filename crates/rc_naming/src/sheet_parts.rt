@@ -9,7 +9,7 @@ use rc_form::{Form, Word};
 use rc_grammar::{Keyword, is_form_word};
 
 /// The parts of a list; an atom has none.
-pub fn parts_of(form: &Form) -> &[Form]
+pub fn parts_of<'s, 'a>(form: &'s Form<'a>) -> &'s [Form<'a>]
     ensures { packed (trees_of result.now) ≡ parts_in (tree_of form.now) }
 {
     match form {
@@ -19,7 +19,7 @@ pub fn parts_of(form: &Form) -> &[Form]
 }
 
 /// The lines of the setup of `(game (setup LINE+) ..)`.
-pub fn setup_lines(form: &Form) -> &[Form]
+pub fn setup_lines<'s, 'a>(form: &'s Form<'a>) -> &'s [Form<'a>]
     ensures { packed (trees_of result.now) ≡ form_mentions.setup_lines (tree_of form.now) }
 {
     let [_, setup, ..] = parts_of(form) else {
@@ -29,7 +29,7 @@ pub fn setup_lines(form: &Form) -> &[Form]
 }
 
 /// What follows the setup in `(game SETUP ..)`.
-pub fn body(form: &Form) -> &[Form]
+pub fn body<'s, 'a>(form: &'s Form<'a>) -> &'s [Form<'a>]
     ensures { packed (trees_of result.now) ≡ form_mentions.body (tree_of form.now) }
 {
     match parts_of(form) {
@@ -39,7 +39,7 @@ pub fn body(form: &Form) -> &[Form]
 }
 
 /// The parts behind the head of a list.
-fn behind_head(form: &Form) -> &[Form]
+fn behind_head<'s, 'a>(form: &'s Form<'a>) -> &'s [Form<'a>]
     ensures { packed (trees_of result.now) ≡ behind_head (tree_of form.now) }
 {
     match parts_of(form) {
@@ -59,7 +59,7 @@ pub fn begins_with(first: Keyword, second: Keyword, form: &Form) -> bool
 }
 
 /// The location of `(create deck LOC ..)`.
-pub fn deck_location(line: &Form) -> Option<&Form>
+pub fn deck_location<'s, 'a>(line: &'s Form<'a>) -> Option<&'s Form<'a>>
     ensures { option_map (λ form. tree_of form.now) result ≡ third_part (tree_of line.now) }
 {
     match parts_of(line) {
@@ -69,7 +69,7 @@ pub fn deck_location(line: &Form) -> Option<&Form>
 }
 
 /// The groups of `(create deck LOC (deck GROUP+))`.
-pub fn deck_groups(line: &Form) -> &[Form]
+pub fn deck_groups<'s, 'a>(line: &'s Form<'a>) -> &'s [Form<'a>]
     ensures { packed (trees_of result.now) ≡ form_mentions.deck_groups (tree_of line.now) }
 {
     match parts_of(line) {
@@ -89,7 +89,7 @@ pub fn points_map(line: &Form) -> Option<Word>
 }
 
 /// The entries of `(put points MAP (ENTRY+))`.
-pub fn points_entries(line: &Form) -> &[Form]
+pub fn points_entries<'s, 'a>(line: &'s Form<'a>) -> &'s [Form<'a>]
     ensures { packed (trees_of result.now) ≡ form_mentions.points_entries (tree_of line.now) }
 {
     match parts_of(line) {

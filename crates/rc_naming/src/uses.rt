@@ -24,7 +24,7 @@ pub fn word_of(form: &Form) -> Option<Word>
     ensures { option_to_list result ≡ form_mentions.word_of (tree_of form.now) }
 {
     match form {
-        Form::Atom { word, .. } => Some(*word),
+        Form::Atom { word, .. } => Some(word.to_word()),
         Form::List { .. } => None,
     }
 }

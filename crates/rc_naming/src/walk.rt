@@ -59,7 +59,8 @@ impl Known {
 
     #[cycle(locations)]
     fn add_locations(&mut self, forms: &[Form]) -> Result<(), AllocError>
-        ensures { OnOk result (self.new ≡ with_all self.old (locs_alone (all_gathered loc_mention (packed (trees_of forms.now))))) }
+        ensures { OnOk result (self.new
+            ≡ with_all self.old (locs_alone (all_gathered loc_mention (packed (trees_of forms.now))))) }
     {
         for form in forms {
             self.add_locations_in(form)?;

@@ -30,7 +30,7 @@ pub fn is_word(form: &Form, text: &[u8]) -> bool
 }
 
 /// The parts of a list behind this word, where the form is a list that begins with it.
-pub fn parts_behind<'a>(form: &'a Form, text: &[u8]) -> Option<&'a [Form]>
+pub fn parts_behind<'s, 'a>(form: &'s Form<'a>, text: &[u8]) -> Option<&'s [Form<'a>]>
     ensures found { IfSome result (λ parts. IsBehind text.now (packed (trees_of parts.now)) (tree_of form.now)) }
     ensures none { IfNone result (IsNotHeaded text.now (tree_of form.now)) }
 {
@@ -47,7 +47,8 @@ pub fn parts_behind<'a>(form: &'a Form, text: &[u8]) -> Option<&'a [Form]>
 
 /// The number at a place for the numbers between these.
 pub fn read_number(form: &Form, least: u64, most: u64) -> Result<u64, PlanFail>
-    ensures { Reads result (λ n. IsNumberBetween least most n (tree_of form.now)) (place.number_between least most (tree_of form.now)) }
+    ensures { Reads result (λ n. IsNumberBetween least most n (tree_of form.now))
+        (place.number_between least most (tree_of form.now)) }
 {
     match form {
         Form::Atom { word, span } => match natural(word.bytes()) {
@@ -60,7 +61,8 @@ pub fn read_number(form: &Form, least: u64, most: u64) -> Result<u64, PlanFail>
 
 /// The number at a place for any.
 pub fn read_any(form: &Form) -> Result<u64, PlanFail>
-    ensures { Reads result (λ n. IsNumberBetween 0 999999999999999999 n (tree_of form.now)) (place.any_number (tree_of form.now)) }
+    ensures { Reads result (λ n. IsNumberBetween 0 999999999999999999 n (tree_of form.now))
+        (place.any_number (tree_of form.now)) }
 {
     read_number(form, 0, LARGEST_SEED)
 }

@@ -47,7 +47,8 @@ pub fn read_matches(alloc: Global, form: &Form) -> Result<Matches, PlanFail>
 
 /// The only part.
 fn read_only(alloc: Global, only: &Form) -> Result<Matches, PlanFail>
-    ensures { Reads result (λ matches. AreMatchParts matches (cons (tree_of only.now) nil)) (place.match true (tree_of only.now)) }
+    ensures { Reads result (λ matches. AreMatchParts matches (cons (tree_of only.now) nil))
+        (place.match true (tree_of only.now)) }
 {
     match read_match(true, only)? {
         Match::One(deal) => {
@@ -96,7 +97,8 @@ fn lists_among(parts: &[Form]) -> usize
 fn fault_among(parts: &[Form]) -> PlanFail
     requires several { 2 ≤ length parts.now }
     requires lists { place.lists_among (packed (trees_of parts.now)) ≤ 1 }
-    ensures { IfPlanFault result (λ fault. first (place.each (place.match true) (packed (trees_of parts.now))) ≡ Some fault) }
+    ensures { IfPlanFault result (λ fault. first (place.each (place.match true) (packed (trees_of parts.now)))
+        ≡ Some fault) }
 {
     for part in parts {
         if let Err(fail) = read_match(true, part) {

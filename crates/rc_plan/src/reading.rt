@@ -15,11 +15,11 @@ use rc_form::Form;
 use rc_rules::Plan;
 use std::alloc::Global;
 
-/// Makes the plan of a form, for 1 to 8 players. The error is the form's first fault, or that there was no memory: the first
-/// fault of its shapes and numbers, or else the first of what its parts say together, by its kind.
+/// Makes the plan of a form, for 1 to 8 players. The error is the form's first fault, or that there was no memory: the
+/// first fault of its shapes and numbers, or else the first of what its parts say together, by its kind.
 ///
-/// The offsets of the form's parts rise in the order of the text, as those of all forms do that are read. Matches that are
-/// counted are written out.
+/// The offsets of the form's parts rise in the order of the text, as those of all forms do that are read. Matches that
+/// are counted are written out.
 pub fn plan_of(alloc: Global, form: &Form, players: u8) -> Result<Plan, PlanFail>
     requires some { 1 ≤ players }
     requires few { players ≤ 8 }
@@ -29,7 +29,8 @@ pub fn plan_of(alloc: Global, form: &Form, players: u8) -> Result<Plan, PlanFail
     ensures seats { IfOk result (λ plan. length (plan_seen plan).strategies ≡ players) }
     ensures fine { IfOk result (λ _. plan_faults players (tree_of form.now) ≡ []) }
 
-    ensures found { IfErr result (λ fail. IfPlanFault fail (λ fault. IsPlanFault (tree_of form.now) players fault.kind fault.at)) }
+    ensures found { IfErr result (λ fail. IfPlanFault fail
+        (λ fault. IsPlanFault (tree_of form.now) players fault.kind fault.at)) }
 {
     let draft = read_draft(alloc, form)?;
     if let Some(fault) = draft.fault(players) {

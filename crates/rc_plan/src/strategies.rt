@@ -15,7 +15,8 @@ use std::alloc::Global;
 
 /// The strategies of `(seats STRATEGY ..)`.
 pub fn read_seats(alloc: Global, form: &Form) -> Result<Vec<Strategy>, PlanFail>
-    ensures { Reads result (λ strategies. AreSeats (map strategy_seen strategies.items) (tree_of form.now)) (place.seats (tree_of form.now)) }
+    ensures { Reads result (λ strategies. AreSeats (map strategy_seen strategies.items) (tree_of form.now))
+        (place.seats (tree_of form.now)) }
 {
     let Some(parts) = parts_behind(form, b"seats") else {
         return Err(PlanFail::shape(start_of(form)));
@@ -27,7 +28,8 @@ pub fn read_seats(alloc: Global, form: &Form) -> Result<Vec<Strategy>, PlanFail>
 }
 
 fn read_strategies(alloc: Global, parts: &[Form]) -> Result<Vec<Strategy>, PlanFail>
-    ensures { Reads result (λ strategies. InTurn IsStrategy (map strategy_seen strategies.items) (packed (trees_of parts.now)))
+    ensures { Reads result (λ strategies. InTurn IsStrategy (map strategy_seen strategies.items)
+        (packed (trees_of parts.now)))
         (place.each place.strategy (packed (trees_of parts.now))) }
 {
     let mut strategies = Vec::new(alloc);
@@ -42,7 +44,8 @@ fn read_strategies(alloc: Global, parts: &[Form]) -> Result<Vec<Strategy>, PlanF
 
 /// `(script n ..)`, `(random k)` or `(rollout R k)`.
 fn read_strategy(alloc: Global, form: &Form) -> Result<Strategy, PlanFail>
-    ensures { Reads result (λ strategy. IsStrategy (strategy_seen strategy) (tree_of form.now)) (place.strategy (tree_of form.now)) }
+    ensures { Reads result (λ strategy. IsStrategy (strategy_seen strategy) (tree_of form.now))
+        (place.strategy (tree_of form.now)) }
 {
     if let Some(parts) = parts_behind(form, b"script") {
         let numbers = read_script(alloc, parts)?;
@@ -76,7 +79,8 @@ fn read_script(alloc: Global, parts: &[Form]) -> Result<Vec<u16>, PlanFail>
 
 /// The one part of a list that begins here, as a number.
 pub fn read_key(parts: &[Form], from: u32) -> Result<u64, PlanFail>
-    ensures { Reads result (λ key. IsKey key (packed (trees_of parts.now))) (place.row (place.any_number ∷ []) from (packed (trees_of parts.now))) }
+    ensures { Reads result (λ key. IsKey key (packed (trees_of parts.now)))
+        (place.row (place.any_number ∷ []) from (packed (trees_of parts.now))) }
 {
     let [key] = parts else {
         return Err(PlanFail::shape(from));

@@ -1,4 +1,5 @@
-//! Stages whose next member is named, or that are turned. No function here does anything: the check proves each contract by computing it.
+//! Stages whose next member is named, or that are turned. No function here does anything: the check proves each
+//! contract by computing it.
 ghost use Rattle.std.specs.Prelude.{◌≡◌, codes, Some};
 ghost use Rattle.rc_play_examples.specs.Played.{house_of};
 ghost use Rattle.rc_play_examples.specs.Cycles.{turning, naming, cycle_next_twice, name_and_turn, team_stage_turned, next_team, inner_start};

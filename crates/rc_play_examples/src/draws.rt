@@ -1,4 +1,5 @@
-//! Shuffles, random picks and rollouts, in several matches. No function here does anything: the check proves each contract by computing it.
+//! Shuffles, random picks and rollouts, in several matches. No function here does anything: the check proves each
+//! contract by computing it.
 ghost use Rattle.std.specs.Prelude.{◌≡◌, codes, Some};
 ghost use Rattle.rc_play_examples.specs.Played.{house_of};
 ghost use Rattle.rc_play_examples.specs.Draws.{five_shuffled, shuffled_twice, nothing_shuffled, picked_by_turn, picked_by_seat, range_of_matches, points_summed, rolled, rolled_in_turn};

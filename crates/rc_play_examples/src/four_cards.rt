@@ -1,4 +1,5 @@
-//! Two players with two cards each, who put them on the table one by one. No function here does anything: the check proves each contract by computing it.
+//! Two players with two cards each, who put them on the table one by one. No function here does anything: the check
+//! proves each contract by computing it.
 ghost use Rattle.std.specs.Prelude.{◌≡◌, codes, Some};
 ghost use Rattle.rc_play_examples.specs.Played.{house_of};
 ghost use Rattle.rc_play_examples.specs.FourCards.{four_cards, three_turns, one_turn, one_scripted, three_scripted, hidden_sum, no_item, lowest, by_way_of_a_pile};

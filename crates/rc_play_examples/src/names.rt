@@ -1,5 +1,5 @@
-//! The names of sheets, numbered in the order in which the printed sheet mentions them first. No function here does anything: the check
-//! proves each contract by computing it.
+//! The names of sheets, numbered in the order in which the printed sheet mentions them first. No function here does
+//! anything: the check proves each contract by computing it.
 ghost use Rattle.std.specs.Prelude.{◌≡◌, [], ◌∷◌};
 ghost use Rattle.rc_sheet_model.specs.Sheet.{hloc, vloc, iloc, mem, game_class, player_class, team_class};
 ghost use Rattle.rc_sheet_model.specs.FormMentions.{names_of};
@@ -24,5 +24,6 @@ pub fn first_mentions_tell_owners()
     ensures locations { (naming_of (form_of stages_and_owners)).locs
         ≡ loc 0 hloc game_class ∷ loc 1 vloc game_class ∷ loc 2 vloc game_class ∷ loc 3 iloc player_class
         ∷ loc 4 hloc team_class ∷ loc 5 mem game_class ∷ [] }
-    ensures numbers { (naming_of (form_of stages_and_owners)).nums ≡ num 0 player_class ∷ num 1 game_class ∷ num 2 team_class ∷ [] }
+    ensures numbers { (naming_of (form_of stages_and_owners)).nums
+        ≡ num 0 player_class ∷ num 1 game_class ∷ num 2 team_class ∷ [] }
 {}

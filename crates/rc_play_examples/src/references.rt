@@ -5,12 +5,14 @@ ghost use Rattle.rc_play_examples.specs.References.{topmost, two_places, forgott
 
 /// `forget` takes the topmost reference with the face.
 pub fn topmost_goes()
-    ensures { house_of topmost ≡ Some (codes "house 1\nmatch 0 deal 0 seats 0\nend done 0\nscore 0 123 0\nstanding 1 strategy 0 points 0\n") }
+    ensures { house_of topmost ≡ Some
+        (codes "house 1\nmatch 0 deal 0 seats 0\nend done 0\nscore 0 123 0\nstanding 1 strategy 0 points 0\n") }
 {}
 
 /// A reference goes out of the place in which it was read.
 pub fn own_place_forgets()
-    ensures { house_of two_places ≡ Some (codes "house 1\nmatch 0 deal 0 seats 0\nend done 0\nscore 0 12 0\nstanding 1 strategy 0 points 0\n") }
+    ensures { house_of two_places ≡ Some
+        (codes "house 1\nmatch 0 deal 0 seats 0\nend done 0\nscore 0 12 0\nstanding 1 strategy 0 points 0\n") }
 {}
 
 /// A variable keeps a reference that has been forgotten.
@@ -20,7 +22,8 @@ pub fn variables_keep_references()
 
 /// One place holds 512 references.
 pub fn one_place_is_full()
-    ensures { house_of full_place ≡ Some (codes "house 1\nmatch 0 deal 0 seats 0\nend done 0\nscore 0 5122 0\nstanding 1 strategy 0 points 0\n") }
+    ensures { house_of full_place ≡ Some
+        (codes "house 1\nmatch 0 deal 0 seats 0\nend done 0\nscore 0 5122 0\nstanding 1 strategy 0 points 0\n") }
 {}
 
 /// All places together hold 1,024 references.

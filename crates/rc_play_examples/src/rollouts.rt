@@ -1,4 +1,5 @@
-//! What rollouts add up, and by what their playouts draw. No function here does anything: the check proves each contract by computing it.
+//! What rollouts add up, and by what their playouts draw. No function here does anything: the check proves each
+//! contract by computing it.
 ghost use Rattle.std.specs.Prelude.{◌≡◌, codes, Some};
 ghost use Rattle.rc_play_examples.specs.Played.{house_of};
 ghost use Rattle.rc_play_examples.specs.Rollouts.{most_gained, picked_behind, drawn_together};

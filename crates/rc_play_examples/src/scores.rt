@@ -15,10 +15,12 @@ pub fn team_sums_are_exact()
 
 /// The points of a card are clamped before a sum adds them.
 pub fn points_are_clamped_card_by_card()
-    ensures { house_of card_by_card ≡ Some (codes "house 1\nmatch 0 deal 0 seats 0\nend done 0\nscore 0 7 0\nstanding 1 strategy 0 points 0\n") }
+    ensures { house_of card_by_card ≡ Some
+        (codes "house 1\nmatch 0 deal 0 seats 0\nend done 0\nscore 0 7 0\nstanding 1 strategy 0 points 0\n") }
 {}
 
 /// A sum is added exactly and clamped at its end.
 pub fn sums_are_clamped_once()
-    ensures { house_of sum_once ≡ Some (codes "house 1\nmatch 0 deal 0 seats 0\nend done 0\nscore 0 1000000000 0\nstanding 1 strategy 0 points 0\n") }
+    ensures { house_of sum_once ≡ Some
+        (codes "house 1\nmatch 0 deal 0 seats 0\nend done 0\nscore 0 1000000000 0\nstanding 1 strategy 0 points 0\n") }
 {}

@@ -8,7 +8,7 @@ use Rattle.rc_form.specs.Form.{tree_of, trees_of, packed}
 use Rattle.rc_form.specs.declared.form.Form.{Form}
 use Rattle.rc_form.specs.declared.form.Form.TheVariants.{List as ListOf}
 use Rattle.rc_form.specs.declared.form.Form.TheViews.{sized-List}
-use Rattle.rc_form.proofs.form.Form.TheLaws.{the_size}
+use Rattle.rc_form.specs.declared.form.Form.{size-Form}
 use Rattle.rc_form.specs.declared.form.Span.{Span}
 use Rattle.rc_setup.proofs.FormLemmas.{tree_of_list}
 use Rattle.rc_grammar.specs.declared.grammar.Symbol.{Symbol}
@@ -44,11 +44,11 @@ list_gives view reading place rules forms opens same form items span rule parts 
 
 -- the parts of a list are less deep than the list
 pub parts_fall : (form : Form) (items : Vec Form Global) (span : Span) (parts : List Form) → form ≡ ListOf items span
-    → parts ≡ items.items → most the_size parts < the_size form
+    → parts ≡ items.items → most size-Form parts < size-Form form
 parts_fall form items span parts is parts_is =
-    let depth : the_size (ListOf items span) ≡ max (most the_size items.items) 0 + 1 = sized-List items span in
-    let same : the_size form ≡ the_size (ListOf items span) = ap the_size is in
-    let parts_same : most the_size parts ≡ most the_size items.items = ap (most the_size) parts_is in
+    let depth : size-Form (ListOf items span) ≡ max (most size-Form items.items) 0 + 1 = sized-List items span in
+    let same : size-Form form ≡ size-Form (ListOf items span) = ap size-Form is in
+    let parts_same : most size-Form parts ≡ most size-Form items.items = ap (most size-Form) parts_is in
     omega arith
 
 -- what gives the reading of a list's parts, where its trees are these

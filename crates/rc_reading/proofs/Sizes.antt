@@ -2,10 +2,10 @@
 use Rattle.std.proofs.Common.{ℕ, zero, suc, ◌≤◌, List, [], ◌∷◌, length, ◌-◌, take, drop, arith}
 use denote.Param.Weighed.{most}
 use Rattle.rc_form.specs.declared.form.Form.{Form}
-use Rattle.rc_form.proofs.form.Form.TheLaws.{the_size}
+use Rattle.rc_form.specs.declared.form.Form.{size-Form}
 
 abbrev pub largest : List Form → ℕ
-largest forms = most (λ form. the_size form) forms
+largest forms = most (λ form. size-Form form) forms
 
 largest-take : (forms : List Form) (n : ℕ) → largest (take n forms) ≤ largest forms
 largest-take [] zero = omega arith

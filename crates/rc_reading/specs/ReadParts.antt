@@ -1,5 +1,5 @@
 -- What the parts of a list say, by how many there are and what they are, and what a list of each form makes of its parts: the
--- readings of expressions and tests again, cut as the readers are. The two are one (`rc_sheet/proofs/Forms.antt`).
+-- readings of expressions and tests again, cut as the readers are. The two are one (`proofs/Forms.antt`).
 use Rattle.std.specs.Prelude.{ℕ, if◌then◌else◌, Option, Some, None, option_map}
 use Rattle.rc_model.specs.Tree.{Tree, Trees, nil, cons}
 use Rattle.rc_sheet_model.specs.Sheet.{Sort, player_sort, card_sort, Loc, CardExpr, top_card, bottom_card, max_card, min_card, CollExpr, cards_in, filtered, union_of, known_in, CollExprs, IntExpr, number, size_of, sum_of, worth_of, add, subtract, multiply, Test, ne, less, less_eq, more, more_eq, has_value, and_of, or_of, not_of, all_of, any_of, Tests, Domain}

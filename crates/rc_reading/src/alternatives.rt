@@ -46,7 +46,8 @@ impl Reader {
         parts: &[Form],
     ) -> Result<Domain, Unread>
         requires { IsTrue (fits (length parts.now) rule) }
-        ensures { Gives domain_seen result (reading.domain_rule self.now scope.now from rule (packed (trees_of parts.now))) }
+        ensures { Gives domain_seen result
+            (reading.domain_rule self.now scope.now from rule (packed (trees_of parts.now))) }
     {
         match rule {
             Rule::Partition => {
@@ -117,7 +118,8 @@ impl Reader {
         ensures given { Gives (λ all. (domain_seen all.0, all.1)) result
             (both (reading.domain_at self.now scope.now (tree_of domain.now))
             (binder_at self.now.names.vars scope.now (tree_of variable.now))) }
-        ensures inner { IfOk result (λ all. all.2 ≡ model.bind self.now scope.now all.1 (model.sort_of (domain_seen all.0))) }
+        ensures inner { IfOk result (λ all. all.2
+            ≡ model.bind self.now scope.now all.1 (model.sort_of (domain_seen all.0))) }
     {
         let domain = self.domain(alloc, scope, domain)?;
         let (bound, inner) = self.bind(alloc, scope, variable, sort_of(&domain))?;

@@ -114,7 +114,8 @@ impl Reader {
         spot: &Form,
     ) -> Result<(CardExpr, (End, Loc)), Unread>
         ensures { Gives (λ two. (card_seen two.0, (end_seen two.1.0, loc_seen two.1.1))) result
-            (both (card_at self.now scope.now (tree_of card.now)) (reading.spot_at self.now scope.now (tree_of spot.now))) }
+            (both (card_at self.now scope.now (tree_of card.now))
+            (reading.spot_at self.now scope.now (tree_of spot.now))) }
     {
         let card = self.card(alloc, scope, card);
         let spot = self.spot(scope, spot);
@@ -130,7 +131,8 @@ impl Reader {
         spot: &Form,
     ) -> Result<(CollExpr, (End, Loc)), Unread>
         ensures { Gives (λ two. (coll_seen two.0, (end_seen two.1.0, loc_seen two.1.1))) result
-            (both (coll_at self.now scope.now (tree_of cards.now)) (reading.spot_at self.now scope.now (tree_of spot.now))) }
+            (both (coll_at self.now scope.now (tree_of cards.now))
+            (reading.spot_at self.now scope.now (tree_of spot.now))) }
     {
         let cards = self.collection(alloc, scope, cards);
         let spot = self.spot(scope, spot);
@@ -222,7 +224,8 @@ impl Reader {
         ensures given { Gives (λ all. (domain_seen all.0, all.1)) result
             (both (range_at self.now scope.now (tree_of range.now))
             (binder_at self.now.names.vars scope.now (tree_of variable.now))) }
-        ensures inner { IfOk result (λ all. all.2 ≡ model.bind self.now scope.now all.1 (model.sort_of (domain_seen all.0))) }
+        ensures inner { IfOk result (λ all. all.2
+            ≡ model.bind self.now scope.now all.1 (model.sort_of (domain_seen all.0))) }
     {
         let domain = self.range(alloc, scope, range)?;
         let (bound, inner) = self.bind(alloc, scope, variable, sort_of(&domain))?;

@@ -156,7 +156,8 @@ impl Reader {
         parts: &[Form],
     ) -> Result<CollExpr, Unread>
         requires { IsTrue (fits (length parts.now) rule) }
-        ensures { Gives coll_seen result (reading.coll_rule self.now scope.now from rule (packed (trees_of parts.now))) }
+        ensures { Gives coll_seen result
+            (reading.coll_rule self.now scope.now from rule (packed (trees_of parts.now))) }
     {
         self.collection_form(alloc, scope, from, rule, parts)
     }
@@ -218,7 +219,8 @@ impl Reader {
         scope: &Scope,
         form: &Form,
     ) -> Result<Box<CollExpr>, Unread>
-        ensures { Gives (λ cards. coll_seen cards.value) result (reading.coll_at self.now scope.now (tree_of form.now)) }
+        ensures { Gives (λ cards. coll_seen cards.value) result
+            (reading.coll_at self.now scope.now (tree_of form.now)) }
     {
         let cards = self.collection(alloc, scope, form);
         box_read(alloc, cards)

@@ -265,8 +265,8 @@ impl Reader {
         }
     }
 
-    /// The items of a sheet, of which there is one at least, and the scoring, which stands last: which scores are best, and the
-    /// score.
+    /// The items of a sheet, of which there is one at least, and the scoring, which stands last: which scores are best,
+    /// and the score.
     pub(crate) fn body(&self, alloc: Global, parts: &[Form]) -> Result<Body, Unread>
         ensures { Gives (λ b. (items_seen b.0.items, (best_seen b.1.0, int_seen b.1.1))) result
             (reading.body_at self.now (packed (trees_of parts.now))) }

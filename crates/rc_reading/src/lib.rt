@@ -1,7 +1,7 @@
 //! Reads the tree of a sheet off its form, with the names of the sheet given.
 //!
-//! [`Reader::sheet`] gives exactly what the form says, which is defined in `specs/Read*.antt`, and nothing exactly where it says
-//! nothing. Whether the form has faults is not asked here.
+//! [`Reader::sheet`] gives exactly what the form says, which is defined in `specs/Read*.antt`, and nothing exactly
+//! where it says nothing. Whether the form has faults is not asked here.
 #![tactic(auto)]
 
 mod alternatives;

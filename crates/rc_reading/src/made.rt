@@ -1,7 +1,7 @@
 //! What is made of readings: of one, or of two.
 //!
-//! Each takes what was read, or why nothing was, and hands on why nothing is made. So the readers that call one another have no exit
-//! at which they drop what they read.
+//! Each takes what was read, or why nothing was, and hands on why nothing is made. So the readers that call one another
+//! have no exit at which they drop what they read.
 ghost use Rattle.std.specs.Prelude.{Option, ℕ, option_map};
 ghost use Rattle.rc_sheet_model.specs.Sheet.{filtered, has_value, move, move_all, remember, forget, shuffle, peek, set_to, increase, decrease};
 ghost use Rattle.rc_sheet_model.specs.Sheet.{CardExpr as PureCard, CollExpr as PureColl, IntExpr as PureInt, Test as PureTest, End as PureEnd, Who as PureWho, Loc as PureLoc, Num as PureNum};
@@ -68,7 +68,8 @@ pub fn value_read(read: Result<(Box<CardExpr>, (u16, u16)), Unread>) -> Result<T
 
 /// The move of the card to the end, where they were read.
 pub fn move_read(read: Result<(CardExpr, (End, Loc)), Unread>) -> Result<Effect, Unread>
-    ensures { (said : Option (PureCard × (PureEnd × PureLoc))) → Gives (λ two. (card_seen two.0, (end_seen two.1.0, loc_seen two.1.1))) read said
+    ensures { (said : Option (PureCard × (PureEnd × PureLoc)))
+        → Gives (λ two. (card_seen two.0, (end_seen two.1.0, loc_seen two.1.1))) read said
         → Gives effect_seen result (option_map (λ p. move p.0 p.1.0 p.1.1) said) }
 {
     match read {
@@ -79,7 +80,8 @@ pub fn move_read(read: Result<(CardExpr, (End, Loc)), Unread>) -> Result<Effect,
 
 /// The move of all of the cards to the end, where they were read.
 pub fn move_all_read(read: Result<(CollExpr, (End, Loc)), Unread>) -> Result<Effect, Unread>
-    ensures { (said : Option (PureColl × (PureEnd × PureLoc))) → Gives (λ two. (coll_seen two.0, (end_seen two.1.0, loc_seen two.1.1))) read said
+    ensures { (said : Option (PureColl × (PureEnd × PureLoc)))
+        → Gives (λ two. (coll_seen two.0, (end_seen two.1.0, loc_seen two.1.1))) read said
         → Gives effect_seen result (option_map (λ p. move_all p.0 p.1.0 p.1.1) said) }
 {
     match read {
@@ -90,7 +92,8 @@ pub fn move_all_read(read: Result<(CollExpr, (End, Loc)), Unread>) -> Result<Eff
 
 /// That the card is remembered at the end, where they were read.
 pub fn remember_read(read: Result<(CardExpr, (End, Loc)), Unread>) -> Result<Effect, Unread>
-    ensures { (said : Option (PureCard × (PureEnd × PureLoc))) → Gives (λ two. (card_seen two.0, (end_seen two.1.0, loc_seen two.1.1))) read said
+    ensures { (said : Option (PureCard × (PureEnd × PureLoc)))
+        → Gives (λ two. (card_seen two.0, (end_seen two.1.0, loc_seen two.1.1))) read said
         → Gives effect_seen result (option_map (λ p. remember p.0 p.1.0 p.1.1) said) }
 {
     match read {

@@ -109,7 +109,8 @@ impl Reader {
         form: &Form,
         sort: Sort,
     ) -> Result<(u32, Scope), Unread>
-        ensures given { Gives (λ bound. bound.0) result (reading.binder_at self.now.names.vars scope.now (tree_of form.now)) }
+        ensures given { Gives (λ bound. bound.0) result
+            (reading.binder_at self.now.names.vars scope.now (tree_of form.now)) }
         ensures inner { IfOk result (λ bound. bound.1 ≡ model.bind self.now scope.now bound.0 sort) }
     {
         let Form::Atom { word, .. } = form else {

@@ -5,7 +5,7 @@ ghost use Rattle.rc_model.specs.Limits.{most_attrs, most_values, most_maps, most
 use crate::variables::{NumbersByWord, numbers_of};
 use rc_ast::{LocName, Names, NumName};
 use rc_firsts::OrderedWord;
-use rc_form::Word;
+use rc_form::WordRef;
 use rc_naming::Naming;
 use std::alloc::{AllocError, Global};
 use std::marker::Model;
@@ -37,8 +37,8 @@ impl Model for Reader {
 impl Reader {
     ghost use Rattle.rc_naming.specs.Naming.{naming_seen};
 
-    /// A reader with these names. There is none with more variables than a number of 32 bits counts, which are more than memory
-    /// holds. The only error is want of memory.
+    /// A reader with these names. There is none with more variables than a number of 32 bits counts, which are more
+    /// than memory holds. The only error is want of memory.
     pub fn new(alloc: Global, naming: Naming) -> Result<Option<Reader>, AllocError>
         requires attrs { length naming.names.attrs.items ≤ most_attrs }
         requires values { length naming.names.values.items ≤ most_values }
@@ -62,10 +62,12 @@ impl Reader {
 
     /// The number of the variable with this word.
     #[tactic(auto, using(crate::proofs::Numbers::found))]
-    pub(crate) fn variable(&self, word: &Word) -> Option<u32>
+    pub(crate) fn variable(&self, word: &WordRef) -> Option<u32>
         ensures number { result ≡ position (bytes_eq word.now) self.now.names.vars }
         ensures within { IfSome result (λ number. number < length self.now.names.vars) }
     {
-        self.variables.get(&OrderedWord::of(*word)).copied()
+        self.variables
+            .get(&OrderedWord::of(word.to_word()))
+            .copied()
     }
 }

@@ -51,7 +51,8 @@ impl Lines {
     /// `(create players n)`, of which there is one.
     #[tactic(auto, unfolding(crate::specs::ReadSetup::players_line))]
     fn add_players(&mut self, count: &Form) -> Result<(), Unread>
-        ensures { Gives (λ _. lines_seen self.new) result (reading.players_line (lines_seen self.old) (tree_of count.now)) }
+        ensures { Gives (λ _. lines_seen self.new) result
+            (reading.players_line (lines_seen self.old) (tree_of count.now)) }
     {
         if self.players.is_some() {
             return Err(Unread::Meaningless);

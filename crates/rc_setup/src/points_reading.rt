@@ -11,8 +11,8 @@ use rc_form::{Form, integer};
 use rc_names::limits::LARGEST_NUMBER;
 use std::alloc::Global;
 
-/// The point map that a form `(ENTRY ..)` stands for, each entry an `(ATTR (VALUE ..) n)`, by any numbers of its names. `None` where it stands for none. There are at
-/// most 65,536 names of attributes, and of values.
+/// The point map that a form `(ENTRY ..)` stands for, each entry an `(ATTR (VALUE ..) n)`, by any numbers of its names.
+/// `None` where it stands for none. There are at most 65,536 names of attributes, and of values.
 pub fn read_entries<N: Numbers>(
     alloc: Global,
     names: &N,
@@ -44,7 +44,8 @@ fn read_entry<N: Numbers>(
     form: &Form,
 ) -> Result<Option<PointEntry>, Memory>
     requires few { AreFew (N.words names.now) }
-    ensures { IfOk result (λ found. option_map entry_of found ≡ reading.read_entry (N.words names.now) (tree_of form.now)) }
+    ensures { IfOk result (λ found. option_map entry_of found
+        ≡ reading.read_entry (N.words names.now) (tree_of form.now)) }
 {
     let Form::List { items, .. } = form else {
         return Ok(None);

@@ -10,15 +10,16 @@ use rc_deck::{Branch, DeckTree, Group, Memory};
 use rc_form::Form;
 use std::alloc::Global;
 
-/// The deck tree that a form `(deck GROUP ..)` stands for, by any numbers of its names. `None` where it stands for none. There are
-/// at most 65,536 names of attributes, and of values.
+/// The deck tree that a form `(deck GROUP ..)` stands for, by any numbers of its names. `None` where it stands for
+/// none. There are at most 65,536 names of attributes, and of values.
 pub fn read_deck<N: Numbers>(
     alloc: Global,
     names: &N,
     deck: &Form,
 ) -> Result<Option<DeckTree>, Memory>
     requires few { AreFew (N.words names.now) }
-    ensures { IfOk result (λ found. option_map groups_of found ≡ reading.read_deck (N.words names.now) (tree_of deck.now)) }
+    ensures { IfOk result (λ found. option_map groups_of found
+        ≡ reading.read_deck (N.words names.now) (tree_of deck.now)) }
 {
     let Form::List { items, .. } = deck else {
         return Ok(None);

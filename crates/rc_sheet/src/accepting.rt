@@ -19,11 +19,11 @@ use rc_naming::naming_of;
 use rc_reading::{Reader, Unread};
 use std::alloc::Global;
 
-/// Makes the sheet of a form. The error is the form's first fault, or that there was no memory: the first fault of its shape
-/// and its numbers, or else the first of its names, sorts and limits.
+/// Makes the sheet of a form. The error is the form's first fault, or that there was no memory: the first fault of its
+/// shape and its numbers, or else the first of its names, sorts and limits.
 ///
-/// The time is linear in the form, but for names: each is found in an ordered index of all that were mentioned, or by a search
-/// among at most 256.
+/// The time is linear in the form, but for names: each is found in an ordered index of all that were mentioned, or by a
+/// search among at most 256.
 pub fn sheet_of(alloc: Global, form: &Form) -> Result<Sheet, SheetFail>
     requires placed { (size : ℕ) × IsPlaced size (tree_of form.now) }
     requires shallow { IsOpenAtMost 64 (tree_of form.now) }

@@ -1,7 +1,7 @@
 //! The sheet of a form: [`sheet_of`] makes it, or names the first fault of the form.
 //!
-//! The laws say that what is read off a form stands for it, and that each form without a fault is read, as a sheet that is well
-//! formed and numbered by first mentions.
+//! The laws say that what is read off a form stands for it, and that each form without a fault is read, as a sheet that
+//! is well formed and numbered by first mentions.
 #![tactic(auto)]
 
 mod accepting;

@@ -1,5 +1,5 @@
-//! Laws of forms and well formed sheets: such a sheet's forms have no fault and are those of no other sheet, and its printed text
-//! is read back. No function here does anything.
+//! Laws of forms and well formed sheets: such a sheet's forms have no fault and are those of no other sheet, and its
+//! printed text is read back. No function here does anything.
 #![tactic(auto)]
 
 mod laws;

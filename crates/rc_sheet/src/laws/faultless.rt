@@ -7,8 +7,8 @@ ghost use Rattle.rc_sheet_model.specs.Stands.{Stands};
 ghost use Rattle.rc_sheet_model.specs.WellFormed.{IsWellFormed};
 ghost use Rattle.rc_faults.specs.SecondFaults.{sheet_fault};
 
-/// A form without a fault is that of a well formed sheet, where its words are atoms and at most 64 of its lists are open at a
-/// place.
+/// A form without a fault is that of a well formed sheet, where its words are atoms and at most 64 of its lists are
+/// open at a place.
 pub fn a_faultless_form_has_a_sheet()
     ensures { (tree : Tree) → sheet_fault tree ≡ None → IsOpenAtMost 64 tree → IsOfAtoms tree
         → (sheet : Sheet) × Stands sheet tree × IsWellFormed sheet }

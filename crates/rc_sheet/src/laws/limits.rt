@@ -36,8 +36,8 @@ pub fn sheet_is_within_limits()
         → sheet_at (naming_of tree) tree ≡ Some sheet → IsWithinLimits sheet }
 {}
 
-/// A sheet that is read off a form without a fault has plain words as names and variable words as variables, where the form's
-/// atoms are of 1 to 64 bytes that may stand in an atom.
+/// A sheet that is read off a form without a fault has plain words as names and variable words as variables, where the
+/// form's atoms are of 1 to 64 bytes that may stand in an atom.
 pub fn sheet_has_words()
     ensures { (tree : Tree) (sheet : Sheet) → faults symbol.Sheet tree ≡ [] → second_faults tree ≡ [] → IsOfAtoms tree
         → sheet_at (naming_of tree) tree ≡ Some sheet → HasWords sheet }

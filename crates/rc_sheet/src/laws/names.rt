@@ -1,5 +1,5 @@
-//! Laws of the names of a form and of its sheet: how few a form without a fault mentions, and that its sheet mentions the same in
-//! the same order, so that names are numbered by their first mention. No function here does anything.
+//! Laws of the names of a form and of its sheet: how few a form without a fault mentions, and that its sheet mentions
+//! the same in the same order, so that names are numbered by their first mention. No function here does anything.
 ghost use Rattle.std.specs.Prelude.{◌≡◌, ◌≤◌, [], length, Some};
 ghost use Rattle.rc_model.specs.Tree.{Tree};
 ghost use Rattle.rc_sheet_model.specs.FormMentions.{names_of};
@@ -17,7 +17,8 @@ ghost use Rattle.rc_sheet_model.specs.Stands.{Stands};
 ghost use Rattle.rc_naming.specs.Naming.{naming_of};
 ghost use Rattle.rc_reading.specs.ReadSheet as reading;
 
-/// A form without a fault mentions few names of each kind; of locations and of stored numbers, where it has a player and a team.
+/// A form without a fault mentions few names of each kind; of locations and of stored numbers, where it has a player
+/// and a team.
 pub fn names_are_few()
     ensures attrs { (tree : Tree) → faults symbol.Sheet tree ≡ [] → second_faults tree ≡ []
         → length (names_of tree).attrs ≤ most_attrs }

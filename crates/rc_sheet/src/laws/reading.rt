@@ -79,7 +79,8 @@ pub fn body_stands()
     ensures score { (naming : Naming) (tree : Tree) (best : sheet.Best) (score : sheet.IntExpr)
         → item_reading.score_at naming tree ≡ Some (best, score)
         → Row (Atom "scoring" ▸ StandsBest best ▸ expressions.StandsInt naming self_scope score ▸ End) tree }
-    ensures body { (naming : Naming) (trees : Trees) (all : sheet.SheetItems) (best : sheet.Best) (score : sheet.IntExpr)
+    ensures body { (naming : Naming) (trees : Trees) (all : sheet.SheetItems) (best : sheet.Best)
+        (score : sheet.IntExpr)
         → item_reading.body_at naming trees ≡ Some (all, (best, score))
         → AtLeast 2 (items.StandItems naming all
         (Row (Atom "scoring" ▸ StandsBest best ▸ expressions.StandsInt naming self_scope score ▸ End) ▸ End)) trees }

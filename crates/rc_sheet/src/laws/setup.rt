@@ -1,5 +1,5 @@
-//! Laws of the players, the teams, the decks and the points of a form without a fault, and of those that its sheet has. No
-//! function here does anything.
+//! Laws of the players, the teams, the decks and the points of a form without a fault, and of those that its sheet has.
+//! No function here does anything.
 ghost use Rattle.std.specs.Prelude.{◌≡◌, ◌≤◌, ℕ, true, List, [], ◌∷◌, ◌++◌, length, flat_map, position, sum_by, bytes_eq, All, Some};
 ghost use Rattle.rc_model.specs.Tree.{Tree, list, Trees, cons};
 ghost use Rattle.rc_model.specs.Deck.{face_count};
@@ -38,20 +38,24 @@ pub fn setup_is_given()
         (body : SheetItems × (Best × IntExpr)) (bytes : List ℕ) → tree ≡ list (cons head (cons setup rest)) from to
         → faults symbol.Sheet tree ≡ [] → second_faults tree ≡ [] → setup_form_at (naming_of tree) setup ≡ Some s
         → is_named bytes (flat_map attributes_in (parts_of tree)) ≡ true
-        → position (bytes_eq bytes) (naming_of tree).names.attrs ≡ Some n → IsAttr (sheet_with (naming_of tree) s body) n }
+        → position (bytes_eq bytes) (naming_of tree).names.attrs ≡ Some n
+        → IsAttr (sheet_with (naming_of tree) s body) n }
     ensures values { (tree head setup : Tree) (rest : Trees) (from to n : ℕ) (s : Setup)
         (body : SheetItems × (Best × IntExpr)) (bytes : List ℕ) → tree ≡ list (cons head (cons setup rest)) from to
         → faults symbol.Sheet tree ≡ [] → second_faults tree ≡ [] → setup_form_at (naming_of tree) setup ≡ Some s
         → is_named bytes (flat_map values_in (parts_of tree)) ≡ true
-        → position (bytes_eq bytes) (naming_of tree).names.values ≡ Some n → IsValue (sheet_with (naming_of tree) s body) n }
+        → position (bytes_eq bytes) (naming_of tree).names.values ≡ Some n
+        → IsValue (sheet_with (naming_of tree) s body) n }
     ensures maps { (tree head setup : Tree) (rest : Trees) (from to n : ℕ) (s : Setup)
         (body : SheetItems × (Best × IntExpr)) (bytes : List ℕ) → tree ≡ list (cons head (cons setup rest)) from to
         → faults symbol.Sheet tree ≡ [] → second_faults tree ≡ [] → setup_form_at (naming_of tree) setup ≡ Some s
         → is_named bytes (flat_map maps_in (parts_of tree)) ≡ true
-        → position (bytes_eq bytes) (naming_of tree).names.maps ≡ Some n → IsMap (sheet_with (naming_of tree) s body) n }
+        → position (bytes_eq bytes) (naming_of tree).names.maps ≡ Some n
+        → IsMap (sheet_with (naming_of tree) s body) n }
 {}
 
-/// The teams of a sheet that is read off a form without a fault have a player each, and each player stands in one of them, once.
+/// The teams of a sheet that is read off a form without a fault have a player each, and each player stands in one of
+/// them, once.
 pub fn teams_are_a_partition()
     ensures { (tree : Tree) (sheet : Sheet) → faults symbol.Sheet tree ≡ [] → second_faults tree ≡ []
         → sheet_at (naming_of tree) tree ≡ Some sheet → AreTeams sheet.players sheet.teams }
@@ -66,7 +70,8 @@ pub fn there_are_few_cards()
         → sum_by (λ line. face_count line.groups) sheet.decks ≤ most_cards }
 {}
 
-/// Each of its decks has a group, no face of it has an attribute twice, and it begins in a location of the game that holds cards.
+/// Each of its decks has a group, no face of it has an attribute twice, and it begins in a location of the game that
+/// holds cards.
 pub fn decks_are_decks()
     ensures { (tree : Tree) (sheet : Sheet) → faults symbol.Sheet tree ≡ [] → second_faults tree ≡ []
         → sheet_at (naming_of tree) tree ≡ Some sheet → All (IsDeck sheet) sheet.decks }

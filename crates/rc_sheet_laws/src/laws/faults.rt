@@ -8,10 +8,12 @@ ghost use Rattle.rc_grammar.specs.Faults.{faults, first};
 ghost use Rattle.rc_grammar.specs.declared.grammar.Symbol.TheVariants as symbol;
 ghost use Rattle.rc_faults.specs.SecondFaults.{second_faults, sheet_fault};
 
-/// A form that stands for a well formed sheet has no fault of the first round: its lists are forms of their places, with as many
-/// parts as those have, and its atoms are words and numbers of theirs. So its first fault would be one of the second round.
+/// A form that stands for a well formed sheet has no fault of the first round: its lists are forms of their places,
+/// with as many parts as those have, and its atoms are words and numbers of theirs. So its first fault would be one of
+/// the second round.
 pub fn a_sheet_has_its_shape()
-    ensures shape { (tree : Tree) (sheet : Sheet) → Stands sheet tree → IsWellFormed sheet → faults symbol.Sheet tree ≡ [] }
+    ensures shape { (tree : Tree) (sheet : Sheet) → Stands sheet tree → IsWellFormed sheet
+        → faults symbol.Sheet tree ≡ [] }
     ensures second { (tree : Tree) (sheet : Sheet) → Stands sheet tree → IsWellFormed sheet
         → sheet_fault tree ≡ first (second_faults tree) }
 {}

@@ -9,9 +9,9 @@ ghost use Rattle.rc_sheet_model.specs.WellFormed.{IsWellFormed};
 ghost use Rattle.rc_sheet_model.specs.Printing.{sheet_form, printed_sheet};
 ghost use Rattle.rc_sheet_laws.specs.PrintedAgain.{IsReadBack};
 
-/// The text that is printed for a well-formed sheet spells one form and nothing else. That form is the printed one but for
-/// offsets, and has no fault. It stands for the same sheet but for offsets, and for no other well formed one, and that sheet is
-/// well formed and printed as the same text.
+/// The text that is printed for a well-formed sheet spells one form and nothing else. That form is the printed one but
+/// for offsets, and has no fault. It stands for the same sheet but for offsets, and for no other well formed one, and
+/// that sheet is well formed and printed as the same text.
 pub fn printed_sheet_reads_back()
     ensures again { (sheet : Sheet) → IsWellFormed sheet → SpellsAgain (sheet_form sheet) (printed_sheet sheet) }
     ensures only { (sheet : Sheet) (forms : List Tree) (rest : ℕ) → IsWellFormed sheet

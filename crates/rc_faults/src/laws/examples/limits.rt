@@ -1,5 +1,5 @@
-//! The limits of the second round of faults, computed on lists of parts. No function here does anything: each has a contract
-//! that the check proves by computing.
+//! The limits of the second round of faults, computed on lists of parts. No function here does anything: each has a
+//! contract that the check proves by computing.
 ghost use Rattle.std.specs.Prelude.{[], ◌∷◌};
 ghost use Rattle.rc_faults.specs.SecondExamples.{Refused, Accepted, AllFaults, lines, groups, third_named, first_named, value, plain, eight, two_teams, of_team, FirstAt, Fits};
 ghost use Rattle.rc_grammar.specs.declared.grammar.Rule.TheVariants as rule;

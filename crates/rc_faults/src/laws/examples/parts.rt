@@ -1,13 +1,15 @@
-//! The second round of faults, computed on texts: variables, names, stages, owners, locations, sides and limits. No function
-//! here does anything: each has a contract that the check proves by computing.
+//! The second round of faults, computed on texts: variables, names, stages, owners, locations, sides and limits. No
+//! function here does anything: each has a contract that the check proves by computing.
 ghost use Rattle.std.specs.Prelude.{codes, ◌∷◌, []};
 ghost use Rattle.rc_faults.specs.SecondExamples.{Refused, Accepted, AllFaults, whole, setup, items, item, effect, test, alternative, score};
 ghost use Rattle.rc_grammar.specs.declared.fault.SheetKind.TheVariants.{Shape, Number, Twice, Unknown, WrongKind, TooMany};
 
-/// A variable that is in scope isn't bound again. It is in scope in what follows it in its list, and not in its own domain.
+/// A variable that is in scope isn't bound again. It is in scope in what follows it in its list, and not in its own
+/// domain.
 pub fn variables_again()
     ensures each { Refused Twice (effect "(all player 'P ^(all player 'P (cycle reverse)))") }
-    ensures filter { Refused Twice (effect "(all player 'P (move all ^(filter (game vloc X) 'P (= 0 0)) (top (game vloc X))))") }
+    ensures filter { Refused Twice
+        (effect "(all player 'P (move all ^(filter (game vloc X) 'P (= 0 0)) (top (game vloc X))))") }
     ensures for_all { Refused Twice (test "(any player 'P ^(all player 'P (= 0 0)))") }
     ensures for_any { Refused Twice (test "(all (game vloc X) 'C ^(any player 'C (= 0 0)))") }
     ensures any_of { Refused Twice (alternative "(any player 'P ^(any player 'P (do (cycle reverse))))") }
@@ -34,7 +36,8 @@ pub fn unbound_variables()
     ensures second_side { Refused Unknown (test "(!= 0 ^'C)") }
     ensures behind { Refused Unknown (effect "(all player 'P (cycle next 'P)) (cycle next ^'P)") }
     ensures own_domain { Refused Unknown (effect "(all (filter (game vloc X) 'C (= ^'D 'C)) 'D (forget 'D))") }
-    ensures other_alternative { Refused Unknown (alternative "(any player 'P (do (cycle next 'P))) (do (cycle next ^'P))") }
+    ensures other_alternative { Refused Unknown
+        (alternative "(any player 'P (do (cycle next 'P))) (do (cycle next ^'P))") }
     ensures self_outside { Refused Unknown (effect "(set (^'SELF sto N) 0)") }
     ensures self_scored { Accepted (score "('SELF sto N)") }
     ensures other_scored { Refused Unknown (score "(^'P sto N)") }
@@ -49,7 +52,8 @@ pub fn variables_of_other_sorts()
     ensures holder { Refused WrongKind (effect "(all (game vloc X) 'C (set (^'C sto N) 0))") }
     ensures player { Refused WrongKind (effect "(all (game vloc X) 'C (shuffle ((team of ^'C) vloc Y)))") }
     ensures owner { Refused WrongKind (effect "(all (game vloc X) 'C (cycle next ^'C))") }
-    ensures group_as_side { Refused WrongKind (alternative "(any (partition (game vloc X) R) 'G (if (= ^'G 'G) (cycle reverse)))") }
+    ensures group_as_side { Refused WrongKind
+        (alternative "(any (partition (game vloc X) R) 'G (if (= ^'G 'G) (cycle reverse)))") }
     ensures domain_of_players { Refused WrongKind (alternative "(any player 'P (any ^'P 'Q (do (cycle reverse))))") }
     ensures right { Accepted
         (alternative "(any player 'P (any (partition (game vloc X) R) 'G (any 'G 'C (do (forget 'C) (move all 'G (top ('P vloc Y)))))))") }
@@ -57,7 +61,8 @@ pub fn variables_of_other_sorts()
     ensures scored_player { Refused WrongKind (score "(points ^'SELF using W)") }
 {}
 
-/// An attribute or a value of an expression stands in a deck or in points, a value with any attribute. A point map is there.
+/// An attribute or a value of an expression stands in a deck or in points, a value with any attribute. A point map is
+/// there.
 pub fn unknown_names()
     ensures of_card { Refused Unknown (test "(= (attr (top (game vloc X)) ^Q) (attr (top (game vloc X)) R))") }
     ensures is_attribute { Refused Unknown (test "(is (top (game vloc X)) ^Q 1)") }
@@ -82,16 +87,20 @@ pub fn unknown_names()
 /// The current player is one of a stage of players, its test included, and the current team one of a stage of teams.
 pub fn stages_around()
     ensures player { Refused Unknown (items "(do (shuffle (^(current player) vloc X)))") }
-    ensures player_in_team_stage { Refused Unknown (items "(stage team (end (= 0 0)) (do (shuffle (^(current player) vloc X))))") }
+    ensures player_in_team_stage { Refused Unknown
+        (items "(stage team (end (= 0 0)) (do (shuffle (^(current player) vloc X))))") }
     ensures team_of_player { Refused Unknown (items "(do (shuffle ((team of ^(current player)) vloc X)))") }
     ensures team { Refused Unknown (item "(do (shuffle (^(current team) vloc X)))") }
     ensures test_of_stage { Accepted
         (items "(stage player (end (= ((current player) sto N) 0)) (do (shuffle ((team of (current player)) vloc X))))") }
-    ensures test_of_other_stage { Refused Unknown (items "(stage team (end (= (^(current player) sto N) 0)) (do (cycle reverse)))") }
-    ensures both { Accepted (item "(stage team (end (= ((current team) sto N) 0)) (do (shuffle ((current player) vloc X))))") }
+    ensures test_of_other_stage { Refused Unknown
+        (items "(stage team (end (= (^(current player) sto N) 0)) (do (cycle reverse)))") }
+    ensures both { Accepted
+        (item "(stage team (end (= ((current team) sto N) 0)) (do (shuffle ((current player) vloc X))))") }
     ensures behind { Refused Unknown
         (items "(stage player (end (= 0 0)) (do (cycle reverse))) (do (shuffle (^(current player) vloc X)))") }
-    ensures side { Refused Unknown (items "(stage player (end (= (current player) ^(current team))) (do (cycle reverse)))") }
+    ensures side { Refused Unknown
+        (items "(stage player (end (= (current player) ^(current team))) (do (cycle reverse)))") }
     ensures score { Refused Unknown (score "(^(current player) sto N)") }
     ensures choice { Refused Unknown (items "^(choice (do (forget 'C)))") }
     ensures choice_of_teams { Refused Unknown (items "(stage team (end (= 0 0)) ^(choice (do (cycle reverse))))") }
@@ -108,11 +117,12 @@ pub fn stages_around()
         (items "(stage team (end (= 0 0)) (do (cycle next (current team)) (all player 'P (cycle next (team of 'P)))))") }
 {}
 
-/// What the current player knows of a location is asked in a stage of players, its test and the stages of teams in it included.
-/// It is asked of a location, of whatever kind.
+/// What the current player knows of a location is asked in a stage of players, its test and the stages of teams in it
+/// included. It is asked of a location, of whatever kind.
 pub fn known_cards()
     ensures outside { Refused Unknown (items "(do (move all ^(known (game hloc X)) (top (game vloc Y))))") }
-    ensures team_stage { Refused Unknown (items "(stage team (end (= (size ^(known (game hloc X))) 0)) (do (cycle reverse)))") }
+    ensures team_stage { Refused Unknown
+        (items "(stage team (end (= (size ^(known (game hloc X))) 0)) (do (cycle reverse)))") }
     ensures behind { Refused Unknown
         (items "(stage player (end (= 0 0)) (do (cycle reverse))) (do (forget (top ^(known (game mem X)))))") }
     ensures score { Refused Unknown (score "(size ^(known ('SELF hloc X)))") }
@@ -122,8 +132,10 @@ pub fn known_cards()
         (items "(stage player (end (= (size (known (game hloc X))) 0)) (do (forget (top (known (game mem Y))))))") }
     ensures team_in_player { Accepted
         (item "(stage team (end (= (size (known (game hloc X))) 0)) (do (forget (max (known (game iloc Y)) using W))))") }
-    ensures domain { Accepted (alternative "(any (partition (known (game hloc X)) R) 'G (do (move all 'G (top (game vloc Y)))))") }
-    ensures variable { Refused Shape (alternative "(any (partition (game vloc X) R) 'G (do (forget (top (known ^'G)))))") }
+    ensures domain { Accepted
+        (alternative "(any (partition (known (game hloc X)) R) 'G (do (move all 'G (top (game vloc Y)))))") }
+    ensures variable { Refused Shape
+        (alternative "(any (partition (game vloc X) R) 'G (do (forget (top (known ^'G)))))") }
     ensures cards { Refused Shape (effect "(forget (top (known ^(union (game vloc X) (game vloc Y)))))") }
 {}
 
@@ -151,27 +163,34 @@ pub fn sides_of_other_sorts()
     ensures number_atom { Refused WrongKind (test "(all player 'P (= 'P ^0))") }
     ensures unknown_first { AllFaults (Unknown ∷ []) (test "(= 'P 0)") }
     ensures unknown_second { AllFaults (Unknown ∷ []) (test "(= 0 'P)") }
-    ensures group_first { AllFaults (WrongKind ∷ []) (alternative "(any (partition (game vloc X) R) 'G (if (= 'G 0) (cycle reverse)))") }
-    ensures group_second { AllFaults (WrongKind ∷ []) (alternative "(any (partition (game vloc X) R) 'G (if (= 0 'G) (cycle reverse)))") }
+    ensures group_first { AllFaults (WrongKind ∷ [])
+        (alternative "(any (partition (game vloc X) R) 'G (if (= 'G 0) (cycle reverse)))") }
+    ensures group_second { AllFaults (WrongKind ∷ [])
+        (alternative "(any (partition (game vloc X) R) 'G (if (= 0 'G) (cycle reverse)))") }
     ensures inside_after { AllFaults (WrongKind ∷ Unknown ∷ []) (test "(= 0 (top 'G))") }
     ensures team_outside { AllFaults (Unknown ∷ WrongKind ∷ []) (test "(= (current player) (current team))") }
     ensures one_sort { Accepted
         (test "(and (= 0 (size (game vloc X))) (!= (top (game vloc X)) (max (game vloc X) using W)) (= (current player) (current player)))") }
 {}
 
-/// A name has one kind and one class of owner, that of its first mention. A mention counts whatever is wrong with its owner.
-/// Locations and numbers have name spaces of their own.
+/// A name has one kind and one class of owner, that of its first mention. A mention counts whatever is wrong with its
+/// owner. Locations and numbers have name spaces of their own.
 pub fn kinds_and_classes()
     ensures kind { Refused WrongKind (effect "(shuffle (game vloc X)) (shuffle ^(game iloc X))") }
     ensures class { Refused WrongKind (effect "(shuffle (game vloc X)) (shuffle ^((current player) vloc X))") }
-    ensures team { Refused WrongKind (effect "(shuffle ((current player) vloc X)) (shuffle ^((team of (current player)) vloc X))") }
+    ensures team { Refused WrongKind
+        (effect "(shuffle ((current player) vloc X)) (shuffle ^((team of (current player)) vloc X))") }
     ensures as_deck { Refused WrongKind (effect "(shuffle ^(game vloc S))") }
     ensures number_class { Refused WrongKind (effect "(set (game sto N) 0) (set ^((current player) sto N) 0)") }
     ensures spaces { Accepted (effect "(shuffle (game vloc X)) (set ((current player) sto X) 0)") }
-    ensures players_alike { Accepted (effect "(shuffle ((current player) vloc X)) (all player 'P (shuffle ('P vloc X)))") }
-    ensures first_counts { AllFaults (WrongKind ∷ []) (effect "(shuffle (game vloc X)) (shuffle (game iloc X)) (shuffle (game vloc X))") }
-    ensures unbound_owner_mentions { AllFaults (Unknown ∷ WrongKind ∷ []) (effect "(shuffle ('P vloc X)) (shuffle (game vloc X))") }
-    ensures before_owner { AllFaults (WrongKind ∷ Unknown ∷ []) (effect "(shuffle (game vloc X)) (shuffle ('P vloc X))") }
+    ensures players_alike { Accepted
+        (effect "(shuffle ((current player) vloc X)) (all player 'P (shuffle ('P vloc X)))") }
+    ensures first_counts { AllFaults (WrongKind ∷ [])
+        (effect "(shuffle (game vloc X)) (shuffle (game iloc X)) (shuffle (game vloc X))") }
+    ensures unbound_owner_mentions { AllFaults (Unknown ∷ WrongKind ∷ [])
+        (effect "(shuffle ('P vloc X)) (shuffle (game vloc X))") }
+    ensures before_owner { AllFaults (WrongKind ∷ Unknown ∷ [])
+        (effect "(shuffle (game vloc X)) (shuffle ('P vloc X))") }
     ensures over_setup { Refused WrongKind
         (whole (codes "(create players 2) (create deck (game hloc S) (deck (R (1)))) (create deck ^(game iloc S) (deck (R (1))))")
         (codes "(do (shuffle (game iloc S)))") (codes "0")) }
@@ -197,7 +216,8 @@ pub fn nested()
     ensures repeats_far_inside { Refused TooMany
         (effect "(repeat 1 (if (= 0 0) (all player 'P (repeat 1 (all player 'Q ^(repeat 1 (cycle reverse)))))))") }
     ensures four { Accepted (test "(all player 'A (all player 'B (all player 'C (all player 'D (= 'A 'D)))))") }
-    ensures five { Refused TooMany (test "(all player 'A (all player 'B (all player 'C (all player 'D ^(any player 'E (= 'A 'D))))))") }
+    ensures five { Refused TooMany
+        (test "(all player 'A (all player 'B (all player 'C (all player 'D ^(any player 'E (= 'A 'D))))))") }
     ensures five_by_filter { Refused TooMany
         (test "(all player 'A (all player 'B (all player 'C (all player 'D (= 0 (size ^(filter (game vloc X) 'E (= 0 0))))))))") }
     ensures in_domain { Accepted
@@ -206,7 +226,8 @@ pub fn nested()
         (alternative "(any player 'A (any player 'B (any player 'C (any player 'D (do ^(all player 'E (cycle reverse)))))))") }
     ensures five_alternatives { Refused TooMany
         (alternative "(any player 'A (any player 'B (any player 'C (any player 'D ^(any player 'E (do (cycle reverse)))))))") }
-    ensures scored { Accepted (score "(size (filter (game vloc X) 'A (all player 'B (all player 'C (all player 'D (= 'SELF 'D))))))") }
+    ensures scored { Accepted
+        (score "(size (filter (game vloc X) 'A (all player 'B (all player 'C (all player 'D (= 'SELF 'D))))))") }
     ensures five_scored { Refused TooMany
         (score "(size (filter (game vloc X) 'A (all player 'B (all player 'C (all player 'D ^(all player 'E (= 'SELF 'D)))))))") }
 {}
@@ -216,7 +237,8 @@ pub fn pairs()
     ensures unknown_then_wrong { Refused Unknown (effect "(forget ^'C) (shuffle (game mem M))") }
     ensures wrong_then_unknown { Refused WrongKind (effect "(shuffle ^(game mem M)) (forget 'C)") }
     ensures list_then_part { Refused Unknown (items "(do ^(cycle next 'C))") }
-    ensures twice_then_unknown { AllFaults (Twice ∷ Unknown ∷ []) (effect "(all player 'P (all 'G 'P (cycle reverse)))") }
+    ensures twice_then_unknown { AllFaults (Twice ∷ Unknown ∷ [])
+        (effect "(all player 'P (all 'G 'P (cycle reverse)))") }
     ensures map_then_attribute { AllFaults (Unknown ∷ Unknown ∷ [])
         (alternative "(any (partition (union (game vloc X) 'G) Q) 'H (do (cycle reverse)))") }
     ensures first_round_behind { Refused Number

@@ -1,5 +1,5 @@
-//! The second round of faults, computed on texts: setup lines, deck trees and teams. No function here does anything: each
-//! has a contract that the check proves by computing.
+//! The second round of faults, computed on texts: setup lines, deck trees and teams. No function here does anything:
+//! each has a contract that the check proves by computing.
 ghost use Rattle.std.specs.Prelude.{codes, ◌∷◌, []};
 ghost use Rattle.rc_faults.specs.SecondExamples.{Refused, Accepted, AllFaults, whole, setup, lines, decked, groups, bare};
 ghost use Rattle.rc_grammar.specs.declared.fault.SheetKind.TheVariants.{Shape, Number, Twice, Unknown, WrongKind, NoCards};
@@ -8,29 +8,36 @@ ghost use Rattle.rc_grammar.specs.declared.fault.SheetKind.TheVariants.{Shape, N
 pub fn lines_again()
     ensures any_order { Accepted
         (lines "(put points W ((R (1) 1))) (create deck (game hloc S) (deck (R (1)))) (create teams (0 1)) (create players 2)") }
-    ensures players { Refused Twice (lines "(create players 2) (create deck (game hloc S) (deck (R (1)))) ^(create players 2)") }
+    ensures players { Refused Twice
+        (lines "(create players 2) (create deck (game hloc S) (deck (R (1)))) ^(create players 2)") }
     ensures players_before_deck { Refused Twice (decked "(create players 2) ^(create players 3)") }
-    ensures each_later_line { AllFaults (Twice ∷ Twice ∷ []) (decked "(create players 2) (create players 3) (create players 2)") }
+    ensures each_later_line { AllFaults (Twice ∷ Twice ∷ [])
+        (decked "(create players 2) (create players 3) (create players 2)") }
     ensures teams { Refused Twice (decked "(create players 2) (create teams (0 1)) ^(create teams (0) (1))") }
-    ensures later_teams_unread { AllFaults (Twice ∷ []) (decked "(create players 2) (create teams (0 1)) (create teams (0 0) (7))") }
-    ensures teams_before_players { Refused Twice (decked "(create teams (0 1)) ^(create teams (0 1)) (create players 2)") }
+    ensures later_teams_unread { AllFaults (Twice ∷ [])
+        (decked "(create players 2) (create teams (0 1)) (create teams (0 0) (7))") }
+    ensures teams_before_players { Refused Twice
+        (decked "(create teams (0 1)) ^(create teams (0 1)) (create players 2)") }
     ensures map { Refused Twice
         (lines "(create players 2) (put points W ((R (1) 1))) (create deck (game hloc S) (deck (R (1)))) ^(put points W ((R (2) 2)))") }
     ensures other_map { Accepted
         (lines "(create players 2) (put points W ((R (1) 1))) (create deck (game hloc S) (deck (R (1)))) (put points V ((R (1) 1)))") }
-    ensures other_spaces { Accepted (lines "(create players 2) (put points R ((R (R) 1))) (create deck (game hloc R) (deck (R (R))))") }
+    ensures other_spaces { Accepted
+        (lines "(create players 2) (put points R ((R (R) 1))) (create deck (game hloc R) (deck (R (R))))") }
     ensures decks { Accepted
         (lines "(create players 2) (create deck (game hloc S) (deck (R (1)))) (create deck (game hloc S) (deck (R (1))))") }
 {}
 
-/// A form without a deck has this fault before all others of the second round, and those of the first round come before it.
+/// A form without a deck has this fault before all others of the second round, and those of the first round come before
+/// it.
 pub fn no_cards()
     ensures alone { Refused NoCards (bare "(create players 2)") }
     ensures before_others { Refused NoCards
         (codes "(game ^(setup (create players 2) (create players 2)) (do (forget 'C)) (scoring max 0))") }
     ensures all { AllFaults (NoCards ∷ Twice ∷ Unknown ∷ [])
         (codes "(game (setup (create players 2) (create players 2)) (do (forget 'C)) (scoring max 0))") }
-    ensures behind_first_round { Refused Number (codes "(game (setup (create players 2)) (do (forget 'C)) (scoring max ^x))") }
+    ensures behind_first_round { Refused Number
+        (codes "(game (setup (create players 2)) (do (forget 'C)) (scoring max ^x))") }
     ensures lines_of_points { Refused NoCards (bare "(put points W ((R (1) 1))) (create players 2)") }
     ensures shape_of_deck { Refused Shape
         (codes "(game (setup (create players 2) ^(create deck (game hloc S))) (do (shuffle (game vloc X))) (scoring max 0))") }
@@ -38,8 +45,8 @@ pub fn no_cards()
         (lines "(create players 2) (create deck ^(game mem S) (deck (R (1))))") }
 {}
 
-/// An attribute stands once in a face: it isn't above a group, and not in an earlier group beside it or beside those above it,
-/// inner groups included. Groups under different values don't see each other.
+/// An attribute stands once in a face: it isn't above a group, and not in an earlier group beside it or beside those
+/// above it, inner groups included. Groups under different values don't see each other.
 pub fn attributes_again()
     ensures beside { Refused Twice (groups "(Q (x)) ^(Q (y))") }
     ensures above { Refused Twice (groups "(Q ((x ^(Q (y)))))") }
@@ -67,7 +74,8 @@ pub fn players_in_teams()
     ensures no_player { Refused Unknown (decked "(create players 2) (create teams (0) (1 ^2))") }
     ensures no_player_before { Refused Unknown
         (lines "(create teams (^1 0)) (create deck (game hloc S) (deck (R (1)))) (create players 1)") }
-    ensures no_player_again { AllFaults (Unknown ∷ Twice ∷ Unknown ∷ []) (decked "(create players 2) (create teams (0) (1) (7) (7))") }
+    ensures no_player_again { AllFaults (Unknown ∷ Twice ∷ Unknown ∷ [])
+        (decked "(create players 2) (create teams (0) (1) (7) (7))") }
     ensures first_players { Refused Unknown (decked "(create players 1) (create teams (0 ^1)) (create players 2)") }
     ensures left_out { Refused Unknown (decked "(create players 2) ^(create teams (0))") }
     ensures left_out_last { Refused Unknown
@@ -81,8 +89,10 @@ pub fn decks()
     ensures kinds { Accepted
         (lines "(create players 2) (create deck (game vloc A) (deck (R (1)))) (create deck (game iloc B) (deck (R (1))))") }
     ensures references { Refused WrongKind (lines "(create players 2) (create deck ^(game mem S) (deck (R (1))))") }
-    ensures player { Refused WrongKind (lines "(create players 2) (create deck ^((current player) hloc S) (deck (R (1))))") }
-    ensures variable { AllFaults (WrongKind ∷ Unknown ∷ []) (lines "(create players 2) (create deck ('P hloc S) (deck (R (1))))") }
+    ensures player { Refused WrongKind
+        (lines "(create players 2) (create deck ^((current player) hloc S) (deck (R (1))))") }
+    ensures variable { AllFaults (WrongKind ∷ Unknown ∷ [])
+        (lines "(create players 2) (create deck ('P hloc S) (deck (R (1))))") }
     ensures team { AllFaults (WrongKind ∷ Unknown ∷ [])
         (lines "(create players 2) (create deck ((team of (current player)) hloc S) (deck (R (1))))") }
     ensures other_kind { Refused WrongKind

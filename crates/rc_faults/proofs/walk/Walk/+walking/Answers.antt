@@ -1,4 +1,4 @@
-use Rattle.std.proofs.Common.{◌≡◌, ◌+◌, ◌∷◌, ◌++◌, [], drop, Some, Err, option_map, sym, ap, subst, ◌∙◌, refl}
+use Rattle.std.proofs.Common.{◌≡◌, ◌+◌, ◌∷◌, ◌++◌, [], drop, Some, Ok, Err, option_map, sym, ap, subst, ◌∙◌, refl}
 use Rattle.rc_form.specs.Form.{tree_of, trees_of, packed}
 use Rattle.rc_faults.specs.Checks.{Checks, IfSheetFault}
 use Rattle.rc_faults.specs.SecondParts.{form, parts_at, parts_in, with_form, attributes_behind}
@@ -7,6 +7,7 @@ use Rattle.rc_faults.specs.Summary.{check_all}
 use Rattle.rc_faults.proofs.Above.{at_start, above_more}
 use Rattle.rc_faults.proofs.Checked.{before_more, behind_these, step_on, stop_here, fault_alike, told_fault, told_fine}
 use Rattle.rc_faults.proofs.GroupLemmas.{list_seen}
+use Rattle.rc_faults.proofs.SettledParts.{quiet_checked}
 use Rattle.rc_faults.proofs.walk.Walk.+walking.Goals as goal
 
 pub list-returns-in-Err-clause-walked : goal.list-returns-in-Err-clause-walked
@@ -44,6 +45,16 @@ part-returns-in-List-clause-walked t c =
     subst (λ tree. Checks
     (check_all c.args.whole.now c.args.self.now.seen (parts_at (Some at) tree)) c.list.result c.list.new.self.seen)
     (sym (list_seen _ _ _ _ c.in-List.is c.deref.ensures.value)) (c.list.ensures.walked c.in-List.span.to)
+
+pub part_in-returns-then-is_quiet-clause-walked : goal.part_in-returns-then-is_quiet-clause-walked
+part_in-returns-then-is_quiet-clause-walked t c =
+    let above = c.args.self.now.above in
+    let seen = c.args.self.now.seen in
+    let tree = tree_of c.args.part.now in
+    subst
+    (λ place. check_all c.args.whole.now seen (parts_at (option_map (λ at. standing_seen at above) place) tree) ≡ Ok seen)
+    (sym c.in-Some.is)
+    (quiet_checked c.args.whole.now seen (standing_seen c.in-Some.at above) tree (sym c.is_quiet.ensures ∙ c.if-is_quiet.true))
 
 pub parts-loop-index-init : goal.parts-loop-index-init
 parts-loop-index-init t c =

@@ -1,6 +1,6 @@
 use Rattle.std.proofs.Common.{◌≡◌, ◌+◌, ◌*◌}
 use Rattle.rc_form.specs.Form.{trees_of, packed}
-use Rattle.rc_form.proofs.form.Form.TheLaws.{the_size}
+use Rattle.rc_form.specs.declared.form.Form.{size-Form}
 use Rattle.rc_sheet_model.specs.Sheet.{effect}
 use Rattle.rc_ast.specs.Effects.{effect_seen}
 use Rattle.rc_reading.specs.ReadEffects.{effects_at}
@@ -10,7 +10,7 @@ use Rattle.rc_reading.proofs.reader.Reader.+effects.Given as goal
 
 -- a form is larger than its parts; a list of parts comes before the effects among them, and these before each effect
 abbrev pub decreases-effect : goal.decreases-effect
-decreases-effect l = 3 * the_size l.form.now
+decreases-effect l = 3 * size-Form l.form.now
 
 abbrev pub decreases-effect_list : goal.decreases-effect_list
 decreases-effect_list l = 3 * largest l.parts.now + 2

@@ -1,6 +1,6 @@
 use Rattle.std.proofs.Common.{◌≡◌, ◌+◌, ◌*◌}
 use Rattle.rc_form.specs.Form.{trees_of, packed}
-use Rattle.rc_form.proofs.form.Form.TheLaws.{the_size}
+use Rattle.rc_form.specs.declared.form.Form.{size-Form}
 use Rattle.rc_sheet_model.specs.Sheet.{item}
 use Rattle.rc_ast.specs.Items.{item_seen}
 use Rattle.rc_reading.specs.Begun.{begun_seen}
@@ -11,7 +11,7 @@ use Rattle.rc_reading.proofs.reader.Reader.+items.Given as goal
 
 -- a form is larger than its parts; a list of parts comes before a stage, a stage before its items, and these before each item
 abbrev pub decreases-item : goal.decreases-item
-decreases-item l = 4 * the_size l.form.now
+decreases-item l = 4 * size-Form l.form.now
 
 abbrev pub decreases-item_list : goal.decreases-item_list
 decreases-item_list l = 4 * largest l.parts.now + 3

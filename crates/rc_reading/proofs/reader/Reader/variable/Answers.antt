@@ -8,7 +8,7 @@ returns-clause-number c =
     let words = c.self.inside.names.vars.items in
     c.copied.ensures ∙ c.get.ensures.value
     ∙ found words c.self.inside.variables c.self.invariant.numbers c.of.result
-    ∙ ap (λ word. position (bytes_eq word) words) c.of.ensures
+    ∙ ap (λ word. position (bytes_eq word) words) (c.of.ensures ∙ c.to_word.ensures)
     ∙ ap (λ (naming : Naming). position (bytes_eq c.args.word.now) naming.names.vars) c.self.view_is
 
 pub returns-clause-within : goal.returns-clause-within
