@@ -4,15 +4,17 @@ ghost use Rattle.rc_model.specs.Numbers.{below};
 ghost use Rattle.rc_sheet_model.specs.Sheet.{when, repeat as repeat_of, for_each as for_each_of};
 ghost use Rattle.rc_play_model.specs.Value.{Bind as PureBind, player_bound, card_bound, coll_value};
 ghost use Rattle.rc_play_model.specs.Scene.{CardValue};
-ghost use Rattle.rc_play_model.specs.Bound.{IsBindOf};
+ghost use Rattle.rc_play_model.specs.Bound.{IsBindOf, IsCardOf};
 ghost use Rattle.rc_play_model.specs.Effects.{does_one, does, times as times_in};
 ghost use Rattle.rc_ast.specs.Expressions.{coll_seen, int_seen, test_seen, domain_seen};
 ghost use Rattle.rc_ast.specs.Effects.{effect_seen, effects_seen};
+ghost use Rattle.rc_value.specs.Cards.{value_seen, values_seen};
 ghost use Rattle.rc_value.specs.Seen.{bind_seen};
 ghost use Rattle.rc_state.specs.Point.{point_of};
 ghost use Rattle.rc_state.specs.Under.{IsCollUnder, IsEffectUnder, AreEffectsUnder};
 ghost use Rattle.rc_state.specs.Context.{scene_in, Stands};
 
+use crate::everyone::{set_all, set_for_each};
 use crate::moving::{move_all, move_one};
 use crate::numbers::change_number;
 use crate::peeking::peek;
@@ -21,9 +23,11 @@ use crate::shuffling::shuffle;
 use rc_ast::{CollExpr, Domain, Effect, IntExpr, Test};
 use rc_names::limits::MOST_TIMES;
 use rc_rules::{About, Dealer, Frames};
-use rc_state::{Change, Context, cards_now, int_now, name_next, test_now, turn_round};
+use rc_state::{
+    Change, Context, FewCards, cards_now, few_cards_now, int_now, name_next, test_now, turn_round,
+};
 use rc_table::Table;
-use rc_value::{Bind, Bindings, Cards, current_of};
+use rc_value::{Bind, Bindings, Card, Cards, current_of};
 
 /// Does effects, one after the other, under the variables of a scope. It takes no memory.
 pub fn do_effects<D: Dealer>(
@@ -37,7 +41,8 @@ pub fn do_effects<D: Dealer>(
     requires shape { table.old.shape ≡ about.now.shape }
     requires well { AreEffectsUnder about.now.sheet scope.now (effects_seen effects.now.items) }
     requires bound { All (IsBindOf about.now.shape) scope.now }
-    ensures does { does about.now (D.dealing dealer.old) scope.now (effects_seen effects.now.items) (point_of table.old frames.old.items (D.state dealer.old))
+    ensures does { does about.now (D.dealing dealer.old) scope.now (effects_seen effects.now.items)
+        (point_of table.old frames.old.items (D.state dealer.old))
         ≡ point_of table.new frames.new.items (D.state dealer.new) }
     ensures shape { table.new.shape ≡ about.now.shape }
     ensures dealing { D.dealing dealer.new ≡ D.dealing dealer.old }
@@ -62,7 +67,8 @@ fn do_effect<D: Dealer>(
     requires stands { Stands context.now table.old frames.old.items }
     requires well { IsEffectUnder context.now.about.now.sheet context.now.scope.now (effect_seen effect.now) }
     ensures does { does_one context.now.about.now (D.dealing dealer.old) context.now.scope.now (effect_seen effect.now)
-        (point_of table.old frames.old.items (D.state dealer.old)) ≡ point_of table.new frames.new.items (D.state dealer.new) }
+        (point_of table.old frames.old.items (D.state dealer.old))
+        ≡ point_of table.new frames.new.items (D.state dealer.new) }
     ensures stands { Stands context.now table.new frames.new.items }
     ensures dealing { D.dealing dealer.new ≡ D.dealing dealer.old }
 {
@@ -102,9 +108,12 @@ fn do_if<D: Dealer>(
     dealer: &mut D,
 )
     requires stands { Stands context.now table.old frames.old.items }
-    requires well { IsEffectUnder context.now.about.now.sheet context.now.scope.now (when (test_seen test.now) (effects_seen effects.now.items)) }
-    ensures does { does_one context.now.about.now (D.dealing dealer.old) context.now.scope.now (when (test_seen test.now) (effects_seen effects.now.items))
-        (point_of table.old frames.old.items (D.state dealer.old)) ≡ point_of table.new frames.new.items (D.state dealer.new) }
+    requires well { IsEffectUnder context.now.about.now.sheet context.now.scope.now
+        (when (test_seen test.now) (effects_seen effects.now.items)) }
+    ensures does { does_one context.now.about.now (D.dealing dealer.old) context.now.scope.now
+        (when (test_seen test.now) (effects_seen effects.now.items))
+        (point_of table.old frames.old.items (D.state dealer.old))
+        ≡ point_of table.new frames.new.items (D.state dealer.new) }
     ensures stands { Stands context.now table.new frames.new.items }
     ensures dealing { D.dealing dealer.new ≡ D.dealing dealer.old }
 {
@@ -123,9 +132,12 @@ fn repeat<D: Dealer>(
     dealer: &mut D,
 )
     requires stands { Stands context.now table.old frames.old.items }
-    requires well { IsEffectUnder context.now.about.now.sheet context.now.scope.now (repeat_of (int_seen count.now) (effects_seen effects.now.items)) }
-    ensures does { does_one context.now.about.now (D.dealing dealer.old) context.now.scope.now (repeat_of (int_seen count.now) (effects_seen effects.now.items))
-        (point_of table.old frames.old.items (D.state dealer.old)) ≡ point_of table.new frames.new.items (D.state dealer.new) }
+    requires well { IsEffectUnder context.now.about.now.sheet context.now.scope.now
+        (repeat_of (int_seen count.now) (effects_seen effects.now.items)) }
+    ensures does { does_one context.now.about.now (D.dealing dealer.old) context.now.scope.now
+        (repeat_of (int_seen count.now) (effects_seen effects.now.items))
+        (point_of table.old frames.old.items (D.state dealer.old))
+        ≡ point_of table.new frames.new.items (D.state dealer.new) }
     ensures stands { Stands context.now table.new frames.new.items }
     ensures dealing { D.dealing dealer.new ≡ D.dealing dealer.old }
 {
@@ -153,14 +165,20 @@ fn for_each<D: Dealer>(
     dealer: &mut D,
 )
     requires stands { Stands context.now table.old frames.old.items }
-    requires well { IsEffectUnder context.now.about.now.sheet context.now.scope.now (for_each_of (domain_seen domain.now) bound (effects_seen effects.now.items)) }
-    ensures does { does_one context.now.about.now (D.dealing dealer.old) context.now.scope.now (for_each_of (domain_seen domain.now) bound (effects_seen effects.now.items))
-        (point_of table.old frames.old.items (D.state dealer.old)) ≡ point_of table.new frames.new.items (D.state dealer.new) }
+    requires well { IsEffectUnder context.now.about.now.sheet context.now.scope.now
+        (for_each_of (domain_seen domain.now) bound (effects_seen effects.now.items)) }
+    ensures does { does_one context.now.about.now (D.dealing dealer.old) context.now.scope.now
+        (for_each_of (domain_seen domain.now) bound (effects_seen effects.now.items))
+        (point_of table.old frames.old.items (D.state dealer.old))
+        ≡ point_of table.new frames.new.items (D.state dealer.new) }
     ensures stands { Stands context.now table.new frames.new.items }
     ensures dealing { D.dealing dealer.new ≡ D.dealing dealer.old }
 {
     match domain {
-        Domain::Players => for_players(context, effects, table, frames, dealer),
+        Domain::Players => match set_for_each(context, effects) {
+            Some(each) => set_all(context.about, each, table),
+            None => for_players(context, effects, table, frames, dealer),
+        },
         Domain::Coll(cards) => for_cards(context, effects, cards, table, frames, dealer),
         Domain::Parts(_, _) => unreachable!(),
     }
@@ -176,22 +194,21 @@ fn for_players<D: Dealer>(
 )
     requires stands { Stands context.now table.old frames.old.items }
     requires room { length context.now.scope.now < 5 }
-    requires well { (member : PureBind CardValue) → AreEffectsUnder context.now.about.now.sheet (context.now.scope.now ++ member ∷ []) (effects_seen effects.now.items) }
-    ensures does { fold (λ mid member. does context.now.about.now (D.dealing dealer.old) (context.now.scope.now ++ member ∷ []) (effects_seen effects.now.items) mid)
-        (point_of table.old frames.old.items (D.state dealer.old)) (map (λ n. player_bound n) (below context.now.about.now.sheet.players))
+    requires well { (member : PureBind CardValue)
+        → AreEffectsUnder context.now.about.now.sheet (context.now.scope.now ++ member ∷ [])
+        (effects_seen effects.now.items) }
+    ensures does { fold (λ mid member. does context.now.about.now (D.dealing dealer.old)
+        (context.now.scope.now ++ member ∷ []) (effects_seen effects.now.items) mid)
+        (point_of table.old frames.old.items (D.state dealer.old))
+        (map (λ n. player_bound n) (below context.now.about.now.sheet.players))
         ≡ point_of table.new frames.new.items (D.state dealer.new) }
     ensures stands { Stands context.now table.new frames.new.items }
     ensures dealing { D.dealing dealer.new ≡ D.dealing dealer.old }
 {
+    let mut scope = context.scope.with(Bind::Player(0));
     for player in 0..context.about.sheet().players {
-        do_for(
-            context,
-            effects,
-            Bind::Player(player),
-            table,
-            frames,
-            dealer,
-        );
+        let bind = Bind::Player(player);
+        do_for(context, &mut scope, bind, effects, table, frames, dealer);
     }
 }
 
@@ -208,44 +225,116 @@ fn for_cards<D: Dealer>(
     requires stands { Stands context.now table.old frames.old.items }
     requires cards { IsCollUnder context.now.about.now.sheet context.now.scope.now (coll_seen cards.now) }
     requires room { length context.now.scope.now < 5 }
-    requires well { (member : PureBind CardValue) → AreEffectsUnder context.now.about.now.sheet (context.now.scope.now ++ member ∷ []) (effects_seen effects.now.items) }
-    ensures does { fold (λ mid member. does context.now.about.now (D.dealing dealer.old) (context.now.scope.now ++ member ∷ []) (effects_seen effects.now.items) mid)
+    requires well { (member : PureBind CardValue)
+        → AreEffectsUnder context.now.about.now.sheet (context.now.scope.now ++ member ∷ [])
+        (effects_seen effects.now.items) }
+    ensures does { fold (λ mid member. does context.now.about.now (D.dealing dealer.old)
+        (context.now.scope.now ++ member ∷ []) (effects_seen effects.now.items) mid)
         (point_of table.old frames.old.items (D.state dealer.old))
-        (map (λ c. card_bound c) (coll_value (scene_in context.now table.old frames.old.items) context.now.scope.now (coll_seen cards.now)))
+        (map (λ c. card_bound c) (coll_value (scene_in context.now table.old frames.old.items) context.now.scope.now
+        (coll_seen cards.now)))
+        ≡ point_of table.new frames.new.items (D.state dealer.new) }
+    ensures stands { Stands context.now table.new frames.new.items }
+    ensures dealing { D.dealing dealer.new ≡ D.dealing dealer.old }
+{
+    let mut few = FewCards::new();
+    if few_cards_now(context, cards, &*table, &*frames, &mut few) {
+        return for_these(context, effects, few.as_slice(), table, frames, dealer);
+    }
+    for_many(context, effects, cards, table, frames, dealer)
+}
+
+// The same, however many they are.
+#[cycle(effects)]
+#[inline(never)]
+fn for_many<D: Dealer>(
+    context: &Context,
+    effects: &Vec<Effect>,
+    cards: &CollExpr,
+    table: &mut Table,
+    frames: &mut Frames,
+    dealer: &mut D,
+)
+    requires stands { Stands context.now table.old frames.old.items }
+    requires cards { IsCollUnder context.now.about.now.sheet context.now.scope.now (coll_seen cards.now) }
+    requires room { length context.now.scope.now < 5 }
+    requires well { (member : PureBind CardValue)
+        → AreEffectsUnder context.now.about.now.sheet (context.now.scope.now ++ member ∷ [])
+        (effects_seen effects.now.items) }
+    ensures does { fold (λ mid member. does context.now.about.now (D.dealing dealer.old)
+        (context.now.scope.now ++ member ∷ []) (effects_seen effects.now.items) mid)
+        (point_of table.old frames.old.items (D.state dealer.old))
+        (map (λ c. card_bound c) (coll_value (scene_in context.now table.old frames.old.items) context.now.scope.now
+        (coll_seen cards.now)))
         ≡ point_of table.new frames.new.items (D.state dealer.new) }
     ensures stands { Stands context.now table.new frames.new.items }
     ensures dealing { D.dealing dealer.new ≡ D.dealing dealer.old }
 {
     let mut room = Cards::new();
     cards_now(context, cards, &*table, &*frames, &mut room);
-    for card in room.as_slice() {
-        do_for(context, effects, Bind::Card(*card), table, frames, dealer);
-    }
+    for_these(context, effects, room.as_slice(), table, frames, dealer)
 }
 
-// Does effects with one variable more.
+// The same with these cards.
 #[cycle(effects)]
-fn do_for<D: Dealer>(
+#[inline(never)]
+fn for_these<D: Dealer>(
     context: &Context,
     effects: &Vec<Effect>,
-    member: Bind,
+    cards: &[Card],
     table: &mut Table,
     frames: &mut Frames,
     dealer: &mut D,
 )
     requires stands { Stands context.now table.old frames.old.items }
+    requires cards { All (λ card. IsCardOf context.now.about.now.shape (value_seen card)) cards.now }
     requires room { length context.now.scope.now < 5 }
-    requires member { IsBindOf context.now.about.now.shape (bind_seen member) }
-    requires well { AreEffectsUnder context.now.about.now.sheet (context.now.scope.now ++ bind_seen member ∷ []) (effects_seen effects.now.items) }
-    ensures does { does context.now.about.now (D.dealing dealer.old) (context.now.scope.now ++ bind_seen member.entry ∷ []) (effects_seen effects.now.items)
-        (point_of table.old frames.old.items (D.state dealer.old)) ≡ point_of table.new frames.new.items (D.state dealer.new) }
+    requires well { (member : PureBind CardValue)
+        → AreEffectsUnder context.now.about.now.sheet (context.now.scope.now ++ member ∷ [])
+        (effects_seen effects.now.items) }
+    ensures does { fold (λ mid member. does context.now.about.now (D.dealing dealer.old)
+        (context.now.scope.now ++ member ∷ []) (effects_seen effects.now.items) mid)
+        (point_of table.old frames.old.items (D.state dealer.old)) (map (λ c. card_bound c) (values_seen cards.now))
+        ≡ point_of table.new frames.new.items (D.state dealer.new) }
     ensures stands { Stands context.now table.new frames.new.items }
     ensures dealing { D.dealing dealer.new ≡ D.dealing dealer.old }
 {
-    let scope = context.scope.with(member);
+    let mut scope = context.scope.with(Bind::Player(0));
+    for card in cards {
+        let bind = Bind::Card(*card);
+        do_for(context, &mut scope, bind, effects, table, frames, dealer);
+    }
+}
+
+// Does effects with this for the innermost variable of the scope. The context's variables are those outside it.
+#[cycle(effects)]
+#[inline(always)]
+fn do_for<'g, D: Dealer>(
+    context: &Context,
+    scope: &mut Bindings<'g>,
+    bind: Bind<'g>,
+    effects: &Vec<Effect>,
+    table: &mut Table,
+    frames: &mut Frames,
+    dealer: &mut D,
+)
+    requires stands { Stands context.now table.old frames.old.items }
+    requires scope { (other : PureBind CardValue) × (scope.old ≡ context.now.scope.now ++ other ∷ []) }
+    requires bind { IsBindOf context.now.about.now.shape (bind_seen bind) }
+    requires well { AreEffectsUnder context.now.about.now.sheet (context.now.scope.now ++ bind_seen bind ∷ [])
+        (effects_seen effects.now.items) }
+    ensures does { does context.now.about.now (D.dealing dealer.old)
+        (context.now.scope.now ++ bind_seen bind.entry ∷ []) (effects_seen effects.now.items)
+        (point_of table.old frames.old.items (D.state dealer.old))
+        ≡ point_of table.new frames.new.items (D.state dealer.new) }
+    ensures scope { (other : PureBind CardValue) × (scope.new ≡ context.now.scope.now ++ other ∷ []) }
+    ensures stands { Stands context.now table.new frames.new.items }
+    ensures dealing { D.dealing dealer.new ≡ D.dealing dealer.old }
+{
+    scope.rebind(bind);
     let inner = Context {
         about: context.about,
-        scope: &scope,
+        scope: &*scope,
         current: context.current,
     };
     do_all(&inner, effects, table, frames, dealer);
@@ -262,8 +351,10 @@ pub(crate) fn do_all<D: Dealer>(
 )
     requires stands { Stands context.now table.old frames.old.items }
     requires well { AreEffectsUnder context.now.about.now.sheet context.now.scope.now (effects_seen effects.now.items) }
-    ensures does { does context.now.about.now (D.dealing dealer.old) context.now.scope.now (effects_seen effects.now.items)
-        (point_of table.old frames.old.items (D.state dealer.old)) ≡ point_of table.new frames.new.items (D.state dealer.new) }
+    ensures does { does context.now.about.now (D.dealing dealer.old) context.now.scope.now
+        (effects_seen effects.now.items)
+        (point_of table.old frames.old.items (D.state dealer.old))
+        ≡ point_of table.new frames.new.items (D.state dealer.new) }
     ensures stands { Stands context.now table.new frames.new.items }
     ensures dealing { D.dealing dealer.new ≡ D.dealing dealer.old }
 {

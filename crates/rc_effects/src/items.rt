@@ -38,8 +38,10 @@ pub fn do_item<D: Dealer>(
     requires well { AreAltsOutside about.now.sheet (alts_seen alts.now) }
     ensures does { let alt = alt_in (alts_seen alts.now) item.now.alt in
         does about.now (D.dealing dealer.old)
-        (bindings_of (scene_at about.now table.old.table (frames_seen frames.old.items)) [] alt item.now.spots.items) (effects_of alt)
-        (point_of table.old frames.old.items (D.state dealer.old)) ≡ point_of table.new frames.new.items (D.state dealer.new) }
+        (bindings_of (scene_at about.now table.old.table (frames_seen frames.old.items)) [] alt item.now.spots.items)
+        (effects_of alt)
+        (point_of table.old frames.old.items (D.state dealer.old))
+        ≡ point_of table.new frames.new.items (D.state dealer.new) }
     ensures shape { table.new.shape ≡ about.now.shape }
     ensures dealing { D.dealing dealer.new ≡ D.dealing dealer.old }
 {
@@ -69,8 +71,10 @@ fn do_alt<D: Dealer>(
     requires stands { Stands context.now table.old frames.old.items }
     requires well { IsAltUnder context.now.about.now.sheet context.now.scope.now (alt_seen alt.now) }
     ensures does { does context.now.about.now (D.dealing dealer.old)
-        (bindings_of (scene_in context.now table.old frames.old.items) context.now.scope.now (alt_seen alt.now) spots.now) (effects_of (alt_seen alt.now))
-        (point_of table.old frames.old.items (D.state dealer.old)) ≡ point_of table.new frames.new.items (D.state dealer.new) }
+        (bindings_of (scene_in context.now table.old frames.old.items) context.now.scope.now
+        (alt_seen alt.now) spots.now) (effects_of (alt_seen alt.now))
+        (point_of table.old frames.old.items (D.state dealer.old))
+        ≡ point_of table.new frames.new.items (D.state dealer.new) }
     ensures shape { table.new.shape ≡ context.now.about.now.shape }
     ensures dealing { D.dealing dealer.new ≡ D.dealing dealer.old }
 {
@@ -97,12 +101,15 @@ fn do_any<D: Dealer>(
     requires stands { Stands context.now table.old frames.old.items }
     requires domain { IsDomainUnder context.now.about.now.sheet context.now.scope.now (domain_seen domain.now) }
     requires room { length context.now.scope.now < 5 }
-    requires well { (member : PureBind CardValue) → IsAltUnder context.now.about.now.sheet (context.now.scope.now ++ member ∷ []) (alt_seen inner.now) }
+    requires well { (member : PureBind CardValue)
+        → IsAltUnder context.now.about.now.sheet (context.now.scope.now ++ member ∷ []) (alt_seen inner.now) }
     requires bare { IsAltUnder context.now.about.now.sheet context.now.scope.now (alt_seen inner.now) }
     ensures does { does context.now.about.now (D.dealing dealer.old)
-        (bindings_of (scene_in context.now table.old frames.old.items) context.now.scope.now (any_alt (domain_seen domain.now) 0 (alt_seen inner.now)) spots.now)
+        (bindings_of (scene_in context.now table.old frames.old.items) context.now.scope.now
+        (any_alt (domain_seen domain.now) 0 (alt_seen inner.now)) spots.now)
         (effects_of (alt_seen inner.now))
-        (point_of table.old frames.old.items (D.state dealer.old)) ≡ point_of table.new frames.new.items (D.state dealer.new) }
+        (point_of table.old frames.old.items (D.state dealer.old))
+        ≡ point_of table.new frames.new.items (D.state dealer.new) }
     ensures shape { table.new.shape ≡ context.now.about.now.shape }
     ensures dealing { D.dealing dealer.new ≡ D.dealing dealer.old }
 {
@@ -131,12 +138,15 @@ fn do_member<D: Dealer>(
     requires stands { Stands context.now table.old frames.old.items }
     requires domain { IsDomainUnder context.now.about.now.sheet context.now.scope.now (domain_seen domain.now) }
     requires room { length context.now.scope.now < 5 }
-    requires well { (member : PureBind CardValue) → IsAltUnder context.now.about.now.sheet (context.now.scope.now ++ member ∷ []) (alt_seen inner.now) }
+    requires well { (member : PureBind CardValue)
+        → IsAltUnder context.now.about.now.sheet (context.now.scope.now ++ member ∷ []) (alt_seen inner.now) }
     ensures does { does context.now.about.now (D.dealing dealer.old)
-        (bindings_of (scene_in context.now table.old frames.old.items) context.now.scope.now (any_alt (domain_seen domain.now) 0 (alt_seen inner.now))
+        (bindings_of (scene_in context.now table.old frames.old.items) context.now.scope.now
+        (any_alt (domain_seen domain.now) 0 (alt_seen inner.now))
         (spot ∷ rest.now))
         (effects_of (alt_seen inner.now))
-        (point_of table.old frames.old.items (D.state dealer.old)) ≡ point_of table.new frames.new.items (D.state dealer.new) }
+        (point_of table.old frames.old.items (D.state dealer.old))
+        ≡ point_of table.new frames.new.items (D.state dealer.new) }
     ensures shape { table.new.shape ≡ context.now.about.now.shape }
     ensures dealing { D.dealing dealer.new ≡ D.dealing dealer.old }
 {
@@ -160,11 +170,14 @@ fn do_bound<D: Dealer>(
     requires stands { Stands context.now table.old frames.old.items }
     requires room { length context.now.scope.now < 5 }
     requires bind { IsBindOf context.now.about.now.shape (bind_seen bind) }
-    requires well { IsAltUnder context.now.about.now.sheet (context.now.scope.now ++ bind_seen bind ∷ []) (alt_seen alt.now) }
+    requires well { IsAltUnder context.now.about.now.sheet (context.now.scope.now ++ bind_seen bind ∷ [])
+        (alt_seen alt.now) }
     ensures does { does context.now.about.now (D.dealing dealer.old)
-        (bindings_of (scene_in context.now table.old frames.old.items) (context.now.scope.now ++ bind_seen bind.entry ∷ []) (alt_seen alt.now) spots.now)
+        (bindings_of (scene_in context.now table.old frames.old.items)
+        (context.now.scope.now ++ bind_seen bind.entry ∷ []) (alt_seen alt.now) spots.now)
         (effects_of (alt_seen alt.now))
-        (point_of table.old frames.old.items (D.state dealer.old)) ≡ point_of table.new frames.new.items (D.state dealer.new) }
+        (point_of table.old frames.old.items (D.state dealer.old))
+        ≡ point_of table.new frames.new.items (D.state dealer.new) }
     ensures shape { table.new.shape ≡ context.now.about.now.shape }
     ensures dealing { D.dealing dealer.new ≡ D.dealing dealer.old }
 {

@@ -4,6 +4,7 @@
 #![tactic(auto)]
 
 mod effects;
+mod everyone;
 mod items;
 mod moving;
 mod numbers;

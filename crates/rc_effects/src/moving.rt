@@ -4,20 +4,23 @@ ghost use Rattle.rc_model.specs.Limits.{most_in_collection};
 ghost use Rattle.rc_sheet_model.specs.Sheet.{move, move_all as move_all_of};
 ghost use Rattle.rc_play_model.specs.Bound.{HoldsCards, IsCardOf};
 ghost use Rattle.rc_play_model.specs.Effects.{move_card};
+ghost use Rattle.rc_play_model.specs.Value.{coll_value};
 ghost use Rattle.rc_ast.specs.Names.{loc_seen};
 ghost use Rattle.rc_ast.specs.Expressions.{card_seen, coll_seen};
 ghost use Rattle.rc_ast.specs.Effects.{end_seen};
 ghost use Rattle.rc_table.specs.Laid.{relaid};
 ghost use Rattle.rc_table.specs.Runs.{put_each};
 ghost use Rattle.rc_value.specs.Cards.{value_seen, values_seen};
-ghost use Rattle.rc_state.specs.Context.{Stands};
-ghost use Rattle.rc_state.specs.Under.{IsEffectUnder};
+ghost use Rattle.rc_state.specs.Context.{scene_in, Stands};
+ghost use Rattle.rc_state.specs.Under.{IsCollUnder, IsEffectUnder};
 ghost use Rattle.rc_state.specs.Leads.{LeadsTo};
 
 use arrayvec::ArrayVec;
 use rc_ast::{CardExpr, CollExpr, End, Loc};
 use rc_rules::Frames;
-use rc_state::{Context, card_now, cards_now, held_among, loc_now};
+use rc_state::{
+    Context, FewCards, card_now, cards_now, few_cards_now, held_among, loc_now, sole_card_now,
+};
 use rc_table::Table;
 use rc_value::{Card, Cards};
 
@@ -34,8 +37,11 @@ pub fn move_one(
     frames: &Frames,
 )
     requires stands { Stands context.now table.old frames.now.items }
-    requires well { IsEffectUnder context.now.about.now.sheet context.now.scope.now (move (card_seen card.now) (end_seen end) (loc_seen loc.now)) }
-    ensures leads { LeadsTo context.now (move (card_seen card.now) (end_seen end) (loc_seen loc.now)) table.old frames.now.items table.new frames.now.items }
+    requires well { IsEffectUnder context.now.about.now.sheet context.now.scope.now
+        (move (card_seen card.now) (end_seen end) (loc_seen loc.now)) }
+    ensures leads { LeadsTo context.now
+        (move (card_seen card.now) (end_seen end)
+        (loc_seen loc.now)) table.old frames.now.items table.new frames.now.items }
     ensures stands { Stands context.now table.new frames.now.items }
 {
     let Some(at) = loc_now(context, loc, &*table, frames) else {
@@ -57,16 +63,64 @@ pub fn move_all(
     frames: &Frames,
 )
     requires stands { Stands context.now table.old frames.now.items }
-    requires well { IsEffectUnder context.now.about.now.sheet context.now.scope.now (move_all_of (coll_seen cards.now) (end_seen end) (loc_seen loc.now)) }
-    ensures leads { LeadsTo context.now (move_all_of (coll_seen cards.now) (end_seen end) (loc_seen loc.now)) table.old frames.now.items table.new frames.now.items }
+    requires well { IsEffectUnder context.now.about.now.sheet context.now.scope.now
+        (move_all_of (coll_seen cards.now) (end_seen end) (loc_seen loc.now)) }
+    ensures leads { LeadsTo context.now
+        (move_all_of (coll_seen cards.now) (end_seen end)
+        (loc_seen loc.now)) table.old frames.now.items table.new frames.now.items }
     ensures stands { Stands context.now table.new frames.now.items }
 {
     let Some(at) = loc_now(context, loc, &*table, frames) else {
         return;
     };
+    match sole_card_now(context, cards, &*table, frames) {
+        Some(card) => put(table, card, end, at),
+        None => put_some(context, cards, end, at, table, frames),
+    }
+}
+
+// Puts all cards of a collection there. Few cards are kept in a small list.
+#[inline(never)]
+fn put_some(
+    context: &Context,
+    cards: &CollExpr,
+    end: End,
+    at: u16,
+    table: &mut Table,
+    frames: &Frames,
+)
+    requires stands { Stands context.now table.old frames.now.items }
+    requires well { IsCollUnder context.now.about.now.sheet context.now.scope.now (coll_seen cards.now) }
+    requires holds { HoldsCards table.old.shape at }
+    ensures { table.new ≡ relaid table.old (fold (move_card table.old.shape (end_seen end) at) table.old.table
+        (coll_value (scene_in context.now table.old frames.now.items) context.now.scope.now (coll_seen cards.now))) }
+{
+    let mut few = FewCards::new();
+    if few_cards_now(context, cards, &*table, frames, &mut few) {
+        return put_all(table, few.as_slice(), end, at);
+    }
+    put_many(context, cards, end, at, table, frames)
+}
+
+// The same, however many they are.
+#[inline(never)]
+fn put_many(
+    context: &Context,
+    cards: &CollExpr,
+    end: End,
+    at: u16,
+    table: &mut Table,
+    frames: &Frames,
+)
+    requires stands { Stands context.now table.old frames.now.items }
+    requires well { IsCollUnder context.now.about.now.sheet context.now.scope.now (coll_seen cards.now) }
+    requires holds { HoldsCards table.old.shape at }
+    ensures { table.new ≡ relaid table.old (fold (move_card table.old.shape (end_seen end) at) table.old.table
+        (coll_value (scene_in context.now table.old frames.now.items) context.now.scope.now (coll_seen cards.now))) }
+{
     let mut room = Cards::new();
     cards_now(context, cards, &*table, frames, &mut room);
-    put_all(table, room.as_slice(), end, at);
+    put_all(table, room.as_slice(), end, at)
 }
 
 // Puts these cards there, the first one first. Many go in one go.
@@ -125,7 +179,8 @@ fn put_one_by_one(table: &mut Table, cards: &[Card], end: End, at: u16)
 fn put(table: &mut Table, card: Card, end: End, at: u16)
     requires card { IsCardOf table.old.shape (value_seen card) }
     requires holds { HoldsCards table.old.shape at }
-    ensures { table.new ≡ relaid table.old (move_card table.old.shape (end_seen end) at table.old.table (value_seen card)) }
+    ensures { table.new ≡ relaid table.old
+        (move_card table.old.shape (end_seen end) at table.old.table (value_seen card)) }
 {
     if let Card::Held(id) = card {
         match end {

@@ -24,8 +24,10 @@ pub fn change_number(
     frames: &Frames,
 )
     requires stands { Stands context.now table.old frames.now.items }
-    requires well { IsEffectUnder context.now.about.now.sheet context.now.scope.now (effect_by how (num_seen num.now) (int_seen value.now)) }
-    ensures leads { LeadsTo context.now (effect_by how (num_seen num.now) (int_seen value.now)) table.old frames.now.items table.new frames.now.items }
+    requires well { IsEffectUnder context.now.about.now.sheet context.now.scope.now
+        (effect_by how (num_seen num.now) (int_seen value.now)) }
+    ensures leads { LeadsTo context.now
+        (effect_by how (num_seen num.now) (int_seen value.now)) table.old frames.now.items table.new frames.now.items }
     ensures stands { Stands context.now table.new frames.now.items }
 {
     let Some(at) = num_now(context, num, &*table, frames) else {
@@ -35,7 +37,9 @@ pub fn change_number(
     change_at(table, at, how, value);
 }
 
-fn change_at(table: &mut Table, at: u16, how: Change, value: i64)
+/// Changes the number at a place by a value.
+#[inline(always)]
+pub fn change_at(table: &mut Table, at: u16, how: Change, value: i64)
     requires clamped { IsWithinClamp value }
     ensures { table.new ≡ relaid table.old (effects.change (new_by how) value at table.old.table) }
 {

@@ -29,8 +29,11 @@ pub fn remember(
     frames: &Frames,
 )
     requires stands { Stands context.now table.old frames.now.items }
-    requires well { IsEffectUnder context.now.about.now.sheet context.now.scope.now (remember_of (card_seen card.now) (end_seen end) (loc_seen loc.now)) }
-    ensures leads { LeadsTo context.now (remember_of (card_seen card.now) (end_seen end) (loc_seen loc.now)) table.old frames.now.items table.new frames.now.items }
+    requires well { IsEffectUnder context.now.about.now.sheet context.now.scope.now
+        (remember_of (card_seen card.now) (end_seen end) (loc_seen loc.now)) }
+    ensures leads { LeadsTo context.now
+        (remember_of (card_seen card.now) (end_seen end)
+        (loc_seen loc.now)) table.old frames.now.items table.new frames.now.items }
     ensures stands { Stands context.now table.new frames.now.items }
 {
     let Some(at) = loc_now(context, loc, &*table, frames) else {
@@ -66,7 +69,8 @@ fn id_of(card: Card) -> u16
 pub fn forget(context: &Context, card: &CardExpr, table: &mut Table, frames: &Frames)
     requires stands { Stands context.now table.old frames.now.items }
     requires well { IsEffectUnder context.now.about.now.sheet context.now.scope.now (forget_of (card_seen card.now)) }
-    ensures leads { LeadsTo context.now (forget_of (card_seen card.now)) table.old frames.now.items table.new frames.now.items }
+    ensures leads { LeadsTo context.now
+        (forget_of (card_seen card.now)) table.old frames.now.items table.new frames.now.items }
     ensures stands { Stands context.now table.new frames.now.items }
 {
     let Some(card) = card_now(context, card, &*table, frames) else {

@@ -24,8 +24,10 @@ pub fn shuffle<D: Dealer>(
 )
     requires stands { Stands context.now table.old frames.now.items }
     requires well { IsEffectUnder context.now.about.now.sheet context.now.scope.now (shuffle_of (loc_seen loc.now)) }
-    ensures does { does_one context.now.about.now (D.dealing dealer.old) context.now.scope.now (shuffle_of (loc_seen loc.now))
-        (point_of table.old frames.now.items (D.state dealer.old)) ≡ point_of table.new frames.now.items (D.state dealer.new) }
+    ensures does { does_one context.now.about.now (D.dealing dealer.old) context.now.scope.now
+        (shuffle_of (loc_seen loc.now))
+        (point_of table.old frames.now.items (D.state dealer.old))
+        ≡ point_of table.new frames.now.items (D.state dealer.new) }
     ensures stands { Stands context.now table.new frames.now.items }
     ensures dealing { D.dealing dealer.new ≡ D.dealing dealer.old }
 {
@@ -37,8 +39,11 @@ pub fn shuffle<D: Dealer>(
 
 fn shuffle_at<D: Dealer>(table: &mut Table, at: u16, dealer: &mut D)
     requires there { at < length table.old.shape.places }
-    ensures table { table.new ≡ relaid table.old (reorder at ((D.dealing dealer.old).order (D.state dealer.old) (length (list_at table.old.table at))) table.old.table) }
-    ensures next { D.state dealer.new ≡ (D.dealing dealer.old).next (D.state dealer.old) (length (list_at table.old.table at)) }
+    ensures table { table.new ≡ relaid table.old
+        (reorder at ((D.dealing dealer.old).order (D.state dealer.old)
+        (length (list_at table.old.table at))) table.old.table) }
+    ensures next { D.state dealer.new
+        ≡ (D.dealing dealer.old).next (D.state dealer.old) (length (list_at table.old.table at)) }
     ensures dealing { D.dealing dealer.new ≡ D.dealing dealer.old }
 {
     let mut order = places(table.list(at).len());

@@ -32,9 +32,10 @@ use rc_text::{HouseText, NamedText, standings};
 use rc_text_model::{legal_exactly, one_pass_judges, texts_are_of_lines};
 use std::alloc::Global;
 
-/// Judges a house text by what its matches are played by and a plan: `Legal`, or the first illegal line and why. The plan is within
-/// its limits and has a strategy for each player. Numbers of the text are in their ranges, and it has a match and a standing or more,
-/// and a score or more for each match. It doesn't ask whether an item is the strategy's choice.
+/// Judges a house text by what its matches are played by and a plan: `Legal`, or the first illegal line and why. The
+/// plan is within its limits and has a strategy for each player. Numbers of the text are in their ranges, and it has a
+/// match and a standing or more, and a score or more for each match. It doesn't ask whether an item is the strategy's
+/// choice.
 ///
 /// # Errors
 ///
@@ -84,7 +85,8 @@ pub fn judge_named(
     verdict_of(text_along(alloc, about, plan, head, &named.text, &mut told))
 }
 
-/// Judges a house text as `judge` does, and tells what its items bind where it is legal. The matches are played once for both.
+/// Judges a house text as `judge` does, and tells what its items bind where it is legal. The matches are played once
+/// for both.
 ///
 /// # Errors
 ///
@@ -235,7 +237,8 @@ fn standings_along(from: u32, standings: &[Standing], told: &[Standing]) -> Resu
 
 // The row that applies to the end of the text where standings are missing.
 fn missing_row(standings: &[Standing], told: &[Standing]) -> Option<Why>
-    ensures { (plan : PurePlan) (matches : List Record) → map standing_seen standings.now ≡ house.standings_of plan matches
+    ensures { (plan : PurePlan) (matches : List Record)
+        → map standing_seen standings.now ≡ house.standings_of plan matches
         → row_seen result ≡ rows.end_row plan matches (length told.now) }
 {
     if told.len() < standings.len() {

@@ -13,8 +13,8 @@ use rc_text::Bounds;
 use std::alloc::Global;
 use std::mem;
 
-/// What stands beside the choose lines of a text, from choice to choice: what their items are told to bind, or notes of what they do
-/// bind.
+/// What stands beside the choose lines of a text, from choice to choice: what their items are told to bind, or notes of
+/// what they do bind.
 pub(crate) trait Margin {
     /// What is told of the choices that come; nothing where that isn't told.
     ghost told: { Self → List (List PureBound) };

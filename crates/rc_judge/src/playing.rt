@@ -79,7 +79,8 @@ fn body_along<M: Machine + Drop, N: Margin>(
     end_along(about, &machine, stop, dealer.count(), line, played)
 }
 
-// Judges the choices of a match, where it stands at this stop. Answers the line behind them, and the stop to which they lead.
+// Judges the choices of a match, where it stands at this stop. Answers the line behind them, and the stop to which they
+// lead.
 fn picks_along<M: Machine, N: Margin>(
     machine: &mut M,
     dealer: &mut MatchDealer,
@@ -94,8 +95,10 @@ fn picks_along<M: Machine, N: Margin>(
     ensures is { (plan : PurePlan) (m : ℕ) → dealing_of (deal_at plan m).deal ≡ dealing_of dealer.old.deal →
         Judges (λ x. (x.0, Some (stands_at x.1 (M.config machine.new) dealer.new.count), N.told margin.new)) result
         (along.picks_along (M.about machine.old) dealing_of plan m from
-        (Some (stands_at start (M.config machine.old) dealer.old.count)) (N.told margin.old) (map pick_seen picks.now)) }
-    ensures noted { N.notes ≡ true → (plan : PurePlan) (m : ℕ) → dealing_of (deal_at plan m).deal ≡ dealing_of dealer.old.deal →
+        (Some (stands_at start (M.config machine.old) dealer.old.count)) (N.told margin.old)
+        (map pick_seen picks.now)) }
+    ensures noted { N.notes ≡ true → (plan : PurePlan) (m : ℕ)
+        → dealing_of (deal_at plan m).deal ≡ dealing_of dealer.old.deal →
         OnOk result (N.here margin.new ≡ N.here margin.old
         ++ along.marks_from (M.about machine.old) dealing_of plan m
         (Some (stands_at start (M.config machine.old) dealer.old.count)) (map pick_seen picks.now)) }
@@ -115,8 +118,8 @@ fn picks_along<M: Machine, N: Margin>(
     Ok((line, stop))
 }
 
-// Judges what a record tells behind its choices, where the play stands at this stop and so many lists were shuffled. Answers the line
-// behind it.
+// Judges what a record tells behind its choices, where the play stands at this stop and so many lists were shuffled.
+// Answers the line behind it.
 fn end_along<M: Machine>(
     about: &About,
     machine: &M,
@@ -130,7 +133,8 @@ fn end_along<M: Machine>(
     requires room { line + length (shuffles_told played.now.shuffles) + 1 + length played.now.scores.items < 2 ^ 32 }
     ensures is { Judges (λ n. n) result
         (along.end_along about.now line (Some (stands_at stop (M.config machine.now) count)) (record_seen played.now)) }
-    ensures far { IfOk result (λ n. n ≡ line + length (shuffles_told played.now.shuffles) + 1 + length played.now.scores.items) }
+    ensures far { IfOk result (λ n. n
+        ≡ line + length (shuffles_told played.now.shuffles) + 1 + length played.now.scores.items) }
     ensures few { OnOk result (length played.now.scores.items ≤ about.now.sheet.players) }
 {
     let line = told_along(stop, count, line, played.shuffles)?;
@@ -165,7 +169,8 @@ fn scores_along<M: Machine>(
     requires fresh { M.spent machine.now ≡ false }
     requires room { from + length told.now < 2 ^ 32 }
     ensures is { (stop : Stop) (count : ℕ) → Judges (λ n. n) result
-        (along.scores_along about.now from (Some (stands_at stop (M.config machine.now) count)) 0 (map score_seen told.now)) }
+        (along.scores_along about.now from (Some (stands_at stop (M.config machine.now) count)) 0
+        (map score_seen told.now)) }
     ensures far { IfOk result (λ n. n ≡ from + length told.now) }
     ensures few { OnOk result (length told.now ≤ about.now.sheet.players) }
 {

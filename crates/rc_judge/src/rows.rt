@@ -18,7 +18,8 @@ use rc_rules::{About, Ended, Machine, MatchRecord, Pick, Plan, Score, Scores, St
 
 /// The row of a match line where match `number` of the plan comes next, if there is one.
 pub(crate) fn opening_row(plan: &Plan, number: u32, played: &MatchRecord) -> Option<Why>
-    ensures is { row_seen result ≡ rows.opening_row (plan_seen plan.now) number played.now.number played.now.deal played.now.seats }
+    ensures is { row_seen result ≡ rows.opening_row
+        (plan_seen plan.now) number played.now.number played.now.deal played.now.seats }
     ensures there { result ≡ None → number < length plan.now.matches.items }
 {
     let Some(deal) = plan.matches.get(number as usize) else {
@@ -35,7 +36,8 @@ pub(crate) fn opening_row(plan: &Plan, number: u32, played: &MatchRecord) -> Opt
 pub(crate) fn stopped_row<M: Machine>(machine: &M, stop: Stop, pick: &Pick) -> Option<Why>
     requires fresh { M.spent machine.now ≡ false }
     requires stands { StandsWhereItStops (M.about machine.now) (stop_seen stop) (M.config machine.now) }
-    ensures is { row_seen result ≡ rows.decision_row (M.about machine.now) (pick_seen pick.now) (stop_seen stop) (M.config machine.now) }
+    ensures is { row_seen result ≡ rows.decision_row (M.about machine.now) (pick_seen pick.now) (stop_seen stop)
+        (M.config machine.now) }
     ensures decision { result ≡ None → StandsAtDecision (M.about machine.now) (M.config machine.now) }
     ensures offered { result ≡ None → pick.now.item < length (menu_here (M.about machine.now) (M.config machine.now)) }
 {
@@ -50,7 +52,8 @@ pub(crate) fn stopped_row<M: Machine>(machine: &M, stop: Stop, pick: &Pick) -> O
 fn decision_row<M: Machine>(machine: &M, seat: u8, site: u8, pick: &Pick) -> Option<Why>
     requires fresh { M.spent machine.now ≡ false }
     requires decides { Decides (M.about machine.now) seat site (M.config machine.now) }
-    ensures is { row_seen result ≡ rows.decision_row (M.about machine.now) (pick_seen pick.now) (decide seat site) (M.config machine.now) }
+    ensures is { row_seen result ≡ rows.decision_row (M.about machine.now) (pick_seen pick.now) (decide seat site)
+        (M.config machine.now) }
     ensures offered { result ≡ None → pick.now.item < length (menu_here (M.about machine.now) (M.config machine.now)) }
 {
     if pick.seat != seat || pick.site != site {
@@ -81,7 +84,8 @@ pub(crate) fn shuffled_row(stop: Stop, count: u32, told: u32) -> Option<Why>
 /// The row of an end line, where so many lists were shuffled and the turn count is this.
 pub(crate) fn ending_row(stop: Stop, count: u32, turn: u32, played: &MatchRecord) -> Option<Why>
     ensures { (c : Config) → c.control.turn ≡ turn →
-        row_seen result ≡ rows.ending_row (Some (stands_at stop c count)) played.now.shuffles (ending_seen played.now.stop) played.now.turn }
+        row_seen result ≡ rows.ending_row (Some (stands_at stop c count)) played.now.shuffles
+        (ending_seen played.now.stop) played.now.turn }
 {
     if !has_ended(stop) {
         Some(Why::End)
@@ -121,7 +125,8 @@ pub(crate) fn scored_row(
     index: usize,
     told: &Score,
 ) -> Option<Why>
-    ensures is { (about : PureAbout) (c : Config) (stop : Stop) (count : ℕ) → scores.now.items ≡ play.scores_of about c.table c.control
+    ensures is { (about : PureAbout) (c : Config) (stop : Stop) (count : ℕ)
+        → scores.now.items ≡ play.scores_of about c.table c.control
         → points.now.items ≡ map (play.rank_points about.sheet scores.now.items) (below about.sheet.players)
         → row_seen result ≡ rows.scored_row about (Some (stands_at stop c count)) index (score_seen told.now) }
     ensures there { result ≡ None → index < length scores.now.items }
@@ -148,14 +153,17 @@ fn is_score(scores: &Scores, points: &ArrayVec<u8, 8>, index: usize, told: &Scor
 
 // Whether a score line tells this score and these rank points of this player.
 fn tells(told: &Score, player: usize, score: i64, points: u8) -> bool
-    ensures { result ≡ rows.is_score (score_seen told.now) (record { player = player; score = score; points = points }) }
+    ensures { result ≡ rows.is_score (score_seen told.now)
+        (record { player = player; score = score; points = points }) }
 {
     usize::from(told.player) == player && told.score == score && told.points == points
 }
 
 /// The row of standing line `index`, from 0, by the plan's standings, where the plan has no further match.
 pub(crate) fn ranked_row(standings: &[Standing], index: usize, told: &Standing) -> Option<Why>
-    ensures { row_seen result ≡ rows.unless (rows.is_the_standing (standing_seen told.now) (slice_get (map standing_seen standings.now) index)) by_standing }
+    ensures { row_seen result ≡ rows.unless
+        (rows.is_the_standing (standing_seen told.now)
+        (slice_get (map standing_seen standings.now) index)) by_standing }
 {
     let Some(standing) = standings.get(index) else {
         return Some(Why::Standing);

@@ -40,7 +40,8 @@ impl PlainState {
         requires here { (site : ℕ) × (item_at about.now.sheet self.old.path ≡ Some (choice site (alts_seen alts.now))) }
         requires fits { self.old.path.next + 1 < 2 ^ 64 }
         requires below { self.old.control.turn < about.now.turns }
-        requires offered { (x : ℕ) × (chosen_item (plain_of about.now self.old) (alts_seen alts.now) x ≡ item_seen item.now) }
+        requires offered { (x : ℕ) ×
+            (chosen_item (plain_of about.now self.old) (alts_seen alts.now) x ≡ item_seen item.now) }
         ensures leads { (x : ℕ) → chosen_item (plain_of about.now self.old) (alts_seen alts.now) x ≡ item_seen item.now
             → choose about.now (D.dealing dealer.old) (D.state dealer.old) x (config_at about.now self.old)
             ≡ goes (D.state dealer.new) (config_at about.now self.new) }

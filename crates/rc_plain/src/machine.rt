@@ -26,8 +26,8 @@ use std::alloc::Global;
 use std::marker::Model;
 use std::sync::Arc;
 
-/// A match that is played on the tree of its sheet. What is left to run is a path of places into the sheet. It takes memory when
-/// it is made, and none later.
+/// A match that is played on the tree of its sheet. What is left to run is a path of places into the sheet. It takes
+/// memory when it is made, and none later.
 #[derive(Drop)]
 pub struct PlainMachine {
     about: About,
@@ -59,8 +59,10 @@ impl PlainMachine {
         turns: u32,
     ) -> Result<PlainMachine, Memory>
         requires { shape.now.value ≡ shape_of checked.now.value }
-        ensures about { IfOk result (λ m. m.about ≡ record { sheet = checked.now.value; shape = shape.now.value; turns = turns }) }
-        ensures start { IfOk result (λ m. config_of m ≡ start (record { sheet = checked.now.value; shape = shape.now.value; turns = turns })) }
+        ensures about { IfOk result (λ m. m.about
+            ≡ record { sheet = checked.now.value; shape = shape.now.value; turns = turns }) }
+        ensures start { IfOk result (λ m. config_of m
+            ≡ start (record { sheet = checked.now.value; shape = shape.now.value; turns = turns })) }
     {
         let about = about_of(alloc, checked, shape, turns)?;
         PlainMachine::at_start(alloc, about)
@@ -98,10 +100,14 @@ impl PlainMachine {
     ) -> Result<PlainMachine, Memory>
         requires shape { shape.now.value ≡ shape_of checked.now.value }
         requires laid { table.shape ≡ shape.now.value }
-        requires decides { CanDecide (record { sheet = checked.now.value; shape = shape.now.value; turns = turns }) table.table (control_seen control) }
-        ensures about { IfOk result (λ m. m.about ≡ record { sheet = checked.now.value; shape = shape.now.value; turns = turns }) }
+        requires decides { CanDecide
+            (record { sheet = checked.now.value; shape = shape.now.value; turns = turns }) table.table
+            (control_seen control) }
+        ensures about { IfOk result (λ m. m.about
+            ≡ record { sheet = checked.now.value; shape = shape.now.value; turns = turns }) }
         ensures at { IfOk result (λ m. config_of m
-            ≡ at_site (record { sheet = checked.now.value; shape = shape.now.value; turns = turns }) table.table (control_seen control)) }
+            ≡ at_site (record { sheet = checked.now.value; shape = shape.now.value; turns = turns }) table.table
+            (control_seen control)) }
     {
         let about = about_of(alloc, checked, shape, turns)?;
         PlainMachine::at_decision(alloc, about, table, control)
@@ -174,7 +180,8 @@ fn about_of(
     turns: u32,
 ) -> Result<About, Memory>
     requires { shape.now.value ≡ shape_of checked.now.value }
-    ensures { IfOk result (λ about. about ≡ record { sheet = checked.now.value; shape = shape.now.value; turns = turns }) }
+    ensures { IfOk result (λ about. about
+        ≡ record { sheet = checked.now.value; shape = shape.now.value; turns = turns }) }
 {
     let checked = Arc::try_clone(checked)?;
     let shape = Arc::try_clone(shape)?;

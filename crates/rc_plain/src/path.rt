@@ -14,8 +14,8 @@ use std::marker::Model;
 /// The places of stages that stand in one another, from outside to inside.
 pub type Places = ArrayVec<usize, 64>;
 
-/// The places of the stages whose bodies run, from outside to inside, the next place in the innermost body, and whether the
-/// item there is a stage that is open and stands at a round.
+/// The places of the stages whose bodies run, from outside to inside, the next place in the innermost body, and whether
+/// the item there is a stage that is open and stands at a round.
 #[derive(Debug, Drop)]
 pub struct Path {
     outer: Places,
@@ -123,8 +123,10 @@ impl Path {
 
     /// The alternatives of the choice that is next.
     pub fn alts<'a>(&self, about: &'a About) -> &'a [Alt]
-        ensures alts { (site : ℕ) (alts : List PureAlt) → item_at about.now.sheet self.now ≡ Some (choice site alts) → alts_seen result.now ≡ alts }
-        ensures fits { (site : ℕ) (alts : List PureAlt) → item_at about.now.sheet self.now ≡ Some (choice site alts) → self.now.next + 1 < 2 ^ 64 }
+        ensures alts { (site : ℕ) (alts : List PureAlt) → item_at about.now.sheet self.now ≡ Some (choice site alts)
+            → alts_seen result.now ≡ alts }
+        ensures fits { (site : ℕ) (alts : List PureAlt) → item_at about.now.sheet self.now ≡ Some (choice site alts)
+            → self.now.next + 1 < 2 ^ 64 }
     {
         match self.item(about) {
             Some(item) => alts_in(item),

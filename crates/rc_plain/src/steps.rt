@@ -95,7 +95,8 @@ impl PlainState {
     /// Opens the stage that is next, or goes on at its round.
     fn stage_next(&mut self, about: &About, number: u16, class: Class, end: &Test) -> Option<Stop>
         requires ready { IsReady about.now self.old }
-        requires here { (body : SheetItems) × (item_at about.now.sheet self.old.path ≡ Some (stage number class (test_seen end.now) body)) }
+        requires here { (body : SheetItems)
+            × (item_at about.now.sheet self.old.path ≡ Some (stage number class (test_seen end.now) body)) }
         requires fits { self.old.path.next + 1 < 2 ^ 64 }
         ensures leads { LeadsTo about.now (config_at about.now self.old) result (config_at about.now self.new) }
         ensures ready { IsReady about.now self.new }

@@ -1,4 +1,5 @@
 pub mod Below
+mod Choices
 mod Cuts
 mod Exactly
 mod Heads

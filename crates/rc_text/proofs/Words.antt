@@ -1,14 +1,14 @@
 -- What stands behind a word.
-use Rattle.std.proofs.Common.{◌≡◌, ◌≢◌, ℕ, List, ◌++◌, Option, Some, None, MatchOption, Bor, refl, ap, ◌∙◌}
+use Rattle.std.proofs.Common.{◌≡◌, ℕ, ◌<◌, ◌==◌, Bool, true, false, List, [], ◌∷◌, length, Option, None, refl, arith}
+use Rattle.std.specs.Prelude.{if◌then◌else◌}
 use Rattle.rc_text_model.specs.Fields.{behind}
-use Rattle.rc_text_model.proofs.FieldLemmas.{behind_only, behind_again}
-use Rattle.rc_text.specs.Finds.{Finds}
 
-none_behind : (word bytes : List ℕ) (o : Option (List ℕ)) → behind word bytes ≡ o → ((rest : List ℕ) → bytes ≢ word ++ rest) → o ≡ None
-none_behind word bytes None e none = refl
-none_behind word bytes (Some rest) e none = absurd (none rest (behind_only word bytes rest e))
+none_either : (t : Bool) (o : Option (List ℕ)) → o ≡ None → (if t then o else None) ≡ None
+none_either true o none = none
+none_either false o none = refl
 
-pub finds_behind : (word bytes : List ℕ) (r : Option (Bor (List ℕ))) →
-    MatchOption r ((rest : List ℕ) → bytes ≢ word ++ rest) (λ x. bytes ≡ word ++ x.now) → Finds (λ x. x.now) r (behind word bytes)
-finds_behind word bytes None none = none_behind word bytes (behind word bytes) refl none
-finds_behind word bytes (Some x) is = ap (behind word) is ∙ behind_again word x.now
+-- too few bytes have no word before others
+pub too_short : (word bytes : List ℕ) → length bytes < length word → behind word bytes ≡ None
+too_short [] bytes lt = absurd (omega (arith, lt))
+too_short (w ∷ word) [] lt = refl
+too_short (w ∷ word) (b ∷ bytes) lt = none_either (b == w) (behind word bytes) (too_short word bytes (omega (arith, lt)))

@@ -1,5 +1,8 @@
 -- Lines as the definitions of house texts have them.
 use Rattle.std.specs.Prelude.{Option, Some, None, option_map, List}
+use Rattle.arrayvec.specs.ArrayVec.{ArrayVec}
+use Rattle.rc_rules.specs.declared.bound.Bound.{Bound}
+use Rattle.rc_rules.specs.declared.record.Pick.{Pick}
 use Rattle.rc_rules.specs.Record.{pick_seen, ending_seen, score_seen, standing_seen}
 use Rattle.rc_play_model.specs.ItemBounds.{Bound as PureBound}
 use Rattle.rc_text_model.specs.Lines.{Line as PureLine, Marked, opening, chosen, shuffled, ending, scored, ranked}
@@ -25,6 +28,9 @@ marks_seen (Ranked standing) = None
 
 abbrev pub marked_seen : Line → Marked
 marked_seen line = (line_seen line, marks_seen line)
+
+abbrev pub choice_seen : Pick × Option (ArrayVec Bound) → Marked
+choice_seen choice = (chosen (pick_seen choice.0), option_map bounds_seen choice.1)
 
 -- a choice has marks
 abbrev pub IsTold : Line → Type 0

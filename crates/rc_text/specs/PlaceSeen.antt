@@ -1,5 +1,6 @@
 -- Places in a text as the definitions of house texts have them, with the marks so far.
 use Rattle.std.specs.Prelude.{◌≡◌, List, [], ◌++◌, length, map}
+use Rattle.rc_model.specs.Transcript.{Record}
 use Rattle.rc_rules.specs.Record.{record_seen, standing_seen}
 use Rattle.rc_play_model.specs.ItemBounds.{Bound as PureBound}
 use Rattle.rc_text_model.specs.Reading.{Place as PurePlace, headed, playing, told, stopped, scoring, ranking}
@@ -40,6 +41,10 @@ marks_with (Ranking matches standings) = marks_of matches
 
 abbrev pub stand_seen : Progress → Stand
 stand_seen place = inside (place_seen place) (marks_with place)
+
+-- an open match behind these, and behind the marks of these
+abbrev pub open_stand : List Record → List (List PureBound) → OpenMatch → Stand
+open_stand before marks played = inside (playing before (record_seen played.record)) (marks ++ open_marks played)
 
 -- There is one list for each match, with an entry for each of its choices.
 abbrev pub AreFit : Matches → Type 0

@@ -29,10 +29,21 @@ pub fn first_line(bytes: &[u8]) -> Option<(&[u8], &[u8])>
 }
 
 /// The bytes behind a word.
+#[inline(always)]
 pub fn behind<'a>(word: &[u8], bytes: &'a [u8]) -> Option<&'a [u8]>
     ensures { Finds (λ rest. rest.now) result (behind word.now bytes.now) }
 {
-    bytes.strip_prefix(word)
+    if bytes.len() < word.len() {
+        return None;
+    }
+    let mut at = 0;
+    while at < word.len() {
+        if bytes[at] != word[at] {
+            return None;
+        }
+        at += 1;
+    }
+    Some(&bytes[word.len()..])
 }
 
 /// A number of at most `most` behind a word, and the bytes behind it.

@@ -3,8 +3,8 @@ ghost use Rattle.rc_text_model.specs.Lines.{line_of, other_in, opening_in, chose
 ghost use Rattle.rc_text_model.specs.Lines.{scored_in, ranked_in};
 ghost use Rattle.rc_text_model.specs.Fields.{last};
 ghost use Rattle.rc_text.specs.Finds.{Finds};
-ghost use Rattle.std.specs.Prelude.{◌≡◌, true, IfSome};
-ghost use Rattle.rc_text.specs.LineSeen.{line_seen, marked_seen, IsTold, IsBare};
+ghost use Rattle.std.specs.Prelude.{◌≡◌, true, IfSome, IsSome};
+ghost use Rattle.rc_text.specs.LineSeen.{line_seen, marked_seen, choice_seen, IsTold, IsBare};
 
 use crate::bounds::bounds_in;
 use crate::fields::{counted, integer, number};
@@ -71,6 +71,15 @@ fn chosen_in(named: bool, bytes: &[u8]) -> Option<Line>
     ensures found { Finds marked_seen result (chosen_in named bytes.now) }
     ensures told { named ≡ true → IfSome result IsTold }
 {
+    let (pick, bounds) = choice_in(named, bytes)?;
+    Some(Line::Chosen(pick, bounds))
+}
+
+/// The choice that bytes spell, with what its item binds where the text names that.
+pub fn choice_in(named: bool, bytes: &[u8]) -> Option<(Pick, Option<Bounds>)>
+    ensures found { Finds choice_seen result (chosen_in named bytes.now) }
+    ensures told { named ≡ true → IfSome result (λ choice. IsSome choice.1) }
+{
     let (seat, rest) = number(b"choose ", 7, bytes)?;
     let (site, rest) = number(b" ", 63, rest)?;
     let (item, rest) = number(b" ", 255, rest)?;
@@ -83,9 +92,9 @@ fn chosen_in(named: bool, bytes: &[u8]) -> Option<Line>
     };
     if named {
         let bounds = bounds_in(rest)?;
-        Some(Line::Chosen(pick, Some(bounds)))
+        Some((pick, Some(bounds)))
     } else if rest.is_empty() {
-        Some(Line::Chosen(pick, None))
+        Some((pick, None))
     } else {
         None
     }

@@ -228,7 +228,7 @@ impl Matches {
 
 impl OpenMatch {
     /// A choice more, with what its item binds where the text names that.
-    fn choose(&mut self, pick: Pick, bounds: Option<Bounds>) -> Result<(), Memory>
+    pub fn choose(&mut self, pick: Pick, bounds: Option<Bounds>) -> Result<(), Memory>
         ensures record { OnOk result (record_seen self.new.record
             ≡ with_pick (record_seen self.old.record) (pick_seen pick)) }
         ensures marks { OnOk result (open_marks self.new ≡ noted (open_marks self.old) (option_seen bounds)) }

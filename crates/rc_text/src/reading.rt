@@ -1,16 +1,19 @@
 //! Reads a house text of either format, line by line.
-ghost use Rattle.std.specs.Prelude.{◌≡◌, ℕ, ◌+◌, ◌≤◌, Bool, true, List, ◌++◌, [], length, IfOk, IfErr, Ok, Err};
-ghost use Rattle.rc_model.specs.Transcript.{house_text};
+ghost use Rattle.std.specs.Prelude.{◌≡◌, ℕ, ◌+◌, ◌≤◌, Bool, true, List, ◌++◌, [], length, IfOk, IfErr, OnOk, Ok, Err};
+ghost use Rattle.rc_model.specs.Transcript.{house_text, Record};
+ghost use Rattle.rc_play_model.specs.ItemBounds.{Bound};
 ghost use Rattle.rc_text_model.specs.HouseText.{HouseText as ToldText, NamedText as PureNamed, plain, naming, unmarked};
 ghost use Rattle.rc_text_model.specs.HouseText.{lines_of, text_in, IsHouseText, IsText};
 ghost use Rattle.rc_text_model.specs.Reading.{before, lines_in, read_from, read_in};
 ghost use Rattle.rc_text_model.specs.Laws.{IsFirstFault, ReadIsText};
 ghost use Rattle.rc_text.specs.House.{text_of, house_seen, named_seen, Fits};
 ghost use Rattle.rc_text.specs.Gives.{Gives, IfTextFault};
+ghost use Rattle.rc_text.specs.PlaceSeen.{stand_seen, open_stand, IsFit, StandsFit};
 
 use crate::fields::first_line;
 use crate::house::{HouseText, NamedText};
-use crate::places::{Matches, Progress, take_bytes};
+use crate::lines::choice_in;
+use crate::places::{Matches, OpenMatch, Progress, take_bytes};
 use rc_deck::Memory;
 use rc_text_model::{faults_are_first, texts_are_of_lines, texts_are_read};
 use std::alloc::Global;
@@ -169,9 +172,10 @@ fn read_body(alloc: Global, named: bool, from: u32, bytes: &[u8]) -> Result<Name
         let Some(next) = take_bytes(alloc, named, place, line)? else {
             return Err(TextFail::Fault { line: number });
         };
-        place = next;
-        number += 1;
-        rest = later;
+        let (further, behind, after) = with_choices(named, next, number + 1, later)?;
+        place = further;
+        number = behind;
+        rest = after;
     }
     if !rest.is_empty() {
         return Err(TextFail::Fault { line: number });
@@ -186,4 +190,58 @@ fn read_body(alloc: Global, named: bool, from: u32, bytes: &[u8]) -> Result<Name
         }),
         _ => Err(TextFail::Fault { line: number }),
     }
+}
+
+/// Where the text stands behind the choices that come next, the number of the line behind them, and the bytes from
+/// there on. Choices stand in a match, and are most of a text's lines.
+fn with_choices(
+    named: bool,
+    place: Progress,
+    from: u32,
+    bytes: &[u8],
+) -> Result<(Progress, u32, &[u8]), Memory>
+    requires short { from + length bytes.now ≤ 33554433 }
+    ensures reads { IfOk result (λ x. read_from named from (stand_seen place) (lines_in bytes.now).0
+        (lines_in bytes.now).1
+        ≡ read_from named x.1 (stand_seen x.0) (lines_in x.2.now).0 (lines_in x.2.now).1) }
+    ensures short { IfOk result (λ x. x.1 + length x.2.now ≤ from + length bytes.now) }
+    ensures shorter { IfOk result (λ x. length x.2.now ≤ length bytes.now) }
+    ensures fit { named ≡ true → StandsFit place → IfOk result (λ x. StandsFit x.0) }
+{
+    match place {
+        Progress::Playing(before, mut played) => {
+            let (number, rest) = take_choices(named, &mut played, from, bytes)?;
+            Ok((Progress::Playing(before, played), number, rest))
+        }
+        other => Ok((other, from, bytes)),
+    }
+}
+
+/// Takes the choices that come next into an open match, and tells the number of the line behind them and the bytes from
+/// there on.
+fn take_choices<'a>(
+    named: bool,
+    played: &mut OpenMatch,
+    from: u32,
+    bytes: &'a [u8],
+) -> Result<(u32, &'a [u8]), Memory>
+    requires short { from + length bytes.now ≤ 33554433 }
+    ensures reads { IfOk result (λ x. (before : List Record) (marks : List (List Bound)) →
+        read_from named from (open_stand before marks played.old) (lines_in bytes.now).0 (lines_in bytes.now).1
+        ≡ read_from named x.0 (open_stand before marks played.new) (lines_in x.1.now).0 (lines_in x.1.now).1) }
+    ensures short { IfOk result (λ x. x.0 + length x.1.now ≤ from + length bytes.now) }
+    ensures shorter { IfOk result (λ x. length x.1.now ≤ length bytes.now) }
+    ensures fit { named ≡ true → IsFit played.old → OnOk result (IsFit played.new) }
+{
+    let mut number = from;
+    let mut rest = bytes;
+    while let Some((line, later)) = first_line(rest) {
+        let Some((pick, bounds)) = choice_in(named, line) else {
+            return Ok((number, rest));
+        };
+        played.choose(pick, bounds)?;
+        number += 1;
+        rest = later;
+    }
+    Ok((number, rest))
 }

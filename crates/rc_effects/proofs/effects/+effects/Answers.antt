@@ -1,12 +1,17 @@
 use Rattle.std.proofs.Common.{◌++◌, ◌∷◌, [], rules, arith, sym, ap, ◌∙◌, subst}
-use Rattle.rc_sheet_model.specs.Sheet.{Sheet}
+use Rattle.std.proofs.lemmas.Grind.{common_steps}
+use Rattle.rc_model.specs.Numbers.{below}
+use Rattle.rc_sheet_model.specs.Sheet.{Sheet, for_each}
 use Rattle.rc_play_model.specs.Value.{player_bound}
-use Rattle.rc_play_model.specs.Effects.{does}
+use Rattle.rc_play_model.specs.Effects.{does, does_one}
+use Rattle.rc_ast.specs.Expressions.{domain_seen}
+use Rattle.rc_table.specs.Laid.{Laid}
 use Rattle.rc_ast.specs.declared.effects.Effect.TheFolds
 use Rattle.rc_ast.specs.Effects.{effects_seen}
 use Rattle.rc_state.specs.Point.{point_of}
 use Rattle.rc_state.specs.Under.{IsEffectUnder, AreEffectsUnder}
 use Rattle.rc_state.proofs.Rows.{is_if, is_repeat, is_each, effect_under}
+use Rattle.rc_effects.proofs.EveryoneLemmas.{set_each}
 use Rattle.rc_effects.proofs.Steps.{same_effect, led, one_player, no_player}
 use Rattle.rc_effects.proofs.effects.+effects.Goals as goal
 
@@ -105,6 +110,21 @@ do_all-do_effect-requires g t c κs within =
     c.loop-effect-test.true c.effect-item.is in
     (search (rules, TheFolds.the_lemmas), (within, (c.loop-effect.invariant.0, well)))
 
+pub for_each-returns-in-Some-clause-does : goal.for_each-returns-in-Some-clause-does
+for_each-returns-in-Some-clause-does g t c =
+    let context = c.args.context.now in
+    let about = context.about.now in
+    let vars = context.scope.now in
+    let dealing = g.D.Dealer.dealing c.args.dealer.now in
+    let state = g.D.Dealer.state c.args.dealer.now in
+    let frames = c.args.frames.now.items in
+    let now = point_of c.args.table.now frames state in
+    let effects = effects_seen c.args.effects.now.items in
+    ap (λ domain. does_one about dealing vars (for_each (domain_seen domain) c.args.bound effects) now) c.in-Players.is
+    ∙ set_each about dealing vars c.in-Some.each.name c.in-Some.each.value effects (below about.sheet.players) now
+    (ap effects_seen (sym c.deref.ensures.value) ∙ c.in-Some.ensures)
+    ∙ ap (λ (laid : Laid). point_of laid frames state) (sym c.set_all.ensures)
+
 pub for_players-loop-player-preserved : goal.for_players-loop-player-preserved
 for_players-loop-player-preserved g t c =
     let context = c.args.context.now in
@@ -117,6 +137,7 @@ for_players-loop-player-preserved g t c =
       c.do_for.ensures.dealing ∙ loop.invariant.1,
       one_player (λ mid member. does context.about.now (g.D.Dealer.dealing c.args.dealer.now) (context.scope.now ++ member ∷ []) effects mid)
           context.about.now.sheet.players loop.player now _ _ (omega (arith, c.loop-player-test.true, players)) one loop.invariant.2,
+      c.do_for.ensures.scope,
     )
 
 pub for_players-returns-clause-does : goal.for_players-returns-clause-does
@@ -129,3 +150,7 @@ for_players-returns-clause-does g t c =
     (λ mid member. does context.about.now (g.D.Dealer.dealing c.args.dealer.now) (context.scope.now ++ member ∷ []) (effects_seen c.args.effects.now.items) mid)
     context.about.now.sheet.players loop.player (point_of loop.table loop.frames.items (g.D.Dealer.state loop.dealer))
     (omega (arith, c.loop-player-test.false, players))
+
+pub for_these-loop-card-preserved : goal.for_these-loop-card-preserved
+for_these-loop-card-preserved g t c =
+    (c.do_for.ensures.stands, c.do_for.ensures.dealing ∙ c.loop-card.invariant.1, grind (arith, common_steps), c.do_for.ensures.scope)

@@ -1,7 +1,8 @@
 use Rattle.std.proofs.Common.{◌≡◌, ◌-◌, ◌++◌, ◌∷◌, [], drop, map}
 use Rattle.std.specs.Prelude.{fold}
 use Rattle.rc_model.specs.Numbers.{below}
-use Rattle.rc_play_model.specs.Value.{player_bound, card_bound}
+use Rattle.rc_play_model.specs.Value.{Bind as PureBind, player_bound, card_bound}
+use Rattle.rc_play_model.specs.Scene.{CardValue}
 use Rattle.rc_play_model.specs.Effects.{does, again}
 use Rattle.rc_ast.specs.Effects.{effects_seen}
 use Rattle.rc_value.specs.Cards.{values_seen}
@@ -36,13 +37,15 @@ invariant-for_players-loop-player g l =
     ≡ fold
     (λ mid member. does l.context.about.now (g.D.Dealer.dealing l.fn.dealer) (l.context.scope.now ++ member ∷ []) (effects_seen l.effects.items) mid)
     (point_of l.fn.table l.fn.frames.items (g.D.Dealer.state l.fn.dealer)) (map (λ n. player_bound n) (below l.context.about.now.sheet.players)))
+    × ((other : PureBind CardValue) × (l.scope ≡ l.context.scope.now ++ other ∷ []))
 
-abbrev pub invariant-for_cards-loop-card : goal.invariant-for_cards-loop-card
-invariant-for_cards-loop-card g l =
+abbrev pub invariant-for_these-loop-card : goal.invariant-for_these-loop-card
+invariant-for_these-loop-card g l =
     Stands l.context l.table l.frames.items × (g.D.Dealer.dealing l.dealer ≡ g.D.Dealer.dealing l.fn.dealer)
     × (fold
     (λ mid member. does l.context.about.now (g.D.Dealer.dealing l.fn.dealer) (l.context.scope.now ++ member ∷ []) (effects_seen l.effects.items) mid)
-    (point_of l.table l.frames.items (g.D.Dealer.state l.dealer)) (map (λ c. card_bound c) (values_seen (drop l.card-index l.card-items)))
+    (point_of l.table l.frames.items (g.D.Dealer.state l.dealer)) (map (λ c. card_bound c) (values_seen (drop l.card-index l.cards)))
     ≡ fold
     (λ mid member. does l.context.about.now (g.D.Dealer.dealing l.fn.dealer) (l.context.scope.now ++ member ∷ []) (effects_seen l.effects.items) mid)
-    (point_of l.fn.table l.fn.frames.items (g.D.Dealer.state l.fn.dealer)) (map (λ c. card_bound c) (values_seen l.card-items)))
+    (point_of l.fn.table l.fn.frames.items (g.D.Dealer.state l.fn.dealer)) (map (λ c. card_bound c) (values_seen l.cards)))
+    × ((other : PureBind CardValue) × (l.scope ≡ l.context.scope.now ++ other ∷ []))

@@ -1,9 +1,5 @@
-use Rattle.std.proofs.lemmas.Slice.Eq.{strip_prefix_is}
-use Rattle.std.proofs.lemmas.Bool.Decides.{Decides-eqb}
-use Rattle.rc_text.proofs.Words.{finds_behind}
+use Rattle.rc_text.proofs.Words.{too_short}
 use Rattle.rc_text.proofs.fields.behind.Goals as goal
 
-pub returns : goal.returns
-returns c =
-    finds_behind c.args.word.now c.args.bytes.now c.strip_prefix.result
-    (strip_prefix_is Decides-eqb c.args.bytes.now c.args.word.now c.strip_prefix.result c.strip_prefix.ensures.cases)
+pub returns-then-bytes-word : goal.returns-then-bytes-word
+returns-then-bytes-word c = too_short c.args.word.now c.args.bytes.now c.if-bytes-word.true
