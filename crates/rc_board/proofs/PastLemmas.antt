@@ -1,8 +1,8 @@
 -- What a board keeps, after edits and where it goes home.
-use Rattle.std.proofs.Common.{◌≡◌, ℕ, ◌<◌, false, true, true≢false, List, [], ◌∷◌, length, refl, sym, ap, subst}
+use Rattle.std.proofs.Common.{◌≡◌, ℕ, ◌<◌, false, true, true≢false, List, [], ◌∷◌, length, IsSome, refl, sym, ap, ◌∙◌, subst}
 use Rattle.rc_play_model.specs.Table.{Table, IsSound}
 use Rattle.rc_table.specs.Laid.{Laid, relaid}
-use Rattle.rc_board.specs.Undo.{Edit, ordered, undone, before_of, IsEditOf, LeadsThrough, CanUndo, Kept, edited, gone_home, GoesBack}
+use Rattle.rc_board.specs.Undo.{Edit, ordered, undone, before_of, IsEditOf, LeadsThrough, CanUndo, Kept, away_at, edited, gone_home, GoesBack}
 use Rattle.rc_board.specs.Past.{Past, none_kept, edits_kept, home_kept, noted_in, edits_of, notes_of, home_of, home_table, TookLast, AreMarks, OrderNoted, IsPast, kept_of}
 use Rattle.rc_board.proofs.UndoLemmas.{ComesBack, noted_can, so_many}
 
@@ -88,6 +88,13 @@ home_again : (past : Past) (old : Laid) → IsPast old past → AreNoted past (r
 home_again none_kept old kept = (tt, refl)
 home_again (edits_kept edits) old kept = (kept, refl)
 home_again (home_kept base) old kept = (kept, refl)
+
+-- at another table, where there is a home
+pub went_to : (past : Past) (old to : Laid) → IsSome (home_of past) → old.shape ≡ to.shape → IsPast old past →
+    IsPast to past × (kept_of past to ≡ away_at to (home_of past))
+went_to none_kept old to home shape kept = absurd (true≢false (sym home))
+went_to (edits_kept edits) old to home shape kept = absurd (true≢false (sym home))
+went_to (home_kept base) old to home shape kept = (kept ∙ shape, refl)
 
 pub went_home : (past : Past) (old new : Laid) → new ≡ relaid old (home_table past old.table) → IsPast old past → AreNoted past new (gone_home (kept_of past old))
 went_home past old new laid kept =

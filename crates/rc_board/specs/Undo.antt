@@ -122,6 +122,10 @@ gone_home kept =
       home = kept.home;
     }
 
+-- at this table, with this home
+abbrev pub away_at : Laid → Option Table → Kept
+away_at laid home = record { laid = laid; before = []; notes = false; home = home }
+
 -- at home with this table
 abbrev pub home_at : Laid → Kept
 home_at laid = record { laid = laid; before = []; notes = false; home = Some laid.table }

@@ -13,7 +13,7 @@ ghost use Rattle.rc_table.specs.Restored.{taken_at};
 ghost use Rattle.rc_table.specs.Runs.{put_each, AreFresh};
 ghost use Rattle.rc_board.specs.Sides.{end_of};
 ghost use Rattle.rc_board.specs.Entry.{entry_seen};
-ghost use Rattle.rc_board.specs.Undo.{changed, edited, gone_home, home_at, Keeps, GoesBack};
+ghost use Rattle.rc_board.specs.Undo.{changed, away_at, edited, gone_home, home_at, Keeps, GoesBack};
 
 use crate::entry::{LogEntry, take_back};
 use crate::noting::{Side, put_noted, put_on_table};
@@ -24,7 +24,8 @@ use rc_table::Table;
 use std::alloc::Global;
 use std::marker::Model;
 
-/// A table, with what is kept of those before it: nothing, what takes each edit back, or the table to which it goes home.
+/// A table, with what is kept of those before it: nothing, what takes each edit back, or the table to which it goes
+/// home.
 pub struct Board {
     alloc: Global,
     table: Table,
@@ -104,7 +105,8 @@ impl Board {
     pub fn put_top(&mut self, id: u16, loc: u16) -> Result<(), Memory>
         requires card { id < length self.old.laid.shape.faces }
         requires loc { HoldsCards self.old.laid.shape loc }
-        ensures leads { OnOk result (self.new ≡ edited self.old (put_top self.old.laid.shape id loc self.old.laid.table)) }
+        ensures leads { OnOk result (self.new
+            ≡ edited self.old (put_top self.old.laid.shape id loc self.old.laid.table)) }
         ensures keeps { Keeps self.old self.new }
         ensures quiet { self.old.notes ≡ false → IsOk result }
         ensures lacking { OnErr result (self.new ≡ self.old) }
@@ -123,7 +125,8 @@ impl Board {
     fn note_and_put_top(&mut self, id: u16, loc: u16) -> Result<(), Memory>
         requires card { id < length self.old.laid.shape.faces }
         requires loc { HoldsCards self.old.laid.shape loc }
-        ensures leads { OnOk result (self.new ≡ edited self.old (put_top self.old.laid.shape id loc self.old.laid.table)) }
+        ensures leads { OnOk result (self.new
+            ≡ edited self.old (put_top self.old.laid.shape id loc self.old.laid.table)) }
         ensures keeps { Keeps self.old self.new }
         ensures lacking { OnErr result (self.new ≡ self.old) }
     {
@@ -151,7 +154,8 @@ impl Board {
     pub fn put_bottom(&mut self, id: u16, loc: u16) -> Result<(), Memory>
         requires card { id < length self.old.laid.shape.faces }
         requires loc { HoldsCards self.old.laid.shape loc }
-        ensures leads { OnOk result (self.new ≡ edited self.old (put_bottom self.old.laid.shape id loc self.old.laid.table)) }
+        ensures leads { OnOk result (self.new
+            ≡ edited self.old (put_bottom self.old.laid.shape id loc self.old.laid.table)) }
         ensures keeps { Keeps self.old self.new }
         ensures quiet { self.old.notes ≡ false → IsOk result }
         ensures lacking { OnErr result (self.new ≡ self.old) }
@@ -243,7 +247,8 @@ impl Board {
     pub fn remember_top(&mut self, id: u16, loc: u16) -> Result<(), Memory>
         requires card { id < length self.old.laid.shape.faces }
         requires loc { HoldsReferences self.old.laid.shape loc }
-        ensures leads { OnOk result (self.new.laid ≡ relaid self.old.laid (remember_top self.old.laid.shape id loc self.old.laid.table)) }
+        ensures leads { OnOk result (self.new.laid
+            ≡ relaid self.old.laid (remember_top self.old.laid.shape id loc self.old.laid.table)) }
         ensures keeps { Keeps self.old self.new }
         ensures quiet { self.old.notes ≡ false → IsOk result }
         ensures lacking { OnErr result (self.new ≡ self.old) }
@@ -261,7 +266,8 @@ impl Board {
     fn note_and_remember_top(&mut self, id: u16, loc: u16) -> Result<(), Memory>
         requires card { id < length self.old.laid.shape.faces }
         requires loc { HoldsReferences self.old.laid.shape loc }
-        ensures leads { OnOk result (self.new.laid ≡ relaid self.old.laid (remember_top self.old.laid.shape id loc self.old.laid.table)) }
+        ensures leads { OnOk result (self.new.laid
+            ≡ relaid self.old.laid (remember_top self.old.laid.shape id loc self.old.laid.table)) }
         ensures keeps { Keeps self.old self.new }
         ensures lacking { OnErr result (self.new ≡ self.old) }
     {
@@ -284,7 +290,8 @@ impl Board {
     pub fn remember_bottom(&mut self, id: u16, loc: u16) -> Result<(), Memory>
         requires card { id < length self.old.laid.shape.faces }
         requires loc { HoldsReferences self.old.laid.shape loc }
-        ensures leads { OnOk result (self.new.laid ≡ relaid self.old.laid (remember_bottom self.old.laid.shape id loc self.old.laid.table)) }
+        ensures leads { OnOk result (self.new.laid
+            ≡ relaid self.old.laid (remember_bottom self.old.laid.shape id loc self.old.laid.table)) }
         ensures keeps { Keeps self.old self.new }
         ensures quiet { self.old.notes ≡ false → IsOk result }
         ensures lacking { OnErr result (self.new ≡ self.old) }
@@ -306,7 +313,8 @@ impl Board {
     pub fn forget(&mut self, id: u16, loc: u16) -> Result<(), Memory>
         requires card { id < length self.old.laid.shape.faces }
         requires loc { HoldsReferences self.old.laid.shape loc }
-        ensures leads { OnOk result (self.new.laid ≡ relaid self.old.laid (forget_in self.old.laid.shape id loc self.old.laid.table)) }
+        ensures leads { OnOk result (self.new.laid
+            ≡ relaid self.old.laid (forget_in self.old.laid.shape id loc self.old.laid.table)) }
         ensures keeps { Keeps self.old self.new }
         ensures quiet { self.old.notes ≡ false → IsOk result }
         ensures lacking { OnErr result (self.new ≡ self.old) }
@@ -324,7 +332,8 @@ impl Board {
     fn note_and_forget(&mut self, id: u16, loc: u16) -> Result<(), Memory>
         requires card { id < length self.old.laid.shape.faces }
         requires loc { HoldsReferences self.old.laid.shape loc }
-        ensures leads { OnOk result (self.new.laid ≡ relaid self.old.laid (forget_in self.old.laid.shape id loc self.old.laid.table)) }
+        ensures leads { OnOk result (self.new.laid
+            ≡ relaid self.old.laid (forget_in self.old.laid.shape id loc self.old.laid.table)) }
         ensures keeps { Keeps self.old self.new }
         ensures lacking { OnErr result (self.new ≡ self.old) }
     {
@@ -409,7 +418,8 @@ impl Board {
     pub fn set_marks(&mut self, id: u16, seats: u8) -> Result<(), Memory>
         requires card { id < length self.old.laid.shape.faces }
         requires players { All (λ seat. seat < self.old.laid.shape.players) (seats_in seats) }
-        requires unseen { All (λ seat. sees self.old.laid.shape seat (loc_of self.old.laid.shape self.old.laid.table id) ≡ false) (seats_in seats) }
+        requires unseen { All (λ seat. sees self.old.laid.shape seat (loc_of self.old.laid.shape self.old.laid.table id)
+            ≡ false) (seats_in seats) }
         ensures leads { OnOk result (self.new ≡ edited self.old (set_marks id (seats_in seats) self.old.laid.table)) }
         ensures keeps { Keeps self.old self.new }
         ensures quiet { self.old.notes ≡ false → IsOk result }
@@ -458,6 +468,15 @@ impl Board {
         ensures { self.new ≡ gone_home self.old }
     {
         self.past.go_home(&mut self.table);
+    }
+
+    /// Goes to another table of the same shape, where there is a home. The home stays. It takes no memory.
+    pub fn go_to(&mut self, table: &Table)
+        requires shape { self.old.laid.shape ≡ table.now.shape }
+        requires home { IsSome self.old.home }
+        ensures { self.new ≡ away_at table.now self.old.home }
+    {
+        self.table.copy_from(table);
     }
 
     /// Goes to another home, a table of the same shape. It takes no memory.

@@ -11,7 +11,8 @@ use rc_table::Table;
 /// What was before an edit.
 #[derive(Drop)]
 pub enum LogEntry {
-    /// A card that moved: it stood at this place of this location, marked for these seats, and stands at that place of that one now.
+    /// A card that moved: it stood at this place of this location, marked for these seats, and stands at that place of
+    /// that one now.
     Moved {
         from: u16,
         place: u16,
@@ -112,7 +113,8 @@ fn order_back(table: &mut Table, loc: u16, list: &[u16], marks: &[u8])
 // Marks these cards so.
 fn mark_these(table: &mut Table, ids: &[u16], marks: &[u8])
     requires few { length marks.now ≤ length ids.now }
-    requires may { (k : ℕ) → k < length marks.now → MayMark table.old.shape table.old.table (slice_index ids.now k) (slice_index marks.now k) }
+    requires may { (k : ℕ) → k < length marks.now
+        → MayMark table.old.shape table.old.table (slice_index ids.now k) (slice_index marks.now k) }
     ensures { table.new ≡ relaid table.old (all_marked ids.now marks.now table.old.table) }
 {
     for at in 0..marks.len() {

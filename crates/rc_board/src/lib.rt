@@ -1,4 +1,5 @@
-//! A table with what is kept of those before it: nothing, what takes each edit back, or the table to which it goes home.
+//! A table with what is kept of those before it: nothing, what takes each edit back, or the table to which it goes
+//! home.
 #![tactic(auto)]
 
 mod board;

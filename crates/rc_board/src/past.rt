@@ -83,7 +83,8 @@ impl Past {
     /// Notes that the list of a location, which was this one, is put into another order.
     #[inline(always)]
     pub fn note_order(&mut self, alloc: Global, loc: u16, table: &Table) -> Result<(), Memory>
-        ensures noted { OnOk result (OrderNoted table.now.table.marks loc (list_at table.now.table loc) (past_seen self.old) (past_seen self.new)) }
+        ensures noted { OnOk result (OrderNoted table.now.table.marks loc (list_at table.now.table loc)
+            (past_seen self.old) (past_seen self.new)) }
         ensures lacking { OnErr result (past_seen self.new ≡ past_seen self.old) }
         ensures quiet { notes_of (past_seen self.old) ≡ false → IsOk result }
     {
@@ -224,7 +225,8 @@ fn marks_in(alloc: Global, table: &Table, ids: &[u16]) -> Result<Vec<u8>, Memory
 /// Whether some of these cards is marked.
 pub(crate) fn some_marked(table: &Table, ids: &[u16]) -> bool
     requires { All (λ id. id < length table.now.shape.faces) ids.now }
-    ensures { result ≡ false → (k : ℕ) → k < length ids.now → marks_of table.now.table.marks (slice_index ids.now k) ≡ [] }
+    ensures { result ≡ false → (k : ℕ) → k < length ids.now
+        → marks_of table.now.table.marks (slice_index ids.now k) ≡ [] }
 {
     for at in 0..ids.len() {
         if table.marks(ids[at]) != 0 {
@@ -249,7 +251,8 @@ fn marks_of(alloc: Global, table: &Table, ids: &[u16]) -> Result<Vec<u8>, Memory
 // Takes the last entry, if there is one.
 #[tactic(auto, using(crate::proofs::UndoLemmas::log_more))]
 fn pop_entry(log: &mut Vec<LogEntry>) -> Option<LogEntry>
-    ensures { MatchOption result (log.old.items ≡ []) (λ entry. log_seen log.old.items ≡ entry_seen entry ∷ log_seen log.new.items) }
+    ensures { MatchOption result (log.old.items ≡ [])
+        (λ entry. log_seen log.old.items ≡ entry_seen entry ∷ log_seen log.new.items) }
 {
     log.pop()
 }

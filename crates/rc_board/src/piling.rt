@@ -12,12 +12,13 @@ use rc_deck::Memory;
 use rc_names::limits::MOST_IN_LIST;
 
 impl Board {
-    /// Puts all cards of a location on top of a location of cards, the lowest first. Which they are is read before the first one moves,
-    /// and references stay where they are.
+    /// Puts all cards of a location on top of a location of cards, the lowest first. Which they are is read before the
+    /// first one moves, and references stay where they are.
     #[inline(always)]
     pub fn pile(&mut self, from: u16, to: u16) -> Result<(), Memory>
         requires { HoldsCards self.old.laid.shape to }
-        ensures leads { OnOk result (self.new.laid ≡ relaid self.old.laid (piled self.old.laid.shape to from self.old.laid.table)) }
+        ensures leads { OnOk result (self.new.laid
+            ≡ relaid self.old.laid (piled self.old.laid.shape to from self.old.laid.table)) }
         ensures keeps { Keeps self.old self.new }
         ensures quiet { self.old.notes ≡ false → IsOk result }
     {
@@ -35,7 +36,8 @@ impl Board {
 fn pile_cards(board: &mut Board, from: u16, to: u16) -> Result<(), Memory>
     requires { HoldsCards board.old.laid.shape to }
     ensures leads { OnOk result (board.new.laid ≡ relaid board.old.laid
-        (fold (λ table id. put_top board.old.laid.shape id to table) board.old.laid.table (list_at board.old.laid.table from))) }
+        (fold (λ table id. put_top board.old.laid.shape id to table) board.old.laid.table
+        (list_at board.old.laid.table from))) }
     ensures keeps { Keeps board.old board.new }
     ensures quiet { board.old.notes ≡ false → IsOk result }
 {
@@ -63,7 +65,8 @@ fn sole(ids: &[u16]) -> Option<u16>
 fn pile_many(board: &mut Board, from: u16, to: u16) -> Result<(), Memory>
     requires { HoldsCards board.old.laid.shape to }
     ensures leads { OnOk result (board.new.laid ≡ relaid board.old.laid
-        (fold (λ table id. put_top board.old.laid.shape id to table) board.old.laid.table (list_at board.old.laid.table from))) }
+        (fold (λ table id. put_top board.old.laid.shape id to table) board.old.laid.table
+        (list_at board.old.laid.table from))) }
     ensures keeps { Keeps board.old board.new }
     ensures quiet { board.old.notes ≡ false → IsOk result }
 {

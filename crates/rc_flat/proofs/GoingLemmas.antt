@@ -10,8 +10,7 @@ use Rattle.rc_rules.specs.Control.{control_seen, frames_seen}
 use Rattle.rc_rules.specs.Menu.{menu_seen}
 use Rattle.rc_value.specs.Current.{IsCurrent}
 use Rattle.rc_code.specs.Instruction.{Instruction}
-use Rattle.rc_board.specs.Undo.{Kept, home_at}
-use Rattle.rc_stand.specs.Flat.{Flat, config_of, flat_from, IsInPlay, IsOffered}
+use Rattle.rc_stand.specs.Flat.{config_of, flat_from}
 use Rattle.rc_stand.specs.State.{IsReady, flat_of, config_at}
 use Rattle.rc_stand.specs.Moments.{IsInMatch}
 use Rattle.rc_stand.specs.declared.state.State.{State}
@@ -46,12 +45,12 @@ module _ (about : About) (code : List Instruction) where
       config_then = ap config_of there ∙ is.there
 
       -- and goes on as it did then
-      pub ready_then : new.board ≡ home_at moment.table → menu_seen new.menu.items ≡ menu_seen moment.stand.menu.items → new.current ≡ moment.current →
+      pub ready_then : new.board.laid ≡ moment.table → menu_seen new.menu.items ≡ menu_seen moment.stand.menu.items → new.current ≡ moment.current →
           IsReady about code new
       ready_then board menu current =
           let on = subst IsInMatch (sym there) is.on in
           record {
-            laid = ap (λ (k : Kept). k.laid.shape) board ∙ is.shape;
+            laid = ap (λ (l : Laid). l.shape) board ∙ is.shape;
             play = on.play;
             current =
                 subst (IsCurrent about.sheet (frames_seen new.control.frames.items)) (sym current)

@@ -72,13 +72,16 @@ impl FlatMachine {
         self.spent = false;
     }
 
-    /// Goes to another home with this table, where it stands as it is told, but for the menu. A machine that was spent is whole again.
+    /// Goes to another home with this table, where it stands as it is told, but for the menu. A machine that was spent
+    /// is whole again.
     pub(crate) fn move_home(&mut self, table: &Table, stand: &Stand)
         requires laid { table.now.shape ≡ self.old.about.shape }
         requires home { IsSome self.old.home }
-        requires on { IsInMatch (flat_from self.old.about self.old.code stand.now.place table.now.table (control_seen stand.now.control)) }
+        requires on { IsInMatch (flat_from self.old.about self.old.code stand.now.place table.now.table
+            (control_seen stand.now.control)) }
         ensures at { self.new.config
-            ≡ config_of (flat_from self.old.about self.old.code stand.now.place table.now.table (control_seen stand.now.control)) }
+            ≡ config_of (flat_from self.old.about self.old.code stand.now.place table.now.table
+            (control_seen stand.now.control)) }
         ensures about { self.new.about ≡ self.old.about }
         ensures code { self.new.code ≡ self.old.code }
         ensures notes { self.new.notes ≡ false }

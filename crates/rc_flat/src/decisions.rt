@@ -32,7 +32,8 @@ pub fn apply<D: Dealer>(
     requires ready { IsReady about.now (list_seen code.now) state.old }
     requires decision { StandsAtDecision about.now (config_at about.now (list_seen code.now) state.old) }
     requires offered { item < length (menu_here about.now (config_at about.now (list_seen code.now) state.old)) }
-    ensures leads { OnOk result (choose about.now (D.dealing dealer.old) (D.state dealer.old) item (config_at about.now (list_seen code.now) state.old)
+    ensures leads { OnOk result (choose about.now (D.dealing dealer.old) (D.state dealer.old) item
+        (config_at about.now (list_seen code.now) state.old)
         ≡ goes (D.state dealer.new) (config_at about.now (list_seen code.now) state.new)) }
     ensures ready { OnOk result (IsReady about.now (list_seen code.now) state.new) }
     ensures keeps { Keeps state.old.board state.new.board }
@@ -67,10 +68,12 @@ fn take_item<D: Dealer>(
 ) -> Result<(), Memory>
     requires serves { Serves about.now.sheet (list_seen code.now) }
     requires ready { IsReady about.now (list_seen code.now) state.old }
-    requires here { (site : ℕ) × (slice_get (list_seen code.now) state.old.place.next ≡ Some (offer site alts.now (map block_seen blocks.now) inside)) }
+    requires here { (site : ℕ) × (slice_get (list_seen code.now) state.old.place.next
+        ≡ Some (offer site alts.now (map block_seen blocks.now) inside)) }
     requires decision { StandsAtDecision about.now (config_at about.now (list_seen code.now) state.old) }
     requires offered { item < length (menu_here about.now (config_at about.now (list_seen code.now) state.old)) }
-    ensures leads { OnOk result (choose about.now (D.dealing dealer.old) (D.state dealer.old) item (config_at about.now (list_seen code.now) state.old)
+    ensures leads { OnOk result (choose about.now (D.dealing dealer.old) (D.state dealer.old) item
+        (config_at about.now (list_seen code.now) state.old)
         ≡ goes (D.state dealer.new) (config_at about.now (list_seen code.now) state.new)) }
     ensures ready { OnOk result (IsReady about.now (list_seen code.now) state.new) }
     ensures keeps { Keeps state.old.board state.new.board }

@@ -20,8 +20,8 @@ use std::alloc::Global;
 use std::marker::Model;
 use std::sync::Arc;
 
-/// A match that is played onward from one decision again and again. It keeps the table, the control and the menu of that decision,
-/// its home, and goes back there by copying them, however many edits there were.
+/// A match that is played onward from one decision again and again. It keeps the table, the control and the menu of
+/// that decision, its home, and goes back there by copying them, however many edits there were.
 #[derive(Drop)]
 pub struct HomeMachine {
     machine: FlatMachine,
@@ -46,8 +46,8 @@ impl Model for HomeMachine {
 }
 
 impl HomeMachine {
-    /// A match that is at home at the decision for which this table and this control stand, in matches of this about. The code stands
-    /// for the sheet.
+    /// A match that is at home at the decision for which this table and this control stand, in matches of this about.
+    /// The code stands for the sheet.
     pub fn at_decision(
         alloc: Global,
         code: &Arc<Code>,
@@ -90,7 +90,8 @@ impl HomeMachine {
         self.machine.go_home(&self.stand);
     }
 
-    /// Makes another table for the same decision its home, and goes there. A machine that was spent is whole again. It takes no memory.
+    /// Makes another table for the same decision its home, and goes there. A machine that was spent is whole again. It
+    /// takes no memory.
     pub fn move_home(&mut self, table: &Table)
         requires laid { table.now.shape ≡ self.old.about.shape }
         requires decides { CanDecide self.old.about table.now.table self.old.home.control }

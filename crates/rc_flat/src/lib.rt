@@ -1,5 +1,5 @@
-//! The flat machine: it plays a match on the code of its sheet, and where it notes its edits it can go back to where it stood before.
-//! Another one goes home to the decision from which it is played onward again and again.
+//! The flat machine: it plays a match on the code of its sheet, and where it notes its edits it can go back to where it
+//! stood before. Another one goes home to the decision from which it is played onward again and again.
 #![tactic(auto)]
 
 mod calls;

@@ -36,8 +36,10 @@ impl FlatMachine {
     ) -> Result<FlatMachine, Memory>
         requires shape { shape.now.value ≡ shape_of checked.now.value }
         requires stands { StandsFor checked.now.value (code_seen code.now.value) }
-        ensures about { IfOk result (λ m. m.about ≡ record { sheet = checked.now.value; shape = shape.now.value; turns = turns }) }
-        ensures start { IfOk result (λ m. m.config ≡ start (record { sheet = checked.now.value; shape = shape.now.value; turns = turns })) }
+        ensures about { IfOk result (λ m. m.about
+            ≡ record { sheet = checked.now.value; shape = shape.now.value; turns = turns }) }
+        ensures start { IfOk result (λ m. m.config
+            ≡ start (record { sheet = checked.now.value; shape = shape.now.value; turns = turns })) }
         ensures fresh { IfOk result (λ m. m.spent ≡ false) }
         ensures notes { IfOk result (λ m. m.notes ≡ true) }
     {
@@ -73,8 +75,8 @@ impl FlatMachine {
         Ok(FlatMachine::with_opening(code, about, Board::new(alloc, table), menu))
     }
 
-    /// A match at its start, in matches of this about, which is copied. It notes nothing of its edits, and never goes back. The code
-    /// stands for its sheet.
+    /// A match at its start, in matches of this about, which is copied. It notes nothing of its edits, and never goes
+    /// back. The code stands for its sheet.
     pub fn onward_start(
         alloc: Global,
         code: &Arc<Code>,
@@ -121,8 +123,8 @@ impl FlatMachine {
         }
     }
 
-    /// A match at the decision for which this table and this control stand. The shape is the sheet's, and the code stands for the
-    /// sheet.
+    /// A match at the decision for which this table and this control stand. The shape is the sheet's, and the code
+    /// stands for the sheet.
     pub fn at(
         alloc: Global,
         code: &Arc<Code>,
@@ -135,10 +137,14 @@ impl FlatMachine {
         requires shape { shape.now.value ≡ shape_of checked.now.value }
         requires stands { StandsFor checked.now.value (code_seen code.now.value) }
         requires laid { table.shape ≡ shape.now.value }
-        requires decides { CanDecide (record { sheet = checked.now.value; shape = shape.now.value; turns = turns }) table.table (control_seen control) }
-        ensures about { IfOk result (λ m. m.about ≡ record { sheet = checked.now.value; shape = shape.now.value; turns = turns }) }
+        requires decides { CanDecide
+            (record { sheet = checked.now.value; shape = shape.now.value; turns = turns }) table.table
+            (control_seen control) }
+        ensures about { IfOk result (λ m. m.about
+            ≡ record { sheet = checked.now.value; shape = shape.now.value; turns = turns }) }
         ensures at { IfOk result (λ m. m.config
-            ≡ at_site (record { sheet = checked.now.value; shape = shape.now.value; turns = turns }) table.table (control_seen control)) }
+            ≡ at_site (record { sheet = checked.now.value; shape = shape.now.value; turns = turns }) table.table
+            (control_seen control)) }
         ensures fresh { IfOk result (λ m. m.spent ≡ false) }
         ensures notes { IfOk result (λ m. m.notes ≡ true) }
     {
@@ -146,7 +152,8 @@ impl FlatMachine {
         FlatMachine::at_decision(alloc, code, about, table, control)
     }
 
-    /// A match at the decision for which this table and this control stand, in matches of this about. The code stands for its sheet.
+    /// A match at the decision for which this table and this control stand, in matches of this about. The code stands
+    /// for its sheet.
     pub fn at_decision(
         alloc: Global,
         code: &Arc<Code>,
@@ -183,10 +190,12 @@ impl FlatMachine {
     ) -> FlatMachine
         requires stands { StandsFor about.sheet (code_seen code.value) }
         requires laid { board.laid.shape ≡ about.shape }
-        requires on { IsInMatch (flat_from about (list_seen code.value.list.items) place board.laid.table (control_seen control)) }
+        requires on { IsInMatch (flat_from about (list_seen code.value.list.items) place board.laid.table
+            (control_seen control)) }
         ensures about { result.about ≡ about }
         ensures code { result.code ≡ list_seen code.value.list.items }
-        ensures at { result.config ≡ config_of (flat_from about (list_seen code.value.list.items) place board.laid.table (control_seen control)) }
+        ensures at { result.config ≡ config_of
+            (flat_from about (list_seen code.value.list.items) place board.laid.table (control_seen control)) }
         ensures home { result.home ≡ board.home }
         ensures fresh { result.spent ≡ false }
         ensures notes { result.notes ≡ board.notes }
@@ -220,7 +229,8 @@ fn about_of(
     turns: u32,
 ) -> Result<About, Memory>
     requires { shape.now.value ≡ shape_of checked.now.value }
-    ensures { IfOk result (λ about. about ≡ record { sheet = checked.now.value; shape = shape.now.value; turns = turns }) }
+    ensures { IfOk result (λ about. about
+        ≡ record { sheet = checked.now.value; shape = shape.now.value; turns = turns }) }
 {
     let checked = Arc::try_clone(checked)?;
     let shape = Arc::try_clone(shape)?;

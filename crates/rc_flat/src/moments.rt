@@ -7,9 +7,12 @@ ghost use Rattle.rc_code.specs.Seen.{code_seen};
 ghost use Rattle.rc_code.specs.Stands.{StandsFor};
 ghost use Rattle.rc_rules.specs.Control.{control_seen};
 ghost use Rattle.rc_rules.specs.Machine.{CanDecide};
+ghost use Rattle.rc_stand.specs.Flat.{config_of, flat_from};
+ghost use Rattle.rc_stand.specs.Moments.{IsInMatch};
 ghost use Rattle.rc_flat.specs.Moments.{IsMoment, StaysInMatch, with_table};
 
 use crate::machine::FlatMachine;
+use crate::undoing::refill;
 use rc_board::Board;
 use rc_code::{Code, sites_are_placed};
 use rc_deck::Memory;
@@ -20,8 +23,8 @@ use rc_value::Current;
 use std::alloc::Global;
 use std::sync::Arc;
 
-/// Where a machine stood at a moment, with its table and its menu. One moment is written over another, and takes memory only where it
-/// is made.
+/// Where a machine stood at a moment, with its table and its menu. One moment is written over another, and takes memory
+/// only where it is made.
 #[derive(Drop)]
 pub struct Moment {
     table: Table,
@@ -30,8 +33,8 @@ pub struct Moment {
 }
 
 impl FlatMachine {
-    /// A match at the decision for which this table and this control stand, in matches of this about, that goes from moment to moment
-    /// and notes nothing. The code stands for its sheet.
+    /// A match at the decision for which this table and this control stand, in matches of this about, that goes from
+    /// moment to moment and notes nothing. The code stands for its sheet.
     pub fn at_moment(
         alloc: Global,
         code: &Arc<Code>,
@@ -95,28 +98,49 @@ impl FlatMachine {
     pub fn go_to(&mut self, moment: &Moment)
         requires home { IsSome self.old.home }
         requires moment { (config : Config) × IsMoment self.old.about self.old.code config moment.now }
-        ensures at { (config : Config) → IsMoment self.old.about self.old.code config moment.now → self.new.config ≡ config }
+        ensures at { (config : Config) → IsMoment self.old.about self.old.code config moment.now
+            → self.new.config ≡ config }
         ensures fresh { self.new.spent ≡ false }
         ensures stays { StaysInMatch self.old self.new }
     {
-        self.state.move_home(&moment.table, &moment.stand);
+        self.state.go_to(&moment.table, &moment.stand);
         write_menu(&moment.stand.menu, &mut self.state.menu);
         self.state.current = moment.current;
         self.spent = false;
     }
 
-    /// Goes to a moment with another table, and makes that the moment. A machine that was spent is whole again. It takes no memory.
+    /// Goes to a moment with another table, and makes that the moment. A machine that was spent is whole again. It
+    /// takes no memory.
     pub fn deal_to(&mut self, table: &Table, moment: &mut Moment)
         requires home { IsSome self.old.home }
         requires laid { table.now.shape ≡ self.old.about.shape }
         requires moment { (config : Config) × IsMoment self.old.about self.old.code config moment.old
-            × ((site : ℕ) → config.control.site ≡ Some site → 0 < length (menu_at self.old.about site table.now.table config.control)) }
-        ensures at { (config : Config) → IsMoment self.old.about self.old.code config moment.old → self.new.config ≡ with_table table.now.table config }
+            × ((site : ℕ) → config.control.site ≡ Some site
+            → 0 < length (menu_at self.old.about site table.now.table config.control)) }
+        ensures at { (config : Config) → IsMoment self.old.about self.old.code config moment.old
+            → self.new.config ≡ with_table table.now.table config }
         ensures moment { IsMoment self.new.about self.new.code self.new.config moment.new }
         ensures fresh { self.new.spent ≡ false }
         ensures stays { StaysInMatch self.old self.new }
     {
-        self.move_home(table, &moment.stand);
+        self.stand_at(table, &moment.stand);
         self.keep(moment);
+    }
+
+    // Goes to another table, and stands there as it is told, but for the menu. The home stays.
+    fn stand_at(&mut self, table: &Table, stand: &Stand)
+        requires laid { table.now.shape ≡ self.old.about.shape }
+        requires home { IsSome self.old.home }
+        requires on { IsInMatch (flat_from self.old.about self.old.code stand.now.place table.now.table
+            (control_seen stand.now.control)) }
+        ensures at { self.new.config
+            ≡ config_of (flat_from self.old.about self.old.code stand.now.place table.now.table
+            (control_seen stand.now.control)) }
+        ensures fresh { self.new.spent ≡ false }
+        ensures stays { StaysInMatch self.old self.new }
+    {
+        self.state.go_to(table, stand);
+        refill(&mut self.state, &self.about, &self.code.list);
+        self.spent = false;
     }
 }

@@ -33,7 +33,8 @@ fn do_next<D: Dealer>(
     requires ready { IsReady about.now (list_seen code.now) state.old }
     requires round { state.old.place.at_round ≡ false }
     requires here { slice_get (list_seen code.now) state.old.place.next ≡ Some (do_all inside) }
-    ensures leads { OnOk result (step about.now (D.dealing dealer.old) (D.state dealer.old) (config_at about.now (list_seen code.now) state.old)
+    ensures leads { OnOk result (step about.now (D.dealing dealer.old) (D.state dealer.old)
+        (config_at about.now (list_seen code.now) state.old)
         ≡ goes (D.state dealer.new) (config_at about.now (list_seen code.now) state.new)) }
     ensures ready { OnOk result (IsReady about.now (list_seen code.now) state.new) }
     ensures keeps { Keeps state.old.board state.new.board }
@@ -76,8 +77,10 @@ fn choice_next(
     requires serves { Serves about.now.sheet (list_seen code.now) }
     requires ready { IsReady about.now (list_seen code.now) state.old }
     requires round { state.old.place.at_round ≡ false }
-    requires here { (blocks : List PureBlock) × (slice_get (list_seen code.now) state.old.place.next ≡ Some (offer site alts.now blocks inside)) }
-    ensures leads { LeadsTo about.now (config_at about.now (list_seen code.now) state.old) result (config_at about.now (list_seen code.now) state.new) }
+    requires here { (blocks : List PureBlock)
+        × (slice_get (list_seen code.now) state.old.place.next ≡ Some (offer site alts.now blocks inside)) }
+    ensures leads { LeadsTo about.now (config_at about.now (list_seen code.now) state.old) result
+        (config_at about.now (list_seen code.now) state.new) }
     ensures ready { IsReady about.now (list_seen code.now) state.new }
     ensures keeps { state.new.board ≡ state.old.board }
 {
@@ -110,7 +113,8 @@ fn decide(
     requires seat { seat ≡ mover about.now.sheet (frames_seen state.old.control.frames.items) }
     requires ready { IsReady about.now (list_seen code.now) state.old }
     requires here { KeepsMenu about.now (list_seen code.now) state.old site }
-    ensures leads { LeadsTo about.now (config_at about.now (list_seen code.now) state.old) result (config_at about.now (list_seen code.now) state.new) }
+    ensures leads { LeadsTo about.now (config_at about.now (list_seen code.now) state.old) result
+        (config_at about.now (list_seen code.now) state.new) }
     ensures ready { IsReady about.now (list_seen code.now) state.new }
     ensures keeps { state.new.board ≡ state.old.board }
 {
@@ -131,7 +135,8 @@ pub fn one_step<D: Dealer>(
 ) -> Result<Option<Stop>, Memory>
     requires serves { Serves about.now.sheet (list_seen code.now) }
     requires ready { IsReady about.now (list_seen code.now) state.old }
-    ensures leads { IfOk result (λ stop. step about.now (D.dealing dealer.old) (D.state dealer.old) (config_at about.now (list_seen code.now) state.old)
+    ensures leads { IfOk result (λ stop. step about.now (D.dealing dealer.old) (D.state dealer.old)
+        (config_at about.now (list_seen code.now) state.old)
         ≡ next_seen stop (config_at about.now (list_seen code.now) state.new) (D.state dealer.new)) }
     ensures ready { OnOk result (IsReady about.now (list_seen code.now) state.new) }
     ensures keeps { Keeps state.old.board state.new.board }

@@ -3,8 +3,8 @@ use rc_rules::About;
 use rc_view::View;
 use std::sync::Arc;
 
-/// What a rollout is asked: the totals of so many rounds, 1 to 1,000, by a strategy's key and the seed of the seats, each of at most
-/// 18 digits, for what the mover sees at a decision.
+/// What a rollout is asked: the totals of so many rounds, 1 to 1,000, by a strategy's key and the seed of the seats,
+/// each of at most 18 digits, for what the mover sees at a decision.
 #[derive(Debug)]
 pub struct Ask {
     pub rounds: u16,

@@ -12,9 +12,9 @@ use rc_steps::Steps;
 use std::alloc::Global;
 use std::sync::ledger::Ledger;
 
-/// Chooses as strategies do. For a rollout it asks a memo once, and what that misses is played out, a step for each playout. Other
-/// strategies ask nothing. Where memory runs out, nothing was kept. It has a name, which no call changes, so that it is known again
-/// among others.
+/// Chooses as strategies do. For a rollout it asks a memo once, and what that misses is played out, a step for each
+/// playout. Other strategies ask nothing. Where memory runs out, nothing was kept. It has a name, which no call
+/// changes, so that it is known again among others.
 pub trait Chooser {
     ghost serves: { Self → PureAbout → Type 0 };
 
@@ -32,9 +32,12 @@ pub trait Chooser {
         requires served { serves self.old (need_seen need.now).about }
         requires need { IsNeed (need_seen need.now) }
         ensures is { IfOk result (λ item. item
-            ≡ choice_of (need_seen need.now).about (need_seen need.now).strategy (need_seen need.now).seed (need_seen need.now).view) }
-        ensures counted { OnOk result (Chooses (need_seen need.now) (counts self.old) (counts self.new) steps.old steps.new) }
-        ensures lacking { OnErr result (AsksSome (asked_for (need_seen need.now)) (counts self.old) (counts self.new) steps.old steps.new) }
+            ≡ choice_of (need_seen need.now).about (need_seen need.now).strategy (need_seen need.now).seed
+            (need_seen need.now).view) }
+        ensures counted { OnOk result
+            (Chooses (need_seen need.now) (counts self.old) (counts self.new) steps.old steps.new) }
+        ensures lacking { OnErr result
+            (AsksSome (asked_for (need_seen need.now)) (counts self.old) (counts self.new) steps.old steps.new) }
         ensures rises { steps.old ≤ steps.new }
         ensures bounded { steps.new ≤ steps.old + most_steps (need_seen need.now) }
         ensures same { (about : PureAbout) → serves self.old about → serves self.new about }

@@ -122,7 +122,8 @@ pub(crate) fn patterns(
 ) -> Result<Vec<Option<u16>>, Memory>
     requires each { length sights.now ≡ length shape.now.places }
     requires seen { length (seen_faces (mems_of shape.now.places) (map sight_seen sights.now)) ≡ length seen.now }
-    ensures { IfOk result (λ pattern. pattern.items ≡ patterns_of (mems_of shape.now.places) (map sight_seen sights.now) seen.now) }
+    ensures { IfOk result (λ pattern. pattern.items
+        ≡ patterns_of (mems_of shape.now.places) (map sight_seen sights.now) seen.now) }
 {
     let mut pattern = Vec::with_capacity(alloc, shape.cards() as usize)?;
     let mut from = 0;

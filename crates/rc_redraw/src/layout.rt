@@ -27,12 +27,15 @@ pub(crate) fn layout_of(alloc: Global, shape: &Shape, sights: &[Sight]) -> Resul
     requires each { length sights.now ≡ length shape.now.places }
     requires few { AreEnough shape.now (seen_faces (mems_of shape.now.places) (map sight_seen sights.now)) }
     requires rest { hidden_count (mems_of shape.now.places) (map sight_seen sights.now)
-        ≡ length (unused shape.now (seen_ids shape.now [] (seen_faces (mems_of shape.now.places) (map sight_seen sights.now)))) }
+        ≡ length (unused shape.now (seen_ids shape.now []
+        (seen_faces (mems_of shape.now.places) (map sight_seen sights.now)))) }
     ensures lists { IfOk result (λ layout. map (λ list. list.items) layout.lists.items
         ≡ filled_by (mems_of shape.now.places) (map sight_seen sights.now)
-        (seen_ids shape.now [] (seen_faces (mems_of shape.now.places) (map sight_seen sights.now))) layout.unused.items) }
+        (seen_ids shape.now [] (seen_faces (mems_of shape.now.places)
+        (map sight_seen sights.now))) layout.unused.items) }
     ensures unused { IfOk result (λ layout. layout.unused.items
-        ≡ unused shape.now (seen_ids shape.now [] (seen_faces (mems_of shape.now.places) (map sight_seen sights.now)))) }
+        ≡ unused shape.now (seen_ids shape.now []
+        (seen_faces (mems_of shape.now.places) (map sight_seen sights.now)))) }
     ensures seen { IfOk result (λ layout. layout.seen.items
         ≡ seen_ids shape.now [] (seen_faces (mems_of shape.now.places) (map sight_seen sights.now))) }
     ensures few { IfOk result (λ layout. length layout.unused.items ≤ most_cards) }

@@ -1,5 +1,5 @@
-//! Deals that are drawn anew for what a seat sees, what is asked of them, and the traits of what remembers the answers and of what
-//! chooses by them.
+//! Deals that are drawn anew for what a seat sees, what is asked of them, and the traits of what remembers the answers
+//! and of what chooses by them.
 #![tactic(auto)]
 
 mod asking;

@@ -21,7 +21,8 @@ fn mark(marks: &mut [u8], ids: &[u16], seats: u8)
     }
 }
 
-/// The marks of a redrawn table: the cards at known places of locations that the seat doesn't see are marked for it, and no others.
+/// The marks of a redrawn table: the cards at known places of locations that the seat doesn't see are marked for it,
+/// and no others.
 pub(crate) fn marks_known(
     alloc: Global,
     shape: &Shape,
@@ -34,7 +35,8 @@ pub(crate) fn marks_known(
     requires ids { All (λ id. id < length shape.now.faces) seen.now }
     requires seat { 0 < length (peeked (mems_of shape.now.places) (map sight_seen sights.now) seen.now) → seat < 8 }
     ensures { IfOk result (λ marks. map seats_in marks.items
-        ≡ marks_for (length shape.now.faces) seat (peeked (mems_of shape.now.places) (map sight_seen sights.now) seen.now)) }
+        ≡ marks_for (length shape.now.faces) seat
+        (peeked (mems_of shape.now.places) (map sight_seen sights.now) seen.now)) }
 {
     let seats = if seat < 8 { 1 << seat } else { 0 };
     let mut marks = vec![in alloc; 0; shape.cards() as usize]?;

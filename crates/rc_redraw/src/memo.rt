@@ -21,8 +21,8 @@ pub enum Reply {
     Miss,
 }
 
-/// Remembers totals, or not. It serves one about, or every one, and counts what it was asked. It has a name, which no call changes, so
-/// that it is known again among others. A refusal for want of memory leaves it as it was.
+/// Remembers totals, or not. It serves one about, or every one, and counts what it was asked. It has a name, which no
+/// call changes, so that it is known again among others. A refusal for want of memory leaves it as it was.
 pub trait Memo {
     ghost serves: { Self → Option PureAbout };
 
@@ -33,8 +33,10 @@ pub trait Memo {
     /// The totals of a key, if the memo has them.
     fn look(&mut self, alloc: Global, key: &Key) -> Result<Reply, Memory>
         requires served { Serves (serves self.old) (key_seen key.now).about }
-        ensures hit { IfOk result (λ reply. IfHit reply (λ totals. totals ≡ tally_of (key_seen key.now).about (key_seen key.now).ask)) }
-        ensures counted { IfOk result (λ reply. counts self.new ≡ looked_up (key_seen key.now) (is_hit reply) (counts self.old)) }
+        ensures hit { IfOk result (λ reply. IfHit reply
+            (λ totals. totals ≡ tally_of (key_seen key.now).about (key_seen key.now).ask)) }
+        ensures counted { IfOk result
+            (λ reply. counts self.new ≡ looked_up (key_seen key.now) (is_hit reply) (counts self.old)) }
         ensures lacking { OnErr result (self.new ≡ self.old) }
         ensures same { serves self.new ≡ serves self.old }
         ensures named { name self.new ≡ name self.old };

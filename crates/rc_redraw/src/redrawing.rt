@@ -24,8 +24,8 @@ use std::alloc::Global;
 use std::marker::Model;
 use std::sync::Arc;
 
-/// Tables that look like a view, one for each key. What the view shows is laid once. A deal only puts the other cards anew into the
-/// places that hide them, and takes no memory.
+/// Tables that look like a view, one for each key. What the view shows is laid once. A deal only puts the other cards
+/// anew into the places that hide them, and takes no memory.
 #[derive(Drop)]
 pub struct Redraws<'v> {
     view: &'v View,
@@ -57,12 +57,14 @@ impl<'v> Model for Redraws<'v> {
 
     ghost view = { λ r. record { shape = r.table.shape; view = view_seen r.view.now; table = r.table.table } };
 
-    ghost invariant = { λ r. Keeps (record { shape = r.table.shape; view = view_seen r.view.now; table = r.table.table })
+    ghost invariant = { λ r. Keeps
+        (record { shape = r.table.shape; view = view_seen r.view.now; table = r.table.table })
         r.hidden.items r.pattern.items r.content.items r.unused.items r.order.items };
 }
 
 impl<'v> Redraws<'v> {
-    /// Lays what a view shows. The view is that of some table of this shape. It takes all memory that deals need; that may run out.
+    /// Lays what a view shows. The view is that of some table of this shape. It takes all memory that deals need; that
+    /// may run out.
     pub fn new(alloc: Global, shape: &Arc<Shape>, view: &'v View) -> Result<Redraws<'v>, Memory>
         requires { IsViewOfSound shape.now.value (view_seen view.now) }
         ensures shape { IfOk result (λ redraws. redraws.shape ≡ shape.now.value) }
@@ -94,10 +96,10 @@ impl<'v> Redraws<'v> {
         })
     }
 
-    /// Deals the table of a key. In location order and from bottom to top, each known place has the smallest id of its face that
-    /// is left. The other ids, put into the order of the key, fill the other card places. References are the smallest ids of their
-    /// faces, numbers are those of the view, and the cards that are known without being shown are marked for its seat. The table is
-    /// sound, and what the seat sees of it is the view.
+    /// Deals the table of a key. In location order and from bottom to top, each known place has the smallest id of its
+    /// face that is left. The other ids, put into the order of the key, fill the other card places. References are the
+    /// smallest ids of their faces, numbers are those of the view, and the cards that are known without being shown are
+    /// marked for its seat. The table is sound, and what the seat sees of it is the view.
     pub fn deal(&mut self, key: &[u8; 32])
         ensures is { self.new ≡ redealt key.now self.old }
         ensures sound { IsSound self.new.shape self.new.table }

@@ -23,8 +23,9 @@ use std::alloc::Global;
 use std::sync::Arc;
 use std::sync::ledger::Ledger;
 
-/// The item that the strategy of a need chooses. For a rollout it asks the memo once. Where the memo has no totals they are played
-/// out on the code, which stands for the sheet, a step for each playout, and given to the memo to keep. Memory may run out.
+/// The item that the strategy of a need chooses. For a rollout it asks the memo once. Where the memo has no totals they
+/// are played out on the code, which stands for the sheet, a step for each playout, and given to the memo to keep.
+/// Memory may run out.
 pub fn choose<M: Memo, L: Ledger>(
     alloc: Global,
     need: &Need,
@@ -36,9 +37,12 @@ pub fn choose<M: Memo, L: Ledger>(
     requires need { IsNeed (need_seen need.now) }
     requires code { StandsFor (need_seen need.now).about.sheet (code_seen code.now.value) }
     ensures is { IfOk result (λ item. item
-        ≡ choice_of (need_seen need.now).about (need_seen need.now).strategy (need_seen need.now).seed (need_seen need.now).view) }
-    ensures counted { OnOk result (Chooses (need_seen need.now) (M.counts memo.old) (M.counts memo.new) steps.old steps.new) }
-    ensures lacking { OnErr result (AsksSome (asked_for (need_seen need.now)) (M.counts memo.old) (M.counts memo.new) steps.old steps.new) }
+        ≡ choice_of (need_seen need.now).about (need_seen need.now).strategy (need_seen need.now).seed
+        (need_seen need.now).view) }
+    ensures counted { OnOk result (Chooses (need_seen need.now) (M.counts memo.old)
+        (M.counts memo.new) steps.old steps.new) }
+    ensures lacking { OnErr result (AsksSome (asked_for (need_seen need.now)) (M.counts memo.old)
+        (M.counts memo.new) steps.old steps.new) }
     ensures rises { steps.old ≤ steps.new }
     ensures bounded { steps.new ≤ steps.old + most_steps (need_seen need.now) }
     ensures same { M.serves memo.new ≡ M.serves memo.old }
@@ -102,7 +106,13 @@ pub fn asked_key(alloc: Global, need: &Need) -> Result<Option<Key>, Memory>
 fn key_of(alloc: Global, need: &Need, rounds: u16, number: u64) -> Result<Key, Memory>
     ensures { IfOk result (λ key. key_seen key ≡ record {
       about = (need_seen need.now).about;
-      ask = record { rounds = rounds; key = number; seed = (need_seen need.now).seed; view = (need_seen need.now).view };
+      ask = record {
+        rounds = rounds;
+        key = number;
+        seed = (need_seen need.now).seed;
+        view =
+            (need_seen need.now).view;
+      };
     }) }
 {
     let view = need.view.copy(alloc)?;
@@ -117,7 +127,8 @@ fn key_of(alloc: Global, need: &Need, rounds: u16, number: u64) -> Result<Key, M
     Ok(Key { about, ask })
 }
 
-// The first item of those with the largest total, out of a menu of so many, as the memo has the totals or playouts give them.
+// The first item of those with the largest total, out of a menu of so many, as the memo has the totals or playouts give
+// them.
 fn best_of<M: Memo, L: Ledger>(
     alloc: Global,
     key: &Key,
@@ -130,9 +141,12 @@ fn best_of<M: Memo, L: Ledger>(
     requires at { IsAtDecision (key_seen key.now).about (key_seen key.now).ask.view }
     requires menu { menu ≡ strategy.menu_size (key_seen key.now).about (key_seen key.now).ask.view }
     requires code { StandsFor (key_seen key.now).about.sheet (code_seen code.now.value) }
-    ensures is { IfOk result (λ item. item ≡ strategy.first_largest (tally_of (key_seen key.now).about (key_seen key.now).ask)) }
-    ensures counted { OnOk result (Asks (key_seen key.now) (M.counts memo.old) (M.counts memo.new) steps.old steps.new) }
-    ensures lacking { OnErr result (Lacks (key_seen key.now) (M.counts memo.old) (M.counts memo.new) steps.old steps.new) }
+    ensures is { IfOk result (λ item. item
+        ≡ strategy.first_largest (tally_of (key_seen key.now).about (key_seen key.now).ask)) }
+    ensures counted { OnOk result (Asks (key_seen key.now) (M.counts memo.old)
+        (M.counts memo.new) steps.old steps.new) }
+    ensures lacking { OnErr result (Lacks (key_seen key.now) (M.counts memo.old)
+        (M.counts memo.new) steps.old steps.new) }
     ensures rises { steps.old ≤ steps.new }
     ensures bounded { steps.new ≤ steps.old + cost_of (key_seen key.now) }
     ensures same { M.serves memo.new ≡ M.serves memo.old }
@@ -159,7 +173,8 @@ fn best_played<M: Memo, L: Ledger>(
     requires at { IsAtDecision (key_seen key.now).about (key_seen key.now).ask.view }
     requires menu { menu ≡ strategy.menu_size (key_seen key.now).about (key_seen key.now).ask.view }
     requires code { StandsFor (key_seen key.now).about.sheet (code_seen code.now.value) }
-    ensures is { IfOk result (λ item. item ≡ strategy.first_largest (tally_of (key_seen key.now).about (key_seen key.now).ask)) }
+    ensures is { IfOk result (λ item. item
+        ≡ strategy.first_largest (tally_of (key_seen key.now).about (key_seen key.now).ask)) }
     ensures kept { OnOk result (M.counts memo.new ≡ kept_once (key_seen key.now) (M.counts memo.old)) }
     ensures lacking { OnErr result (memo.new ≡ memo.old) }
     ensures counted { OnOk result (steps.new ≡ steps.old + cost_of (key_seen key.now)) }

@@ -93,7 +93,8 @@ fn next_item<C: Chooser, L: Ledger>(
     requires code { StandsFor job.now.about.value.sheet (code_seen code.now.value) }
     requires rival { IsRival rival.now }
     requires asked { IsAsked job.now.about.value (plan_seen job.now.plan.value) job.now.number (phase_seen phase.now) }
-    ensures is { IfOk result (Chosen job.now.about.value (rival_seen rival.now) (plan_seen job.now.plan.value) job.now.number
+    ensures is { IfOk result (Chosen job.now.about.value (rival_seen rival.now)
+        (plan_seen job.now.plan.value) job.now.number
         (phase_seen phase.now)) }
     ensures same { (about : PureAbout) → C.serves chooser.old about → C.serves chooser.new about }
 {

@@ -30,7 +30,8 @@ impl Rooms {
     pub(crate) fn take(&mut self, machine: &FlatMachine) -> Result<Box<Moment>, Memory>
         requires fresh { machine.now.spent ≡ false }
         requires shape { AreOfShape machine.now.about.shape self.old }
-        ensures moment { IfOk result (λ room. IsMoment machine.now.about machine.now.code machine.now.config room.value) }
+        ensures moment { IfOk result
+            (λ room. IsMoment machine.now.about machine.now.code machine.now.config room.value) }
         ensures shape { OnOk result (AreOfShape machine.now.about.shape self.new) }
     {
         let Some(mut room) = self.free.pop() else {
@@ -43,7 +44,8 @@ impl Rooms {
 
     /// Takes the room of a moment back. Where there is no room to note it, it is let go.
     pub(crate) fn give_back(&mut self, room: Box<Moment>)
-        ensures { (shape : Shape) → AreOfShape shape self.old → room.value.table.shape ≡ shape → AreOfShape shape self.new }
+        ensures { (shape : Shape) → AreOfShape shape self.old → room.value.table.shape ≡ shape
+            → AreOfShape shape self.new }
     {
         match self.free.push(room) {
             Ok(()) => {}

@@ -54,12 +54,54 @@ pub(crate) fn points_by(sheet: &Sheet, sides: &Sides, scores: &Scores, player: u
 {
     let team = side_of(sheet, sides, player);
     let score = score_of_side(sheet, sides, scores, team);
+    let mut last = Against {
+        side: team,
+        points: 0,
+    };
     let mut points = 0;
     for other in 0..scores.len() as u8 {
         let side = side_of(sheet, sides, other);
-        points += points_against(sheet, sides, scores, team, score, side);
+        points += points_known(sheet, sides, scores, team, score, side, &mut last);
     }
     points
+}
+
+// What a player of a team gets for a player of this side.
+#[derive(Drop)]
+struct Against {
+    side: usize,
+    points: u8,
+}
+
+// What a player of this team, which has this score, gets for a player of another one. It is the last one that was
+// found, if that is of the same team, and else it is found.
+#[inline(always)]
+fn points_known(
+    sheet: &Sheet,
+    sides: &Sides,
+    scores: &Scores,
+    team: usize,
+    score: i128,
+    other: usize,
+    last: &mut Against,
+) -> u8
+    requires sides { AreSides (sheet_seen sheet.now) sides.now.items }
+    requires score { score ≡ play.team_score (sheet_seen sheet.now) scores.now.items team }
+    requires last { last.old.points ≡ play.points_against (sheet_seen sheet.now) scores.now.items team last.old.side }
+    requires few { last.old.points ≤ 2 }
+    ensures is { result ≡ play.points_against (sheet_seen sheet.now) scores.now.items team other }
+    ensures few { result ≤ 2 }
+    ensures last { last.new.points ≡ play.points_against (sheet_seen sheet.now) scores.now.items team last.new.side }
+    ensures small { last.new.points ≤ 2 }
+{
+    if team == other {
+        return 0;
+    }
+    if last.side != other {
+        last.points = points_against(sheet, sides, scores, team, score, other);
+        last.side = other;
+    }
+    last.points
 }
 
 // What a player of this team, which has this score, gets for a player of the other one.

@@ -75,7 +75,8 @@ pub(crate) fn stand_at(item: u16, moment: &Moment, machine: &mut FlatMachine)
 fn go_back(kept: &Option<Box<Moment>>, machine: &mut FlatMachine)
     requires home { IsSome machine.old.home }
     requires there { (config : Config) × IsKept machine.old.about machine.old.code config kept.now }
-    ensures at { (config : Config) → IsKept machine.old.about machine.old.code config kept.now → machine.new.config ≡ config }
+    ensures at { (config : Config) → IsKept machine.old.about machine.old.code config kept.now
+        → machine.new.config ≡ config }
     ensures fresh { machine.new.spent ≡ false }
     ensures stays { StaysInMatch machine.old machine.new }
 {

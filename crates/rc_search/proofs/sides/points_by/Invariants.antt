@@ -13,4 +13,6 @@ invariant-loop-other l =
       is : l.points
           ≡ sum_by (λ other. play.points_against sheet l.scores.items (team_in sheet.teams l.player) (team_in sheet.teams other)) (below l.other);
       few : l.points ≤ 2 * l.other;
+      known : l.last.points ≡ play.points_against sheet l.scores.items l.team l.last.side;
+      small : l.last.points ≤ 2;
     }
